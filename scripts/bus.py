@@ -19,7 +19,8 @@ reads whether the part has PEC and PAGE_PLUS, how many outputs, and their format
 `apply FILE` and `verify FILE` stand alone too. FILE has the settings of a board's rails (scripts/rails.py says how), and is
 judged whole before the first frame. `apply` checks them, orders what differs, checks them all again and prints a table; it
 stops at the first word that isn't confirmed, and never stores. `verify` orders nothing. The status is 0 only where every
-setting is confirmed as wanted and no restart of the part was seen.
+setting is confirmed as wanted and no restart of the part was seen; with --dry-run, where all settings could be read and
+judged and no restart was seen.
 
     --outputs=N     how many outputs the device has, 8 where it isn't given
     --passes=N      how often a job is tried at most, 3 where it isn't given
@@ -31,9 +32,9 @@ setting is confirmed as wanted and no restart of the part was seen.
     --force         goes on where a driver of the kernel holds the address (docs/bus.md)
 
 Standard error says in one line why a job ended badly. The status is 0 where every job ended as done or learned and
-every question was answered, or the host can drive the part that was probed; 1 where not; 2 where an argument isn't what
-it should be, the bus can't be used, or a stream or the trace fails; 130 after an interruption, which says what is now
-unknown.
+every question was answered, or the host can drive the part that was probed; 1 where not, or where pmbhost is missing or
+ends; 2 where an argument isn't what it should be, the bus can't be used, or a stream or the trace fails; 130 after an
+interruption, which says what is now unknown.
 A transfer that fails is no acknowledgement, or no answer: the host decides what that means.
 PMBHOST in the environment names another pmbhost than crates/pmbhost/out/pmbhost.
 """

@@ -103,7 +103,8 @@ def refusals():
     """Each number and its words, by the types, by what C is told, and by each layer."""
     types, own, part, names = numbers_of_types(), constants("pm_c"), constants("pm_part"), named()
     alone = {number: camel(name) for name, number in own.items() if number >= 0xE0}
-    yield "names", types | alone | {part["NO_PART"]: "NoConverter"}, {"pm_refusal_name": names}
+    of_part = {part[name]: camel(name) for name in ("NO_PART", "NO_READING")}
+    yield "names", types | alone | of_part, {"pm_refusal_name": names}
     yield "refusals", names, {"rust": {int(number, 0): re.sub(r"^([A-Z]\d)", r"\1 ", name) for name, number in re.findall(
         r"^    (\w+) = (0x\w\w),", read("rust/src/refusal.rs"), re.MULTILINE)}}
     text = HEADERS["pm_c"]
@@ -145,9 +146,9 @@ def sizes():
     part = {"PART_VERSION": layout["pm_device"], "PART_SIZE": size["pm_part_size"]}
     for crate, types in ("pm_c", host), ("pm_part", part):
         yield f"sizes of {crate}", types, {"its header": {it: int(re.search(rf"#define PM_{it} (\w+)", HEADERS[crate])[1], 0) for it in types}}
+    yield "sizes for Python", host, {"python": {it: int(re.search(rf"^{it} = (\w+)", PYTHON, re.MULTILINE)[1], 0) for it in host}}
     both = host | {"PART_SIZE": part["PART_SIZE"]}
-    yield "sizes", both, {"python": {it: int(re.search(rf"^{it} = (\w+)", PYTHON, re.MULTILINE)[1], 0) for it in both},
-                          "rust": {it: int(re.search(rf"pub const {it}: \w+ = (\w+);", RUST)[1], 0) for it in both}}
+    yield "sizes for Rust", both, {"rust": {it: int(re.search(rf"pub const {it}: \w+ = (\w+);", RUST)[1], 0) for it in both}}
 
 
 # ---- Structs ----

@@ -83,8 +83,8 @@ Priority: optional
 Description: PMBus host core that sets supply voltages, proved
  The libraries for C with their headers, and, where they are part of it,
  the programs pmb, pmbhost and pmbpart. A host orders a voltage, reads it
- back, and keeps the exact list of words that a register may hold until
- then. A model part is there to try firmware and scripts against.
+ back, and keeps the list of words that a register may hold until then. A
+ model part is there to try firmware and scripts against.
 END
     printf 'activate-noawait ldconfig\n' > "$tree/DEBIAN/triggers"
     printf '%s 1 %s (>= %s)\n' libpm_c "$name" "$version" libpm_part "$name" "$version" > "$tree/DEBIAN/shlibs"

@@ -75,7 +75,7 @@ pub enum Heard {
 // slice's pointer and count are its own. The library wants nothing else, and takes memory of any bytes.
 impl Part {
     /// A part at an address, with 1 to 8 outputs, and coefficients m, b and R for those whose mode is DIRECT; WRITE_PROTECT
-    /// starts as 00h. V1 to V5; NoConverter where the library is of another version.
+    /// starts as 00h. V1 to V5; NoPart where the library is of another version.
     pub fn new(address: u8, outputs: &[Output], coefficients: (i16, i16, i8)) -> Result<Part, Refusal> {
         Part::protected(address, outputs, coefficients, 0)
     }
@@ -83,7 +83,7 @@ impl Part {
     /// The same with the start word of WRITE_PROTECT.
     pub fn protected(address: u8, outputs: &[Output], coefficients: (i16, i16, i8), protect: u8) -> Result<Part, Refusal> {
         if unsafe { ffi::pm_part_size() } != ffi::PART_SIZE as u64 {
-            return Err(Refusal::NoConverter);
+            return Err(Refusal::NoPart);
         }
         let count = u8::try_from(outputs.len()).unwrap_or(255);
         let mut config = ffi::ConfigImage {

@@ -127,11 +127,13 @@ refusals! {
     /// No packet has these numbers.
     NoPacket = 0xE4,
     /// The memory holds no part, or the library's are of another size.
-    NoConverter = 0xE5,
+    NoPart = 0xE5,
     /// The output has no limits.
     NoLimits = 0xE6,
     /// The number has no name.
     NoName = 0xE7,
+    /// The command code is no reading's.
+    NoReading = 0xE8,
 }
 
 impl fmt::Display for Refusal {

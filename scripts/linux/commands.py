@@ -14,7 +14,8 @@ from tally import Tally
 
 PLACE = "/run/commands"
 PROBE = "PEC yes, PAGE_PLUS yes, 2 outputs: 0 ULINEAR16 -12, 1 DIRECT 1 0 3\n"
-ORDER = "scripts/bus.py 1 58 --trace=bus.trace learn 0 + volts 0 VOUT_COMMAND 3300000 + state 0 VOUT_COMMAND"
+ORDER = ("scripts/bus.py 1 58 --outputs=2 --limit=0:3135000:3465000 --trace=bus.trace "
+         "learn 0 + volts 0 VOUT_COMMAND 3300000 + state 0 VOUT_COMMAND")
 ORDERED = """learn 0: ended learned
 volts 0 VOUT_COMMAND 3300000: ended done
 state 0 VOUT_COMMAND: state confirmed 34CD possible 34CD

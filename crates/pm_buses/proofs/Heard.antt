@@ -46,6 +46,7 @@ unfolding is_legal_hearing
 none-heard [] = refl
 none-heard (byte ∷ rest) = refl
 
+-- no byte is a legal return for a request whose whole answer has at least one
 none-back : (request answer : List ℕ) (needed : ℕ) (whole : Bool) → 1 ≤ needed → is_legal_return request needed whole answer [] ≡ true
 unfolding is_legal_return
 none-back request answer needed whole some =
@@ -80,11 +81,13 @@ hears-legal : {request bytes given : List ℕ} {ending : Ending} {way : Arrival}
     is_legal_hearing request (heard_bytes request way) (ending_of Restart way) ≡ true
 hears-legal {request = request} h = sym (ap₂ (λ b e. is_legal_hearing request b e) h.bytes_are h.ending_is) ∙ h.legal
 
+-- the answer that was given is the one that the converter has to the request as it arrives
 hears-given : {request bytes given : List ℕ} {ending : Ending} {way : Arrival} {old new : Held} →
     Hears request bytes given ending way old new →
     given ≡ answer_of old request way
 hears-given {old = old} h = h.given_is ∙ ap₂ (λ b e. answer_in (reply_of old b e)) h.bytes_are h.ending_is
 
+-- the converter holds afterwards what hearing the request as it arrives makes of what was held before
 hears-after : {request bytes given : List ℕ} {ending : Ending} {way : Arrival} {old new : Held} →
     Hears request bytes given ending way old new →
     device_next old (device.Hearing (heard_bytes request way) (ending_of Restart way)) ≡ new

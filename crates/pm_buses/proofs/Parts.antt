@@ -16,6 +16,7 @@ held-append : (frame : List ℕ) (held : Held) (second first : List Event) →
 held-append frame held [] first = refl
 held-append frame held (event ∷ second) first = ap (λ h. held_by frame h event) (held-append frame held second first)
 
+-- events are all of a kind where the earlier of them are and the later are
 all-append : (may : Event → Bool) (second first : List Event) → AreAll may second → AreAll may first → AreAll may (second ++ first)
 all-append may [] first two one = one
 all-append may (event ∷ second) first two one = (two.0, all-append may second first two.1 one)

@@ -1,6 +1,6 @@
-/* The PMBus host core as a static library: a host that sets supply voltages over PMBus 1.3, and packets and
- * numbers alone. One header for processors of 64 and of 32 bits. A model converter to try firmware against is a library
- * of its own, pm_part.h.
+/* The PMBus host core as a static library: a host that sets supply voltages over PMBus 1.3, and calls for packets and
+ * numbers that need no host. One header for processors of 64 and of 32 bits. A model converter to try firmware against
+ * is a library of its own, pm_part.h.
  *
  * What each call answers and does is proved of the library (crates/pm_c). No prover reads this header: the
  * programs of examples/c compare its sizes and the numbers that they use.
@@ -38,10 +38,9 @@ extern "C" {
 /* The version of the library, the greater part in the upper byte; pm_version answers that of the one that was linked. */
 #define PM_VERSION 0x0100
 
-/* The version of a host's layout, its size in bytes, and the stack that a call takes at most. On x86-64
- * bench/c_order.sh measured at most 720 bytes of the calls of a host, of LLVM's archive 1,040, and 3,208 of
- * pm_refusal_name where a loader binds memmove at its first call; the archive's own bound is the stack-bytes in its
- * section .comment. By the frames of LLVM scripts/c/targets.sh finds those of other processors. */
+/* The version of a host's layout, its size in bytes, and the stack that a call takes at most: PM_STACK, and PM_NAME_STACK
+ * of pm_refusal_name, in which a loader may bind memmove. docs/firmware.md has what calls take on each processor, and an
+ * archive says its own bound as stack-bytes in its section .comment. */
 #define PM_HOST_VERSION 4
 #define PM_HOST_SIZE 2056
 #define PM_STACK 2048
@@ -188,9 +187,10 @@ uint8_t pm_host_limits(const pm_host *host, uint8_t output, pm_limits *limits);
 enum { PM_WITHIN = 0x91, PM_OUTSIDE = 0x92, PM_NOT_KNOWN = 0x93 };
 uint8_t pm_host_within(const pm_host *host, uint8_t output);
 
-/* Between which voltages an output may be, by what is known: no narrower band is true. The least is rounded down, the
- * greatest up. PM_NO_HOST, H4, H7 where its format isn't known, N5 where an end is beyond 10^15 microvolts; then
- * nothing is written. */
+/* Between which voltages an output may be, by what is known. No narrower band is true where, since the host started, the
+ * device didn't restart, WRITE_PROTECT was neither ordered nor read as other than 00h, and no restore was begun. The least
+ * is rounded down, the greatest up. PM_NO_HOST, H4, H7 where its format isn't known, N5 where an end is beyond 10^15
+ * microvolts; then nothing is written. */
 uint8_t pm_host_band(const pm_host *host, uint8_t output, pm_band *band);
 
 /* Begins an order: at most `passes` times the word is written once and read back once. It ends as

@@ -2,7 +2,8 @@
 use Rattle.std.proofs.Common.{◌≡◌, Some, refl}
 use Rattle.pm_num.specs.declared.fault.NumFault.TheVariants.{ZeroSlope, ExponentRange, BelowLeast, AboveGreatest, TooLarge}
 use Rattle.pm_frame.specs.declared.fault.FrameFault.{FrameFault}
-use Rattle.pm_frame.specs.declared.fault.FrameFault.TheVariants.{NotOurs, Short, Long, WrongCount, WrongPec, UnknownCode, WrongDirection, Nested}
+use Rattle.pm_frame.specs.declared.fault.FrameFault.TheVariants.{NotOurs, Short, Long, WrongCount, WrongPec, UnknownCode, WrongDirection}
+use Rattle.pm_frame.specs.declared.fault.FrameFault.TheVariants.{Nested}
 use Rattle.pm_frame.specs.FaultWords.{frame_fault_number, frame_fault_words}
 use Rattle.pm_host.specs.declared.fault.HostFault.TheVariants.{OutputCount, Passes, Busy, UnknownOutput, BadWord, TooUncertain, Num}
 use Rattle.pm_host.specs.declared.fault.HostFault.TheVariants as host
@@ -15,12 +16,14 @@ use Rattle.pm_device.specs.declared.config_fault.ConfigFault.{ConfigFault}
 use Rattle.pm_device.specs.declared.config_fault.ConfigFault.TheVariants as setup
 use Rattle.pm_device.specs.FaultWords.{config_fault_number, config_fault_words, device_fault_number, device_fault_words}
 use Rattle.pm_limits.specs.declared.fault.LimitFault.{LimitFault}
-use Rattle.pm_limits.specs.declared.fault.LimitFault.TheVariants.{LimitsInverted, BelowLimit, AboveLimit, NotKnownWithin, LimitsWidened, Host}
+use Rattle.pm_limits.specs.declared.fault.LimitFault.TheVariants.{LimitsInverted, BelowLimit, AboveLimit, NotKnownWithin, LimitsWidened}
+use Rattle.pm_limits.specs.declared.fault.LimitFault.TheVariants.{Host}
 use Rattle.pm_limits.specs.declared.fault.LimitFault.TheVariants as limits
 use Rattle.pm_limits.specs.FaultWords.{limit_fault_number, limit_fault_words}
 use Rattle.pm_c.specs.Host.{step_kind}
 use Rattle.pm_c.specs.Names.{end_words, refusal_words, step_words, RefusalsAreNamed}
 
+-- under its number each fault of limits, those of their host included, has its own words
 limit : (fault : LimitFault) → refusal_words (limit_fault_number fault) ≡ Some (limit_fault_words fault)
 limit (Host OutputCount) = refl
 limit (Host Passes) = refl
@@ -41,6 +44,7 @@ limit AboveLimit = refl
 limit NotKnownWithin = refl
 limit LimitsWidened = refl
 
+-- under its number each fault of a frame, at whatever place, has its own words
 frame : (fault : FrameFault) → refusal_words (frame_fault_number fault) ≡ Some (frame_fault_words fault)
 frame NotOurs = refl
 frame (Short place) = refl
@@ -51,6 +55,7 @@ frame (UnknownCode place) = refl
 frame (WrongDirection place) = refl
 frame (Nested place) = refl
 
+-- under its number each refusal of a converter has its own words
 converter : (fault : DeviceFault) → refusal_words (device_fault_number fault) ≡ Some (device_fault_words fault)
 converter (device.Frame fault) = refl
 converter device.UnsupportedCode = refl
@@ -60,6 +65,7 @@ converter device.Protected = refl
 converter device.Nested = refl
 converter device.ReadOnly = refl
 
+-- under its number each fault of a configuration has its own words
 config : (fault : ConfigFault) → refusal_words (config_fault_number fault) ≡ Some (config_fault_words fault)
 config setup.OutputCount = refl
 config (setup.BadStart cell) = refl
@@ -67,6 +73,7 @@ config setup.Address = refl
 config (setup.BadMode output fault) = refl
 config (setup.BadCoefficients fault) = refl
 
+-- under its number each answer of how a job stands has its own words
 step : (s : Step) → end_words (step_kind s) ≡ Some (step_words s)
 step Next = refl
 step (Ended Done) = refl
@@ -74,5 +81,6 @@ step (Ended (Differs word)) = refl
 step (Ended Unknown) = refl
 step (Ended Learned) = refl
 
+-- no fault, refusal or step of a job is without its name, which is found by its number
 pub named : RefusalsAreNamed
 named = record { limit = limit; frame = frame; device = converter; config = config; step = step }

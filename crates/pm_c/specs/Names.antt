@@ -63,7 +63,7 @@ device_words n = option_map device_fault_words (find (λ fault. device_fault_num
 abbrev pub config_words : ℕ → Option (List ℕ)
 config_words n = option_map config_fault_words (find (λ fault. config_fault_number fault == n) config_faults)
 
--- what only a caller in C can ask wrongly
+-- what only a caller in C can ask wrongly, of a host or of a part
 abbrev pub own_words : ℕ → Option (List ℕ)
 own_words n =
     if n == 0xE0 then Some (codes "NoHost")
@@ -71,9 +71,10 @@ own_words n =
     else (if n == 0xE2 then Some (codes "OtherFrame")
     else (if n == 0xE3 then Some (codes "NoAddress")
     else (if n == 0xE4 then Some (codes "NoPacket")
-    else (if n == 0xE5 then Some (codes "NoConverter")
+    else (if n == 0xE5 then Some (codes "NoPart")
     else (if n == 0xE6 then Some (codes "NoLimits")
-    else (if n == 0xE7 then Some (codes "NoName") else None)))))))
+    else (if n == 0xE7 then Some (codes "NoName")
+    else (if n == 0xE8 then Some (codes "NoReading") else None))))))))
 
 -- the words of a refusal, of which each kind has numbers that begin with a digit of its own
 abbrev pub refusal_words : ℕ → Option (List ℕ)

@@ -1,5 +1,5 @@
-//! The host core for callers in C: a static library, whose header is `include/pm.h`. It has the host, and packets
-//! and numbers alone. A converter to try firmware against is the library `pm_part`.
+//! The host core for callers in C: a static library, whose header is `include/pm.h`. It has the host, and calls for
+//! packets and numbers that need no host. A converter to try firmware against is the library `pm_part`.
 //!
 //! A host lives in the caller's memory, as plain numbers that are worked on in place. No call wants
 //! anything of what is in that memory: a call of a host asks first whether a host is there, and refuses

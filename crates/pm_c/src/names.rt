@@ -161,7 +161,7 @@ fn words_of_config(number: u8) -> Option<&'static str>
     Some(fault.words())
 }
 
-// The words of what only a caller in C can ask wrongly.
+// The words of what only a caller in C can ask wrongly, of a host or of a part.
 #[inline(never)]
 fn words_of_own(number: u8) -> Option<&'static str>
     ensures words { option_map (λ words. words.now) result ≡ own_words number }
@@ -173,9 +173,10 @@ fn words_of_own(number: u8) -> Option<&'static str>
         0xE2 => Some("OtherFrame"),
         0xE3 => Some("NoAddress"),
         0xE4 => Some("NoPacket"),
-        0xE5 => Some("NoConverter"),
+        0xE5 => Some("NoPart"),
         0xE6 => Some("NoLimits"),
         0xE7 => Some("NoName"),
+        0xE8 => Some("NoReading"),
         _ => None,
     }
 }

@@ -1,4 +1,5 @@
-//! The band that the host gives for an output: what the output commands lies in it, and no narrower one is true.
+//! The band that the host gives for an output: what the output commands lies in it, and it is exact
+//! where the possible words are.
 
 ghost use Rattle.std.specs.Prelude.{◌≡◌, ◌∷◌, ◌<◌, ℕ, Some, false, IfOk, OnOk, OnSome, reverse};
 ghost use Rattle.std.specs.List.{list_any};

@@ -1,8 +1,8 @@
 //! How the laws of both ends are used: for each law of `pm_world` a short function that has it, of a world after
 //! [`World::run`](pm_world::World::run) and after a step that follows, with no proof by hand. It calls the law, which
 //! does nothing, and the prover finds the rest by what `new`, `run` and `step` hand out; so this crate is also the
-//! check that each premise of a law is one that a caller gets. What `run` says by itself is shown after a step alone, and
-//! a law that speaks of no world, or of any events, is shown as it is. Six are taken by the names of
+//! check that each premise of a law is one that a caller gets. What `run`'s own clauses say is shown here only for a step
+//! that follows it, and a law that speaks of no world, or of any events, is shown as it is. Six are taken by the names of
 //! [`laws_by_name`](pm_laws::laws_by_name), which a function opens by `unfolding`. Premises that stay are of the caller's
 //! own events: that the converter didn't restart, say, or that a frame was undisturbed or damaged so.
 //!
@@ -10,7 +10,7 @@
 //! - `ends`: what the host says when a job begins and ends, and what an order that differs says of the converter.
 //! - `damage`: damage that the packet error code betrays stops no run.
 //! - `exact`: what the host calls possible is exact, and the words that show it can be had in a world.
-//! - `bands`: an output commands a voltage in the band that the host gives, and no narrower one is true.
+//! - `bands`: an output commands a voltage in the band that the host gives, which is exact where the possible words are.
 //! - `orders`: an order that nothing disturbs goes through, and a run says which one it was.
 //! - `good`: what frames that nothing disturbs make of an open job.
 //! - `whole`: a job that is open after a run ends by frames that come whole.

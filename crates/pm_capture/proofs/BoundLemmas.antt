@@ -17,6 +17,7 @@ unheard : (heard : Heard) → heard ≡ heard_of false [] → heard_lines heard 
 unfolding heard_of counts_of
 unheard heard is = ap heard_lines is
 
+-- a capture of which no byte was taken and no line heard keeps the bounds of its counts
 pub bounded_none : (options : TellOptions) (heard : Heard) (line : TimedLine) (times : Bool) → heard ≡ heard_of false []
     → line ≡ timed_of times []
     → IsBounded (record { options = options; taken = 0; ended = 0; heard = heard; line = line })
@@ -25,6 +26,7 @@ bounded_none options heard line times none fresh =
     let none_there : line.is_begun ≡ false = unbegun line times fresh in
     record { heard = omega (arith, few); ended = rw none_there (omega arith); taken = omega arith }
 
+-- a capture keeps the bounds of its counts where a line ends of which a byte was taken, and at most one more is heard
 pub bounded_ended : (old : Kept) (heard : Heard) (line : TimedLine) (times : Bool) → IsBounded old
     → line ≡ timed_of times [] → heard_lines heard ≤ heard_lines old.heard + 1 → old.ended + 1 ≤ old.taken
     → IsBounded (record old { ended = old.ended + 1; heard = heard; line = line })

@@ -1,11 +1,13 @@
 -- What is kept and written of a capture with further bytes, and at its end.
-use Rattle.std.proofs.Common.{◌≡◌, ℕ, ◌+◌, ◌-◌, ◌<◌, ◌≤◌, Bool, true, false, cond, not, eqb, List, [], ◌∷◌, ◌++◌, length, map, filter, take, drop}
+use Rattle.std.proofs.Common.{◌≡◌, ℕ, ◌+◌, ◌-◌, ◌<◌, ◌≤◌, Bool, true, false, cond, not, eqb, List, [], ◌∷◌, ◌++◌, length, map, filter, take}
+use Rattle.std.proofs.Common.{drop}
 use Rattle.std.proofs.Common.{refl, sym, ap, ◌∙◌, arith, append_assoc, append-nil, length-append}
 use Rattle.std.specs.List.{enumerate_from, fold, list_any}
 use Rattle.std.proofs.lemmas.List.{map-append, take_all}
 use Rattle.std.proofs.lemmas.List.Elements.{filter-append}
 use Rattle.std.proofs.lemmas.List.Sums.{fold-append}
-use Rattle.pm_lines.specs.Lines.{has_bytes, is_line_feed, is_skipped, is_unskipped, lines_of, unskipped_from, without_empty_last, without_return}
+use Rattle.pm_lines.specs.Lines.{has_bytes, is_line_feed, is_skipped, is_unskipped, lines_of, unskipped_from, without_empty_last}
+use Rattle.pm_lines.specs.Lines.{without_return}
 use Rattle.pm_trace.specs.Marks.{ended, since}
 use Rattle.pm_trace.specs.OpenLines.{IsAtLineFeed}
 use Rattle.pm_trace.proofs.DecodeLemmas.{no_bytes}
@@ -13,7 +15,8 @@ use Rattle.pm_trace.proofs.MarkLemmas.{ended-mark, ended-other, since-mark, sinc
 use Rattle.pm_trace.proofs.SaidLemmas.{enumerate_from-snoc, last_kept, length-map}
 use Rattle.pm_meaning.specs.Taught.{taught_from, untaught}
 use Rattle.pm_capture.specs.CaptureText.{capture_text, counts_text, line_text, lines_text}
-use Rattle.pm_capture.specs.Capturing.{Kept, entry_ended, heard_ended, kept_at_end, kept_of, kept_takes, line_ended, next, said, said_text, text_ended, told, told_at_end}
+use Rattle.pm_capture.specs.Capturing.{Kept, entry_ended, heard_ended, kept_at_end, kept_of, kept_takes, line_ended, next, said, said_text}
+use Rattle.pm_capture.specs.Capturing.{text_ended, told, told_at_end}
 use Rattle.pm_capture.specs.Hearing.{heard_of, heard_with}
 use Rattle.pm_capture.specs.Readings.{Entry, entries_of, entry_of, judged_in, reading_of}
 use Rattle.pm_capture.specs.TimedLines.{PassesTimed, skips_timed, timed_of, timed_takes}
@@ -32,6 +35,7 @@ lines_said times lines = map (entry_of times) (filter is_unskipped (enumerate_fr
 abbrev pub entry_if : Bool → Entry → List Entry
 entry_if skipped entry = cond skipped [] (entry ∷ [])
 
+-- a line at the end of others is said after what they say, with its number, where it isn't skipped
 lines_said-snoc : (times : Bool) (lines : List (List ℕ)) (line : List ℕ) → lines_said times (lines ++ line ∷ [])
     ≡ lines_said times lines ++ entry_if (is_skipped line) (1 + length lines, reading_of times line)
 lines_said-snoc times lines line =
@@ -49,6 +53,7 @@ lines_said-snoc times lines line =
 pub ended_entries : TellOptions → List ℕ → List Entry
 ended_entries options bytes = entry_if (skips_timed (kept_of options bytes).line) (entry_ended (kept_of options bytes))
 
+-- the bytes since the last line feed say, as a line, what the line that goes on says if it ends here
 ended_here : (options : TellOptions) (bytes : List ℕ)
     → entry_if (is_skipped (without_return (since is_line_feed bytes)))
     (1 + length (map without_return (ended is_line_feed bytes)), reading_of options.times (without_return (since is_line_feed bytes)))
@@ -98,7 +103,8 @@ heard_more options bytes = by (skips_timed (kept_of options bytes).line)
     entry = entry_ended (kept_of options bytes)
 
     by : (c : Bool) → heard_of options.all (said options.times bytes ++ entry_if c entry)
-        ≡ cond c (heard_of options.all (said options.times bytes)) (heard_with options.all (heard_of options.all (said options.times bytes)) entry)
+        ≡ cond c (heard_of options.all (said options.times bytes))
+            (heard_with options.all (heard_of options.all (said options.times bytes)) entry)
     by true = ap (heard_of options.all) (append-nil (said options.times bytes))
     by false = heard_of-snoc options.all (said options.times bytes) entry
 
@@ -111,10 +117,13 @@ text_here options bytes = by (skips_timed (kept_of options bytes).line)
   where
     by : (c : Bool) → lines_text options (taught_from untaught (map judged_in (said options.times bytes)))
         (entry_if c (entry_ended (kept_of options bytes)))
-        ≡ cond c [] (line_text options (taught_from untaught (map judged_in (said options.times bytes))) (entry_ended (kept_of options bytes)))
+        ≡ cond c [] (line_text options (taught_from untaught (map judged_in (said options.times bytes)))
+            (entry_ended (kept_of options bytes)))
     by true = refl
-    by false = append-nil (line_text options (taught_from untaught (map judged_in (said options.times bytes))) (entry_ended (kept_of options bytes)))
+    by false = append-nil (line_text options (taught_from untaught (map judged_in (said options.times bytes)))
+        (entry_ended (kept_of options bytes)))
 
+-- the text of the line that goes on, if it ends here, is written behind that of the lines that ended
 text_more : (options : TellOptions) (bytes : List ℕ)
     → lines_text options untaught (said options.times bytes ++ ended_entries options bytes)
     ≡ said_text options bytes ++ text_ended (kept_of options bytes)
@@ -122,6 +131,7 @@ text_more options bytes =
     lines_text-append options untaught (said options.times bytes) (ended_entries options bytes)
     ∙ ap (λ l. said_text options bytes ++ l) (text_here options bytes)
 
+-- a list of bytes with one byte more is longer by one
 length-snoc : (bytes : List ℕ) (b : ℕ) → length (bytes ++ b ∷ []) ≡ length bytes + 1
 length-snoc bytes b = length-append bytes (b ∷ [])
 
@@ -147,7 +157,8 @@ kept_of-other options bytes b other = λ i. record {
   taken = length-snoc bytes b i;
   ended = length (ended-other is_line_feed bytes b other i);
   heard = heard_of options.all (said-other options.times bytes b other i);
-  line = (ap (timed_of options.times) (since-other is_line_feed bytes b other) ∙ timed_of-snoc options.times (since is_line_feed bytes) b) i;
+  line = (ap (timed_of options.times) (since-other is_line_feed bytes b other) ∙ timed_of-snoc options.times (since is_line_feed bytes) b)
+      i;
 }
 
 -- what is kept with one byte more
@@ -157,7 +168,8 @@ kept_of-snoc options bytes b = by (is_line_feed b) refl
   where
     by : (c : Bool) → is_line_feed b ≡ c → kept_of options (bytes ++ b ∷ [])
         ≡ cond c (record (line_ended (kept_of options bytes)) { taken = length bytes + 1 })
-        (record (kept_of options bytes) { taken = length bytes + 1; line = timed_takes (timed_of options.times (since is_line_feed bytes)) b })
+        (record (kept_of options bytes)
+            { taken = length bytes + 1; line = timed_takes (timed_of options.times (since is_line_feed bytes)) b })
     by true is = kept_of-mark options bytes b is
     by false other = kept_of-other options bytes b other
 
@@ -193,9 +205,11 @@ said_text-append options bytes (b ∷ piece) =
 
 -- ---- bytes without a line feed, and one after them
 
+-- what is kept once these bytes were taken, all of which go to the line
 abbrev pub kept_with : Kept → List ℕ → Kept
 kept_with kept bytes = record kept { taken = kept.taken + length bytes; line = fold timed_takes kept.line bytes }
 
+-- what is kept with this number of bytes taken, and this line as the one that goes on
 kept_at : Kept → ℕ → TimedLine → Kept
 kept_at kept taken line = record kept { taken = taken; line = line }
 
@@ -277,10 +291,12 @@ entries_at_end options text =
 -- what is heard of a whole capture
 pub heard-end : (options : TellOptions) (text : List ℕ)
     → heard_of options.all (entries_of options.times text) ≡ (kept_at_end (kept_of options text)).heard
-heard-end options text = ap (heard_of options.all) (entries_at_end options text) ∙ by (has_bytes (since is_line_feed text)) (line_begun options text)
+heard-end options text = ap (heard_of options.all) (entries_at_end options text)
+    ∙ by (has_bytes (since is_line_feed text)) (line_begun options text)
   where
     by : (c : Bool) → (kept_of options text).line.is_begun ≡ c
-        → heard_of options.all (said options.times text ++ cond c (ended_entries options text) []) ≡ (kept_at_end (kept_of options text)).heard
+        → heard_of options.all (said options.times text ++ cond c (ended_entries options text) [])
+            ≡ (kept_at_end (kept_of options text)).heard
     by true is = heard_more options text ∙ sym (ap (λ d. (cond d (line_ended (kept_of options text)) (kept_of options text)).heard) is)
     by false is = ap (heard_of options.all) (append-nil (said options.times text)) ∙ sym (heard_now options text)
         ∙ sym (ap (λ d. (cond d (line_ended (kept_of options text)) (kept_of options text)).heard) is)
@@ -304,11 +320,13 @@ pub capture_text-end : (options : TellOptions) (text : List ℕ) → capture_tex
 unfolding capture_text
 capture_text-end options text =
     ap (λ l. l ++ counts_text options (heard_of options.all (entries_of options.times text))) (lines-end options text)
-    ∙ append_assoc (said_text options text) (told_at_end (kept_of options text)) (counts_text options (heard_of options.all (entries_of options.times text)))
+    ∙ append_assoc (said_text options text) (told_at_end (kept_of options text))
+        (counts_text options (heard_of options.all (entries_of options.times text)))
     ∙ ap (λ h. said_text options text ++ (told_at_end (kept_of options text) ++ counts_text options h)) (heard-end options text)
 
 -- ---- how many bytes were taken
 
+-- a byte adds one to the number of bytes taken
 takes-taken : (kept : Kept) (b : ℕ) → (kept_takes kept b).taken ≡ kept.taken + 1
 unfolding kept_takes
 takes-taken kept b = by (is_line_feed b) (record (line_ended kept) { taken = kept.taken + 1 })
@@ -318,10 +336,12 @@ takes-taken kept b = by (is_line_feed b) (record (line_ended kept) { taken = kep
     by true one two first second = first
     by false one two first second = second
 
+-- further bytes add their own number to the number of bytes taken
 pub next-taken : (kept : Kept) (bytes : List ℕ) → (next kept bytes).taken ≡ kept.taken + length bytes
 next-taken kept [] = omega arith
 next-taken kept (b ∷ bytes) = let one = takes-taken kept b in let rest = next-taken (kept_takes kept b) bytes in omega arith
 
+-- a byte leaves the options as they are
 takes-options : (kept : Kept) (b : ℕ) → (kept_takes kept b).options ≡ kept.options
 unfolding kept_takes
 takes-options kept b = by (is_line_feed b)
@@ -331,14 +351,17 @@ takes-options kept b = by (is_line_feed b)
     by true = refl
     by false = refl
 
+-- further bytes leave the options as they are
 pub next-options : (kept : Kept) (bytes : List ℕ) → (next kept bytes).options ≡ kept.options
 next-options kept [] = refl
 next-options kept (b ∷ bytes) = next-options (kept_takes kept b) bytes ∙ takes-options kept b
 
+-- what is kept of bytes counts each of them as taken
 pub length_kept : (options : TellOptions) (bytes : List ℕ) → (kept_of options bytes).taken ≡ length bytes
 unfolding kept_of
 length_kept options bytes = refl
 
+-- the options that are kept are those that the capture is told by
 pub options_kept : (options : TellOptions) (bytes : List ℕ) → (kept_of options bytes).options ≡ options
 unfolding kept_of
 options_kept options bytes = refl

@@ -9,13 +9,16 @@ use Rattle.pm_capture.specs.JsonText.{key, number_field, other_jsons, totals_jso
 use Rattle.pm_capture.specs.Readings.{entries_of}
 use Rattle.pm_capture.specs.declared.options.TellOptions.{TellOptions}
 
+-- where options choose JSON or not, and other codes or not, the text of a capture of no bytes is the one for that choice
 pub empty_is : (options : TellOptions) (json all : Bool) → options.json ≡ json → options.all ≡ all
     → empty_by json all ≡ capture_text options []
-unfolding capture_text entries_of unskipped_from lines_of heard_of counts_of plain_counts json_counts totals_line totals_json other_lines other_jsons number_field key digits
+unfolding capture_text entries_of unskipped_from lines_of heard_of counts_of plain_counts json_counts totals_line totals_json other_lines
+    other_jsons number_field key digits
 empty_is options false false json all = rw (json, all) refl
 empty_is options false true json all = rw (json, all) refl
 empty_is options true false json all = rw (json, all) refl
 empty_is options true true json all = rw (json, all) refl
 
+-- whatever the options, the text of a capture of no bytes is the one for their choice
 pub empty_all : (options : TellOptions) → empty_by options.json options.all ≡ capture_text options []
 empty_all options = empty_is options options.json options.all refl refl

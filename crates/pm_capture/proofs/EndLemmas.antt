@@ -1,5 +1,6 @@
 -- How a telling ends, by what was read and what was written.
-use Rattle.std.proofs.Common.{◌≡◌, ◌∙◌, ◌<◌, ◌≤◌, ◌++◌, ◌↔◌, true≢false, ℕ, false, List, [], length, Ok, Err, Result, IfOk, IfErr, IsTrue, IsFalse, Option, ap, inl, inr, refl, sym, subst}
+use Rattle.std.proofs.Common.{◌≡◌, ◌∙◌, ◌<◌, ◌≤◌, ◌++◌, ◌↔◌, true≢false, ℕ, false, List, [], length, Ok, Err, Result, IfOk, IfErr, IsTrue}
+use Rattle.std.proofs.Common.{IsFalse, Option, ap, inl, inr, refl, sym, subst}
 use Rattle.std.specs.Io.KnownBytes.{Appends, Consumes}
 use Rattle.pm_lines.specs.Engine.{EngineEnds, Run}
 use Rattle.pm_lines.specs.Lemmas.Engines.{false_unless}
@@ -35,7 +36,8 @@ module _ {R W : Type 0} (options : TellOptions) (run : Run R W) (short : options
 
   pub as_engine : (result : Result DecodeEnd TextFault) → Ends options run result → EngineEnds (telling options) run result
   as_engine (Ok end) (read, sound, input, whole, is, got) =
-      (read, sound, capture_text options input, (input, as_whole _ _ input whole, ap (λ e. Ok (capture_text options input, e)) (sym is)), got)
+      (read, sound, capture_text options input, (input, as_whole _ _ input whole, ap (λ e. Ok (capture_text options input, e)) (sym is)),
+          got)
   as_engine (Err Write) (failed, text, inl (front, few, given, is), cut) =
       let P : ℕ → Type 0 = λ n. length front ≤ n in (
         failed,
@@ -72,7 +74,8 @@ module _ {R W : Type 0} (options : TellOptions) (run : Run R W) where
       × Appends (run.contents run.writer.inner) (run.contents run.writer'.inner) (said_text options front)
       → Ends options run (Err TooLong)
   too_long read sound (front, more, full, some, given, got) =
-      (sound, (λ t. absurd (true≢false (sym t ∙ read)), λ e. absurd (cc)), front, (more, full, some, given), said_text options front, refl, got)
+      (sound, (λ t. absurd (true≢false (sym t ∙ read)), λ e. absurd (cc)), front, (more, full, some, given), said_text options front, refl,
+          got)
 
   -- X4: the lines of what came before were
   pub unread : IsTrue run.reader'.failed → IsFalse run.writer'.failed → (front : List ℕ) → length front ≤ most_bytes options.long
@@ -139,7 +142,8 @@ module _ {R W : Type 0} (options : TellOptions) (run : Run R W) (r1 w1 : Option 
   broke_off TooLong stops why = (
     tt,
     too_long options run (false_unless run.reader'.failed (λ t. let wrong : TooLong ≡ Read = why.0 t in cc)) sound
-        (put_too_long options _ _ _ _ bytes text old gathered (run.remaining run.reader'.inner) text' old (run.contents run.writer'.inner) stops puts),
+        (put_too_long options _ _ _ _ bytes text old gathered (run.remaining run.reader'.inner) text' old (run.contents run.writer'.inner)
+            stops puts),
   )
   broke_off Read stops why =
       let (short, given, got) = put_unread options _ _ _ _ bytes text old gathered (run.remaining run.reader'.inner) text' old
@@ -148,7 +152,8 @@ module _ {R W : Type 0} (options : TellOptions) (run : Run R W) (r1 w1 : Option 
   broke_off Memory stops why = (
     tt,
     unmade options run (false_unless run.reader'.failed (λ t. let wrong : Memory ≡ Read = why.0 t in cc)) sound
-        (put_memory options _ _ _ _ bytes text old gathered (run.remaining run.reader'.inner) text' old (run.contents run.writer'.inner) stops puts),
+        (put_memory options _ _ _ _ bytes text old gathered (run.remaining run.reader'.inner) text' old (run.contents run.writer'.inner)
+            stops puts),
   )
   broke_off (Syntax line) stops why = absurd stops
   broke_off (BadHex line) stops why = absurd stops

@@ -23,7 +23,8 @@ use Rattle.pm_capture.specs.Capturing.{Kept, kept_at_end, kept_of, most_bytes, n
 use Rattle.pm_capture.specs.LongEngine.{IsWhole}
 use Rattle.pm_capture.specs.WrittenCaptures.{Gathered, Hears, StopsBytes, StopsHearing, WrittenCapture}
 use Rattle.pm_capture.specs.declared.options.TellOptions.{TellOptions}
-use Rattle.pm_capture.proofs.CapturingLemmas.{capture_text-end, heard-end, kept_of-append, length_kept, next-taken, options_kept, said_text-append, told-append}
+use Rattle.pm_capture.proofs.CapturingLemmas.{capture_text-end, heard-end, kept_of-append, length_kept, next-taken, options_kept}
+use Rattle.pm_capture.proofs.CapturingLemmas.{said_text-append, told-append}
 
 -- no bytes say nothing
 said_none : (options : TellOptions) → said_text options [] ≡ []

@@ -5,6 +5,5 @@ pub mod EmptyLemmas
 pub mod EndLemmas
 pub mod GatheredLemmas
 pub mod HearingLemmas
-pub mod Joins
 pub mod PlainLemmas
 pub mod TimedLemmas

@@ -7,7 +7,8 @@ use Rattle.pm_lines.specs.Lines.{Numbered, unskipped_from}
 use Rattle.pm_num.specs.declared.any_format.AnyFormat.{AnyFormat}
 use Rattle.pm_trace.specs.Counts.{counted, counts_of, lines_in}
 use Rattle.pm_trace.specs.Trace.{line_read, parts_judged, reading_judged, told_of, trace_of}
-use Rattle.pm_trace.specs.TraceText.{count_line, counts_text as trace_counts, judged_text, told_line, told_lines, told_text, totals_line as trace_totals, trace_text}
+use Rattle.pm_trace.specs.TraceText.{count_line, counts_text as trace_counts, judged_text, told_line, told_lines, told_text}
+use Rattle.pm_trace.specs.TraceText.{totals_line as trace_totals, trace_text}
 use Rattle.pm_trace.specs.declared.line_fault.LineFault.{LineFault}
 use Rattle.pm_trace.specs.declared.trace_line.TraceLine.{TraceLine}
 use Rattle.pm_meaning.specs.Taught.{Taught, taught_by, untaught}
@@ -19,7 +20,8 @@ use Rattle.pm_capture.specs.Readings.{Entry, entries_of, entry_of, judged_in}
 module _ (vout : Option AnyFormat) (long : Bool) where
   -- a line by what it reads as
   line_by : (taught : Taught) (number : ℕ) (parts : Result TraceLine LineFault)
-      → line_text (plain_options vout long) taught (number, record { time = None; parts = parts }) ≡ told_line (number, reading_judged parts)
+      → line_text (plain_options vout long) taught (number, record { time = None; parts = parts })
+          ≡ told_line (number, reading_judged parts)
   unfolding line_text plain_line told_text
   line_by taught number (Ok parts) =
       let text = judged_text number (parts_judged parts.write parts.read) in

@@ -1,5 +1,6 @@
 -- What is kept of a line with one byte more at its end, and what it reads as where it ends.
-use Rattle.std.proofs.Common.{◌≡◌, ℕ, ◌+◌, ◌-◌, ◌<◌, ◌≤◌, eqb, Bool, true, false, cond, not, ◌||◌, ◌&&◌, List, [], ◌∷◌, ◌++◌, length, take, drop, get_or, None}
+use Rattle.std.proofs.Common.{◌≡◌, ℕ, ◌+◌, ◌-◌, ◌<◌, ◌≤◌, eqb, Bool, true, false, cond, not, ◌||◌, ◌&&◌, List, [], ◌∷◌, ◌++◌, length, take}
+use Rattle.std.proofs.Common.{drop, get_or, None}
 use Rattle.std.proofs.Common.{refl, sym, ap, subst, ◌∙◌, arith, append_assoc, append-nil, length-append, ne_eqb}
 use Rattle.std.proofs.lemmas.List.Folds.{list_any-append}
 use Rattle.std.proofs.lemmas.List.Sums.{fold-append}
@@ -33,6 +34,7 @@ some_there : (xs : List ℕ) (b : ℕ) → has_bytes (xs ++ b ∷ []) ≡ true
 some_there [] b = refl
 some_there (x ∷ xs) b = refl
 
+-- a byte at the end joins what stands from the first mark on, and where there was no mark it may be the first
 from_first-snoc : (mark : ℕ → Bool) (xs : List ℕ) (b : ℕ) → from_first mark (xs ++ b ∷ [])
     ≡ cond (has_bytes (from_first mark xs)) (from_first mark xs ++ b ∷ []) (from_first mark (b ∷ []))
 from_first-snoc mark [] b = refl
@@ -45,6 +47,7 @@ from_first-snoc mark (x ∷ xs) b = by (mark x) refl (from_first-snoc mark xs b)
     by true is rest = rw is refl
     by false is rest = rw is rest
 
+-- a byte at the end joins what stands before the first mark where there was no mark and the byte is none
 before-snoc : (mark : ℕ → Bool) (xs : List ℕ) (b : ℕ) → before mark (xs ++ b ∷ [])
     ≡ cond (has_bytes (from_first mark xs)) (before mark xs) (before mark xs ++ before mark (b ∷ []))
 before-snoc mark [] b = refl
@@ -80,6 +83,7 @@ word_takes over space word b = cond over word (cond space word (word ++ b ∷ []
 abbrev behind_takes : Bool → Bool → Bool → List ℕ → ℕ → List ℕ
 behind_takes over space some behind b = cond over (behind ++ b ∷ []) (cond (space && some) (b ∷ []) [])
 
+-- a byte at the end of a line joins its first word where nothing stands behind that yet and the byte is no space
 first_word-snoc : (xs : List ℕ) (b : ℕ) → first_word (xs ++ b ∷ [])
     ≡ word_takes (has_bytes (behind_word xs)) (is_space b) (first_word xs) b
 first_word-snoc xs b = ap (before is_space) (from_first-snoc (λ x. not (is_space x)) xs b) ∙ by (has_bytes (past_spaces xs)) refl
@@ -106,8 +110,10 @@ first_word-snoc xs b = ap (before is_space) (from_first-snoc (λ x. not (is_spac
         ∙ more (has_bytes (behind_word xs)) (is_space b) (first_word xs)
     by false none =
         alone (is_space b) refl
-        ∙ ap (λ l. word_takes (has_bytes (from_first is_space l)) (is_space b) (before is_space l) b) (sym (none_there (past_spaces xs) none))
+        ∙ ap (λ l. word_takes (has_bytes (from_first is_space l)) (is_space b) (before is_space l) b)
+            (sym (none_there (past_spaces xs) none))
 
+-- a byte at the end of a line goes behind its first word where that is over or the byte is the space that ends it
 behind_word-snoc : (xs : List ℕ) (b : ℕ) → behind_word (xs ++ b ∷ [])
     ≡ behind_takes (has_bytes (behind_word xs)) (is_space b) (has_bytes (first_word xs)) (behind_word xs) b
 behind_word-snoc xs b = ap (from_first is_space) (from_first-snoc (λ x. not (is_space x)) xs b) ∙ by (has_bytes (past_spaces xs)) refl
@@ -146,9 +152,11 @@ unfolding part_of
 has_kept [] = refl
 has_kept (x ∷ xs) = refl
 
+-- the word is over once one more byte came: it was over, or it has a byte and the new one is a space
 abbrev is_over : Bool → Bool → Bool → Bool
 is_over over space some = over || (space && some)
 
+-- what is kept of the word takes a byte that is no space while the word isn't over, and no other byte
 word_took : (over space some : Bool) (word : List ℕ) (b : ℕ) → part_of (word_takes over space word b)
     ≡ cond (is_over over space some || space) (part_of word) (part_takes (part_of word) b)
 word_took true space some word b = refl
@@ -159,6 +167,7 @@ word_took false true some word b = by some
     by false = refl
 word_took false false some word b = part_of-snoc word b
 
+-- what is kept of the packet takes a byte exactly where the word is over once that byte came
 packet_took : (over space some : Bool) (behind : List ℕ) (b : ℕ) → has_bytes behind ≡ over
     → line_of (behind_takes over space some behind b) ≡ cond (is_over over space some) (line_takes (line_of behind) b) (line_of behind)
 packet_took true space some behind b is = line_of-snoc behind b
@@ -167,6 +176,7 @@ packet_took false true true behind b is =
 packet_took false true false behind b is = ap line_of (sym (none_there behind is))
 packet_took false false some behind b is = ap line_of (sym (none_there behind is))
 
+-- something stands behind the word, once one more byte came, exactly where the word is over then
 over_took : (over space some : Bool) (behind : List ℕ) (b : ℕ) → has_bytes behind ≡ over
     → has_bytes (behind_takes over space some behind b) ≡ is_over over space some
 over_took true space some behind b is = some_there behind b
@@ -232,7 +242,8 @@ packet_fold line (b ∷ front) begun over =
       is_begun = sym begun i;
       is_over = (ap (λ c. c || (is_space b && has_bytes line.word.bytes)) over ∙ sym over) i;
       word = ap (λ c. cond ((c || (is_space b && has_bytes line.word.bytes)) || is_space b) line.word (part_takes line.word b)) over i;
-      packet = fold line_takes (ap (λ c. cond (c || (is_space b && has_bytes line.word.bytes)) (line_takes line.packet b) line.packet) over i) front;
+      packet = fold line_takes (ap (λ c. cond (c || (is_space b && has_bytes line.word.bytes)) (line_takes line.packet b) line.packet) over
+          i) front;
     }
 
 -- the packet took bytes
@@ -294,6 +305,7 @@ pub record WordEnds (line : List ℕ) : Type 0 where
       ≡ cond (has_bytes (behind_word line)) (first_word line) (without_return (first_word line))
   pub behind : behind_word (without_return line) ≡ without_return (behind_word line)
 
+-- a carriage return at the end of a line with a last byte is taken off what is behind the word, else off the word
 word_ends-snoc : (xs : List ℕ) (b : ℕ) → WordEnds (xs ++ b ∷ [])
 word_ends-snoc xs b = record { word = word; behind = behind }
   where
@@ -345,6 +357,7 @@ word_ends-snoc xs b = record { word = word; behind = behind }
     behind = ap behind_word (without_return-snoc xs b) ∙ spread behind_word (eqb b 13) xs (xs ++ b ∷ [])
         ∙ rw (behind_word-snoc xs b) (behind_by (eqb b 13) over (is_space b) some (behind_word xs) refl no_space refl)
 
+-- a carriage return at the end of any line is taken off what is behind its first word, else off that word
 word_ends : (line : List ℕ) → WordEnds line
 word_ends [] = record { word = refl; behind = refl }
 word_ends (x ∷ xs) =

@@ -40,6 +40,7 @@ no-bad_register output start e = go (is_operation start.operation) e where
   go true h = refl
   go false h = cc
 
+-- no output has a bad register where each start word of the outputs is accepted
 no-bad_registers : (from : ℕ) (starts : List OutputStart) → AreAccepted starts → bad_registers from starts ≡ None
 unfolding AreAccepted
 no-bad_registers from [] all = refl

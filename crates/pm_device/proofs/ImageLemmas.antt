@@ -1,5 +1,6 @@
 -- What an image is of: no converter where a test fails, otherwise the one that its numbers mean.
-use Rattle.std.proofs.Common.{◌≡◌, ℕ, ◌<◌, Bool, true, false, cond, ◌&&◌, ◌==◌, nat_lt, is_none, is_some, List, map, Option, Some, None, refl, sym, ap, ap₂, subst, ◌∙◌, arith}
+use Rattle.std.proofs.Common.{◌≡◌, ℕ, ◌<◌, Bool, true, false, cond, ◌&&◌, ◌==◌, nat_lt, is_none, is_some, List, map, Option, Some, None}
+use Rattle.std.proofs.Common.{refl, sym, ap, ap₂, subst, ◌∙◌, arith}
 use Rattle.std.proofs.lemmas.Bool.{and_from}
 use Rattle.pm_table.specs.declared.cell.Cell.TheVariants.{Protect}
 use Rattle.pm_model.specs.Settings.{Settings, settings_in, word_at}
@@ -14,6 +15,7 @@ use Rattle.pm_device.specs.Start.{config_fault}
 left-fails : (a b : Bool) → a ≡ false → (a && b) ≡ false
 left-fails a b e = ap (λ (x : Bool). x && b) e
 
+-- where the second of two halves fails the whole does, whatever the first says
 right-fails : (a b : Bool) → b ≡ false → (a && b) ≡ false
 right-fails false b e = refl
 right-fails true b e = e
@@ -41,6 +43,7 @@ pub none-settings : (image : Image) → settings_in image.config.outputs image.w
 none-settings image e = not-held image (right-fails (is_none (config_fault (config_held image.config))) _
     (left-fails _ _ (left-fails _ _ (ap (λ (s : Option Settings). is_some s) e))))
 
+-- an image whose words of the store are no settings is of no converter
 pub none-store : (image : Image) → settings_in image.config.outputs image.store ≡ None → device_of image ≡ None
 none-store image e = not-held image (right-fails (is_none (config_fault (config_held image.config))) _
     (left-fails _ _ (right-fails _ _ (ap (λ (s : Option Settings). is_some s) e))))
@@ -68,9 +71,11 @@ pub record MayHold (h : Held) : Type 0 where
 same-true : (a b : ℕ) → a ≡ b → (a == b) ≡ true
 same-true a b e = grind (arith, e)
 
+-- a number that is less than another passes the test of that
 less-true : (a b : ℕ) → a < b → nat_lt a b ≡ true
 less-true a b e = grind (arith, e)
 
+-- what a converter may hold, by a fact of each of its parts, passes the test of that
 may-hold : (h : Held) → MayHold h → may_hold h ≡ true
 may-hold h may = and_from _ _ (ap (λ (f : Option ConfigFault). is_none f) may.config)
     (and_from _ _ (and_from _ _ (ap (λ (s : Option Settings). is_some s) may.words.1)
@@ -96,8 +101,11 @@ pub same-held : (image : Image) (h : Held) → config_held image.config ≡ h.co
     map is_set image.cut ≡ h.cut → latches_held image.latches ≡ h.faults → held image ≡ h
 same-held image h config words store page readings cut faults =
     ap (λ (x : Config). record (held image) { config = x }) config
-    ∙ (ap₂ (λ (x y : List ℕ). record h { words = x; store = y; page = image.page; readings = readings_held image.readings; cut = map is_set image.cut; faults = latches_held image.latches }) words store
-    ∙ (ap (λ (x : ℕ). record h { page = x; readings = readings_held image.readings; cut = map is_set image.cut; faults = latches_held image.latches }) page
+    ∙ (ap₂ (λ (x y : List ℕ). record h
+        { words = x; store = y; page = image.page; readings = readings_held image.readings; cut = map is_set image.cut; faults =
+        latches_held image.latches }) words store
+    ∙ (ap (λ (x : ℕ). record h
+        { page = x; readings = readings_held image.readings; cut = map is_set image.cut; faults = latches_held image.latches }) page
     ∙ (ap (λ (x : Measured). record h { readings = x; cut = map is_set image.cut; faults = latches_held image.latches }) readings
     ∙ (ap (λ (x : List Bool). record h { cut = x; faults = latches_held image.latches }) cut
     ∙ ap (λ (x : CmlFaults). record h { faults = x }) faults))))

@@ -1,5 +1,6 @@
 -- A job that begins, a host that restarts, and what a driver begins with.
-use Rattle.std.proofs.Common.{◌≡◌, ◌<◌, ◌&&◌, ◌||◌, ℕ, Bool, true, false, cond, List, [], ◌∷◌, ◌++◌, Option, Some, None, Ok, refl, sym, ◌∙◌, ap, subst}
+use Rattle.std.proofs.Common.{◌≡◌, ◌<◌, ◌&&◌, ◌||◌, ℕ, Bool, true, false, cond, List, [], ◌∷◌, ◌++◌, Option, Some, None, Ok, refl, sym, ◌∙◌}
+use Rattle.std.proofs.Common.{ap, subst}
 use Rattle.std.specs.Option.{option_or}
 use Rattle.std.specs.Prelude.{IsSomeAnd}
 use Rattle.std.proofs.lemmas.Option.{same_Some}
@@ -144,6 +145,7 @@ new-lived laws config passes sound made =
       held_is = ap (λ (s : State). s.device) none;
     }
 
+-- a driver may begin with a new host beside a converter as it was made
 pub new-begins : LegalLivesAreFollowed → NewConvertersMayBegin
 new-begins laws config passes sound spelled made = record {
   was = host_start (setup_of config passes);

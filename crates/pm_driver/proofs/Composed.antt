@@ -48,6 +48,7 @@ tells-append (Exchange arrival back ∷ second) first is = refl
 tells-append [] first is = cc
 tells-append (event ∷ second) first is = cc
 
+-- a job that ended with the newest of the later events ended with the newest of all of them
 newest-append : (end : Option JobEnd) (second first : List Event) → EndsTold end second → EndsTold end (second ++ first)
 newest-append None second first is = tt
 newest-append (Some end) second first is = tells-append second first is
@@ -57,11 +58,13 @@ with-append : (one : Option Asked) (second first : List Asked) → with_job one 
 with-append None second first = refl
 with-append (Some job) second first = refl
 
+-- the jobs that events ask for are those of the later events and then those of the earlier ones
 jobs-append : (second first : List Event) → jobs_asked (second ++ first) ≡ jobs_asked second ++ jobs_asked first
 jobs-append [] first = refl
 jobs-append (event ∷ second) first =
     ap (with_job (asked_by event)) (jobs-append second first) ∙ with-append (asked_by event) (jobs_asked second) (jobs_asked first)
 
+-- the jobs that acts begin are those of the later acts and then those of the earlier ones
 begun-append : (second first : List Act) → jobs_begun (second ++ first) ≡ jobs_begun second ++ jobs_begun first
 begun-append [] first = refl
 begun-append (Called call ∷ second) first = begun-append second first

@@ -43,6 +43,7 @@ data Told (s : State) (event : Event) : Type 0 where
   wrote : (acked : Bool) → (share_of s event).told ≡ Some (Finished acked) → Told s event
   came : (bytes : List ℕ) → (share_of s event).told ≡ Some (Got bytes) → Told s event
 
+-- a finish or an exchange that no cause is against tells the host the end of a write, or bytes that came back
 told-by : (s : State) (event : Event) (before : List Event) → newest_tells (event ∷ before) ≡ true → event_cause s event ≡ None →
     Told s event
 told-by s (Finish acked) before tells free = wrote acked refl

@@ -69,6 +69,7 @@ opened setup entries job is = go (is_none (end_of setup entries)) is where
   go true e = e
   go false e = cc
 
+-- the last job is open where the host is sending a message, of whatever kind
 open-sending : TranscriptsAreFollowed → (setup : Setup) (entries : List Entry) (job : Job) (test : Message → Bool) →
     option_map_or test (sending_in (host_now setup entries)) false ≡ true →
     last_job entries ≡ Some job → open_job setup entries ≡ Some job
@@ -81,6 +82,7 @@ open-sending laws setup entries job test sends last = go (open_job setup entries
       let none : false ≡ true = ap (λ o. option_map_or test o false) (sym nothing) ∙ sends in cc
   go (Some other) e = sym (opened setup entries other e) ∙ last
 
+-- the last job is open where the host is sending a read
 open-job : TranscriptsAreFollowed → (setup : Setup) (entries : List Entry) (job : Job) → sends_read (host_now setup entries) ≡ true →
     last_job entries ≡ Some job → open_job setup entries ≡ Some job
 open-job laws setup entries job reads last = open-sending laws setup entries job is_read_message reads last
@@ -97,6 +99,7 @@ stage-sound : TranscriptsAreFollowed → (setup : Setup) (entries : List Entry) 
 stage-sound laws setup entries job made told is =
     subst (IsStage (host_now setup entries)) (stage-is setup entries job is) (laws.sound setup entries made told).stage
 
+-- the cell of an open order is a cell that there is
 order-there : TranscriptsAreFollowed → (setup : Setup) (entries : List Entry) (cell : Cell) (word : ℕ) → IsSetup setup →
     AreTold setup entries →
     open_job setup entries ≡ Some (Order cell word) → IsCell setup.outputs cell
@@ -108,6 +111,7 @@ order-there laws setup entries cell word made told is =
       go true stage = stage.there
       go false stage = stage.there
 
+-- the cell of an open check is a cell that there is
 check-there : TranscriptsAreFollowed → (setup : Setup) (entries : List Entry) (cell : Cell) → IsSetup setup → AreTold setup entries →
     open_job setup entries ≡ Some (Check cell) → IsCell setup.outputs cell
 unfolding host_now
@@ -180,6 +184,7 @@ check-end (Some word) last h = (word, refl)
 check-end None true h = cc
 check-end None false h = cc
 
+-- a check that is done once bytes came back read a word of its cell
 pub check-read : TranscriptsAreFollowed → (setup : Setup) (before : List Entry) (bytes : List ℕ) (cell : Cell) →
     IsSetup setup → AreTold setup (Got bytes ∷ before) → last_job before ≡ Some (Check cell) →
     end_of setup (Got bytes ∷ before) ≡ Some Done → (word : ℕ) × WasRead setup before bytes cell word
@@ -198,6 +203,7 @@ check-read laws setup before bytes cell made told last ended =
       },
     )
 
+-- no check is done with the end of a write
 pub check-wrote : (setup : Setup) (before : List Entry) (acked : Bool) (cell : Cell) → last_job before ≡ Some (Check cell) →
     end_of setup (Finished acked ∷ before) ≡ Some Done → ⊥
 unfolding end_of

@@ -56,6 +56,7 @@ sends-write host frame shown = go (sending_in host) refl shown where
   go None e is = absurd is
   go (Some message) e is = record { message = message; sending = e; is = is }
 
+-- a request and the length of its whole answer, as a host shows them, are those of the message that it is sending
 sends-request : (host : Summary) (request : List ℕ) (needed : ℕ) →
     IsSomeAnd (sending_in host) (λ message. IsRequest host.setup.addr message request)
     × IsSomeAnd (sending_in host) (λ message. needed ≡ whole_answer message) → SendsRequest host request needed
@@ -72,6 +73,7 @@ unfolding frame_of
 write-frame {addr = addr} {message = message} is =
     ap (λ b. cond b (sent addr message) (with_pec [] (sent addr message))) is.writes ∙ sym is.spelled
 
+-- the frame that a host sends for a message that reads is the request of that message
 request-frame : {addr : ℕ} {message : Message} {frame : List ℕ} → IsRequest addr message frame → frame_of addr message ≡ frame
 unfolding frame_of
 request-frame {addr = addr} {message = message} is =
@@ -87,6 +89,7 @@ deliver-free s frame arrival sends legal =
     ∙ (ap₂ (λ b f. option_or (rule b WrongKind) (rule (not (hears_so b f)) NotBetrayed)) sends.is.writes (write-frame sends.is)
     ∙ ap (λ b. rule (not b) NotBetrayed) legal)
 
+-- by a delivery of the write that is being sent the converter hears it as it arrives, and the host is told nothing
 deliver-tells : (s : State) (frame : List ℕ) (arrival : Arrival) → SendsWrite s.host frame →
     share_of s (Deliver arrival) ≡ hears (device.Hearing (heard_bytes frame arrival) (ending_of Stop arrival))
 deliver-tells s frame arrival sends =
@@ -122,6 +125,7 @@ ends-told (Some end) events tells = tells
 finish-free : (s : State) (frame : List ℕ) (acked : Bool) → SendsWrite s.host frame → event_cause s (Finish acked) ≡ None
 finish-free s frame acked sends = ap finish_cause sends.sending ∙ ap (λ b. rule b WrongKind) sends.is.writes
 
+-- a life goes on by the end of a write that was being sent: the host is told of it, and the converter stays as it was
 finished : LegalLivesAreFollowed → {config : Config} {passes : ℕ} {before : List Event} {host : Summary} {held : Held} →
     (frame : List ℕ) (acked : Bool) → SendsWrite host frame → IsLife config passes before host held →
     Goes config passes before (Finish acked ∷ []) (Called (Wrote frame acked) ∷ []) (end_by (step_of host (Finished acked)))
@@ -150,6 +154,8 @@ exchange-free s request needed arrival back sends legal returned =
     ∙ (ap (λ n. option_or (rule (not (heard true request)) NotBetrayed) (rule (not (came true request n)) NotBetrayed)) (sym sends.long)
     ∙ ap₂ (λ x y. option_or (rule (not x) NotBetrayed) (rule (not y) NotBetrayed)) legal returned))
 
+-- by an exchange of the request that is being sent the converter hears it as it arrives, and the host is told
+-- what comes back of the answer
 exchange-tells : (s : State) (request : List ℕ) (needed : ℕ) (arrival : Arrival) (back : Back) → SendsRequest s.host request needed →
     share_of s (Exchange arrival back)
     ≡ record {
@@ -205,11 +211,13 @@ hears-none frame (Reading output code word) is = refl
 hears-none frame (Deliver arrival) is = refl
 hears-none frame event is = cc
 
+-- what happens to a converter beside the bus asks for no job
 beside-none : (event : Event) → is_beside event ≡ true → asked_by event ≡ None
 beside-none RestartDevice is = refl
 beside-none (Reading output code word) is = refl
 beside-none event is = cc
 
+-- events of a kind that asks for no job ask for no jobs, however many they are
 none-asked : (may : Event → Bool) → ((event : Event) → may event ≡ true → asked_by event ≡ None) → (events : List Event) →
     AreAll may events → jobs_asked events ≡ []
 none-asked may none [] all = refl

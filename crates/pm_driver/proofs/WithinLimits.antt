@@ -1,5 +1,6 @@
 -- The words of an output stay within limits while a driver orders no other, and what a call of it does.
-use Rattle.std.proofs.Common.{◌≡◌, ◌<◌, ◌||◌, ℕ, ℤ, Bool, true, false, List, [], ◌∷◌, ◌++◌, Option, Some, None, Ok, Err, inl, inr, refl, sym, ◌∙◌, ap, subst, arith, int_lt}
+use Rattle.std.proofs.Common.{◌≡◌, ◌<◌, ◌||◌, ℕ, ℤ, Bool, true, false, List, [], ◌∷◌, ◌++◌, Option, Some, None, Ok, Err, inl, inr, refl}
+use Rattle.std.proofs.Common.{sym, ◌∙◌, ap, subst, arith, int_lt}
 use Rattle.std.specs.Prelude.{IsSomeAnd, OnOk, OnErr, Result, option_map, option_and_then}
 use Rattle.std.proofs.lemmas.Bool.Decides.{nat_tests}
 use Rattle.std.proofs.lemmas.Int.{ints}
@@ -52,14 +53,17 @@ first-none : {A : Type 0} (one other : Option A) → option_or one other ≡ Non
 first-none None other h = refl
 first-none (Some x) other h = cc
 
+-- the second of two faults is none where neither comes
 later-none : {A : Type 0} (one other : Option A) → option_or one other ≡ None → other ≡ None
 later-none None other h = h
 later-none (Some x) other h = cc
 
+-- where a guard has nothing to say of a refusal of the host's own, there is none
 host-none : (fault : Option HostFault) → of_host fault ≡ None → fault ≡ None
 host-none None h = refl
 host-none (Some f) h = cc
 
+-- an order that a guard doesn't refuse isn't refused by its host
 order-free : (limits : Option Bounds) (s : Summary) (cell : Cell) (word : ℕ) → guarded_order limits s cell word ≡ None →
     order_fault s cell word ≡ None
 order-free limits s cell word free =
@@ -74,7 +78,9 @@ guard-free g (job.Order cell word) begun free is =
     subst (λ j. job_fault g.host j ≡ None) same (order-free (limits_at g (output_of cell)) g.host cell word free)
 guard-free g (job.OrderMicro cell x) begun free is =
     let third = later-none (word_fault g.host cell x) _ (later-none (of_host (cell_fault g.host cell)) _ free) in
-    go (micro_word g.host cell x) (first-none (option_and_then (λ n. guarded_order (limits_at g (output_of cell)) g.host cell n) (micro_word g.host cell x)) None third) is
+    go (micro_word g.host cell x)
+        (first-none (option_and_then (λ n. guarded_order (limits_at g (output_of cell)) g.host cell n) (micro_word g.host cell x)) None
+        third) is
   where
     go : (found : Option ℕ) → option_and_then (λ n. guarded_order (limits_at g (output_of cell)) g.host cell n) found ≡ None →
         option_map (λ n. host.Order cell n) found ≡ Some begun → job_fault g.host begun ≡ None
@@ -92,6 +98,7 @@ guard-free g (job.Send command) begun free is =
     let same : host.Send command ≡ begun = cc in
     subst (λ j. job_fault g.host j ≡ None) same (host-none (job_fault g.host (host.Send command)) free)
 
+-- the host of a guard that lets a job begin began one that it didn't refuse
 pub guard-begun : (g middle : Guarded) (asked : Job) → LetsBegin g asked (Ok tt) middle → IsBegun g.host asked middle.host
 guard-begun g middle asked begins = record {
   free = λ begun is. guard-free g asked begun (sym begins.fault) is;
@@ -114,6 +121,7 @@ narrower own bounds value narrow within =
       to_greatest = through value (micros own.most) (micros bounds.most) (omega arith) within.to_greatest (grind (arith, ints, nat_tests));
     }
 
+-- a word within an output's own limits in a known format lies within any limits that those are as narrow as
 all-narrower : (limits : Option Bounds) (bounds : Bounds) (shape : Option Shape) (word : ℕ) → AreAsNarrow limits bounds →
     ((own : Bounds) → limits ≡ Some own → IsSomeAnd shape (λ s. IsWithin own (shape_value s word))) →
     IsSomeAnd shape (λ s. IsWithin bounds (shape_value s word))
@@ -121,6 +129,7 @@ all-narrower None bounds shape word narrow within = absurd narrow
 all-narrower (Some own) bounds None word narrow within = absurd (within own refl)
 all-narrower (Some own) bounds (Some shape) word narrow within = narrower own bounds (shape_value shape word) narrow (within own refl)
 
+-- a word within limits in the format that a host knows lies within them in the output's own, which is the same
 in-format : (known : Option Shape) (own : Shape) (word : ℕ) (bounds : Bounds) →
     ((shape : Shape) → known ≡ Some shape → shape ≡ own) →
     IsSomeAnd known (λ shape. IsWithin bounds (shape_value shape word)) → IsWithin bounds (shape_value own word)
@@ -133,10 +142,12 @@ abbrev JobWithin : Config → ℕ → Bounds → Job → Type 0
 JobWithin config output bounds asked = (s : Summary) (register : Reg) (word : ℕ) → is_voltage register ≡ true →
     accepted_job s asked ≡ Some (host.Order (Out output register) word) → IsWithin bounds (value_for config output word)
 
+-- each of these jobs that a host takes as an order of a voltage of the output is of a word within these limits
 abbrev JobsWithin : Config → ℕ → Bounds → List Job → Type 0
 JobsWithin config output bounds [] = Unit {0}
 JobsWithin config output bounds (asked ∷ jobs) = JobWithin config output bounds asked × JobsWithin config output bounds jobs
 
+-- the orders of an output's voltages among events are of words within limits, where the jobs asked for are
 orders-within : (config : Config) (passes output : ℕ) (bounds : Bounds) (before events : List Event) →
     JobsWithin config output bounds (jobs_asked events) → OrdersWithin config passes events before output bounds
 orders-within config passes output bounds before [] all = tt
@@ -160,7 +171,8 @@ orders-within config passes output bounds before (event ∷ events) all =
 
 -- the words stay within where a driver leads
 led-within : LegalLivesAreFollowed → {B : Type 0} (gives : B → Call → B → Type 0) (held : B → Held) (acts : List Act)
-    (end : Option JobEnd) (old new : Driven B) (output : ℕ) (bounds : Bounds) (lived : HasLifeWithin output bounds old.host (held old.bus)) →
+    (end : Option JobEnd) (old new : Driven B) (output : ℕ) (bounds : Bounds) (lived : HasLifeWithin output bounds old.host (held old.bus))
+        →
     (leads : Leads gives held acts end old new) → JobsWithin lived.has.config output bounds (jobs_asked leads.events) →
     HasLifeWithin output bounds new.host (held new.bus)
 led-within laws gives held acts end old new output bounds lived leads all =
@@ -192,7 +204,8 @@ begun-within : (config : Config) (output : ℕ) (bounds : Bounds) (begun : host.
     IsWithin bounds (value_for config output word)) →
     JobsWithin config output bounds (jobs_begun (Began begun ∷ []))
 begun-within config output bounds (host.Order cell word) within = (
-  λ s register other voltage is. within register other voltage (let same : host.Order cell word ≡ host.Order (Out output register) other = cc in same),
+  λ s register other voltage is. within register other voltage
+      (let same : host.Order cell word ≡ host.Order (Out output register) other = cc in same),
   tt,
 )
 begun-within config output bounds (host.Check cell) within = (λ s register other voltage is. cc, tt)
@@ -317,6 +330,7 @@ none-ordered : (later : List Event) (event : Event) (before : List Event) → []
 none-ordered [] event before is = cc
 none-ordered (newer ∷ later) event before is = cc
 
+-- an output's own words lie within limits before any event, where its start words do
 starts-own : (config : Config) (passes output : ℕ) (bounds : Bounds) → StartsWithin config output bounds →
     OwnWithin config passes [] output bounds
 starts-own config passes output bounds starts register word voltage (inl start) =

@@ -38,10 +38,12 @@ use Rattle.pm_host.specs.Standing.{standing_of}
 use Rattle.pm_host.specs.Question.{question_message, IsQuestion}
 use Rattle.pm_host.specs.Refusals.{IsSetup, may_come}
 use Rattle.pm_host.specs.Sound.{IsOrdering, IsStage, IsSound}
-use Rattle.pm_host.specs.Summary.{Summary, Change, idle, marked, finished, answered, asked, another, learned, mode_taken, read_back, read_another}
+use Rattle.pm_host.specs.Summary.{Summary, Change, idle, marked, finished, answered, asked, another, learned, mode_taken, read_back}
+use Rattle.pm_host.specs.Summary.{read_another}
 use Rattle.pm_host.specs.Summary.{answer_taken, stage_message, next, step_of, step_by}
 use Rattle.pm_host.specs.Told.{entry_told, is_of_frame}
-use Rattle.pm_host.specs.Transcript.{Setup, Job, Order, Check, Learn, Send, Entry, Accepted, Finished, Got, Restarted, open_job, end_of, told_since, is_write_turn}
+use Rattle.pm_host.specs.Transcript.{Setup, Job, Order, Check, Learn, Send, Entry, Accepted, Finished, Got, Restarted, open_job, end_of}
+use Rattle.pm_host.specs.Transcript.{told_since, is_write_turn}
 use Rattle.pm_host.specs.Transcript.{mode_told, coefficients_tries}
 use Rattle.pm_host.proofs.CellLemmas.{length-table}
 use Rattle.pm_table.specs.Lemmas.{IsCell-eight}
@@ -79,7 +81,8 @@ read_tells : CellsHavePlaces → (s : Summary) (cell : Cell) (word pass read : �
     → Tells s (Some (Reads cell word pass)) (Got bytes) (read_another (marked (idle s) (Good cell read)) cell word pass read)
 read_tells law s cell word pass read bytes true last whole there is e l =
     let same : read ≡ word = eqb-true read word e in
-    rw e (refl, ((is ∙ ap Some same, subst (IsRead (marked (idle s) (Good cell read)) cell) same (marked-read law (idle s) cell read whole there)), refl))
+    rw e (refl, ((is ∙ ap Some same, subst (IsRead (marked (idle s) (Good cell read)) cell) same
+        (marked-read law (idle s) cell read whole there)), refl))
 read_tells law s cell word pass read bytes false true whole there is e l =
     rw (e, l) (refl, ((is, (λ same. false≢true (sym e ∙ eq-eqb read word same)), marked-read law (idle s) cell read whole there), refl))
 read_tells law s cell word pass read bytes false false whole there is e l = rw (e, l) (refl, refl)
@@ -151,7 +154,8 @@ answer_tells law s (Word cell) tries bytes payload sound whole there is = (
 answer_tells law s (Mode output) tries bytes payload sound whole there is =
     mode_tells s output tries (Got bytes) (mode_of (word_in payload)) (output-there s output sound there)
 answer_tells law s (Coefficients output) tries bytes payload sound whole there is =
-    learned_tells s output tries false (Got bytes) (result_ok (shape_in Direct (coefficients_of payload))) (output-there s output sound there)
+    learned_tells s output tries false (Got bytes) (result_ok (shape_in Direct (coefficients_of payload)))
+        (output-there s output sound there)
 
 -- a question was asked
 asked_tells : CellsHavePlaces → (s : Summary) (question : Question) (tries : ℕ) (bytes : List ℕ) (payload : Option (List ℕ)) → IsSound s
@@ -159,7 +163,8 @@ asked_tells : CellsHavePlaces → (s : Summary) (question : Question) (tries : �
     → Tells s (Some (Asks question tries)) (Got bytes) (asked (idle s) question tries payload)
 asked_tells law s question tries bytes None sound whole there is =
     another_tells s question tries bytes (eqb (tries + 1) s.setup.passes) is refl
-asked_tells law s question tries bytes (Some payload) sound whole there is = answer_tells law s question tries bytes payload sound whole there is
+asked_tells law s question tries bytes (Some payload) sound whole there is =
+    answer_tells law s question tries bytes payload sound whole there is
 
 -- a command was sent, acknowledged or not
 sent_tells : (s : Summary) (command : Command) (tries : ℕ) (acked last : Bool) → eqb (tries + 1) s.setup.passes ≡ last
@@ -251,7 +256,8 @@ stage_of-job setup (Order cell word) told = go (is_write_turn told) where
   go false = refl
 stage_of-job setup (Check cell) told = refl
 stage_of-job setup (Learn output) told = go (is_some (mode_told setup output told)) where
-  go : (known : Bool) → stage_job (cond known (Asks (Coefficients output) (coefficients_tries setup output told)) (Asks (Mode output) (length told)))
+  go : (known : Bool) → stage_job
+      (cond known (Asks (Coefficients output) (coefficients_tries setup output told)) (Asks (Mode output) (length told)))
       ≡ Learn output
   go true = refl
   go false = refl

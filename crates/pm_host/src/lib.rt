@@ -5,9 +5,10 @@
 //! reads it back, a check reads one, a learn reads the format of an output's voltages, a clear clears
 //! its latched faults, a store copies the outputs' settings to the device's user store, a restore brings
 //! them back. It trusts no acknowledgement: a setting is confirmed by a good answer alone, and until
-//! then the host keeps the exact list of words that the setting may hold, as far as no restart of the
-//! device went unnoticed. Once it begins to send a restore, an output's setting may hold any word, until
-//! it is read again.
+//! then the host keeps the list of words that the setting may hold. The list is exact where, since the
+//! host started, the device didn't restart, WRITE_PROTECT was neither ordered nor read as other than
+//! 00h, and no restore was begun. Once the host begins to send a restore, an output's setting may hold
+//! any word, until it is read again.
 //!
 //! What a host is asked for is a [`Job`], which [`Host::begin`] begins; a call for each kind of job does
 //! the same.

@@ -1,4 +1,5 @@
-//! Some laws of both ends, each by a name that shows all that it is about, so that a caller has it without a proof.
+//! Some laws of host and converter, each as a named statement that shows all its arguments, so that a caller gets it
+//! without writing a proof.
 //!
 //! A caller's prover doesn't find a law that leaves some of its arguments to be guessed, as how often a check was tried,
 //! or that says something long. Here what such a law says has a name, which stays closed until a proof opens it, and

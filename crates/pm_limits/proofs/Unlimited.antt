@@ -14,6 +14,7 @@ use Rattle.pm_limits.specs.declared.fault.LimitFault.{LimitFault}
 use Rattle.pm_limits.specs.declared.fault.LimitFault.TheVariants.{NotKnownWithin}
 use Rattle.pm_limits.specs.Guard.{judged, limited_fault, of_host}
 
+-- a rule gives no fault where a part of its condition is false
 never : (applies : Bool) (fault : LimitFault) → rule (applies && false) fault ≡ None
 never true fault = refl
 never false fault = refl
@@ -32,6 +33,7 @@ once None (Some b) c = refl
 once None None (Some c) = refl
 once None None None = refl
 
+-- an order whose output has no limits is refused exactly where the host refuses it, and for the same fault
 pub unlimited : (s : Summary) (cell : Cell) (word : ℕ) →
     limited_fault None s (Order cell word) ≡ of_host (begin_fault s (Order cell word))
 unlimited s cell word = rw (free s cell word) (once (cell_fault s cell) _ _)

@@ -3,7 +3,8 @@
 //! A [`Guard`] is a host that refuses orders beyond an output's [`Limits`]: a voltage whose word stands for
 //! a value outside them, and a byte of OPERATION that leaves the output on while what it would command isn't
 //! known to lie within. [`band_of`] says between which voltages an output may be by what a host knows, as
-//! exact fractions; no narrower band is true.
+//! exact fractions; no narrower band is true where the possible words are exact
+//! (`possible_words_are_exact` of `pm_world`).
 //!
 //! A guard knows what was ordered through it and what was read. What a device or its user store held before
 //! it can't know: check the registers first, and ask [`Guard::within`].

@@ -1,6 +1,8 @@
 -- How an engine ends follows from its input.
-use Rattle.std.proofs.Common.{◌≡◌, ◌∙◌, ℕ, ◌<◌, ◌≤◌, true, false, List, ◌++◌, length, length-append, append-nil, take, drop, take-append-drop}
-use Rattle.std.proofs.Common.{◌↔◌, Bool, IsFalse, IsTrue, true≢false, Option, Some, None, IfSome, Result, Ok, Err, refl, sym, ap, arith, ltb, subst}
+use Rattle.std.proofs.Common.{◌≡◌, ◌∙◌, ℕ, ◌<◌, ◌≤◌, true, false, List, ◌++◌, length, length-append, append-nil, take, drop}
+use Rattle.std.proofs.Common.{take-append-drop}
+use Rattle.std.proofs.Common.{◌↔◌, Bool, IsFalse, IsTrue, true≢false, Option, Some, None, IfSome, Result, Ok, Err, refl, sym, ap, arith}
+use Rattle.std.proofs.Common.{ltb, subst}
 use Rattle.std.proofs.lemmas.Bool.Decides.{nat_tests}
 use Rattle.std.proofs.lemmas.List.{length-take, length-drop}
 use Rattle.std.specs.Io.KnownBytes.{Consumes, Keeps}

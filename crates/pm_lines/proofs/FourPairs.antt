@@ -49,7 +49,8 @@ pair_first x y byte rest pair =
     let (space, hex, value) = pair_is x y byte pair in (rw (space, hex, value) refl, rw (space, hex) refl)
 
 -- a space at the beginning
-space_first : (x : ℕ) (rest : List ℕ) → x ≡ 32 → (paired_bytes (x ∷ rest) ≡ paired_bytes rest) × (behind_pairs (x ∷ rest) ≡ behind_pairs rest)
+space_first : (x : ℕ) (rest : List ℕ) → x ≡ 32
+    → (paired_bytes (x ∷ rest) ≡ paired_bytes rest) × (behind_pairs (x ∷ rest) ≡ behind_pairs rest)
 space_first x [] at = let is : is_space x ≡ true = grind (arith, nat_tests) in (refl, rw is refl)
 space_first x (y ∷ rest) at = let is : is_space x ≡ true = grind (arith, nat_tests) in (rw is refl, rw is refl)
 

@@ -5,6 +5,7 @@ use Rattle.pm_num.specs.Ratio.{IsMicroFloor, Ratio}
 use Rattle.pm_num.proofs.Rounding.{floor_from, greatest_from_floor}
 use Rattle.pm_meaning.specs.Values.{millionths}
 
+-- the millionths of a fraction with a denominator above 0 are the most whole ones that aren't above it
 pub floor_of : (value : Ratio) → 0 < value.den → IsMicroFloor value (millionths value)
 floor_of value some =
     let positive : pos 0 <ℤ pos value.den = omega (arith, ints, some) in

@@ -1,5 +1,6 @@
 -- Words that are accepted at each place are those of settings, and the words of settings are accepted.
-use Rattle.std.proofs.Common.{◌≡◌, ℕ, ◌+◌, ◌<◌, ◌≤◌, Bool, true, false, not, ◌||◌, cond, length, get_or, Some, None, refl, sym, ap, subst, ◌∙◌, arith}
+use Rattle.std.proofs.Common.{◌≡◌, ℕ, ◌+◌, ◌<◌, ◌≤◌, Bool, true, false, not, ◌||◌, cond, length, get_or, Some, None, refl, sym, ap, subst}
+use Rattle.std.proofs.Common.{◌∙◌, arith}
 use Rattle.std.specs.List.{list_all, range_with_len}
 use Rattle.std.proofs.lemmas.Bool.{and_from, le-leb, ltb-true}
 use Rattle.std.proofs.lemmas.List.Sums.{AllPass-from_list_all, list_all-from_AllPass}
@@ -24,6 +25,7 @@ there-true : (count : ℕ) (cell : Cell) → IsCell count cell → is_cell count
 there-true count (Out output register) here = grind (arith, here)
 there-true count Protect here = refl
 
+-- a cell that passes the test is there
 true-there : (count : ℕ) (cell : Cell) → is_cell count cell ≡ true → IsCell count cell
 true-there count (Out output register) e = ltb-true output count e
 true-there count Protect e = tt

@@ -5,7 +5,7 @@ ghost use Rattle.std.specs.Process.{exit_status};
 ghost use Rattle.std.specs.Vec.Iter.{into_iter_items};
 ghost use Rattle.pm_program.specs.Arguments.{arguments_of};
 ghost use Rattle.pm_part_lines.specs.Execution.{RunEnds, StartEnds};
-ghost use Rattle.pm_talk.specs.Serving.{Run};
+ghost use Rattle.pm_talk.specs.Serving.{over};
 
 use crate::options::Options;
 use crate::setups::Setups;
@@ -32,13 +32,8 @@ pub fn program<S: Setups, P: Port, E: Write>(
     errors: &mut Sink<E>,
 ) -> ExitCode
     requires { IsFalse errors.old.failed }
-    ensures ends { let run : Run _ _ = record {
-      told = E.contents;
-      port = port.old;
-      port' = port.new;
-      errors = errors.old;
-      errors' = errors.new;
-    } in MatchResult arguments
+    ensures ends { let run = over E.contents port.old port.new errors.old errors.new in
+        MatchResult arguments
         (λ given. RunEnds P.goes run (S.has setups.now) (exit_status result)
         (Ok (map string_bytes (into_iter_items given))))
         (λ error. RunEnds P.goes run (S.has setups.now) (exit_status result) (Err (error_kind error))) }
@@ -56,13 +51,8 @@ fn run_given<S: Setups, P: Port, E: Write>(
     errors: &mut Sink<E>,
 ) -> u8
     requires { IsFalse errors.old.failed }
-    ensures { let run : Run _ _ = record {
-      told = E.contents;
-      port = port.old;
-      port' = port.new;
-      errors = errors.old;
-      errors' = errors.new;
-    } in MatchResult arguments
+    ensures { let run = over E.contents port.old port.new errors.old errors.new in
+        MatchResult arguments
         (λ given. RunEnds P.goes run (S.has setups.now) result
         (Ok (map string_bytes (into_iter_items given))))
         (λ error. RunEnds P.goes run (S.has setups.now) result (Err (error_kind error))) }
@@ -100,13 +90,8 @@ pub fn run<S: Setups, P: Port, E: Write>(
     errors: &mut Sink<E>,
 ) -> u8
     requires { IsFalse errors.old.failed }
-    ensures { let run : Run _ _ = record {
-      told = E.contents;
-      port = port.old;
-      port' = port.new;
-      errors = errors.old;
-      errors' = errors.new;
-    } in RunEnds P.goes run (S.has setups.now) result (arguments_of words.entry) }
+    ensures { let run = over E.contents port.old port.new errors.old errors.new in
+        RunEnds P.goes run (S.has setups.now) result (arguments_of words.entry) }
 {
     let words = match words {
         Ok(words) => words,
@@ -127,13 +112,8 @@ fn serve_part<S: Setups, P: Port, E: Write>(
     errors: &mut Sink<E>,
 ) -> u8
     requires { IsFalse errors.old.failed }
-    ensures { let run : Run _ _ = record {
-      told = E.contents;
-      port = port.old;
-      port' = port.new;
-      errors = errors.old;
-      errors' = errors.new;
-    } in StartEnds P.goes run (S.has setups.now) result (option_map (λ name. name.now) options.now.setup) }
+    ensures { let run = over E.contents port.old port.new errors.old errors.new in
+        StartEnds P.goes run (S.has setups.now) result (option_map (λ name. name.now) options.now.setup) }
 {
     match options.start(alloc, setups) {
         Ok(converter) => serve(&mut Part { converter }, NAME, port, errors),

@@ -7,9 +7,11 @@ use Rattle.pm_limits.specs.Bounds.{Bounds}
 use Rattle.pm_limits.specs.Guard.{Guarded}
 use Rattle.pm_session.specs.Session.{with_host}
 
+-- a host with limits whose limits stayed is the old one with nothing but the host within replaced
 pub with_host_is : (g new : Guarded) (h : Summary) → new.host ≡ h → new.limits ≡ g.limits → new ≡ with_host g h
 with_host_is g new h is kept = ap₂ (λ (s : Summary) (l : List (Option Bounds)). record { host = s; limits = l }) is kept
 
+-- where a job is accepted, the host after that entry is the one that the definition of a begun job gives
 begun_host : (s new : Summary) (job : Option host.Job) → IsSomeAnd job (λ accepted. new ≡ next s (host.Accepted accepted))
     → new ≡ option_map_or (λ accepted. next s (host.Accepted accepted)) job s
 begun_host s new None is = absurd is

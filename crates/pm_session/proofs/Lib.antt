@@ -1,5 +1,4 @@
 mod GotLemmas
 pub mod JobLemmas
-pub mod Joins
 pub mod LimitTexts
 mod SendLemmas

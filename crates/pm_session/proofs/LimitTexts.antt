@@ -1,5 +1,6 @@
 -- The parts of a text beside its first colon, and limits that are refused.
-use Rattle.std.proofs.Common.{◌≡◌, ◌≢◌, ◌∙◌, ◌<◌, ◌++◌, ℕ, suc, false, List, [], ◌∷◌, length, get_or, Option, Some, None, Err, option_map, eqb, ne_eqb, refl, ap, arith}
+use Rattle.std.proofs.Common.{◌≡◌, ◌≢◌, ◌∙◌, ◌<◌, ◌++◌, ℕ, suc, false, List, [], ◌∷◌, length, get_or, Option, Some, None, Err, option_map}
+use Rattle.std.proofs.Common.{eqb, ne_eqb, refl, ap, arith}
 use Rattle.std.specs.Borrow.{Bor}
 use Rattle.std.proofs.lemmas.Str.Pattern.{IsSplitOnceResult, split_parts}
 use Rattle.pm_limits.specs.Guard.{Guarded}
@@ -14,12 +15,14 @@ NoColon text = (i : ℕ) → i < length text → get_or text i 0 ≢ 58
 later : (c : ℕ) (cs : List ℕ) → NoColon (c ∷ cs) → NoColon cs
 later c cs none i lt = none (suc i) (omega arith)
 
+-- a text without a colon has no parts beside one
 no_parts : (text : List ℕ) → NoColon text → colon_parts text ≡ None
 no_parts [] none = refl
 no_parts (c ∷ cs) none =
     let here : eqb c 58 ≡ false = ne_eqb c 58 (none 0 (omega arith)) in
     rw (here, no_parts cs (later c cs none)) refl
 
+-- where a colon follows characters that are none, they are the first part of the text, and the rest is the second
 two_parts : (front rest : List ℕ) → NoColon front → colon_parts (front ++ 58 ∷ rest) ≡ Some (front, rest)
 two_parts [] rest none = refl
 two_parts (c ∷ cs) rest none =

@@ -1,5 +1,5 @@
 -- The line that an answer is written as. This project's own choice.
-use Rattle.std.specs.Prelude.{ℕ, ℤ, neg_ℤ, Bool, if◌then◌else◌, List, ◌++◌, Option, Some, None, flat_map, codes, decimal}
+use Rattle.std.specs.Prelude.{ℕ, ℤ, neg_ℤ, Bool, if◌then◌else◌, List, ◌++◌, Option, Some, None, codes, decimal}
 use Rattle.std.specs.Fmt.{signed_decimal}
 use Rattle.pm_num.specs.Ratio.{Ratio}
 use Rattle.pm_host.specs.FaultWords.{untold_words}
@@ -7,7 +7,7 @@ use Rattle.pm_limits.specs.declared.band.Band.{Band as Voltages}
 use Rattle.pm_limits.specs.Bounds.{Bounds}
 use Rattle.pm_limits.specs.FaultWords.{limit_fault_words}
 use Rattle.pm_lines.specs.Faults.{fault_words}
-use Rattle.pm_lines.specs.Numbers.{hex_byte}
+use Rattle.pm_lines.specs.Numbers.{spaced_bytes}
 use Rattle.pm_lines.specs.declared.fault.TextFault.TheVariants as text
 use Rattle.pm_text.specs.Report.{end_text, floor_micros, possible_text, standing_text}
 use Rattle.pm_session.specs.declared.refusal.Refusal.{Refusal}
@@ -22,10 +22,6 @@ refusal_words BadHex = fault_words (text.BadHex 1)
 refusal_words TooLong = fault_words text.TooLong
 refusal_words (Untold fault) = untold_words fault
 refusal_words (Guard fault) = limit_fault_words fault
-
--- bytes in hexadecimal, a space before each
-abbrev pub spaced_bytes : List ℕ → List ℕ
-spaced_bytes bytes = flat_map (λ byte. codes " " ++ hex_byte byte) bytes
 
 abbrev pub seen_text : Bool → List ℕ
 seen_text seen = if seen then codes "yes" else codes "no"

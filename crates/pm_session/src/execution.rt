@@ -6,7 +6,7 @@ ghost use Rattle.std.specs.Vec.Iter.{into_iter_items};
 ghost use Rattle.pm_program.specs.Arguments.{arguments_of};
 ghost use Rattle.pm_session.specs.Execution.{RunEnds, ServeEnds};
 ghost use Rattle.pm_session.specs.Options.{start_of};
-ghost use Rattle.pm_talk.specs.Serving.{Run};
+ghost use Rattle.pm_talk.specs.Serving.{over};
 
 use crate::options::Options;
 use crate::speaking::Session;
@@ -31,13 +31,8 @@ pub fn program<P: Port, E: Write>(
     errors: &mut Sink<E>,
 ) -> ExitCode
     requires { IsFalse errors.old.failed }
-    ensures ends { let run : Run _ _ = record {
-      told = E.contents;
-      port = port.old;
-      port' = port.new;
-      errors = errors.old;
-      errors' = errors.new;
-    } in MatchResult arguments
+    ensures ends { let run = over E.contents port.old port.new errors.old errors.new in
+        MatchResult arguments
         (λ given. RunEnds P.goes run (exit_status result) (Ok (map string_bytes (into_iter_items given))))
         (λ error. RunEnds P.goes run (exit_status result) (Err (error_kind error))) }
     ensures status { exit_status result ≤ 2 }
@@ -53,13 +48,8 @@ fn run_given<P: Port, E: Write>(
     errors: &mut Sink<E>,
 ) -> u8
     requires { IsFalse errors.old.failed }
-    ensures { let run : Run _ _ = record {
-      told = E.contents;
-      port = port.old;
-      port' = port.new;
-      errors = errors.old;
-      errors' = errors.new;
-    } in MatchResult arguments
+    ensures { let run = over E.contents port.old port.new errors.old errors.new in
+        MatchResult arguments
         (λ given. RunEnds P.goes run result (Ok (map string_bytes (into_iter_items given))))
         (λ error. RunEnds P.goes run result (Err (error_kind error))) }
 {
@@ -94,13 +84,8 @@ pub fn run<P: Port, E: Write>(
     errors: &mut Sink<E>,
 ) -> u8
     requires { IsFalse errors.old.failed }
-    ensures { let run : Run _ _ = record {
-      told = E.contents;
-      port = port.old;
-      port' = port.new;
-      errors = errors.old;
-      errors' = errors.new;
-    } in RunEnds P.goes run result (arguments_of words.entry) }
+    ensures { let run = over E.contents port.old port.new errors.old errors.new in
+        RunEnds P.goes run result (arguments_of words.entry) }
 {
     let words = match words {
         Ok(words) => words,
@@ -115,13 +100,8 @@ pub fn run<P: Port, E: Write>(
 // Answers the lines that come, over a host that these options make.
 fn serve_host<P: Port, E: Write>(options: &Options<'_>, port: &mut P, errors: &mut Sink<E>) -> u8
     requires { IsFalse errors.old.failed }
-    ensures { let run : Run _ _ = record {
-      told = E.contents;
-      port = port.old;
-      port' = port.new;
-      errors = errors.old;
-      errors' = errors.new;
-    } in ServeEnds P.goes run result (start_of options.now) }
+    ensures { let run = over E.contents port.old port.new errors.old errors.new in
+        ServeEnds P.goes run result (start_of options.now) }
 {
     let guard = match options.start() {
         Ok(guard) => guard,

@@ -25,6 +25,6 @@ pub use execution::{program, run};
 pub use options::{Options, OutputLimits, StartFault};
 pub use refusal::Refusal;
 pub use reply::Reply;
-pub use reply_text::{ReplyText, reply_text as text_of};
+pub use reply_text::reply_text as text_of;
 pub use session::answer_line;
 pub use speaking::Session;

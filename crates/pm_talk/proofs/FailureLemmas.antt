@@ -33,18 +33,22 @@ neither is xs ys first later = list_any-append is xs ys ∙ ap₂ (λ a b. a || 
 lone : (is : Happening → Bool) (thing : Happening) → is thing ≡ false → list_any is (thing ∷ []) ≡ false
 lone is thing none = ap (λ b. b || false) none
 
+-- a test of failures holds of none of the bytes that come
 none_came : (is : Happening → Bool) → IsOfFailures is → (bytes : List ℕ) → list_any is (came bytes) ≡ false
 unfolding came
 none_came is of [] = refl
 none_came is of (byte ∷ bytes) = ap (λ first. first || list_any is (came bytes)) (of.came byte) ∙ none_came is of bytes
 
+-- a test of failures doesn't hold of what ends a line, be that a line feed or the end of input
 none_ends : (is : Happening → Bool) → IsOfFailures is → (more : Bool) → list_any is (line_end more ∷ []) ≡ false
 none_ends is of true = lone is (Came 10) (of.came 10)
 none_ends is of false = lone is Ended of.ended
 
+-- a test of failures holds of nothing that happens while a line comes, its end included
 none_heard : (is : Happening → Bool) → IsOfFailures is → (more : Bool) (line : List ℕ) → list_any is (heard more line) ≡ false
 none_heard is of more line = neither is (came line) (line_end more ∷ []) (none_came is of line) (none_ends is of more)
 
+-- a test of failures holds of nothing that happens while a text goes and is flushed
 none_handed : (is : Happening → Bool) → IsOfFailures is → (text : List ℕ) → list_any is (handed_on text) ≡ false
 none_handed is of text = neither is (went text) (Flushed ∷ []) (none_went is of.went text) (lone is Flushed of.flushed)
 
@@ -81,9 +85,11 @@ told_end speech s (byte ∷ bytes) =
     list_any-append is_end (heard false (byte ∷ bytes)) (answered speech s (byte ∷ bytes))
     ∙ ap (λ b. b || list_any is_end (answered speech s (byte ∷ bytes))) (later is_end (came (byte ∷ bytes)) (Ended ∷ []) refl)
 
+-- no byte that comes or goes, no end of input and no flush counts as a failed read
 of_reads : IsOfFailures is_failed_read
 of_reads = record { came = λ byte. refl; ended = refl; went = λ byte. refl; flushed = refl }
 
+-- no byte that comes or goes, no end of input and no flush that was made counts as a failed write
 of_writes : IsOfFailures is_failed_write
 of_writes = record { came = λ byte. refl; ended = refl; went = λ byte. refl; flushed = refl }
 
@@ -100,6 +106,7 @@ record Cuts (fault : TextFault) (things : List Happening) : Type 0 where
   reads : (b : Bool) → b ≡ list_any is_failed_read things → IsTrue b ↔ (fault ≡ text.Read)
   writes : (b : Bool) → b ≡ list_any is_failed_write things → IsTrue b ↔ (fault ≡ text.Write)
 
+-- a stretch in which no read and no write failed goes with any fault but Read and Write
 neither_failed : (fault : TextFault) (things : List Happening) → fault ≢ text.Read → fault ≢ text.Write
     → list_any is_failed_read things ≡ false → list_any is_failed_write things ≡ false → Cuts fault things
 neither_failed fault things no_read no_write reads writes = record {
@@ -107,7 +114,9 @@ neither_failed fault things no_read no_write reads writes = record {
   writes = λ b is. it_is_not b fault text.Write (is ∙ writes) no_write;
 }
 
-cut_fails : {S : Type 0} (speech : Speech S) (s after : S) (fault : TextFault) (cut : List Happening) → IsCut speech s after fault cut → Cuts fault cut
+-- in a turn that broke off, a read failed exactly where the fault is Read, and a write exactly where it is Write
+cut_fails : {S : Type 0} (speech : Speech S) (s after : S) (fault : TextFault) (cut : List Happening) → IsCut speech s after fault cut
+    → Cuts fault cut
 cut_fails speech s after text.Read cut (bytes, line, is, same) = subst (Cuts text.Read) (sym is) (record {
   reads = λ b any. it_is b text.Read text.Read (any ∙ later is_failed_read (came bytes) (ReadFailed ∷ []) refl) refl;
   writes = λ b any. it_is_not b text.Read text.Write
@@ -130,12 +139,14 @@ cut_fails speech s after (text.BadHex line) cut is = absurd is
 cut_fails speech s after text.Memory cut is = absurd is
 cut_fails speech s after (text.Setup fault) cut is = absurd is
 
+-- where all lines came that can be counted, no read and no write failed, and the fault is neither Read nor Write
 over_fails : {S : Type 0} (s after : S) (fault : TextFault) (lines : List (List ℕ)) (cut : List Happening)
     → IsOver s after fault lines cut → Cuts fault cut
 over_fails s after fault lines cut (too_long, many, none, same) =
     subst (λ f. Cuts f cut) (sym too_long) (subst (Cuts text.TooLong) (sym none)
     (neither_failed text.TooLong [] (λ e. absurd (cc)) (λ e. absurd (cc)) refl refl))
 
+-- however a talk broke off, a read failed exactly where the fault is Read, and a write exactly where it is Write
 broken_fails : {S : Type 0} (speech : Speech S) (s after : S) (fault : TextFault) (lines : List (List ℕ)) (cut : List Happening)
     → IsCut speech s after fault cut ⊎ IsOver s after fault lines cut → Cuts fault cut
 broken_fails speech s after fault lines cut (inl is) = cut_fails speech s after fault cut is

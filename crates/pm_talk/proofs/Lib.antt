@@ -1,2 +1,3 @@
 mod FailureLemmas
 mod TalkLemmas
+pub mod UsageLemmas

@@ -22,6 +22,16 @@ pub record Run (P E : Type 0) : Type 0 where
   pub errors : Held E
   pub errors' : Held E
 
+-- the run over a port and standard error, by what each is before and after
+abbrev pub over : {P E : Type 0} → (E → Option (List ℕ)) → P → P → Held E → Held E → Run P E
+over told port port' errors errors' = record {
+  told = told;
+  port = port;
+  port' = port';
+  errors = errors;
+  errors' = errors';
+}
+
 module _ {P E : Type 0} (goes : P → List Happening → P → Type 0) (run : Run P E) where
   -- these things happened at the port, one after another
   abbrev pub Happens : List Happening → Type 0

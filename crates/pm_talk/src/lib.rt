@@ -4,6 +4,7 @@
 //! program makes of its end.
 #![tactic(auto)]
 
+mod answer_text;
 mod happening;
 mod laws;
 mod port;
@@ -12,11 +13,12 @@ mod speaker;
 mod streams;
 mod talk;
 
+pub use answer_text::{AnswerText, push_signed, push_spaced_bytes, push_text, push_word};
 pub use happening::Happening;
 pub use laws::streams_fail_as_told;
 pub use pm_lines::{Sink, Source};
 pub use port::Port;
 pub use serving::{serve, show_usage};
-pub use speaker::{AnswerText, Speaker};
+pub use speaker::Speaker;
 pub use streams::Streams;
 pub use talk::{converse, hand_on};

@@ -3,7 +3,7 @@ ghost use Rattle.std.specs.Prelude.{◌≡◌, IsFalse};
 ghost use Rattle.clap.specs.Words.{kind_of};
 ghost use Rattle.pm_lines.specs.Faults.{fault_words};
 ghost use Rattle.pm_program.specs.Refusals.{Says, program_line};
-ghost use Rattle.pm_talk.specs.Serving.{Run, TalkEnds, UsageEnds};
+ghost use Rattle.pm_talk.specs.Serving.{TalkEnds, UsageEnds, over};
 
 use crate::port::Port;
 use crate::speaker::Speaker;
@@ -22,13 +22,8 @@ pub fn serve<S: Speaker, P: Port, E: Write>(
     errors: &mut Sink<E>,
 ) -> u8
     requires { IsFalse errors.old.failed }
-    ensures { let run : Run _ _ = record {
-      told = E.contents;
-      port = port.old;
-      port' = port.new;
-      errors = errors.old;
-      errors' = errors.new;
-    } in TalkEnds P.goes run program.now S.speech result speaker.old }
+    ensures { let run = over E.contents port.old port.new errors.old errors.new in
+        TalkEnds P.goes run program.now S.speech result speaker.old }
 {
     match converse(speaker, port) {
         Ok(()) => 0,
@@ -46,13 +41,8 @@ pub fn show_usage<P: Port, E: Write>(
     errors: &mut Sink<E>,
 ) -> u8
     requires { IsFalse errors.old.failed }
-    ensures { let run : Run _ _ = record {
-      told = E.contents;
-      port = port.old;
-      port' = port.new;
-      errors = errors.old;
-      errors' = errors.new;
-    } in UsageEnds P.goes run program.now result (kind_of error.now) }
+    ensures { let run = over E.contents port.old port.new errors.old errors.new in
+        UsageEnds P.goes run program.now result (kind_of error.now) }
 {
     match usage_of(alloc, error) {
         Usage::Shown(text) => {

@@ -1,10 +1,7 @@
 ghost use Rattle.std.specs.Prelude.{◌≡◌, ℕ, List, take};
 ghost use Rattle.pm_talk.specs.Speech.{Speech};
 
-use arrayvec::ArrayVec;
-
-/// The line of an answer, with its line feed: at most 192 bytes.
-pub type AnswerText = ArrayVec<u8, 192>;
+use crate::answer_text::AnswerText;
 
 /// A machine that is spoken to in lines: a line makes something of it, and gets one line as its answer.
 pub trait Speaker {

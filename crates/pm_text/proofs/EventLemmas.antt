@@ -121,7 +121,8 @@ module _ (form : Form) (lines left : List Numbered) (old now : State) (taken : �
                   reads = rest-reads ∙ ap (after (reverse (event ∷ before))) is ∙ ap Ok (reversed event before later);
                   after = so_far.now_is ∙ ap (after_all old) (sym turned);
                   all = subst (AreTakenFrom old) (sym turned) so_far.all;
-                  stops = subst (λ o. IsSomeAnd o (λ e. cause_of (after_all old (reverse (take taken events))) e ≡ Some why)) (sym there) caused;
+                  stops = subst (λ o. IsSomeAnd o (λ e. cause_of (after_all old (reverse (take taken events))) e ≡ Some why)) (sym there)
+                      caused;
                   counts = refl;
                 },
               )

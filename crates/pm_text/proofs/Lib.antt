@@ -1,7 +1,6 @@
 mod EventLemmas
 pub mod FloorLemmas
 mod FrameLemmas
-pub mod Joins
 pub mod LineLemmas
 mod OutputLemmas
 pub mod ReplayLemmas

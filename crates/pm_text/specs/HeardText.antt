@@ -1,14 +1,10 @@
 -- What a converter's answer is written as where it is spoken to in lines, and an output's word of VOUT_COMMAND. This project's own
 -- choice.
-use Rattle.std.specs.Prelude.{ℕ, List, ◌++◌, flat_map, decimal, codes}
-use Rattle.pm_lines.specs.Numbers.{hex_byte, hex_word}
+use Rattle.std.specs.Prelude.{ℕ, List, ◌++◌, decimal, codes}
+use Rattle.pm_lines.specs.Numbers.{hex_word, spaced_bytes}
 use Rattle.pm_device.specs.FaultWords.{device_fault_text}
 use Rattle.pm_device.specs.declared.heard.Heard.{Heard}
 use Rattle.pm_device.specs.declared.heard.Heard.TheVariants.{Silent, Taken, Answer, Refused}
-
--- bytes in hexadecimal, a space before each
-abbrev pub spaced_bytes : List ℕ → List ℕ
-spaced_bytes bytes = flat_map (λ byte. codes " " ++ hex_byte byte) bytes
 
 -- what the converter answered
 abbrev pub reply_words : Heard → List ℕ

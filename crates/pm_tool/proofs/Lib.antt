@@ -1,6 +1,5 @@
 pub mod EndLemmas
 pub mod GivenOptions
-pub mod Joins
 pub mod OneText
 pub mod PartLemmas
 pub mod RangeLemmas

@@ -32,6 +32,7 @@ read_at result count failed is why =
     let Q : Result ℕ TextFault → Type 0 = λ r. MatchResult r (λ _. IsFalse failed) (λ fault. IsTrue failed ↔ (fault ≡ Read)) in
     subst Q is why
 
+-- where reading a piece gave a fault, the reader has failed exactly where that fault is Read
 pub why_at : (result : Result ℕ TextFault) (fault : TextFault) (failed : Bool) → result ≡ Err fault
     → MatchResult result (λ _. IsFalse failed) (λ fault. IsTrue failed ↔ (fault ≡ Read)) → IsTrue failed ↔ (fault ≡ Read)
 why_at result fault failed is why =
@@ -44,6 +45,7 @@ pub due_at_fault : (full : Bool) (result : Result ℕ TextFault) (fault : TextFa
 due_at_fault true result fault whole is = let all : result ≡ Ok 512 = whole refl in absurd (cc)
 due_at_fault false result fault whole is = refl
 
+-- a write is due where a read brought no byte, which is the end
 pub due_at_end : (full : Bool) (result : Result ℕ TextFault) (count : ℕ) → (full ≡ true → result ≡ Ok 512) → result ≡ Ok count → count ≡ 0
     → not full ≡ true
 due_at_end true result count whole is none =
@@ -60,7 +62,8 @@ module _ {R W : Type 0} (run : Run R W) (r1 w1 : Option (List ℕ)) (bytes text 
   broke_off TooLong stops why = (
     tt,
     too_long run (false_unless run.reader'.failed (λ t. let wrong : TooLong ≡ Read = why.0 t in cc)) sound
-        (put_too_long _ _ _ _ bytes text old gathered (run.remaining run.reader'.inner) text' old (run.contents run.writer'.inner) stops puts),
+        (put_too_long _ _ _ _ bytes text old gathered (run.remaining run.reader'.inner) text' old (run.contents run.writer'.inner) stops
+            puts),
   )
   broke_off Read stops why =
       let (short, given, got) = put_unread _ _ _ _ bytes text old gathered (run.remaining run.reader'.inner) text' old
@@ -69,7 +72,8 @@ module _ {R W : Type 0} (run : Run R W) (r1 w1 : Option (List ℕ)) (bytes text 
   broke_off Memory stops why = (
     tt,
     unmade run (false_unless run.reader'.failed (λ t. let wrong : Memory ≡ Read = why.0 t in cc)) sound
-        (put_memory _ _ _ _ bytes text old gathered (run.remaining run.reader'.inner) text' old (run.contents run.writer'.inner) stops puts),
+        (put_memory _ _ _ _ bytes text old gathered (run.remaining run.reader'.inner) text' old (run.contents run.writer'.inner) stops
+            puts),
   )
   broke_off (Syntax line) stops why = absurd stops
   broke_off (BadHex line) stops why = absurd stops

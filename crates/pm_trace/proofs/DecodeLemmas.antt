@@ -248,7 +248,8 @@ module _ (r0 r1 w0 w1 : Option (List ℕ)) (bytes text : List ℕ) (old : Holdin
       -- a prefix of what was gathered was written after what was written before
       cut_behind : (all later : List ℕ) → told_lines (said all) ≡ gathered.done ++ (text' ++ later) → AppendsFront w1 w2 text'
           → AppendsFront w0 w2 (told_lines (said all))
-      cut_behind all later parts short = AppendsFront-behind w0 w1 w2 gathered.done text' later (told_lines (said all)) gathered.got short parts
+      cut_behind all later parts short =
+          AppendsFront-behind w0 w1 w2 gathered.done text' later (told_lines (said all)) gathered.got short parts
 
       -- the same after each way that a piece is read
       pub cut_off : (result : Result ℕ TextFault) (failed : Bool) → IfOk result (λ count. Tells r1 r2 text text' old new count)
@@ -408,6 +409,7 @@ nothing_text : codes "lines 0 accepted 0 faults 0 bad 0\n"
 unfolding now said counts_of line_of plain_line totals_line digits
 nothing_text = refl
 
+-- a trace of no bytes ends clean, since no line of it is bad
 nothing_end : Clean ≡ end_of (kept_at_end (now [])).counts
 unfolding now said counts_of line_of plain_line
 nothing_end = refl

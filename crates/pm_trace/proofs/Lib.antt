@@ -2,7 +2,6 @@ pub mod BreakLemmas
 pub mod CountLemmas
 pub mod DecodeLemmas
 pub mod HoldingLemmas
-pub mod Joins
 pub mod LineTextLemmas
 pub mod MarkLemmas
 pub mod OpenLineLemmas

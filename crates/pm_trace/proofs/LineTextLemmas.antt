@@ -13,7 +13,8 @@ use Rattle.pm_trace.proofs.UsualLemmas.{number_is}
 pub one_copied : (room text : List ℕ) (place : ℕ) → place < length room → place < length text → take place room ≡ take place text
     → take (place + 1) (set room place (get_or text place 0)) ≡ take (place + 1) text
 one_copied room text place within some so_far =
-    take_more_set room place (get_or text place 0) within ∙ ap (λ l. l ++ get_or text place 0 ∷ []) so_far ∙ sym (take_more text place 0 some)
+    take_more_set room place (get_or text place 0) within ∙ ap (λ l. l ++ get_or text place 0 ∷ []) so_far
+        ∙ sym (take_more text place 0 some)
 
 -- all of them are
 pub all_copied : (room text : List ℕ) (place : ℕ) → length room ≡ length text → length text ≤ place → take place room ≡ take place text

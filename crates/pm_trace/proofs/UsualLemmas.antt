@@ -1,5 +1,6 @@
 -- What the bytes of usual packets say, how they are counted, and their text.
-use Rattle.std.proofs.Common.{◌≡◌, ◌∙◌, ℕ, ◌+◌, ◌*◌, ◌/◌, ◌%◌, ◌<◌, ◌≤◌, ◌^◌, eqb, leb, Bool, true, false, cond, not, ◌&&◌, List, [], ◌∷◌, ◌++◌, length, codes, get_or}
+use Rattle.std.proofs.Common.{◌≡◌, ◌∙◌, ℕ, ◌+◌, ◌*◌, ◌/◌, ◌%◌, ◌<◌, ◌≤◌, ◌^◌, eqb, leb, Bool, true, false, cond, not, ◌&&◌, List, [], ◌∷◌}
+use Rattle.std.proofs.Common.{◌++◌, length, codes, get_or}
 use Rattle.std.proofs.Common.{Option, Some, None, refl, sym, ap, subst, arith, append_assoc, eq-eqb, lit<}
 use Rattle.std.specs.Prelude.{decimal, is_some, option_map, ◌==◌}
 use Rattle.std.specs.Option.{option_map_or}
@@ -7,14 +8,16 @@ use Rattle.std.specs.List.{list_all}
 use Rattle.std.proofs.lemmas.Bool.{and_parts}
 use Rattle.std.proofs.lemmas.Bool.Decides.{nat_tests}
 use Rattle.std.proofs.lemmas.Fmt.{decimal_digit, decimal_step}
-use Rattle.pm_frame.specs.Fault.{address_fault, answer_fault, block_request_fault, carried_count_fault, carried_fault, length_fault, opening_fault, pec_fault, request_fault, size_fault, write_fault}
+use Rattle.pm_frame.specs.Fault.{address_fault, answer_fault, block_request_fault, carried_count_fault, carried_fault, length_fault}
+use Rattle.pm_frame.specs.Fault.{opening_fault, pec_fault, request_fault, size_fault, write_fault}
 use Rattle.pm_frame.specs.Layout.{is_carried, read_address, sent, write_address}
 use Rattle.pm_frame.specs.Pec.{pec_of}
 use Rattle.pm_frame.specs.View.{message_in}
 use Rattle.pm_frame.specs.declared.message.Message.TheVariants.{PagePlusRead, PagePlusWrite}
 use Rattle.pm_frame.specs.declared.payload.Payload.TheVariants.{Word}
 use Rattle.pm_lines.specs.Numbers.{hex_byte, hex_number}
-use Rattle.pm_table.specs.Commands.{Line, Row, attributes, attributes_of, is_ever_written, is_known, is_read, is_written, line_among, line_of, name_of, payload_length, rows}
+use Rattle.pm_table.specs.Commands.{Line, Row, attributes, attributes_of, is_ever_written, is_known, is_read, is_written, line_among}
+use Rattle.pm_table.specs.Commands.{line_of, name_of, payload_length, rows}
 use Rattle.pm_table.specs.declared.commands.Attributes.{Attributes}
 use Rattle.pm_trace.specs.Counts.{Counts, IsNewCode, has_code, one_counted, one_more}
 use Rattle.pm_trace.specs.Trace.{Accepted, Judged, parts_judged}
@@ -30,16 +33,19 @@ pub usual_counted : (counts : Counts) (usual : Usual) → one_counted counts (us
 usual_counted counts usual = by usual.is_read
   where
     by : (is_read : Bool) → one_counted counts (cond is_read (Accepted usual.addr (PagePlusRead usual.page usual.code) (Some
-        (usual.low ∷ usual.high ∷ []))) (Accepted usual.addr (PagePlusWrite usual.page usual.code (Word (usual.low + 256 * usual.high))) None))
+        (usual.low ∷ usual.high ∷ [])))
+            (Accepted usual.addr (PagePlusWrite usual.page usual.code (Word (usual.low + 256 * usual.high))) None))
         ≡ record counts { accepted = counts.accepted + 1; codes = one_more counts.codes usual.code }
     by true = refl
     by false = refl
 
+-- a usual line whose code wasn't counted before is a line with a new code
 pub usual_new : (counts : Counts) (usual : Usual) → has_code counts.codes usual.code ≡ false → IsNewCode counts (usual_judged usual)
 usual_new counts usual none = by usual.is_read
   where
     by : (is_read : Bool) → IsNewCode counts (cond is_read (Accepted usual.addr (PagePlusRead usual.page usual.code) (Some
-        (usual.low ∷ usual.high ∷ []))) (Accepted usual.addr (PagePlusWrite usual.page usual.code (Word (usual.low + 256 * usual.high))) None))
+        (usual.low ∷ usual.high ∷ [])))
+            (Accepted usual.addr (PagePlusWrite usual.page usual.code (Word (usual.low + 256 * usual.high))) None))
     by true = none
     by false = none
 
@@ -61,14 +67,17 @@ page_short : payload_length 0x00 < 2
 unfolding line_of
 page_short = lit< tt
 
+-- the command table has fewer than two bytes for the payload of PAGE_PLUS_WRITE
 write_short : payload_length 0x05 < 2
 unfolding line_of
 write_short = lit< tt
 
+-- the command table has fewer than two bytes for the payload of PAGE_PLUS_READ
 read_short : payload_length 0x06 < 2
 unfolding line_of
 read_short = lit< tt
 
+-- the command table has fewer than two bytes for the payload of COEFFICIENTS
 coefficients_short : payload_length 0x30 < 2
 unfolding line_of
 coefficients_short = lit< tt
@@ -96,13 +105,15 @@ attributes_are : (code : ℕ) (found : Attributes) → attributes_of code ≡ So
 attributes_are code found is = by (line_of code) is
   where
     by : (line : Option Line) → option_map (λ l. attributes l.length l.scope l.reads l.protection) line ≡ Some found
-        → (option_map_or (λ l. l.length) line 0 ≡ found.length) × (option_map_or (λ l. is_ever_written l.protection) line false ≡ is_ever_written found.protection)
+        → (option_map_or (λ l. l.length) line 0 ≡ found.length)
+            × (option_map_or (λ l. is_ever_written l.protection) line false ≡ is_ever_written found.protection)
         × (option_map_or (λ l. l.reads) line false ≡ found.reads)
     by (Some line) is =
         let same : attributes line.length line.scope line.reads line.protection ≡ found = cc in
         (ap (λ a. a.length) same, ap (λ a. is_ever_written a.protection) same, ap (λ a. a.reads) same)
     by None is = absurd (cc)
 
+-- the length among the attributes of a code is that of its payload
 pub word_length : (code : ℕ) (found : Attributes) → attributes_of code ≡ Some found → payload_length code ≡ found.length
 word_length code found is = (attributes_are code found is).0
 
@@ -111,10 +122,12 @@ not_false : (b : Bool) → not b ≡ false → b ≡ true
 not_false true is = refl
 not_false false is = absurd (cc)
 
+-- a code is taken when written where the protection among its attributes ever lets a host write it
 pub written_is : (code : ℕ) (found : Attributes) (written : Bool) → attributes_of code ≡ Some found →
     written ≡ is_ever_written found.protection → written ≡ true → is_written code ≡ true
 written_is code found written is so goes = (attributes_are code found is).1 ∙ (sym so ∙ goes)
 
+-- a code is answered when read where its attributes say that it is read
 pub read_is : (code : ℕ) (found : Attributes) → attributes_of code ≡ Some found → not found.reads ≡ false → is_read code ≡ true
 read_is code found is goes = (attributes_are code found is).2 ∙ not_false found.reads goes
 
@@ -233,7 +246,8 @@ pub usual_write_is : (write : List ℕ) → length write ≡ 8 → get_or write 
     → HasWord (get_or write 0 0) (get_or write 3 0) (get_or write 4 0) → is_written (get_or write 4 0) ≡ true
     → get_or write 7 0 ≡ pec_of (get_or write 0 0 ∷ 5 ∷ 4 ∷ get_or write 3 0 ∷ get_or write 4 0 ∷ get_or write 5 0 ∷ get_or write 6 0 ∷ [])
     → parts_judged write None
-    ≡ Accepted (get_or write 0 0 / 2) (PagePlusWrite (get_or write 3 0) (get_or write 4 0) (Word (get_or write 5 0 + 256 * get_or write 6 0))) None
+    ≡ Accepted (get_or write 0 0 / 2)
+        (PagePlusWrite (get_or write 3 0) (get_or write 4 0) (Word (get_or write 5 0 + 256 * get_or write 6 0))) None
 usual_write_is [] many second third has written sum = absurd (omega arith)
 usual_write_is (a ∷ []) many second third has written sum = absurd (omega arith)
 usual_write_is (a ∷ b ∷ []) many second third has written sum = absurd (omega arith)
@@ -266,6 +280,7 @@ answer_is first page code (a ∷ b ∷ c ∷ d ∷ e ∷ []) has reads many seco
     subst P (sym second) (read_judged_usual first page code has a c d e reads next sum)
 answer_is first page code (a ∷ b ∷ c ∷ d ∷ e ∷ x ∷ rest) has reads many second next sum = absurd (omega arith)
 
+-- the bytes of a PAGE_PLUS_READ of a word and of its answer, known by their places, are accepted as that read
 pub usual_read_is : (write read : List ℕ) → length write ≡ 5 → get_or write 1 0 ≡ 6 → get_or write 2 0 ≡ 2
     → HasWord (get_or write 0 0) (get_or write 3 0) (get_or write 4 0) → is_read (get_or write 4 0) ≡ true → length read ≡ 5
     → get_or read 1 0 ≡ 2 → get_or read 0 0 ≡ get_or write 0 0 + 1
@@ -291,6 +306,7 @@ usual_read_is (a ∷ b ∷ c ∷ d ∷ e ∷ x ∷ rest) read many second third 
 abbrev is_short_name : Row → Bool
 is_short_name row = leb (length row.line.name) 18
 
+-- in a table without a name of over 18 bytes, no code gets a longer one
 among_short : (table : List Row) (code : ℕ) → list_all is_short_name table ≡ true
     → length (option_map_or (λ l. l.name) (line_among table code) []) ≤ 18
 among_short [] code all = omega arith
@@ -303,6 +319,7 @@ among_short (row ∷ table) code all =
     by true one rest = one
     by false one rest = rest
 
+-- the name of any code has at most 18 bytes
 pub name_short : (code : ℕ) → length (name_of code) ≤ 18
 unfolding line_of
 name_short code = among_short rows code refl
@@ -323,6 +340,7 @@ number_is number small = by (eqb (number / 10) 0) refl
 low_is : (low high : ℕ) → low < 2 ^ 8 → (low + 256 * high) % 256 ≡ low
 low_is low high small = omega arith
 
+-- the high byte of a word is the word divided by 256
 high_is : (low high : ℕ) → low < 2 ^ 8 → (low + 256 * high) / 256 ≡ high
 high_is low high small = omega arith
 
@@ -348,7 +366,8 @@ usual_line number usual small = by usual.is_read
         (Accepted usual.addr (PagePlusRead usual.page usual.code) (Some (usual.low ∷ usual.high ∷ [])))
         (Accepted usual.addr (PagePlusWrite usual.page usual.code (Word (usual.low + 256 * usual.high))) None)))) ++ codes "\n"
         ≡ ((decimal number ++ ((codes " " ++ hex_byte usual.addr) ++ (codes " page " ++ (decimal usual.page ++ codes " "))))
-        ++ name_of usual.code) ++ ((cond is_read (codes " read ") (codes " write ")) ++ (hex_byte usual.high ++ (hex_byte usual.low ++ codes "\n")))
+        ++ name_of usual.code) ++
+            ((cond is_read (codes " read ") (codes " write ")) ++ (hex_byte usual.high ++ (hex_byte usual.low ++ codes "\n")))
     by true =
         parts_joined (decimal number) (codes " ") (hex_byte usual.addr) (codes "page ") (decimal usual.page) (name_of usual.code)
         (codes " read ") (hex_byte usual.high) (hex_byte usual.low) (codes "\n")

@@ -9,7 +9,7 @@ use pm_table::Code;
 use std::alloc::AllocError;
 
 /// Appends a line for each code that was carried, and the line of the counts, to a text.
-#[tactic(auto, using(crate::proofs::Joins::joins))]
+#[tactic(auto, using(pm_lines::proofs::Joins::joins))]
 pub(crate) fn push_counts(text: &mut String, tally: &Tally) -> Result<(), AllocError>
     requires { lines_in tally.now < 2 ^ 64 }
     ensures { OnOk result (string_bytes text.new ≡ string_bytes text.old ++ counts_text tally.now) }
@@ -21,7 +21,7 @@ pub(crate) fn push_counts(text: &mut String, tally: &Tally) -> Result<(), AllocE
 }
 
 /// Appends the line of a code to a text.
-#[tactic(auto, using(crate::proofs::Joins::joins), unfolding(crate::specs::TraceText::count_line))]
+#[tactic(auto, using(pm_lines::proofs::Joins::joins), unfolding(crate::specs::TraceText::count_line))]
 pub fn push_count(text: &mut String, code: u8, count: u64) -> Result<(), AllocError>
     ensures { OnOk result (string_bytes text.new ≡ string_bytes text.old ++ count_line (code, count)) }
 {
@@ -33,7 +33,7 @@ pub fn push_count(text: &mut String, code: u8, count: u64) -> Result<(), AllocEr
 }
 
 // The line of the counts.
-#[tactic(auto, using(crate::proofs::Joins::joins), unfolding(crate::specs::TraceText::totals_line))]
+#[tactic(auto, using(pm_lines::proofs::Joins::joins), unfolding(crate::specs::TraceText::totals_line))]
 fn push_totals(text: &mut String, tally: &Tally) -> Result<(), AllocError>
     requires { lines_in tally.now < 2 ^ 64 }
     ensures { OnOk result (string_bytes text.new ≡ string_bytes text.old ++ totals_line tally.now) }

@@ -77,7 +77,7 @@ impl LineText {
 
     // The address and the page.
     #[inline(always)]
-    #[tactic(auto, using(crate::proofs::Joins::joins))]
+    #[tactic(auto, using(pm_lines::proofs::Joins::joins))]
     fn put_head(&mut self, usual: Usual)
         requires { length self.old + 11 ≤ ROOM }
         ensures text { self.new ≡ self.old ++ usual_head usual }
@@ -89,7 +89,7 @@ impl LineText {
 
     // The address.
     #[inline(always)]
-    #[tactic(auto, using(crate::proofs::Joins::joins))]
+    #[tactic(auto, using(pm_lines::proofs::Joins::joins))]
     fn put_address(&mut self, addr: u8)
         requires { length self.old + 3 ≤ ROOM }
         ensures text { self.new ≡ self.old ++ (codes " " ++ hex_byte addr) }
@@ -101,7 +101,7 @@ impl LineText {
 
     // The page.
     #[inline(always)]
-    #[tactic(auto, using(crate::proofs::Joins::digit_joins))]
+    #[tactic(auto, using(pm_lines::proofs::Joins::digit_joins))]
     fn put_page(&mut self, usual: Usual)
         requires { length self.old + 8 ≤ ROOM }
         ensures text { self.new ≡ self.old ++ (codes " page " ++ (decimal usual.page ++ codes " ")) }

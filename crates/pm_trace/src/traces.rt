@@ -195,7 +195,7 @@ fn push_shown_line(text: &mut String, decoder: &Decoder) -> Result<(), AllocErro
 }
 
 // Ends the trace, and returns the rest of the output: an unfinished last line, and the counts.
-#[tactic(auto, using(crate::proofs::Joins::joins))]
+#[tactic(auto, using(pm_lines::proofs::Joins::joins))]
 fn text_at_end(alloc: Global, decoder: &mut Decoder) -> Result<String, TextFault>
     requires { decoder.old.intake ≡ Intake.Open }
     ensures text { IfOk result (λ text. string_bytes text

@@ -46,6 +46,7 @@ use Rattle.pm_world.proofs.FirstWords.{first-bytes}
 no-bytes : AreBytes []
 no-bytes place = lit< tt
 
+-- a byte in front of bytes leaves all of them bytes
 one-more : (byte : ℕ) (bytes : List ℕ) → byte < 2 ^ 8 → AreBytes bytes → AreBytes (byte ∷ bytes)
 one-more byte bytes first rest zero = first
 one-more byte bytes first rest (suc place) = rest place
@@ -58,6 +59,7 @@ doubled-byte r =
     let added : bit_at r 7 * 7 < 2 ^ 8 = omega arith in
     xor_lt 8 (2 * r % 2 ^ 8) (bit_at r 7 * 7) (mod-lt (2 * r) (pow_pos 8)) added
 
+-- what is left of a power of x after division by the polynomial of the PEC is a byte
 residue-byte : (i : ℕ) → residue i < 2 ^ 8
 unfolding residue
 residue-byte zero = omega arith
@@ -106,16 +108,20 @@ marked-most bit false = omega arith
 bits-short : (a b c d e : ℕ) → a ≤ 0x40 → b ≤ 0x02 → c ≤ 0x01 → d ≤ 0x8000 → e ≤ 0x0800 → a + b + c + d + e < 2 ^ 16
 bits-short a b c d e ha hb hc hd he = omega arith
 
+-- STATUS_WORD has two bytes, whatever a converter holds
 status-short : (held : Held) (output : ℕ) → status_word held output < 2 ^ 16
 status-short held output = bits-short _ _ _ _ _ (marked-most 0x40 _) (marked-most 0x02 _) (marked-most 0x01 _) (marked-most 0x8000 _)
     (marked-most 0x0800 _)
 
+-- the bits of STATUS_BYTE, each set or not, make a word of two bytes
 byte-short : (a b c : ℕ) → a ≤ 0x40 → b ≤ 0x02 → c ≤ 0x01 → a + b + c < 2 ^ 16
 byte-short a b c ha hb hc = omega arith
 
+-- the bits of STATUS_CML, each set or not, make a word of two bytes
 cml-short : (a b c d : ℕ) → a ≤ 0x80 → b ≤ 0x40 → c ≤ 0x20 → d ≤ 0x02 → a + b + c + d < 2 ^ 16
 cml-short a b c d ha hb hc hd = omega arith
 
+-- the one bit of STATUS_VOUT, set or not, makes a word of two bytes
 vout-short : (a : ℕ) → a ≤ 0x08 → a < 2 ^ 16
 vout-short a ha = omega arith
 
@@ -151,9 +157,11 @@ register-short held output code h there = go (eqb code command.write_protect) (r
 both-bytes : (word : ℕ) → word ≡ word % 256 + 256 * (word / 256)
 both-bytes word = omega arith
 
+-- the low byte of a word is a byte
 low-byte : (word : ℕ) → word % 256 < 2 ^ 8
 low-byte word = omega arith
 
+-- the high byte of a word of two bytes is a byte
 high-byte : (word : ℕ) → word < 2 ^ 16 → word / 256 < 2 ^ 8
 high-byte word short = omega arith
 
@@ -171,6 +179,7 @@ spelled-word (pos n) is = go (ltb n (2 ^ 15)) refl is where
   go false e h = cc
 spelled-word (negsuc n) is = omega arith
 
+-- the eight bits that spell a number are a byte
 spelled-byte : (z : ℤ) → cast_signed w8 (cast_unsigned w8 z) ≡ z → cast_unsigned w8 z < 2 ^ 8
 spelled-byte (pos n) is = go (ltb n (2 ^ 7)) refl is where
   go : (b : Bool) → ltb n (2 ^ 7) ≡ b → sel b (pos n) (negsuc (2 ^ 8 - suc n)) ≡ pos n → n < 2 ^ 8
@@ -216,9 +225,11 @@ taken-few (suc (suc n)) a b = go n where
   go zero = omega arith
   go (suc n) = omega arith
 
+-- a length of at most two is one of at most five
 at-most-five : (n : ℕ) → n ≤ 2 → n ≤ 5
 at-most-five n few = omega arith
 
+-- the payload that answers a request, whichever it is, has at most five bytes
 payload-few : (held : Held) (request : Message) → length (payload_for held request) ≤ 5
 payload-few held (ReadCommand code) = at-most-five _ (taken-few (payload_length code) _ _)
 payload-few held (PagePlusRead page code) = at-most-five _ (taken-few (payload_length code) _ _)
@@ -228,6 +239,7 @@ payload-few held (WriteByte code byte) = omega arith
 payload-few held (WriteWord code word) = omega arith
 payload-few held (PagePlusWrite page code payload) = omega arith
 
+-- a count of at most five is a byte
 few-byte : (n : ℕ) → n ≤ 5 → n < 2 ^ 8
 few-byte n few = omega arith
 
@@ -274,6 +286,7 @@ read-answers held (WriteByte code byte) items is = cc
 read-answers held (WriteWord code word) items is = cc
 read-answers held (PagePlusWrite page code payload) items is = cc
 
+-- a request whose bytes a converter answers asks for a page or for coefficients that are there, if for either
 reply-answers : RequestsAreExact → (held : Held) (bytes items : List ℕ) (request : Message) → IsRequest held.config.addr request bytes →
     reply_of held bytes Restart ≡ Answer (record { items = items }) → is_answered held.config request ≡ true
 unfolding reply_of verdict_of

@@ -1,5 +1,6 @@
 -- What a converter commands lies in the band that its host gives, and each end of the band is met.
-use Rattle.std.proofs.Common.{◌≡◌, ◌≢◌, ℕ, ◌<◌, ◌==◌, Bool, true, false, cond, ◌||◌, List, [], ◌∷◌, length, reverse, Option, Some, None, refl, sym, ◌∙◌, ap, subst, arith}
+use Rattle.std.proofs.Common.{◌≡◌, ◌≢◌, ℕ, ◌<◌, ◌==◌, Bool, true, false, cond, ◌||◌, List, [], ◌∷◌, length, reverse, Option, Some, None}
+use Rattle.std.proofs.Common.{refl, sym, ◌∙◌, ap, subst, arith}
 use Rattle.std.proofs.Common.{option_map}
 use Rattle.pm_num.specs.AnyFormat.{Shape, shape_value}
 use Rattle.pm_num.specs.Ratio.{Ratio}
@@ -55,6 +56,7 @@ stands : (possible : Possible) (word : ℕ) → (possible ≢ Any → is_possibl
 stands Any word held = refl
 stands (Words words) word held = held (λ (e : Words words ≡ Any). cc)
 
+-- an output commands a voltage in the host's band, where no restart came since the good answers that the band rests on
 pub in-band : Below → {config : Config} {passes : ℕ} {events : List Event} (output : ℕ) (band : Band) →
     IsLived config passes events → IsSpelled config → output < config.count →
     AreShort (now config passes events).device.words output →
@@ -83,18 +85,22 @@ abbrev IsFilled : List ℕ → Type 0
 IsFilled [] = ⊥
 IsFilled (word ∷ words) = Unit {0}
 
+-- no list of words was found, or one that has a word
 abbrev AreFilled : Option (List ℕ) → Type 0
 AreFilled None = Unit {0}
 AreFilled (Some words) = IsFilled words
 
+-- with one more word in front, a list that was found has a word, and none is found where none was
 more-filled : (word : ℕ) (words : Option (List ℕ)) → AreFilled words → AreFilled (option_map (λ ws. word ∷ ws) words)
 more-filled word None h = tt
 more-filled word (Some words) h = tt
 
+-- what a test picks of two findings is none or a list that has a word, where each of the two is
 either : (b : Bool) (x y : Option (List ℕ)) → AreFilled x → AreFilled y → AreFilled (cond b x y)
 either true x y p q = p
 either false x y p q = q
 
+-- the words of a cell since its last good answer are none, or a list that has a word
 since-filled : (ms : List Mark) (cell : Cell) → AreFilled (words_since ms cell)
 since-filled [] cell = tt
 since-filled (Restart ∷ before) cell = tt
@@ -108,30 +114,37 @@ since-filled (Good read word ∷ before) cell =
     (either (is_possible word (possible_from (words_since before read))) (words_since before cell) None
     (since-filled before cell) tt)
 
+-- a list that has a word still has one where each word is left only where it first stands
 once-filled : (words : List ℕ) → IsFilled words → IsFilled (once words)
 once-filled [] h = h
 once-filled (word ∷ words) h = tt
 
+-- the length of a list that has a word is above zero
 filled-length : (words : List ℕ) → IsFilled words → 0 < length words
 filled-length [] h = absurd h
 filled-length (word ∷ words) h = omega arith
 
+-- a list whose length is above zero has a word
 length-filled : (words : List ℕ) → 0 < length words → IsFilled words
 length-filled [] h = omega arith
 length-filled (word ∷ words) h = tt
 
+-- a list that has a word has one when it is reversed
 reverse-filled : (words : List ℕ) → IsFilled words → IsFilled (reverse words)
 reverse-filled words h =
     length-filled (reverse words) (subst (λ (n : ℕ). 0 < n) (sym (length-reverse words)) (filled-length words h))
 
+-- any word is possible, or those of a list that has a word
 abbrev PossibleFilled : Possible → Type 0
 PossibleFilled Any = Unit {0}
 PossibleFilled (Words words) = IsFilled words.items
 
+-- some word is possible where a list that has a word was found, and where none was
 from-filled : (found : Option (List ℕ)) → AreFilled found → PossibleFilled (possible_from found)
 from-filled None h = tt
 from-filled (Some listed) h = once-filled (reverse listed) (reverse-filled listed h)
 
+-- whatever the marks are, some word is possible for each cell
 of-filled : (ms : List Mark) (cell : Cell) → PossibleFilled (possible_of ms cell)
 unfolding possible_of
 of-filled ms cell = from-filled (words_since ms cell) (since-filled ms cell)
@@ -162,17 +175,20 @@ voltage-held side shape output register Any voltage full =
     ap (λ (b : Bool). b || is_operation (end_of side shape (shape_value shape) Any)) voltage
 voltage-held side shape output register (Words words) voltage full = listed-is side (shape_value shape) words.items full
 
+-- the byte that reaches farthest of those that OPERATION may be is possible for OPERATION
 operation-held : (side : Side) (value : ℕ → Ratio) (output : ℕ) (possible : Possible) → PossibleFilled possible →
     may_hold (Out output Operation) (farthest_of side value (operations possible)) possible ≡ true
 operation-held side value output Any full =
     accepted (farthest_of side value (operations Any)) (farthest_of-is side value 0x80 (0xA8 ∷ 0x94 ∷ []))
 operation-held side value output (Words words) full = listed-is side value words.items full
 
+-- the word with which a register lets its output command an end of the band is possible for the register
 choice-held : (side : Side) (shape : Shape) (output : ℕ) (known : Known) (register : Reg) → PossibleFilled (known register) →
     may_hold (Out output register) (end_choice side shape known register) (known register) ≡ true
 choice-held side shape output known Operation full = operation-held side (reach side shape known) output (known Operation) full
 choice-held side shape output known register full = voltage-held side shape output register (known register) refl full
 
+-- the words with which the outputs command ends of their bands, each at a side of its choice, are possible
 pub ends-possible : Below → {config : Config} {passes : ℕ} {events : List Event} (sides : ℕ → Side) → IsLived config passes events →
     ArePossible config (now config passes events).host (end_choices config (now config passes events).host sides)
 ends-possible laws {config = config} {passes = passes} {events = events} sides lived output register here =
@@ -188,6 +204,7 @@ side-is : (side : Side) (shape : Shape) (known : Known) (bytes : List ℕ) (band
 side-is Lowest shape known bytes band is = ap (λ (b : Band). b.least) is
 side-is Highest shape known bytes band is = ap (λ (b : Band). b.greatest) is
 
+-- an output commands an end of the host's band after events that leave the words of that end in its cells
 pub end-left : Below → {config : Config} {passes : ℕ} {events : List Event} (sides : ℕ → Side) → IsLived config passes events →
     IsSpelled config → (entries : List Entry) (first : Config) (retold : List Event) →
     Leaves config passes entries (end_choices config (now config passes events).host sides) first retold →

@@ -16,7 +16,8 @@ use Rattle.pm_frame.specs.Layout.{AreBytes}
 use Rattle.pm_model.specs.Settings.{word_at}
 use Rattle.pm_device.specs.declared.config.Config.{Config}
 use Rattle.pm_device.specs.Effect as device
-use Rattle.pm_device.specs.Held.{Measured, device_readings, is_reading, no_readings, output_readings, place_among, reading_at, with_reading, words_at}
+use Rattle.pm_device.specs.Held.{Measured, device_readings, is_reading, no_readings, output_readings, place_among, reading_at, with_reading}
+use Rattle.pm_device.specs.Held.{words_at}
 use Rattle.pm_device.specs.History.{now as device_now, readings_in}
 use Rattle.pm_device.specs.Laws.{RepliesFollowEndings}
 use Rattle.pm_host.specs.Refusals.{micro_word}
@@ -65,6 +66,7 @@ micro-short s cell x word is = go (format_at s (output_of cell)) is where
 ordered-word : {cell other : Cell} {word number : ℕ} → Some (host.Order cell word) ≡ Some (host.Order other number) → word ≡ number
 ordered-word is = cc
 
+-- the word of an order that an event asks for has two bytes, where the event carries bytes
 ordered-short : (s : State) (event : Event) (cell : Cell) (word : ℕ) → asked s event ≡ Some (host.Order cell word) → CarriesBytes event →
     word < 2 ^ 16
 ordered-short s (Order other number) cell word is carries = subst (λ n. n < 2 ^ 16) (ordered-word is) carries
@@ -118,11 +120,13 @@ zeros-short zero place = lit< tt
 zeros-short (suc n) zero = lit< tt
 zeros-short (suc n) (suc place) = zeros-short n place
 
+-- rows of eight zeros have words of two bytes, whichever row and place is asked for
 rows-short : (n place : ℕ) → WordsShort (get_or (replicate n (replicate 8 0)) place [])
 rows-short zero place = zeros-short 0
 rows-short (suc n) zero = zeros-short 8
 rows-short (suc n) (suc place) = rows-short n place
 
+-- each reading of a new converter has two bytes
 none-short : AreShort no_readings
 none-short = record { device = zeros-short (length device_readings); outputs = rows-short (length output_readings) }
 
@@ -143,6 +147,7 @@ row-short (x ∷ rows) zero row are short (suc p) = are (suc p)
 row-short (x ∷ rows) (suc place) row are short zero = are 0
 row-short (x ∷ rows) (suc place) row are short (suc p) = row-short rows place row (λ q. are (suc q)) short p
 
+-- readings that have two bytes have them after one takes another word of two bytes
 with-short : (readings : Measured) (output code word : ℕ) → AreShort readings → word < 2 ^ 16 →
     AreShort (with_reading readings output code word)
 with-short readings output code word are short =
@@ -195,6 +200,7 @@ IsMeasured (Some (device.Hearing bytes ending)) = Unit {0}
 IsMeasured (Some device.Restarted) = Unit {0}
 IsMeasured (Some (device.Reading output code word)) = word < 2 ^ 16
 
+-- each reading of a converter's past has two bytes with one more event too, where a reading that the event brings has
 measured-more : (heard : Option device.Event) (past : List device.Event) → IsMeasured heard → AreMeasured past →
     AreMeasured (option_to_list heard ++ past)
 measured-more None past is are = are
@@ -202,6 +208,7 @@ measured-more (Some (device.Hearing bytes ending)) past is are = are
 measured-more (Some device.Restarted) past is are = are
 measured-more (Some (device.Reading output code word)) past is are = (is, are)
 
+-- a reading that an event tells the converter has two bytes, where the event carries bytes
 event-measured : (s : State) (event : Event) → CarriesBytes event → IsMeasured (share_of s event).heard
 event-measured s event carries = by_asked (asked s event) where
   delivery : (arrival : Arrival) (sending : Option Message) → IsMeasured (delivered s arrival sending).heard
@@ -222,6 +229,7 @@ event-measured s event carries = by_asked (asked s event) where
   by_asked None = beside event carries
   by_asked (Some job) = tt
 
+-- each reading in the converter's past of a life has two bytes, where the events carry bytes
 life-measured : (config : Config) (passes : ℕ) (events : List Event) → CarryBytes events → AreMeasured (life config passes events).past
 unfolding life now
 life-measured config passes [] carry = tt
@@ -266,6 +274,7 @@ TellsBytes (Some (host.Accepted job)) = Unit {0}
 TellsBytes (Some (host.Finished acked)) = Unit {0}
 TellsBytes (Some host.Restarted) = Unit {0}
 
+-- what came back is bytes in a transcript with one more entry, where it is in the entry and in the transcript before
 tells-more : (told : Option host.Entry) (entries : List host.Entry) → TellsBytes told → AreOfBytes entries →
     AreOfBytes (option_to_list told ++ entries)
 tells-more None entries is are = are
@@ -280,6 +289,8 @@ returned-bytes answer back.Whole are carries = are
 returned-bytes answer (back.Cut count) are carries = λ place. first-bytes count answer place are
 returned-bytes answer (back.Bytes bytes) are carries = carries
 
+-- what comes back to the host by an event are bytes, where the converter holds a program's numbers and the event
+-- carries bytes
 event-tells : Replies → (s : State) (event : Event) → HoldsBytes s.device → CarriesBytes event → TellsBytes (share_of s event).told
 event-tells replies s event holds carries = by_asked (asked s event) where
   delivery : (arrival : Arrival) (sending : Option Message) → TellsBytes (delivered s arrival sending).told
@@ -321,6 +332,7 @@ since-bytes (host.Finished acked ∷ before) are = since-bytes before are
 since-bytes (host.Got bytes ∷ before) (is, are) = (is, since-bytes before are)
 since-bytes (host.Restarted ∷ before) are = tt
 
+-- what came back since the host's last restart are bytes, in a life of a program's configuration and events
 pub came-in-bytes : Below → RepliesFollowEndings → (config : Config) (passes : ℕ) (events : List Event) → IsOfBytes config →
     IsLived config passes events → CarryBytes events → AreOfBytes (since_restart (life config passes events).entries)
 came-in-bytes laws endings config passes events numbers lived carry =

@@ -1,5 +1,6 @@
 -- An event is taken where its cause says so: one that nothing is against has its word.
-use Rattle.std.proofs.Common.{◌≡◌, ◌↔◌, ℕ, ◌<◌, ℤ, List, [], ◌∷◌, ◌++◌, Option, Some, None, is_none, not, false, inl, inr, refl, ◌∙◌, ap, ap₂}
+use Rattle.std.proofs.Common.{◌≡◌, ◌↔◌, ℕ, ◌<◌, ℤ, List, [], ◌∷◌, ◌++◌, Option, Some, None, is_none, not, false, inl, inr, refl, ◌∙◌, ap}
+use Rattle.std.proofs.Common.{ap₂}
 use Rattle.std.specs.Prelude.{nat_le, IsSome}
 use Rattle.std.specs.Option.{option_and_then}
 use Rattle.std.proofs.lemmas.Bool.{cases_lt, le-leb}

@@ -27,7 +27,8 @@ host-free : (setup : host.Setup) → IsSetup setup → host_fault setup.outputs 
 host-free = search rules
 
 -- the world of a sound start that has as many outputs can be made
-pub can-be-made : Below → (config start : Config) (passes : ℕ) → IsSound start → IsSetup (setup_of config passes) → start.count ≡ config.count →
+pub can-be-made : Below → (config start : Config) (passes : ℕ) → IsSound start → IsSetup (setup_of config passes)
+    → start.count ≡ config.count →
     setup_fault start passes ≡ None
 unfolding setup_fault
 can-be-made laws config start passes sound made same =
@@ -42,7 +43,8 @@ AreSmall (Good cell word ∷ ms) = (word < 2 ^ 16) × AreSmall ms
 AreSmall (mark ∷ ms) = AreSmall ms
 
 -- a word that is due before them does
-due-small : (ms : List Mark) (due : Choice) (cell : Cell) → AreSmall ms → due cell < 2 ^ 16 → ((other : Cell) → other ≡ cell → due other < 2 ^ 16)
+due-small : (ms : List Mark) (due : Choice) (cell : Cell) → AreSmall ms → due cell < 2 ^ 16
+    → ((other : Cell) → other ≡ cell → due other < 2 ^ 16)
     → due_before due ms cell < 2 ^ 16
 due-small [] due cell small chosen all = chosen
 due-small (Put put word ∷ ms) due cell small chosen all = due-small ms due cell small chosen all
@@ -80,7 +82,8 @@ good-small : (addr : ℕ) (cell : Cell) (bytes : List ℕ) (word : ℕ) → AreB
 unfolding good_payload
 good-small addr cell bytes word are good = go (is_none (answer_fault addr (cell_read cell) bytes)) good where
   go : (b : Bool) → option_map word_in (cond b (Some (answer_payload (cell_read cell) bytes)) None) ≡ Some word → word < 2 ^ 16
-  go true h = subst (λ n. n < 2 ^ 16) (same-word h) (word-small (answer_payload (cell_read cell) bytes) (λ place. part-bytes bytes _ _ place are)) where
+  go true h = subst (λ n. n < 2 ^ 16) (same-word h)
+      (word-small (answer_payload (cell_read cell) bytes) (λ place. part-bytes bytes _ _ place are)) where
     same-word : {a b : ℕ} → Some a ≡ Some b → a ≡ b
     same-word e = cc
   go false h = cc
@@ -106,7 +109,8 @@ marks-small setup (host.Finished acked ∷ before) are =
     puts-small (puts setup (host.Finished acked ∷ before)) _ (are-puts setup (host.Finished acked ∷ before)) (marks-small setup before are)
 marks-small setup (host.Got bytes ∷ before) (are, rest) =
     puts-small (puts setup (host.Got bytes ∷ before)) _ (are-puts setup (host.Got bytes ∷ before))
-    (goods-small setup before bytes (goods setup before bytes) (marks setup before) are (are-goods setup before bytes) (marks-small setup before rest))
+    (goods-small setup before bytes (goods setup before bytes) (marks setup before) are (are-goods setup before bytes)
+        (marks-small setup before rest))
 marks-small setup (host.Restarted ∷ before) are = marks-small setup before are
 
 -- the words that are due at the start

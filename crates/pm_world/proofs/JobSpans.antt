@@ -54,7 +54,8 @@ deliver-tells s arrival None = tt
 deliver-tells s arrival (Some message) = tt
 
 -- by an exchange what came back
-exchange-tells : (s : State) (arrival : Arrival) (back : Back) (sending : Option Message) → TellsFrame (exchanged s arrival back sending).told
+exchange-tells : (s : State) (arrival : Arrival) (back : Back) (sending : Option Message)
+    → TellsFrame (exchanged s arrival back sending).told
 exchange-tells s arrival back None = tt
 exchange-tells s arrival back (Some message) = refl
 

@@ -18,7 +18,8 @@ use Rattle.pm_world.specs.Ended.{begins_other}
 use Rattle.pm_world.specs.Life.{now}
 use Rattle.pm_world.specs.Possible.{restarts_host}
 use Rattle.pm_world.specs.State.{asked, share_of}
-use Rattle.pm_world.proofs.JobSpans.{IsOrOver, TellsFrame, beside-frame, beside-tells, by-acceptance, by-frame, by-silence, or-parts, span-job}
+use Rattle.pm_world.proofs.JobSpans.{IsOrOver, TellsFrame, beside-frame, beside-tells, by-acceptance, by-frame, by-silence, or-parts}
+use Rattle.pm_world.proofs.JobSpans.{span-job}
 use Rattle.pm_world.proofs.Lives.{IsLived, earlier, lived-before}
 
 -- no end but that of a learn that learned changes a format
@@ -145,7 +146,8 @@ stays-once : Below → (config : Config) (passes : ℕ) (before : List Event) (e
 stays-once laws config passes before event output lived stays there = by_job (asked (now config passes before) event) refl where
   by_job : (job : Option host.Job) → asked (now config passes before) event ≡ job →
       IsSome (format_at (now config passes (event ∷ before)).host output)
-  by_job (Some job) is = subst (λ fs. IsSome (get_or fs output None)) (sym (by-acceptance laws config passes before event job lived is).formats) there
+  by_job (Some job) is = subst (λ fs. IsSome (get_or fs output None))
+      (sym (by-acceptance laws config passes before event job lived is).formats) there
   by_job None is = by_told _ refl (beside-frame (now config passes before) event is stays) where
     by_told : (told : Option host.Entry) → (share_of (now config passes before) event).told ≡ told → TellsFrame told →
         IsSome (format_at (now config passes (event ∷ before)).host output)

@@ -1,5 +1,6 @@
 -- An output commands a voltage within limits where each of its own words lies within them.
-use Rattle.std.proofs.Common.{◌≡◌, ◌≢◌, inl, inr, ℕ, ◌<◌, ℤ, pos, Bool, true, false, cond, ◌&&◌, ◌||◌, List, [], ◌∷◌, ◌++◌, Option, Some, None, Ok, Err, refl, sym, ◌∙◌, ap, subst, append_assoc}
+use Rattle.std.proofs.Common.{◌≡◌, ◌≢◌, inl, inr, ℕ, ◌<◌, ℤ, pos, Bool, true, false, cond, ◌&&◌, ◌||◌, List, [], ◌∷◌, ◌++◌, Option, Some}
+use Rattle.std.proofs.Common.{None, Ok, Err, refl, sym, ◌∙◌, ap, subst, append_assoc}
 use Rattle.std.proofs.Common.{is_some, is_none, option_and_then}
 use Rattle.std.specs.Prelude.{slice_index_or, IsSomeAnd}
 use Rattle.std.specs.Option.{option_map_or}
@@ -56,6 +57,7 @@ use Rattle.pm_world.proofs.OwnWords.{life-commands}
 slope : (m : ℤ) → int_eq m (pos 0) ≡ false → m ≢ pos 0
 slope m h e = let bad : int_eq (pos 0) (pos 0) ≡ false = subst (λ (z : ℤ). int_eq z (pos 0) ≡ false) e h in cc
 
+-- each word has a value with a positive denominator in a format that is made of a mode and coefficients
 shape-dens : (mode : VoutMode) (c : Coefficients) (shape : Shape) → result_ok (shape_in mode c) ≡ Some shape → HasDens shape
 shape-dens (Linear n) c shape is =
     let same : InUlinear16 n ≡ shape = cc in
@@ -69,6 +71,7 @@ shape-dens Direct c shape is = go (int_eq c.m (pos 0)) (is_decimal c) refl is wh
       let same : InDirect c.m c.b c.r ≡ shape = cc in
       subst (λ (s : Shape). HasDens s) same (λ word. direct-has_den c.m c.b c.r word (slope c.m e))
 
+-- each word has a value with a positive denominator in the format of each output of a sound configuration
 pub sound-dens : (config : Config) (output : ℕ) → IsSound config → output < config.count → HasDens (shape_for config output)
 sound-dens config output sound here = go (result_ok (mode_of (mode_for config output))) (sound.formats output here) where
   go : (mode : Option VoutMode) →
@@ -124,6 +127,7 @@ one-of P s l g ps pl pg = go (is_above s g) (is_above l s) (is_above l g) where
 selected-voltage : (byte : ℕ) → is_voltage (selected_register byte) ≡ true
 selected-voltage byte = each-selected (λ r. is_voltage r ≡ true) refl refl refl byte
 
+-- at each moment of a life, an output whose own words lie within limits commands a voltage within them
 stays-limited : Below → {config : Config} {passes : ℕ} {events : List Event} → IsLived config passes events →
     (output : ℕ) (bounds : Bounds) (later before : List Event) → output < config.count →
     events ≡ later ++ before → OwnWithin config passes events output bounds →
@@ -151,6 +155,7 @@ cut-of config output sound here selected least most =
       greatest_den = dens most;
     }
 
+-- at each moment of a life, an output commands at most a voltage that none of its own words of VOUT_MAX lies above
 stays-below : Below → {config : Config} {passes : ℕ} {events : List Event} → IsLived config passes events →
     (output : ℕ) (most : Ratio) (later before : List Event) → output < config.count →
     events ≡ later ++ before → MaxAtMost config passes events output most →
@@ -164,6 +169,8 @@ stays-below laws {config = config} lived output most later before here is all =
     (through (limited (value own.selected) (value own.least) (value own.most)) (value own.most) most
     (sound-dens config output lived.sound here own.most) (cut-greatest cut) (all own.most own.own_most))
 
+-- at each moment of a life, an output commands at least a voltage that none of its own words of VOUT_MIN lies below,
+-- where none of these lies above one of VOUT_MAX
 stays-above : Below → {config : Config} {passes : ℕ} {events : List Event} → IsLived config passes events →
     (output : ℕ) (least : Ratio) (later before : List Event) → output < config.count →
     events ≡ later ++ before → MinAtLeast config passes events output least →
@@ -276,6 +283,7 @@ ordered-within g None output register word bounds free is voltage limits = cc
 ordered-within g (Some job) output register word bounds free is voltage limits =
     guarded-voltage g job output register word bounds free is voltage limits
 
+-- a word within limits in the format that a host knows lies within them in the converter's own, which is the same
 in-format : (known : Option Shape) (own : Shape) (word : ℕ) (bounds : Bounds) →
     ((shape : Shape) → known ≡ Some shape → shape ≡ own) →
     IsSomeAnd known (λ shape. IsWithin bounds (shape_value shape word)) → IsWithin bounds (shape_value own word)
@@ -283,13 +291,15 @@ in-format None own word bounds agree within = absurd within
 in-format (Some shape) own word bounds agree within =
     subst (λ (s : Shape). IsWithin bounds (shape_value s word)) (agree shape refl) within
 
+-- an output's own words lie within limits where its start words do and each job went through a guard with them
 stays-guarded : Below → {config : Config} {passes : ℕ} {events : List Event} → IsLived config passes events → IsSpelled config →
     (output : ℕ) (bounds : Bounds) (limits : List (Option Bounds)) → output < config.count →
     slice_index_or limits output None ≡ Some bounds → AreGuarded config passes limits events →
     StartsWithin config output bounds → OwnWithin config passes events output bounds
 stays-guarded laws {config = config} lived spelled output bounds limits here are all starts register word voltage (inl start) =
     subst (λ (w : ℕ). IsWithin bounds (value_for config output w)) (sym start) (starts register voltage)
-stays-guarded laws {config = config} {passes = passes} {events = events} lived spelled output bounds limits here are all starts register word voltage (inr was) =
+stays-guarded laws {config = config} {passes = passes} {events = events} lived spelled output bounds limits here are all starts register
+    word voltage (inr was) =
     let s = (now config passes was.before).host in
     let past = subst (AreGuarded config passes limits) was.is all in
     let whole = subst (IsLived config passes) was.is lived in

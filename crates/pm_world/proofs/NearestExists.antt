@@ -1,5 +1,6 @@
 -- A format has a nearest word for each number, whatever it was made from: of all words, one comes before all others.
-use Rattle.std.proofs.Common.{◌≡◌, ℕ, zero, suc, ◌*◌, ◌^◌, ◌<◌, ◌≤◌, ◌⊎◌, inl, inr, ℤ, pos, negsuc, ◌*ℤ◌, ◌≤ℤ◌, Bool, true, false, not, cond, Some, refl, sym, ◌∙◌, ap, ap₂, subst, arith, lit<, T}
+use Rattle.std.proofs.Common.{◌≡◌, ℕ, zero, suc, ◌*◌, ◌^◌, ◌<◌, ◌≤◌, ◌⊎◌, inl, inr, ℤ, pos, negsuc, ◌*ℤ◌, ◌≤ℤ◌, Bool, true, false, not}
+use Rattle.std.proofs.Common.{cond, Some, refl, sym, ◌∙◌, ap, ap₂, subst, arith, lit<, T}
 use Rattle.std.specs.Prelude.{◌||◌, ◌&&◌, nat_le, IsSome}
 use Rattle.std.proofs.Math.Nat.{mul-le-mul_right, le_of_mul-le-mul_right}
 use Rattle.std.proofs.lemmas.Bool.{cases_lt, leb-true, le-leb}
@@ -45,6 +46,7 @@ record Before (value : ℕ → Ratio) (rank : ℕ → ℕ) (x : Ratio) (w u : �
   lower : Near x (value u) (value w) → AtMost (value w) (value u)
   spelled : SameValue (value u) (value w) → rank w ≤ rank u
 
+-- a word whose value is nearer than another's comes before that one
 nearer : (value : ℕ → Ratio) (rank : ℕ → ℕ) (x : Ratio) → ((w : ℕ) → 0 < (value w).den) → (w u : ℕ) →
     gap x (value w) * (value u).den < gap x (value u) * (value w).den → Before value rank x w u
 nearer value rank x den w u less = record {
@@ -188,9 +190,11 @@ at_most-nothing : (a b : ℤ) (d e : ℕ) → d ≡ 0 → e ≡ 0 → (a *ℤ po
 at_most-nothing a b d e h k =
     let f = ap (λ (n : ℕ). a *ℤ pos n) h in let g = ap (λ (n : ℕ). b *ℤ pos n) k in omega (arith, ints)
 
+-- of two values with the denominator zero each is as near as the other
 near-nothing : (g k d e : ℕ) → d ≡ 0 → e ≡ 0 → g * d ≤ k * e
 near-nothing g k d e p q = let f = ap (λ (n : ℕ). g * n) p in omega arith
 
+-- where the value of every word has the denominator zero, there is a nearest word for each number all the same
 exists-nothing : (value : ℕ → Ratio) (x : Ratio) → ((w : ℕ) → (value w).den ≡ 0) → IsSome (nearest_word value one_rank x)
 exists-nothing value x den =
     found-first value one_rank x 0 (lit< tt)

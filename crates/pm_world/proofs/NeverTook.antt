@@ -126,7 +126,8 @@ writes-cell (Out output register) word = refl
 writes-cell Protect word = refl
 
 -- where a read is sent, it is the turn of one
-turn-reads : (cell : Cell) (word : ℕ) (turn : Bool) (message : Message) → Some message ≡ Some (cond turn (cell_write cell word) (cell_read cell)) →
+turn-reads : (cell : Cell) (word : ℕ) (turn : Bool) (message : Message)
+    → Some message ≡ Some (cond turn (cell_write cell word) (cell_read cell)) →
     is_read_message message ≡ true → cond turn None (Some cell) ≡ Some cell
 turn-reads cell word false message is reads = refl
 turn-reads cell word true message is reads =
@@ -176,7 +177,8 @@ exchange-read laws config passes before arrival back cell word read entry lived 
       go None sends free came = cc
       go (Some message) sends free came =
           reads-true laws arrival back message (knows laws config passes before (earlier lived)) sends free cell read
-          (asks-cell laws setup entries cell word message opened sends (exchange-reads (now config passes before) arrival back message free))
+          (asks-cell laws setup entries cell word message opened sends
+              (exchange-reads (now config passes before) arrival back message free))
           (ap (word_told setup.addr cell) (same_Some _ entry came) ∙ good)
 
 -- an order that is open, or over; and where it differs, the cell has the word that was read

@@ -32,7 +32,8 @@ is-open (mark ∷ ms) h = ap (λ b. b && are_open ms) h.0 ∙ is-open ms h.1
 -- of marks together
 pub open-append : (new ms : List Mark) → are_open (new ++ ms) ≡ (are_open new && are_open ms)
 open-append [] ms = refl
-open-append (mark ∷ new) ms = ap (λ b. leaves_open mark && b) (open-append new ms) ∙ and-assoc (leaves_open mark) (are_open new) (are_open ms) where
+open-append (mark ∷ new) ms =
+    ap (λ b. leaves_open mark && b) (open-append new ms) ∙ and-assoc (leaves_open mark) (are_open new) (are_open ms) where
   and-assoc : (a b c : Bool) → (a && (b && c)) ≡ ((a && b) && c)
   and-assoc true b c = refl
   and-assoc false b c = refl
@@ -92,7 +93,8 @@ open-finds (Put Protect word ∷ ms) h =
     go : (found : Option (List ℕ)) → is_other word ≡ false → Finds found ≡ false → Finds (option_map (λ ws. word ∷ ws) found) ≡ false
     go None e rest = refl
     go (Some ws) e rest = ap (λ b. b || list_any is_other ws) e ∙ rest
-open-finds (Good (Out output register) word ∷ ms) h = go (is_possible word (possible_from (words_since ms (Out output register)))) (open-finds ms h) where
+open-finds (Good (Out output register) word ∷ ms) h =
+    go (is_possible word (possible_from (words_since ms (Out output register)))) (open-finds ms h) where
   go : (b : Bool) → Finds (words_since ms Protect) ≡ false → Finds (cond b (words_since ms Protect) None) ≡ false
   go true rest = rest
   go false rest = refl

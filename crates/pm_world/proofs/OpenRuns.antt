@@ -36,7 +36,8 @@ pub record Runs (config : Config) (passes : ℕ) (events : List Event) (world : 
   pub left : found ≡ left_by config passes events
 
 -- and after one more event
-one-more : LivesAreFollowed → OpenListsAreFollowed → (config : Config) (passes : ℕ) (events : List Event) (event : Event) (world new : State)
+one-more : LivesAreFollowed → OpenListsAreFollowed
+    → (config : Config) (passes : ℕ) (events : List Event) (event : Event) (world new : State)
     (left after : Bool) → IsSound config → IsSetup (setup_of config passes) → Runs config passes events world left →
     IsTaken world event × (new ≡ next world event) → CarriesBytes event → after ≡ stays_open left event (possible_at new.host Protect) →
     Runs config passes (event ∷ events) new after

@@ -42,6 +42,7 @@ use Rattle.pm_world.proofs.Standings.{AreGoods, no_good, one_good, are-goods, ar
 abbrev pub since : Config → ℕ → List Event → List host.Entry
 since config passes events = since_restart (life config passes events).entries
 
+-- the marks since the host's last restart leave WRITE_PROTECT open
 abbrev pub left_open : Config → ℕ → List Event → Bool
 left_open config passes events = are_open (marks (setup_of config passes) (since config passes events))
 
@@ -125,7 +126,8 @@ open-all : (new ms : List Mark) → are_open new ≡ true → are_open ms ≡ tr
 open-all new ms a b = open-append new ms ∙ ap₂ (λ x y. x && y) a b
 
 -- what begins to be sent by the open job leaves it open, where the job does
-put-open' : (setup : host.Setup) (entries : List host.Entry) → opens_by (host.open_job setup entries) ≡ true → are_open (puts setup entries) ≡ true
+put-open' : (setup : host.Setup) (entries : List host.Entry) → opens_by (host.open_job setup entries) ≡ true
+    → are_open (puts setup entries) ≡ true
 unfolding puts
 put-open' setup entries h = put-open (host.open_job setup entries) (host.told_since entries) h
 
@@ -151,7 +153,8 @@ goods-step setup before bytes new good ms possible (one_good Protect word asks h
       (other-lists (puts setup (host.Got bytes ∷ before)) (are-puts setup (host.Got bytes ∷ before)) word ms (ap not e)))))
 
 -- what one more frame makes of it
-frame-step : (setup : host.Setup) (before : List host.Entry) (entry : host.Entry) (possible : Possible) (b : Bool) → is_of_frame entry ≡ true →
+frame-step : (setup : host.Setup) (before : List host.Entry) (entry : host.Entry) (possible : Possible) (b : Bool)
+    → is_of_frame entry ≡ true →
     are_open (marks setup before) ≡ b → (b ≡ true → are_open (puts setup (entry ∷ before)) ≡ true) →
     possible ≡ possible_of (marks setup (entry ∷ before)) Protect →
     are_open (marks setup (entry ∷ before)) ≡ (b && not (lists_other possible))
@@ -241,7 +244,8 @@ accepted-marks laws config passes before event job lived asks =
     let setup = setup_of config passes in
     let entries = (life config passes before).entries in
     let all : (life config passes (event ∷ before)).entries ≡ host.Accepted job ∷ entries =
-    entries-more config passes before event ∙ ap (λ (share : Share). option_to_list share.told ++ entries) (asked-share (now config passes before) event job asks) in
+    entries-more config passes before event
+        ∙ ap (λ (share : Share). option_to_list share.told ++ entries) (asked-share (now config passes before) event job asks) in
     let opened : host.open_job setup (host.Accepted job ∷ since config passes before) ≡ Some job =
     ap (λ es. host.open_job setup (since_restart es)) (sym all)
     ∙ (life-job laws config passes (event ∷ before) lived ∙ (by-acceptance laws config passes before event job lived asks).open') in

@@ -52,7 +52,8 @@ own-answered laws config passes events request lived sends answered =
     let asked = is_request config.addr request reads ((knows laws config passes events lived).sends.fits request sends) in
     let found = laws.reads_are_answered.answered held request (frame_of config.addr request) asked answered in
     subst (λ bytes. IsAnswer config.addr request (payload_for held request) bytes)
-    (sym (ap (λ ending. answer_in (reply_of held (frame_of config.addr request) ending)) (whole-restart request reads) ∙ ap answer_in found.1))
+    (sym (ap (λ ending. answer_in (reply_of held (frame_of config.addr request) ending)) (whole-restart request reads)
+        ∙ ap answer_in found.1))
     found.2
 
 -- no command is the read of an output
@@ -76,7 +77,8 @@ own-cell laws config passes events (Out output register) lived sends = by_named 
     (sym (laws.transcripts_are_followed.sending (setup_of config passes) (life config passes events).entries) ∙ sends)) where
       by_named : (message : Message) → message ≡ cell_read (Out output register) → CanSend (setup_of config passes) message →
           is_answered config (cell_read (Out output register)) ≡ true
-      by_named message is (reads_output other found there) = lt-ltb output config.count (subst (λ n. n < config.count) (ap page_of is) there)
+      by_named message is (reads_output other found there) =
+          lt-ltb output config.count (subst (λ n. n < config.count) (ap page_of is) there)
       by_named message is (reads_mode other there) = lt-ltb output config.count (subst (λ n. n < config.count) (ap page_of is) there)
       by_named message is (writes_output other found word there fits) = cc
       by_named message is (writes_protect word fits) = cc

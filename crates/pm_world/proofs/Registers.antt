@@ -8,6 +8,7 @@ use Rattle.pm_table.specs.Lemmas.{register_number-below}
 register_at-number : (register : Reg) → register_at (register_number register) ≡ register
 register_at-number register = grind arith
 
+-- what holds of the register of each number below their count holds of every register
 pub each : (P : Reg → Type 0) → ((number : ℕ) → number < register_count → P (register_at number)) → (register : Reg) → P register
 each P holds register =
     subst P (register_at-number register) (holds (register_number register) (register_number-below register))

@@ -1,5 +1,6 @@
 -- How far an order has come is what form its events have.
-use Rattle.std.proofs.Common.{◌≡◌, ◌↔◌, ℕ, ◌+◌, ◌≤◌, Bool, true, false, not, cond, ◌&&◌, ◌||◌, List, [], ◌∷◌, length, Option, Some, None, is_some, option_map, refl, sym, ◌∙◌, ap}
+use Rattle.std.proofs.Common.{◌≡◌, ◌↔◌, ℕ, ◌+◌, ◌≤◌, Bool, true, false, not, cond, ◌&&◌, ◌||◌, List, [], ◌∷◌, length, Option, Some, None}
+use Rattle.std.proofs.Common.{is_some, option_map, refl, sym, ◌∙◌, ap}
 use Rattle.std.proofs.Common.{ap₂, subst, arith}
 use Rattle.std.specs.Prelude.{IsSome, IsSomeAnd, option_and_then}
 use Rattle.std.specs.List.{list_any}
@@ -36,7 +37,8 @@ use Rattle.pm_world.specs.Legal.{frame_of}
 use Rattle.pm_world.specs.Life.{AreTaken, now}
 use Rattle.pm_world.specs.Setup.{setup_of}
 use Rattle.pm_world.specs.State.{HasWord, State, asked, event_limit, next}
-use Rattle.pm_world.specs.Way.{HasGone, WasSent, WasUndisturbed, begun, delivered_on, exchanged_on, finished_on, goes_on, hears_whole, read_on, way_after, way_of}
+use Rattle.pm_world.specs.Way.{HasGone, WasSent, WasUndisturbed, begun, delivered_on, exchanged_on, finished_on, goes_on, hears_whole}
+use Rattle.pm_world.specs.Way.{read_on, way_after, way_of}
 use Rattle.pm_world.proofs.Causes.{asked-next}
 use Rattle.pm_world.proofs.Hearings.{frame-write, write-kind}
 use Rattle.pm_world.proofs.HonestOrders.{went-through}
@@ -54,7 +56,8 @@ FormOf config passes events (Written cell word) = (acked : Bool) × (rest : List
 FormOf config passes events (Through cell word) = WasUndisturbed config passes cell word events
 
 -- what a host hears of its write while that is being sent
-heard-of : (h : Summary) (addr : ℕ) (cell : Cell) (word : ℕ) (arrival : Arrival) → h.setup.addr ≡ addr → h.stage ≡ Some (Writes cell word 0) →
+heard-of : (h : Summary) (addr : ℕ) (cell : Cell) (word : ℕ) (arrival : Arrival) → h.setup.addr ≡ addr
+    → h.stage ≡ Some (Writes cell word 0) →
     hears_whole h arrival ≡ is_whole (frame_of addr (cell_write cell word)) arrival
 heard-of h addr cell word arrival at stage =
     ap (λ o. option_map_or (λ m. not (is_read_message m) && is_whole (frame_of h.setup.addr m) arrival) (option_map stage_message o) false)
@@ -75,7 +78,8 @@ sent-heard laws config passes events cell word arrival lived stage =
 -- after a delivery
 delivered-form : Below → (config : Config) (passes : ℕ) (before : List Event) (arrival : Arrival) (way : Way) →
     IsLived config passes (Deliver arrival ∷ before) → FormOf config passes before way →
-    FormOf config passes (Deliver arrival ∷ before) (delivered_on (hears_whole (now config passes (Deliver arrival ∷ before)).host arrival) way)
+    FormOf config passes (Deliver arrival ∷ before)
+        (delivered_on (hears_whole (now config passes (Deliver arrival ∷ before)).host arrival) way)
 delivered-form laws config passes before arrival (Sent cell word whole) lived form =
     let stage = subst (λ es. (now config passes es).host.stage ≡ Some (Writes cell word 0)) (sym form.is)
     (sent-stage laws form.before form.order form.arrivals (subst (IsLived config passes) form.is (earlier lived)) form.asks) in
@@ -167,7 +171,8 @@ step-form : Below → (config : Config) (passes : ℕ) (before : List Event) (ev
     FormOf config passes (event ∷ before) (way_after (now config passes (event ∷ before)) event way)
 step-form laws config passes before (Deliver arrival) way lived form = delivered-form laws config passes before arrival way lived form
 step-form laws config passes before (Finish acked) way lived form = finished-form config passes before acked way form
-step-form laws config passes before (Exchange arrival returned) way lived form = exchanged-form config passes before arrival returned way form
+step-form laws config passes before (Exchange arrival returned) way lived form =
+    exchanged-form config passes before arrival returned way form
 step-form laws config passes before RestartDevice way lived form = tt
 step-form laws config passes before RestartHost way lived form = tt
 step-form laws config passes before (Reading output code word) way lived form = tt

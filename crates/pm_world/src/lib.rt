@@ -5,9 +5,11 @@
 //! end. [`World::run`] takes a list of them, and its contract is the main theorem: what the converter's
 //! settings are, what the host's words about them are worth, and when an order goes through.
 //!
-//! The one premise on the bus is that the packet error code (PEC) betrays damage: bytes that it doesn't
-//! betray, and that no cut explains, stop a run as [`Cause::NotBetrayed`]. Time, voltages between frames and
-//! more than one converter are no part of a world.
+//! What a run tests of the bus is that the packet error code (PEC) betrays damage: bytes that it doesn't
+//! betray, and that no cut explains, stop a run as [`Cause::NotBetrayed`]. What no run can test are
+//! premises: there are one host and one converter, a frame is heard during its own attempt alone, and an
+//! answer belongs to its own exchange. Time, voltages between frames and more than one converter are no
+//! part of a world.
 //!
 //! An order whose write is cut, repeated and not acknowledged:
 //!

@@ -8,7 +8,9 @@ VERSION = 0x0100
 HOST_VERSION = 4
 HOST_SIZE = 2056
 CELLS = 49
-PART_SIZE = 372
+
+_loaded = c.CDLL(PATH)
+_loaded.pm_part_size.restype = c.c_uint64
 
 
 class HostImage(c.Structure):
@@ -76,7 +78,8 @@ class ConfigImage(c.Structure):
 
 
 class PartImage(c.Structure):
-    _fields_ = [("memory", c.c_uint16 * (PART_SIZE // 2))]
+    # A part of the library's own size: nothing here looks into it.
+    _fields_ = [("memory", c.c_uint16 * (_loaded.pm_part_size() // 2))]
 
 
 class ReplyImage(c.Structure):
@@ -138,16 +141,15 @@ CALLS = {
 }
 
 
-def _load():
-    loaded = c.CDLL(PATH)
+def _library():
     for name, (answers, takes) in CALLS.items():
-        call = getattr(loaded, name)
+        call = getattr(_loaded, name)
         call.restype, call.argtypes = answers, takes
-    found = loaded.pm_version() >> 8, loaded.pm_host_version(), loaded.pm_host_size(), loaded.pm_part_size()
-    wanted = VERSION >> 8, HOST_VERSION, c.sizeof(HostImage), c.sizeof(PartImage)
+    found = _loaded.pm_version() >> 8, _loaded.pm_host_version(), _loaded.pm_host_size()
+    wanted = VERSION >> 8, HOST_VERSION, c.sizeof(HostImage)
     if found != wanted:
         raise ImportError(f"{PATH} is another library than this package is for: it says {found}, and not {wanted}")
-    return loaded
+    return _loaded
 
 
-library = _load()
+library = _library()

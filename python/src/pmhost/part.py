@@ -28,9 +28,10 @@ class Output:
     min: int = 0x0000
 
 
-# The readings, by their names in PMBus 1.3 Part II: those of an output, and those of the device.
-READINGS = {"READ_VOUT": 0x8B, "READ_IOUT": 0x8C, "READ_VIN": 0x88, "READ_TEMPERATURE_1": 0x8D}
-OF_THE_DEVICE = ("READ_VIN", "READ_TEMPERATURE_1")
+# The readings, by their names in PMBus 1.3 Part II.
+OUTPUT_READINGS = {"READ_VOUT": 0x8B, "READ_IOUT": 0x8C}
+DEVICE_READINGS = {"READ_VIN": 0x88, "READ_TEMPERATURE_1": 0x8D}
+READINGS = OUTPUT_READINGS | DEVICE_READINGS
 
 
 class Part:
@@ -100,13 +101,12 @@ class Part:
         accepted(library.pm_part_restart(ctypes.byref(self._image)))
 
     def set_reading(self, output: int | None, reading: str, word: int) -> None:
-        """Gives a reading another word: READ_VOUT or READ_IOUT of an output; READ_VIN or READ_TEMPERATURE_1 of the device,
-        whose output is None."""
+        """Gives a reading another word: one of OUTPUT_READINGS, or with None as the output one of DEVICE_READINGS."""
         if reading not in READINGS:
             raise ValueError(f"reading: {reading!r} isn't one of {', '.join(READINGS)}")
-        if reading in OF_THE_DEVICE and output is not None:
+        if reading in DEVICE_READINGS and output is not None:
             raise ValueError(f"output: {reading} is the device's: give None")
-        place = 0 if reading in OF_THE_DEVICE else self._there(output)
+        place = 0 if reading in DEVICE_READINGS else self._there(output)
         accepted(library.pm_part_set_reading(ctypes.byref(self._image), place, READINGS[reading], whole(word, 0, 0xFFFF, "word")))
 
     # ---- What it holds ----

@@ -25,6 +25,7 @@ use Rattle.pm_limits.specs.Lemmas.Cuts.{reaches-cut}
 use Rattle.pm_limits.specs.Lemmas.Farthest.{HaveDens, farthest_of-listed, reaches-through}
 use Rattle.pm_limits.specs.Lemmas.Selected.{each-selected}
 
+-- where the value of every word has a positive denominator, the value of each listed word has
 all-dens : (value : ℕ → Ratio) → ((word : ℕ) → 0 < (value word).den) → (words : List ℕ) → HaveDens value words
 all-dens value dens [] = tt
 all-dens value dens (word ∷ words) = (dens word, all-dens value dens words)
@@ -68,12 +69,14 @@ end-held side shape (Listed words) word dens short is =
 same-itself : (register : Reg) → same_register register register ≡ true
 same-itself register = grind (arith, nat_tests)
 
+-- the register that a listed byte selects is among those that the list's bytes select
 listed-selected : (bytes : List ℕ) (byte : ℕ) → is_listed byte bytes ≡ true → is_selected bytes (selected_register byte) ≡ true
 listed-selected [] byte is = is
 listed-selected (other ∷ bytes) byte is =
     go (listed-selected bytes byte) (other == byte) (same_register (selected_register other) (selected_register byte)) refl refl is
   where
-    go : (is_listed byte bytes ≡ true → is_selected bytes (selected_register byte) ≡ true) → (b s : Bool) → (other == byte) ≡ b → same_register (selected_register other) (selected_register byte) ≡ s →
+    go : (is_listed byte bytes ≡ true → is_selected bytes (selected_register byte) ≡ true) → (b s : Bool) → (other == byte) ≡ b
+        → same_register (selected_register other) (selected_register byte) ≡ s →
         (b || is_listed byte bytes) ≡ true → (s || is_selected bytes (selected_register byte)) ≡ true
     go later b true e f is' = refl
     go later true false e f is' =
@@ -92,6 +95,7 @@ selected-decides known register h = go (list_any (same_register register) (Opera
     go true q e = refl
     go false q e = e
 
+-- the register that a possible byte of OPERATION selects is among those that OPERATION may select
 byte-selects : (possible : Possible) (byte : ℕ) → is_possible byte possible ≡ true →
     is_selected (operations possible) (selected_register byte) ≡ true
 byte-selects Any byte is =

@@ -16,6 +16,7 @@ pub record Cut : Type 0 where
   pub least_den : 0 < least.den
   pub greatest_den : 0 < greatest.den
 
+-- the selected value, cut to the least and the greatest
 abbrev pub cut_value : Cut → Ratio
 cut_value c = limited c.selected c.least c.greatest
 

@@ -29,6 +29,7 @@ reaches-farther : (side : Side) (p q : Ratio) → is_farther side p q ≡ true �
 reaches-farther Lowest p q h = above-at-most p q h
 reaches-farther Highest p q h = above-at-most q p h
 
+-- a value reaches as far as another that doesn't lie farther out
 reaches-not : (side : Side) (p q : Ratio) → is_farther side p q ≡ false → Reaches side p q
 reaches-not Lowest p q h = at-most p q h
 reaches-not Highest p q h = at-most q p h
@@ -41,6 +42,7 @@ farther-first side value word other = go (is_farther side (value word) (value ot
   go true h = reaches-farther side (value word) (value other) h
   go false h = reaches-same side (value word)
 
+-- the farther of two words reaches as far as the second
 farther-second : (side : Side) (value : ℕ → Ratio) (word other : ℕ) →
     Reaches side (value (farther side value word other)) (value other)
 farther-second side value word other = go (is_farther side (value word) (value other)) refl where
@@ -48,6 +50,7 @@ farther-second side value word other = go (is_farther side (value word) (value o
   go true h = reaches-same side (value other)
   go false h = reaches-not side (value word) (value other) h
 
+-- the value of the farther of two words has a positive denominator where the values of both have
 farther-den : (side : Side) (value : ℕ → Ratio) (word other : ℕ) → 0 < (value word).den → 0 < (value other).den →
     0 < (value (farther side value word other)).den
 farther-den side value word other h k = go (is_farther side (value word) (value other)) where
@@ -65,12 +68,14 @@ farthest-first side value word (other ∷ words) h (d, dens) =
     reaches-through side (value (farthest side value next words)) (value next) (value word) positive
     (farthest-first side value next words positive dens) (farther-first side value word other)
 
+-- the value of the farthest of a word and others has a positive denominator where the values of all have
 farthest-den : (side : Side) (value : ℕ → Ratio) (word : ℕ) (words : List ℕ) → 0 < (value word).den → HaveDens value words →
     0 < (value (farthest side value word words)).den
 farthest-den side value word [] h dens = h
 farthest-den side value word (other ∷ words) h (d, dens) =
     farthest-den side value (farther side value word other) words (farther-den side value word other h d) dens
 
+-- the farthest of a word and others reaches as far as each of the others
 farthest-others : (side : Side) (value : ℕ → Ratio) (word : ℕ) (words : List ℕ) (listed : ℕ) → 0 < (value word).den →
     HaveDens value words → is_listed listed words ≡ true →
     Reaches side (value (farthest side value word words)) (value listed)
@@ -119,12 +124,14 @@ listed-again a b listed words is = go (a == listed) (b == listed) (is_listed lis
   go false true r h = refl
   go false false r h = h
 
+-- a word that is listed still is with another word in front of the list
 listed-later : (a listed : ℕ) (words : List ℕ) → is_listed listed words ≡ true → is_listed listed (a ∷ words) ≡ true
 listed-later a listed words is = go (a == listed) (is_listed listed words) is where
   go : (p r : Bool) → r ≡ true → (p || r) ≡ true
   go true r h = refl
   go false r h = h
 
+-- the farthest of a word and others is that word or one of the others
 farthest-is : (side : Side) (value : ℕ → Ratio) (word : ℕ) (words : List ℕ) →
     is_listed (farthest side value word words) (word ∷ words) ≡ true
 farthest-is side value word [] = grind (arith, nat_tests)
@@ -137,6 +144,7 @@ farthest-is side value word (other ∷ words) =
     go second first true = listed-later word (farthest side value other words) (other ∷ words) second
     go second first false = listed-again word other (farthest side value word words) words first
 
+-- the farthest word of a list that has any stands in the list
 pub farthest_of-is : (side : Side) (value : ℕ → Ratio) (word : ℕ) (words : List ℕ) →
     is_listed (farthest_of side value (word ∷ words)) (word ∷ words) ≡ true
 farthest_of-is = farthest-is

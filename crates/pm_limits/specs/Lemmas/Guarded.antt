@@ -23,7 +23,8 @@ use Rattle.pm_limits.specs.declared.within.Within.{Within}
 use Rattle.pm_limits.specs.declared.within.Within.TheVariants.{Yes, No, NotKnown}
 use Rattle.pm_limits.specs.Band.{band_on, is_yes, within_of}
 use Rattle.pm_limits.specs.Bounds.{Bounds, IsWithin, outside_fault}
-use Rattle.pm_limits.specs.Guard.{Guarded, guard_fault, guarded_order, judged, limits_at, of_host, operation_limit, voltage_limit, word_fault}
+use Rattle.pm_limits.specs.Guard.{Guarded, guard_fault, guarded_order, judged, limits_at, of_host, operation_limit, voltage_limit}
+use Rattle.pm_limits.specs.Guard.{word_fault}
 use Rattle.pm_limits.specs.Lemmas.Order.{at-most}
 
 -- the second of two faults is none where neither comes
@@ -31,6 +32,7 @@ second : {A : Type 0} (p q : Option A) → option_or p q ≡ None → q ≡ None
 second None q h = h
 second (Some a) q h = cc
 
+-- the first of two faults is none where neither comes
 head : {A : Type 0} (p q : Option A) → option_or p q ≡ None → p ≡ None
 head None q h = refl
 head (Some a) q h = cc
@@ -67,7 +69,8 @@ order-within : (g : Guarded) (cell : Cell) (output : ℕ) (register : Reg) (word
     IsSomeAnd (format_at g.host output) (λ shape. IsWithin bounds (shape_value shape word))
 order-within g cell output register word bounds free is voltage limits =
     let judge = head (judged (limits_at g (output_of cell)) g.host cell word) _ (second (of_host (cell_fault g.host cell)) _ free) in
-    let none = sym (judged-voltage g output register word voltage) ∙ ap (λ (c : Cell). judged (limits_at g (output_of c)) g.host c word) (sym is) ∙ judge in
+    let none = sym (judged-voltage g output register word voltage)
+        ∙ ap (λ (c : Cell). judged (limits_at g (output_of c)) g.host c word) (sym is) ∙ judge in
     let-through (limits_at g output) (format_at g.host output) word bounds limits none
 
 -- as a word or in microvolts
@@ -82,7 +85,8 @@ guarded-voltage g (job.Order cell w) output register word bounds free is voltage
     (order-within g cell output register w bounds free same_cell voltage limits)
 guarded-voltage g (job.OrderMicro cell x) output register word bounds free is voltage limits =
     let third = second (word_fault g.host cell x) _ (second (of_host (cell_fault g.host cell)) _ free) in
-    go (micro_word g.host cell x) (head (option_and_then (λ n. guarded_order (limits_at g (output_of cell)) g.host cell n) (micro_word g.host cell x)) None third) is
+    go (micro_word g.host cell x)
+        (head (option_and_then (λ n. guarded_order (limits_at g (output_of cell)) g.host cell n) (micro_word g.host cell x)) None third) is
   where
     go : (found : Option ℕ) → option_and_then (λ n. guarded_order (limits_at g (output_of cell)) g.host cell n) found ≡ None →
         option_map (λ n. Order cell n) found ≡ Some (Order (Out output register) word) →
@@ -114,7 +118,8 @@ guarded-on g output byte free on =
 alone : (g : Guarded) (cell : Cell) (word : ℕ) → judged (limits_at g (output_of cell)) g.host cell word ≡ None →
     guarded_order (limits_at g (output_of cell)) g.host cell word ≡ of_host (order_fault g.host cell word)
 alone g cell word none =
-    ap (λ (j : Option LimitFault). option_or (of_host (cell_fault g.host cell)) (option_or j (option_or (of_host (order_fault g.host cell word)) None)))
+    ap (λ (j : Option LimitFault). option_or (of_host (cell_fault g.host cell))
+        (option_or j (option_or (of_host (order_fault g.host cell word)) None)))
     none
     ∙ merge (cell_fault g.host cell) _
   where
@@ -124,17 +129,20 @@ alone g cell word none =
     merge None (Some f) = refl
     merge None None = refl
 
+-- an order of a byte of OPERATION that leaves the output off is refused as the host refuses it, whatever its limits are
 pub guarded-off : (g : Guarded) (output byte : ℕ) → has_on byte ≡ false →
     guard_fault g (job.Order (Out output Operation) byte)
     ≡ of_host (begin_fault g.host (job.Order (Out output Operation) byte))
 guarded-off g output byte off = alone g (Out output Operation) byte
-    (ap (λ (b : Bool). cond (b && not (is_yes (within_of (limits_at g output) (band_on g.host output byte)))) (Some NotKnownWithin) None) off)
+    (ap (λ (b : Bool). cond (b && not (is_yes (within_of (limits_at g output) (band_on g.host output byte)))) (Some NotKnownWithin) None)
+        off)
 
 -- where an output has no limits, they say nothing
 judged-free : (g : Guarded) (output : ℕ) (register : Reg) (word : ℕ) → limits_at g output ≡ None →
     judged (limits_at g output) g.host (Out output register) word ≡ None
 judged-free g output Operation word none =
-    ap (λ (l : Option Bounds). cond (has_on word && not (is_yes (within_of l (band_on g.host output word)))) (Some NotKnownWithin) None) none
+    ap (λ (l : Option Bounds). cond (has_on word && not (is_yes (within_of l (band_on g.host output word)))) (Some NotKnownWithin) None)
+        none
     ∙ go (has_on word)
   where
     go : (b : Bool) → cond (b && false) (Some NotKnownWithin) None ≡ None
@@ -142,6 +150,7 @@ judged-free g output Operation word none =
     go false = refl
 judged-free g output register word none = ap (λ (l : Option Bounds). voltage_limit l (format_at g.host output) word) none
 
+-- an order for a register of an output without limits is refused as the host refuses it
 pub guarded-free : (g : Guarded) (output : ℕ) (register : Reg) (word : ℕ) → limits_at g output ≡ None →
     guard_fault g (job.Order (Out output register) word)
     ≡ of_host (begin_fault g.host (job.Order (Out output register) word))

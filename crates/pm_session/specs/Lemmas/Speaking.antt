@@ -16,12 +16,15 @@ long_asks : (long : List ℕ) → 256 < length long → ask_of long ≡ Err TooL
 unfolding ask_of
 long_asks long more = let test : ltb 256 (length long) ≡ true = lt-ltb 256 (length long) more in rw test refl
 
+-- the first 257 bytes of a line get the reply of the whole line, and the host with limits is as after the whole line
 kept_answers : (s : Guarded) (line : List ℕ) → answer_to s (take 257 line) ≡ answer_to s line
 kept_answers s line = ap (answers_asked s) (kept_asks ask_of (Err TooLong) long_asks line)
 
+-- the line that answers the first 257 bytes of a line is the one that answers the whole line
 pub kept_text : (s : Session) (line : List ℕ) → spoken.text s (take 257 line) ≡ spoken.text s line
 unfolding answer_text
 kept_text s line = ap (λ (a : Answered). reply_text a.reply) (kept_answers s.guard line)
 
+-- after the first 257 bytes of a line a session is what it is after the whole line
 pub kept_after : (s : Session) (line : List ℕ) → spoken.after s (take 257 line) ≡ spoken.after s line
 kept_after s line = ap (λ (a : Answered). record { guard = a.after }) (kept_answers s.guard line)

@@ -139,11 +139,13 @@ unfolding went
 none_went is other [] = refl
 none_went is other (byte ∷ bytes) = ap (λ first. first || list_any is (went bytes)) (other byte) ∙ none_went is other bytes
 
+-- where bytes go, and nothing else happens, none is read
 went_in : (bytes : List ℕ) → bytes_in (went bytes) ≡ []
 unfolding went
 went_in [] = refl
 went_in (byte ∷ bytes) = went_in bytes
 
+-- where bytes go, and nothing else happens, these are the bytes that are written
 went_out : (bytes : List ℕ) → bytes_out (went bytes) ≡ bytes
 unfolding went
 went_out [] = refl

@@ -1,7 +1,8 @@
 ghost use Rattle.std.specs.Prelude.{◌≡◌, ◌<◌, [], ◌∷◌, ◌++◌, OnOk, decimal};
 ghost use Rattle.pm_device.specs.FaultWords.{device_fault_text};
 ghost use Rattle.pm_frame.specs.FaultWords.{frame_fault_text};
-ghost use Rattle.pm_text.specs.HeardText.{as_line, output_line, reply_words, spaced_bytes};
+ghost use Rattle.pm_lines.specs.Numbers.{spaced_bytes};
+ghost use Rattle.pm_text.specs.HeardText.{as_line, output_line, reply_words};
 
 use pm_device::{DeviceFault, Heard};
 use pm_frame::FrameFault;

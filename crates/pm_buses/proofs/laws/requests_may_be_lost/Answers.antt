@@ -9,6 +9,7 @@ use Rattle.pm_device.specs.Verdict.{verdict_of}
 use Rattle.pm_buses.proofs.Heard.{lost-asked}
 use Rattle.pm_buses.proofs.laws.requests_may_be_lost.Goals as goal
 
+-- hearing no byte and then a stop changes nothing that a converter holds
 unchanged : (held : Held) → held ≡ next held (device.Hearing [] Stop)
 unfolding next after verdict_of write_fault opening_fault address_fault
 unchanged held = refl

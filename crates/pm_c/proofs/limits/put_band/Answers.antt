@@ -13,5 +13,6 @@ returns-clause-said c = λ accepted.
     let also : to_z w64 (of_z w64 m) ≡ m = omega (arith, ints) in
     record {
       least = subst (λ x. IsFloor c.args.known.now.least x) (sym kept) (c.put_floor-number.ensures.floor c.if-number-ne-ACCEPTED.false);
-      greatest = subst (λ x. IsCeil c.args.known.now.greatest x) (sym also) (c.put_ceil-number.ensures.ceil c.if-number-ne-ACCEPTED-2.false);
+      greatest = subst (λ x. IsCeil c.args.known.now.greatest x) (sym also)
+          (c.put_ceil-number.ensures.ceil c.if-number-ne-ACCEPTED-2.false);
     }

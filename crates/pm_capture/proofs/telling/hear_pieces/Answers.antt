@@ -51,7 +51,8 @@ returns-then-branch-eq0-clause-ok g c =
     let hears = hears_at _ _ _ _ _ _ c.hear_piece-count.result c.in_ok-count.field-0 was c.hear_piece-count.ensures.told in
     let more = gathered_more options _ _ _ _ front _ c.reads.capture gathered _ _ c.hear_piece-count.new.capture hears in
     let put = put_more options _ _ _ _ _ _ c.hear_piece-count.new.capture more _ _ c.in_ok-put_due.ensures.puts in
-    let none = c.in_ok-put_due.ensures.due (due_at_end c.is_full.result c.hear_piece-count.result c.in_ok-count.field-0 c.is_full.ensures was
+    let none = c.in_ok-put_due.ensures.due
+        (due_at_end c.is_full.result c.hear_piece-count.result c.in_ok-count.field-0 c.is_full.ensures was
     c.if-branch-eq0.true) in (
       read_at c.hear_piece-count.result c.in_ok-count.field-0 _ was c.hear_piece-count.ensures.failed,
       c.in_ok-put_due.ensures.failed,

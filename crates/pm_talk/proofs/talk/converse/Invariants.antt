@@ -7,4 +7,5 @@ use Rattle.pm_talk.proofs.talk.converse.Given as goal
 abbrev pub invariant-turns : goal.invariant-turns
 invariant-turns g l =
     (lines : List (List ℕ)) × (list_all is_line lines ≡ true) × (length lines ≡ l._turn)
-    × (l.speaker ≡ after_lines g.S.Speaker.speech l.fn.speaker lines) × g.P.Port.goes l.fn.port (talk g.S.Speaker.speech l.fn.speaker lines) l.port
+    × (l.speaker ≡ after_lines g.S.Speaker.speech l.fn.speaker lines)
+        × g.P.Port.goes l.fn.port (talk g.S.Speaker.speech l.fn.speaker lines) l.port

@@ -11,6 +11,7 @@ use Rattle.pm_world.proofs.laws.spell.Goals as goal
 none : (register : Reg) → register_start register no_start ≡ 0
 none register = grind arith
 
+-- the list of a register's start words has one of two bytes at a place where the output's start has one
 word-short : (register : Reg) (starts : List OutputStart) (place : ℕ) → register_start register (get_or starts place no_start) < 2 ^ 16 →
     get_or (map (register_start register) starts) place 0 < 2 ^ 16
 word-short register starts place short =

@@ -8,4 +8,5 @@ loop-register-preserved c =
     below_more _ _ c.loop-register.invariant (subst (λ w. w < 2 ^ 16) c.word.ensures c.spell_word.ensures)
 
 pub returns : goal.returns
-returns c = each (λ register. register_start register c.args.start < 2 ^ 16) (λ number below. c.loop-register.invariant number (omega (arith, below)))
+returns c = each (λ register. register_start register c.args.start < 2 ^ 16)
+    (λ number below. c.loop-register.invariant number (omega (arith, below)))

@@ -18,7 +18,8 @@ returns c =
       store = c.words-2.result;
     } in
     read-back image c.args.self.now refl
-    (same-held image c.args.self.now (search rules) (search rules) (search rules) (search rules) (search rules) (search rules) (search rules))
+    (same-held image c.args.self.now (search rules) (search rules) (search rules) (search rules) (search rules) (search rules)
+        (search rules))
     record {
       config = search rules;
       words = (record { count = c.self.inside.settings.count; words = c.self.inside.settings.words }, search rules);

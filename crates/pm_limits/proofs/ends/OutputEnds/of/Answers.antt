@@ -18,5 +18,6 @@ returns-clause-selected c =
       max = c.ends_at-5.result;
     } in
     λ side. each-selected
-    (λ (r : Reg). word_on side (end_in ends r) ≡ word_end side (shape_of c.args.format.now) (known_of (held None c.args.host.now) c.args.output) r)
+    (λ (r : Reg). word_on side (end_in ends r)
+        ≡ word_end side (shape_of c.args.format.now) (known_of (held None c.args.host.now) c.args.output) r)
     (c.ends_at.ensures side) (c.ends_at-2.ensures side) (c.ends_at-3.ensures side)

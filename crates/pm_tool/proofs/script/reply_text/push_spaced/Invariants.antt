@@ -1,5 +1,5 @@
 use Rattle.std.proofs.Common.{◌≡◌, ◌++◌, drop}
-use Rattle.pm_text.specs.HeardText.{spaced_bytes}
+use Rattle.pm_lines.specs.Numbers.{spaced_bytes}
 use Rattle.pm_tool.proofs.script.reply_text.push_spaced.Given as goal
 
 -- what is written and what is left are the whole

@@ -1,7 +1,7 @@
 use Rattle.std.proofs.Common.{◌≡◌, ◌+◌, ◌*◌, ◌++◌, drop}
 use Rattle.arrayvec.specs.ArrayVec.{array_vec_len}
-use Rattle.pm_session.specs.ReplyText.{spaced_bytes}
-use Rattle.pm_session.proofs.reply_text.push_bytes.Given as goal
+use Rattle.pm_lines.specs.Numbers.{spaced_bytes}
+use Rattle.pm_talk.proofs.answer_text.push_spaced_bytes.Given as goal
 
 -- what is written and what is left are the whole, and each byte took three
 abbrev pub invariant-loop-byte : goal.invariant-loop-byte
