@@ -22,10 +22,6 @@ use Rattle.pm_buses.specs.Disturbed.{IsDisturbed}
 pub restarted : (old new : Held) → new ≡ device_next old device.Restarted → IsDisturbed old new
 restarted old new is = record { events = RestartDevice ∷ []; beside = (refl, tt); after = λ frame. sym is }
 
--- and nothing
-pub undisturbed : (held : Held) → IsDisturbed held held
-undisturbed held = record { events = []; beside = tt; after = λ frame. refl }
-
 -- a packet is heard, legally
 pub delivered : (packet bytes : List ℕ) (ending : Ending) (way : Arrival) (old new : Held) → bytes ≡ heard_bytes packet way →
     ending ≡ ending_of Stop way → is_legal_hearing packet bytes ending ≡ true → new ≡ device_next old (device.Hearing bytes ending) →

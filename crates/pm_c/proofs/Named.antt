@@ -21,7 +21,7 @@ use Rattle.pm_limits.specs.declared.fault.LimitFault.TheVariants.{Host}
 use Rattle.pm_limits.specs.declared.fault.LimitFault.TheVariants as limits
 use Rattle.pm_limits.specs.FaultWords.{limit_fault_number, limit_fault_words}
 use Rattle.pm_c.specs.Host.{step_kind}
-use Rattle.pm_c.specs.Names.{end_words, refusal_words, step_words, RefusalsAreNamed}
+use Rattle.pm_c.specs.Names.{end_words, refusal_words, step_words}
 
 -- under its number each fault of limits, those of their host included, has its own words
 limit : (fault : LimitFault) → refusal_words (limit_fault_number fault) ≡ Some (limit_fault_words fault)
@@ -80,7 +80,3 @@ step (Ended Done) = refl
 step (Ended (Differs word)) = refl
 step (Ended Unknown) = refl
 step (Ended Learned) = refl
-
--- no fault, refusal or step of a job is without its name, which is found by its number
-pub named : RefusalsAreNamed
-named = record { limit = limit; frame = frame; device = converter; config = config; step = step }

@@ -1,5 +1,5 @@
 -- What became of a frame is told where it is of the frame's kind.
-use Rattle.std.proofs.Common.{◌≡◌, true, Some, refl}
+use Rattle.std.proofs.Common.{◌≡◌, true, Some}
 use Rattle.pm_host.specs.declared.stage.Stage.{Stage}
 use Rattle.pm_host.specs.declared.state.State.{State}
 use Rattle.pm_host.specs.declared.told.Told.{Told}

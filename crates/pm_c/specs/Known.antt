@@ -1,5 +1,5 @@
 -- What is known of every cell of a device, in one answer.
-use Rattle.std.specs.Prelude.{◌≡◌, ◌≤◌, ◌<◌, ◌+◌, ◌*◌, ℕ, List, [], slice_index_or, Option, Some}
+use Rattle.std.specs.Prelude.{◌≡◌, ◌≤◌, ◌<◌, ◌+◌, ◌*◌, ℕ, List, [], slice_index_or, Some}
 use Rattle.pm_table.specs.declared.cell.Cell.{Cell}
 use Rattle.pm_table.specs.Cell.{cell_at, nth_cell, register_count}
 use Rattle.pm_host.specs.Image.{standing_held, words_held}

@@ -2,7 +2,7 @@
 -- a byte stands anywhere, a word of two bytes at an even place,
 -- a number of eight at one that eight divides.
 use Rattle.std.specs.Prelude.{ℕ, ◌+◌, ◌*◌}
-use Rattle.pm_table.specs.Cell.{places, register_count}
+use Rattle.pm_table.specs.Cell.{places}
 
 -- a word
 abbrev pub word_size : ℕ

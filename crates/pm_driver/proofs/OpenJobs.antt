@@ -105,13 +105,6 @@ stays-open s (Read request needed came) busy h = go s.stage busy h where
   go None b e = cc
   go (Some stage) b e = answered-open (idle s) stage came e
 
--- a host that sends nothing has no job open
-pub idle-host : (s : Summary) → sending_in s ≡ None → is_busy s ≡ false
-idle-host s h = go s.stage h where
-  go : (stage : Option Stage) → option_map stage_message stage ≡ None → is_some stage ≡ false
-  go None e = refl
-  go (Some stage) e = cc
-
 -- and one that sends something has
 pub busy-host : (P : Message → Type 0) (s : Summary) → IsSomeAnd (sending_in s) P → is_busy s ≡ true
 busy-host P s h = go s.stage h where

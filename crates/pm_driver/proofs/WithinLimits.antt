@@ -1,12 +1,12 @@
 -- The words of an output stay within limits while a driver orders no other, and what a call of it does.
-use Rattle.std.proofs.Common.{◌≡◌, ◌<◌, ◌||◌, ℕ, ℤ, Bool, true, false, List, [], ◌∷◌, ◌++◌, Option, Some, None, Ok, Err, inl, inr, refl}
+use Rattle.std.proofs.Common.{◌≡◌, ◌||◌, ℕ, Bool, true, false, List, [], ◌∷◌, ◌++◌, Option, Some, None, Ok, inl, inr, refl}
 use Rattle.std.proofs.Common.{sym, ◌∙◌, ap, subst, arith, int_lt}
-use Rattle.std.specs.Prelude.{IsSomeAnd, OnOk, OnErr, Result, option_map, option_and_then}
+use Rattle.std.specs.Prelude.{IsSomeAnd, option_map, option_and_then}
 use Rattle.std.proofs.lemmas.Bool.Decides.{nat_tests}
 use Rattle.std.proofs.lemmas.Int.{ints}
 use Rattle.std.specs.Option.{option_or}
 use Rattle.pm_num.specs.AnyFormat.{Shape, shape_value}
-use Rattle.pm_num.specs.Ratio.{Ratio, AtMost, micros}
+use Rattle.pm_num.specs.Ratio.{Ratio, micros}
 use Rattle.pm_table.specs.declared.cell.Cell.{Cell}
 use Rattle.pm_table.specs.declared.cell.Cell.TheVariants.{Out}
 use Rattle.pm_table.specs.declared.reg.Reg.{Reg}
@@ -23,7 +23,6 @@ use Rattle.pm_host.specs.Jobs.{accepted_job}
 use Rattle.pm_host.specs.Refusals.{cell_fault, job_fault, micro_word, order_fault}
 use Rattle.pm_host.specs.Summary.{Summary, format_at, next as host_next, start as host_start}
 use Rattle.pm_host.specs.Transcript as host
-use Rattle.pm_limits.specs.declared.fault.LimitFault.{LimitFault}
 use Rattle.pm_limits.specs.Bounds.{Bounds, IsWithin, is_wider}
 use Rattle.pm_limits.specs.Guard.{Guarded, LetsBegin, guard_fault, guarded_order, judged, limits_at, of_host, word_fault}
 use Rattle.pm_limits.specs.Lemmas.Guarded.{guarded-voltage}
@@ -34,7 +33,6 @@ use Rattle.pm_world.specs.Job.{asked_by}
 use Rattle.pm_world.specs.Laws.{LegalLivesAreFollowed}
 use Rattle.pm_world.specs.Life.{now}
 use Rattle.pm_world.specs.Limited.{OrdersWithin, OwnWithin, StartsWithin}
-use Rattle.pm_world.specs.Setup.{setup_of}
 use Rattle.pm_world.specs.State.{asked, tells}
 use Rattle.pm_world.specs.Uncertainty.{job_event}
 use Rattle.pm_driver.specs.Acts.{Act, Began, Call, Called, Renewed, asked_in}
@@ -270,21 +268,6 @@ runs-so laws law gives held jobs compose asked end old new middle has begins lea
       stays (Some begun) e is output bounds narrow lived =
           job-within laws gives held old.guard asked begun end old.bus (driven new) (sym begins.fault) e is output bounds narrow lived
 
--- a job that is refused
-pub refused-so : {B : Type 0} (gives : B → Call → B → Type 0) (held : B → Held) (asked : Job) (fault : LimitFault) (g after : Guarded)
-    (bus : B) → LetsBegin g asked (Err fault) after →
-    Runs gives held asked (record { guard = g; bus = bus }) (Err fault) (record { guard = after; bus = bus })
-refused-so gives held asked fault g after bus begins = record {
-  fault = begins.fault;
-  leads = tt;
-  says = tt;
-  over = tt;
-  err = ap (λ (x : Guarded). record { guard = x; bus = bus }) begins.err;
-  limits = begins.limits;
-  kept = begins.kept;
-  within = λ output bounds narrow lived. subst (λ (x : Guarded). HasLifeWithin output bounds x.host (held bus)) (sym begins.err) lived;
-}
-
 -- a restart
 pub restart-within : LegalLivesAreFollowed → {B : Type 0} (gives : B → Call → B → Type 0) (held : B → Held) (old new : Driven B) →
     Leads gives held (Renewed ∷ []) None old new → (output : ℕ) (bounds : Bounds) →
@@ -293,12 +276,6 @@ restart-within laws gives held old new leads output bounds lived =
     led-within laws gives held (Renewed ∷ []) None old new output bounds lived leads
     (subst (JobsWithin lived.has.config output bounds)
     (sym (leads.orders ∙ (asked-begun leads.acts ∙ ap jobs_begun leads.asks))) tt)
-
--- limits that are narrowed leave the host
-pub host-kept : (result : Result (Unit {0}) LimitFault) (old new narrow : Guarded) → narrow.host ≡ old.host →
-    OnOk result (new ≡ narrow) → OnErr result (new ≡ old) → new.host ≡ old.host
-host-kept (Ok done) old new narrow same ok err = ap (λ (g : Guarded). g.host) ok ∙ same
-host-kept (Err fault) old new narrow same ok err = ap (λ (g : Guarded). g.host) err
 
 -- ---- the beginning
 

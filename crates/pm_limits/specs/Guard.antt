@@ -1,6 +1,5 @@
 -- What a guard holds and when it refuses: this project's own choice.
-use Rattle.std.specs.Prelude.{◌≡◌, ◌*◌, ◌≤◌, ℕ, ℤ, Bool, not, ◌&&◌, nat_le, nat_lt, if◌then◌else◌, List, [], ◌∷◌, slice_index_or, slice_set, Option, Some, None, option_map, option_and_then, is_none, IsSomeAnd, IfOk, IfErr, Result, OnOk, OnErr}
-use Rattle.std.specs.Option.{option_or}
+use Rattle.std.specs.Prelude.{◌≡◌, ◌*◌, ◌≤◌, ℕ, ℤ, not, ◌&&◌, nat_lt, List, [], ◌∷◌, slice_index_or, slice_set, Option, Some, None, option_map, option_and_then, is_none, IsSomeAnd, IfOk, IfErr, Result, OnOk, OnErr}
 use Rattle.std.specs.Result.{result_err}
 use Rattle.pm_num.specs.AnyFormat.{Shape, shape_value}
 use Rattle.pm_table.specs.declared.cell.Cell.{Cell}

@@ -1,14 +1,13 @@
 -- How an engine ends follows from its input.
 use Rattle.std.proofs.Common.{◌≡◌, ◌∙◌, ℕ, ◌<◌, ◌≤◌, true, false, List, ◌++◌, length, length-append, append-nil, take, drop}
 use Rattle.std.proofs.Common.{take-append-drop}
-use Rattle.std.proofs.Common.{◌↔◌, Bool, IsFalse, IsTrue, true≢false, Option, Some, None, IfSome, Result, Ok, Err, refl, sym, ap, arith}
+use Rattle.std.proofs.Common.{Option, Some, None, IfSome, Result, Ok, Err, refl, sym, ap, arith}
 use Rattle.std.proofs.Common.{ltb, subst}
 use Rattle.std.proofs.lemmas.Bool.Decides.{nat_tests}
 use Rattle.std.proofs.lemmas.List.{length-take, length-drop}
-use Rattle.std.specs.Io.KnownBytes.{Consumes, Keeps}
-use Rattle.std.proofs.KnownBytes.{Consumes-kept}
+use Rattle.std.specs.Io.KnownBytes.{Consumes}
 use Rattle.pm_lines.specs.Engine.{Engine, EngineEnds, IsSettled, Run, end_of, outcome_of}
-use Rattle.pm_lines.specs.Streams.{BreaksOff, IsWholeText, max_text}
+use Rattle.pm_lines.specs.Streams.{IsWholeText, max_text}
 use Rattle.pm_lines.specs.declared.fault.TextFault.{TextFault}
 use Rattle.pm_lines.specs.declared.fault.TextFault.TheVariants.{Syntax, BadHex, TooLong, Read, Write, Memory, Setup}
 
@@ -23,16 +22,6 @@ parted old new n bytes long given =
       omega (arith, length-drop n bytes),
       subst P (sym (take-append-drop n bytes)) given,
     )
-
--- a read failed after these bytes
-pub read_failed : (a b c : Option (List ℕ)) (front : List ℕ) (fault : TextFault) → fault ≡ Read → Consumes a b front → Keeps b c
-    → length front ≤ max_text → BreaksOff a c fault
-read_failed a b c front fault is given kept short =
-    let P : TextFault → Type 0 = λ f. BreaksOff a c f in subst P (sym is) (front, short, Consumes-kept a b c front given kept)
-
--- want of memory comes while no read has failed
-pub no_read : (failed : Bool) → IsFalse failed → IsTrue failed ↔ (Memory ≡ Read)
-no_read failed sound = (λ t. absurd (true≢false (sym t ∙ sound)), λ e. absurd (cc))
 
 module _ {T : Type 0} (engine : Engine T) where
   -- an input that is too long, and one that isn't

@@ -40,8 +40,9 @@ fn pair_value(high: u8, low: u8) -> u16
     value_or_none(high) * 16 + value_or_none(low)
 }
 
-/// The byte of the two digits that stand first, and what follows the space after them. None
-/// where no pair of digits and a space stand first.
+/// The byte of the two digits that stand first, and what follows the space after them; only where
+/// these stand first. A caller reads on digit by digit after None: that costs time and no more, and
+/// the clauses leave open where it comes.
 pub fn spaced_pair(digits: &[u8]) -> Option<(u8, &[u8])>
     ensures byte { IfSome result (λ pair. paired_bytes digits.now ≡ pair.0 ∷ paired_bytes pair.1.now) }
     ensures rest { IfSome result (λ pair. behind_pairs digits.now ≡ behind_pairs pair.1.now) }
@@ -54,7 +55,8 @@ pub fn spaced_pair(digits: &[u8]) -> Option<(u8, &[u8])>
 }
 
 /// The bytes of the four pairs of digits that stand first, with a space between each, and what
-/// follows them. None where no four such pairs stand first.
+/// follows them; only where four such pairs stand first. The clauses leave open where None comes, as
+/// those of `spaced_pair` do.
 pub fn four_pairs(digits: &[u8]) -> Option<(u8, u8, u8, u8, &[u8])>
     ensures bytes { IfSome result (λ four. paired_bytes digits.now
         ≡ four.0 ∷ four.1 ∷ four.2 ∷ four.3 ∷ paired_bytes four.4.now) }

@@ -3,7 +3,6 @@ use Rattle.std.proofs.Common.{◌≡◌, ◌≢◌, ◌∙◌, ◌<◌, ◌++◌
 use Rattle.std.proofs.Common.{eqb, ne_eqb, refl, ap, arith}
 use Rattle.std.specs.Borrow.{Bor}
 use Rattle.std.proofs.lemmas.Str.Pattern.{IsSplitOnceResult, split_parts}
-use Rattle.pm_limits.specs.Guard.{Guarded}
 use Rattle.pm_session.specs.Options.{colon_parts, limited}
 use Rattle.pm_session.specs.declared.options.start_fault.StartFault.{StartFault}
 

@@ -1,9 +1,7 @@
 -- Bytes that come one by one, and lines that come one after another.
 use Rattle.std.proofs.Common.{◌≡◌, ◌∙◌, ◌<◌, ◌++◌, ◌&&◌, ℕ, zero, suc, Bool, true, false, List, [], ◌∷◌, length, take}
-use Rattle.std.proofs.Common.{refl, sym, ap, ap₂, subst, arith, append-nil, append_assoc, Err, ltb}
+use Rattle.std.proofs.Common.{refl, sym, ap, ap₂, subst, arith, append-nil, append_assoc}
 use Rattle.std.specs.List.{list_all}
-use Rattle.std.proofs.lemmas.Bool.{ltb-true, ltb-false, lt-ltb}
-use Rattle.std.proofs.lemmas.List.{take_all, length-take-le}
 use Rattle.std.proofs.lemmas.List.Folds.{list_all-append}
 use Rattle.pm_lines.specs.declared.fault.TextFault.TheVariants as text
 use Rattle.pm_talk.specs.Speech.{Speech}

@@ -1,6 +1,5 @@
 -- How a run ends, by what its calls did.
-use Rattle.std.proofs.Common.{◌≡◌, ◌≢◌, ◌∙◌, ◌++◌, ◌↔◌, ◌⊎◌, ℕ, List, [], Option, Some, None, Result, Ok, Err, IsTrue, IsFalse, OnOk, OnErr}
-use Rattle.std.proofs.Common.{is_err}
+use Rattle.std.proofs.Common.{◌≡◌, ◌≢◌, ◌↔◌, ◌⊎◌, ℕ, List, [], Option, Some, None, Result, Ok, Err, IsTrue, IsFalse}
 use Rattle.std.proofs.Common.{refl, sym, subst, inl, inr, append-nil, codes, arith}
 use Rattle.std.specs.Io.KnownBytes.{Appends, Keeps}
 use Rattle.std.proofs.KnownBytes.{Appends-kept}

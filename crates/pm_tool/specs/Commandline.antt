@@ -1,6 +1,6 @@
 -- The command line of `pmb`: the commands as the parser reads them, and what words choose.
-use Rattle.std.specs.Prelude.{◌≡◌, ◌⊎◌, ◌++◌, ◌∷◌, [], ℕ, List, Bool, true, not, ◌&&◌}
-use Rattle.std.specs.Prelude.{Option, Some, Result, MatchResult, codes, find, map, option_map}
+use Rattle.std.specs.Prelude.{◌≡◌, ◌⊎◌, ◌++◌, ◌∷◌, [], List, Bool, true, not, ◌&&◌}
+use Rattle.std.specs.Prelude.{Option, Result, MatchResult, codes, find, map, option_map}
 use Rattle.std.specs.Prelude.{unwrap_or}
 use Rattle.std.specs.List.{list_any}
 use Rattle.std.specs.Str.{bytes_eq}

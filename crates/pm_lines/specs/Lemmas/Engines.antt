@@ -2,9 +2,9 @@
 use Rattle.std.specs.Prelude.{◌≡◌, ◌⊎◌, ◌↔◌, ℕ, ◌<◌, Bool, true, false, List, length, Option, Some, None, Ok, Err, IsTrue, IsFalse, refl}
 use Rattle.std.proofs.Common.{◌∙◌, true≢false, inl, inr, subst, sym}
 use Rattle.std.specs.Io.KnownBytes.{Appends}
-use Rattle.pm_lines.specs.Engine.{Engine, EngineEnds, IsLeft, IsMade, IsReadSoFar, IsUnderWay, IsWithin, Refuses, Run}
+use Rattle.pm_lines.specs.Engine.{Engine, EngineEnds, IsLeft, IsMade, IsReadSoFar, IsWithin, Run}
 use Rattle.pm_lines.specs.Faults.{IsOfInput, IsOfText}
-use Rattle.pm_lines.specs.Streams.{AppendsFront, BreaksOff, IsWholeText, max_text}
+use Rattle.pm_lines.specs.Streams.{AppendsFront, BreaksOff, IsWholeText}
 use Rattle.pm_lines.specs.declared.fault.TextFault.{TextFault}
 use Rattle.pm_lines.specs.declared.fault.TextFault.TheVariants.{Syntax, BadHex, TooLong, Read, Write, Memory, Setup}
 

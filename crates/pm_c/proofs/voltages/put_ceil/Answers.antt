@@ -34,10 +34,3 @@ returns-then-is_above-clause-small c = λ accepted.
     let near = c.put_floor-number.ensures.near c.if-number-ne-ACCEPTED.false in
     let after : to_z w64 (of_z w64 (to_z w64 (of_z w64 n) +ℤ pos 1)) ≡ (n +ℤ pos 1) = omega (arith, ints) in
     subst IsSmall (sym after) record { above = omega (arith, ints); below = omega (arith, ints) }
-
-pub returns-else-is_above-clause-small : goal.returns-else-is_above-clause-small
-returns-else-is_above-clause-small c = λ accepted.
-    let n = c.put_floor-number.new.microvolts in
-    let near = c.put_floor-number.ensures.near c.if-number-ne-ACCEPTED.false in
-    let kept : to_z w64 (of_z w64 n) ≡ n = omega (arith, ints) in
-    subst IsSmall (sym kept) record { above = omega (arith, ints); below = omega (arith, ints) }

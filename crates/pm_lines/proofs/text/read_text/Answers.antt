@@ -1,7 +1,7 @@
 use Rattle.std.proofs.Common.{◌<◌, ◌≤◌, ◌++◌, length, take, arith, length-append}
 use Rattle.std.proofs.KnownBytes.{Consumes-trans}
 use Rattle.std.proofs.lemmas.Result.{err_from_is_err_and}
-use Rattle.pm_lines.proofs.EngineLemmas.{no_read, parted, read_failed}
+use Rattle.pm_lines.proofs.EngineLemmas.{parted}
 use Rattle.pm_lines.specs.Streams.{max_text}
 use Rattle.pm_lines.proofs.text.read_text.Goals as goal
 
@@ -27,20 +27,3 @@ returns-in_err-extend_from_slice-clause-reads g c =
       short,
       Consumes-trans _ _ _ _ _ c.reads.invariant.given c.in_ok-count.ensures.bytes.0,
     )
-
-pub returns-in_err-count-clause-reads : goal.returns-in_err-count-clause-reads
-returns-in_err-count-clause-reads g c =
-    let p = err_from_is_err_and c.from_residual.result c.from_residual.ensures.1 in
-    let short : length c.reads.text.items ≤ max_text = omega (arith, c.reads.invariant.short, c.reads.text.ok) in
-    rw (p.1, p.2) (read_failed _ _ _ c.reads.text.items _ c.in_err-count.ensures.fault c.reads.invariant.given
-    c.in_err-count.ensures.bytes short)
-
-pub returns-in_err-extend_from_slice-clause-failed : goal.returns-in_err-extend_from_slice-clause-failed
-returns-in_err-extend_from_slice-clause-failed g c =
-    let p = err_from_is_err_and c.from_residual-in_err-extend_from_slice.result c.from_residual-in_err-extend_from_slice.ensures.1 in
-    rw (p.1, p.2) (no_read _ c.in_ok-count.ensures.failed)
-
-pub returns-in_err-count-clause-failed : goal.returns-in_err-count-clause-failed
-returns-in_err-count-clause-failed g c =
-    let p = err_from_is_err_and c.from_residual.result c.from_residual.ensures.1 in
-    rw (p.1, p.2) (λ t. c.in_err-count.ensures.fault, λ e. c.in_err-count.ensures.failed)

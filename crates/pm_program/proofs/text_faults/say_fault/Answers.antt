@@ -1,4 +1,4 @@
-use Rattle.std.proofs.Common.{Some, subst, sym}
+use Rattle.std.proofs.Common.{subst, sym}
 use Rattle.pm_program.specs.Refusals.{Says, program_line, text_refusal}
 use Rattle.pm_program.proofs.text_faults.say_fault.Goals as goal
 

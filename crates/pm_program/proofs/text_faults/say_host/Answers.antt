@@ -1,4 +1,4 @@
-use Rattle.std.proofs.Common.{◌∙◌, Some, subst}
+use Rattle.std.proofs.Common.{◌∙◌, subst}
 use Rattle.pm_program.specs.Refusals.{Says}
 use Rattle.pm_program.proofs.SetupLemmas.{lettered, line-host, put_said}
 use Rattle.pm_setup.specs.declared.setup_fault.SetupFault.TheVariants.{Host}

@@ -1,4 +1,3 @@
-use Rattle.std.proofs.Common.{subst, sym}
 use Rattle.pm_session.proofs.execution.program.Goals as goal
 
 pub returns-clause-ends : goal.returns-clause-ends

@@ -1,4 +1,4 @@
-use Rattle.std.proofs.Common.{inl, inr}
+use Rattle.std.proofs.Common.{inr}
 use Rattle.clap.specs.Walk.{texts}
 use Rattle.clap.specs.Words.{fault_of}
 use Rattle.pm_tool.specs.Telling.{tell_app}

@@ -1,4 +1,3 @@
-use Rattle.pm_lines.specs.Engine.{over}
 use Rattle.pm_tool.proofs.EndLemmas.{engine_printed, engine_refused}
 use Rattle.pm_tool.proofs.execution.run_engine.Goals as goal
 

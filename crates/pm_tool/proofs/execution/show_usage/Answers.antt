@@ -1,4 +1,4 @@
-use Rattle.std.proofs.Common.{◌≡◌, List, ℕ, refl, inl, inr, subst, sym}
+use Rattle.std.proofs.Common.{List, ℕ, refl, inl, inr, subst, sym}
 use Rattle.pm_lines.specs.Lines.{EndsLine}
 use Rattle.pm_tool.specs.Execution.{Misused, wants_memory}
 use Rattle.pm_tool.proofs.execution.show_usage.Goals as goal

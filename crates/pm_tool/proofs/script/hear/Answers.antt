@@ -1,4 +1,4 @@
-use Rattle.std.proofs.Common.{◌≡◌, ◌∙◌, ◌++◌, ap, inl, inr, refl, sym, Ok, Err, ⊎_elim}
+use Rattle.std.proofs.Common.{◌∙◌, ◌++◌, ap, inl, inr, refl, sym, Ok, Err, ⊎_elim}
 use Rattle.std.proofs.lemmas.Result.{err_from_is_err_and}
 use Rattle.pm_lines.specs.Engine.{over}
 use Rattle.pm_lines.specs.Lemmas.Engines.{as_handed, cut_short, of_text, unmade, unread, written}

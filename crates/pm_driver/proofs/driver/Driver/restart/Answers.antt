@@ -1,7 +1,7 @@
 use Rattle.std.proofs.Common.{[], ◌∷◌, None, sym, subst}
 use Rattle.pm_host.specs.Summary.{Summary}
 use Rattle.pm_driver.specs.Acts.{Renewed}
-use Rattle.pm_driver.specs.Driven.{Driving, HasLife, HasLifeWithin, driven}
+use Rattle.pm_driver.specs.Driven.{HasLife, HasLifeWithin}
 use Rattle.pm_driver.specs.Lives.{Driven, Leads}
 use Rattle.pm_driver.proofs.BegunJobs.{leads-lived}
 use Rattle.pm_driver.proofs.WithinLimits.{restart-within}
@@ -12,15 +12,6 @@ invariant_of-self g c =
     subst (λ h. HasLife h (g.B.Bus.held c.self.inside.bus)) (sym c.restart.ensures.after)
     (leads-lived g.B.Bus.gives g.B.Bus.held (Renewed ∷ []) None _ _ c.self.invariant
     (c.renewals_lead.ensures c.self.inside.guard.host c.self.inside.bus))
-
-pub returns-clause-leads : goal.returns-clause-leads
-returns-clause-leads g c =
-    let bus = c.self.inside.bus in
-    let old : Driven g.row.B.Denot = record { host = c.self.inside.guard.host; bus = bus } in
-    subst (λ d. Leads g.B.Bus.gives g.B.Bus.held (Renewed ∷ []) None (driven d) (record { host = c.restart.new.self.host; bus = bus }))
-    c.self.view_is
-    (subst (λ (h : Summary). Leads g.B.Bus.gives g.B.Bus.held (Renewed ∷ []) None old (record { host = h; bus = bus }))
-    (sym c.restart.ensures.after) (c.renewals_lead.ensures c.self.inside.guard.host bus))
 
 pub returns-clause-within : goal.returns-clause-within
 returns-clause-within g c =
