@@ -8,9 +8,10 @@
 What isn't needed is found on a copy, by a check with no answers at all: a function that proves without them needs
 no file of answers, and an answer to a goal that isn't left open needn't stand. Half the search's limits must do
 (`--margin`), and a check without them confirms it. A file stays whose first line says that it spares the search: some
-goals are found in a quarter of a minute, which every check would pay. Then come lemmas that nothing cites any more, and
-again those that only they cited. Run it at the top of the repository after an `rt check` of the crate.
+goals are found in a quarter of a minute, which every check would pay. Then come lemmas that nothing cites any more, in no
+crate, and again those that only they cited. Run it at the top of the repository after an `rt check` of the crate.
 """
+import glob
 import os
 import re
 import sys
@@ -113,12 +114,14 @@ def confirmed(copy, spare):
 
 
 def uncited(home):
-    """The lemmas that nothing in the crate's own text cites, in rounds: taking some away leaves others uncited."""
+    """The lemmas that nothing cites, in the crate's own text and in other crates, in rounds: taking some away leaves others
+    uncited."""
     texts = {name: read(os.path.join(home, name)) for name in files_of(home)}
     rest = {}
     for folder in ("src", "specs"):
         for top, _, names in os.walk(os.path.join(home, folder)):
             rest.update({os.path.join(top, name): read(os.path.join(top, name)) for name in names})
+    rest.update(citing(os.path.basename(home)))
     found = []
     while True:
         spare = []
@@ -134,6 +137,14 @@ def uncited(home):
         gone = {lemma.name for _, lemma in spare}
         texts = {name: unimported(text, gone) for name, text in texts.items()}
         found += [(name, lemma.name) for name, lemma in spare]
+
+
+def citing(crate):
+    """The texts of other crates that cite proofs of this one."""
+    names = [name for folder in ("src", "specs", "proofs") for kind in ("rt", "antt")
+             for name in glob.glob("crates/*/%s/**/*.%s" % (folder, kind), recursive=True)]
+    texts = {name: read(name) for name in names if name.split(os.sep)[1] != crate}
+    return {name: text for name, text in texts.items() if "Rattle.%s.proofs." % crate in text or "%s::proofs::" % crate in text}
 
 
 def unimported(text, gone):

@@ -7,7 +7,7 @@ use Rattle.std.specs.Prelude.{MatchResult}
 use Rattle.std.specs.Fmt.{digits}
 use Rattle.std.proofs.lemmas.Bool.Decides.{nat_tests}
 use Rattle.std.proofs.lemmas.Grind.{flat_map-append}
-use Rattle.std.proofs.lemmas.List.{length-take, take_at}
+use Rattle.std.proofs.lemmas.List.{length-take}
 use Rattle.std.proofs.lemmas.List.Sums.{fold-append}
 use Rattle.pm_trace.specs.declared.decode_end.DecodeEnd.{DecodeEnd}
 use Rattle.pm_trace.specs.declared.decode_end.DecodeEnd.TheVariants.{Clean}
@@ -356,27 +356,6 @@ pub puts_all : (w1 w2 : Option (List ℕ)) (text left : List ℕ) → left ≡ [
 puts_all w1 w2 text left none puts = let P : List ℕ → Type 0 = λ l. Puts w1 w2 text l in subst P none puts
 
 -- ---- a piece
-
--- a whole piece was pushed
-pub pushed_whole : (text new_text : List ℕ) (old new : Holding) (piece : List ℕ) (is_whole : Bool) → is_whole ≡ true
-    → PushesFront text new_text old new piece is_whole → Pushes text new_text old new piece
-pushed_whole text new_text old new piece is_whole is pushed =
-    let (none, pushes) = pushed.whole is in
-    let all : pushed.front ≡ piece = sym (pushed.split ∙ ap (λ l. pushed.front ++ l) none ∙ append-nil pushed.front) in
-    let P : List ℕ → Type 0 = λ l. Pushes text new_text old new l in subst P all pushes
-
--- a piece was pushed that has a byte too many
-pub pushed_too_long : (r1 r2 : Option (List ℕ)) (text new_text : List ℕ) (old new : Holding) (piece : List ℕ) (is_whole : Bool)
-    → is_whole ≡ false → PushesFront text new_text old new piece is_whole → Consumes r1 r2 piece
-    → StopsTelling r1 r2 text new_text old TooLong
-pushed_too_long r1 r2 text new_text old new piece is_whole is pushed given =
-    let (some, many) = pushed.too_many is in
-    let P : List ℕ → Type 0 = λ l. Consumes r1 r2 l in
-    (pushed.front, pushed.rest, some, subst P pushed.split given, many, pushed.text_is)
-
--- the front of a text that grew
-pub front_again : (text grown more : List ℕ) (before : ℕ) → grown ≡ text ++ more → before ≡ length text → take before grown ≡ text
-front_again text grown more before is same = ap (take before) is ∙ take_at text more before (sym same)
 
 -- the same front in other words
 pub as_front : (a b : Option (List ℕ)) (one two : List ℕ) → one ≡ two → AppendsFront a b one → AppendsFront a b two

@@ -113,10 +113,6 @@ attributes_are code found is = by (line_of code) is
         (ap (λ a. a.length) same, ap (λ a. is_ever_written a.protection) same, ap (λ a. a.reads) same)
     by None is = absurd (cc)
 
--- the length among the attributes of a code is that of its payload
-pub word_length : (code : ℕ) (found : Attributes) → attributes_of code ≡ Some found → payload_length code ≡ found.length
-word_length code found is = (attributes_are code found is).0
-
 -- what isn't false is true
 not_false : (b : Bool) → not b ≡ false → b ≡ true
 not_false true is = refl

@@ -5,11 +5,6 @@ use Rattle.pm_trace.proofs.DecodeLemmas.{whole_input, end_all, end_front, end_co
 use Rattle.pm_trace.proofs.OutcomeLemmas.{decoded, text_cut, unmade}
 use Rattle.pm_trace.proofs.traces.decode.Goals as goal
 
-pub returns-in_err-decode_pieces-clause-ends : goal.returns-in_err-decode_pieces-clause-ends
-returns-in_err-decode_pieces-clause-ends g c =
-    let p = err_from_is_err_and c.from_residual.result c.from_residual.ensures.1 in
-    rw (p.1, p.2) c.in_err-decode_pieces.ensures.broken.1
-
 pub returns-in_err-put-clause-ends : goal.returns-in_err-put-clause-ends
 returns-in_err-put-clause-ends g c =
     let p = err_from_is_err_and c.from_residual-in_err-put.result c.from_residual-in_err-put.ensures.1 in
