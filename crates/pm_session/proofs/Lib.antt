@@ -1,4 +1,3 @@
 mod GotLemmas
 pub mod JobLemmas
 pub mod LimitTexts
-mod SendLemmas
