@@ -18,8 +18,7 @@ use Rattle.pm_world.specs.Setup.{setup_fault, setup_of, start}
 use Rattle.pm_world.specs.Life.{AreTaken, StopsAt, StopsFrom, after_all, now, taken_events}
 use Rattle.pm_world.specs.State.{State, cause_of}
 use Rattle.pm_lines.specs.declared.fault.TextFault.{TextFault}
-use Rattle.pm_lines.specs.declared.fault.TextFault.TheVariants.{Syntax, BadHex, TooLong, Read, Write, Memory, Setup}
-use Rattle.pm_lines.specs.Faults.{IsOfInput}
+use Rattle.pm_lines.specs.declared.fault.TextFault.TheVariants.{Syntax, TooLong, Setup}
 use Rattle.pm_lines.specs.Lines.{lines_of, unskipped_from}
 use Rattle.pm_lines.specs.Streams.{max_text}
 use Rattle.pm_text.proofs.EventLemmas.{reversed}
@@ -31,7 +30,7 @@ use Rattle.pm_text.specs.declared.ran.Ran.{Ran}
 use Rattle.pm_text.specs.declared.scenario.Scenario.{Scenario}
 use Rattle.pm_text.specs.Kinds.{form_of, version_of}
 use Rattle.pm_text.specs.Report.{report_text}
-use Rattle.pm_text.specs.Replay.{IsOfRun, IsRun, Lives, end_by, ran_by, replay_by, replay_of, run_of, stop_after, taken_by, told, told_or}
+use Rattle.pm_text.specs.Replay.{IsRun, Lives, end_by, ran_by, replay_by, replay_of, run_of, stop_after, taken_by, told, told_or}
 use Rattle.pm_text.specs.declared.replay_end.ReplayEnd.{ReplayEnd}
 
 -- ---- where a run stops
@@ -187,17 +186,6 @@ module _ (input : List ℕ) (fits : length input ≤ max_text) where
 
 -- ---- the replay of a text
 
--- a text that is no scenario
-pub replay-refused : (input : List ℕ) (fault : TextFault) → scenario_of input ≡ Err fault → replay_of input ≡ Err fault
-unfolding replay_of
-replay-refused input fault is = ap replay_by is
-
--- a scenario of which no world is made
-pub replay-unmade : (input : List ℕ) (scenario : Scenario) (fault : SetupFault) → scenario_of input ≡ Ok scenario
-    → Some fault ≡ setup_fault scenario.config scenario.passes → replay_of input ≡ Err (Setup fault)
-unfolding replay_of
-replay-unmade input scenario fault is refused = ap replay_by is ∙ ap (λ o. told_or o scenario) (sym refused)
-
 -- a scenario that was read and run, and the report of its run
 pub record IsTold (input text : List ℕ) (end : ReplayEnd) (scenario : Scenario) (ran : Ran) : Type 0 where
   pub reads : scenario_of input ≡ Ok scenario
@@ -215,16 +203,6 @@ replay-told input text end scenario ran is =
     ap replay_by is.reads ∙ ap (λ o. told_or o scenario) (sym is.made) ∙ ap (λ r. Ok (told r)) (sym is.runs) ∙ all
 
 -- ---- texts and faults
-
--- the faults of a run are those of an input
-pub of-input : (fault : TextFault) → IsOfRun fault → IsOfInput fault
-of-input (Syntax line) is = tt
-of-input (BadHex line) is = tt
-of-input TooLong is = absurd is
-of-input Read is = absurd is
-of-input Write is = absurd is
-of-input Memory is = absurd is
-of-input (Setup fault) is = tt
 
 -- no fault is a scenario
 no_error : (scenario : Scenario) → ◌≡◌ {A = Result Scenario TextFault} (Err (Syntax 1)) (Ok scenario) → ⊥

@@ -1,25 +1,9 @@
-use Rattle.std.proofs.Common.{◌∙◌, Ok, Err, ap, refl, sym}
+use Rattle.std.proofs.Common.{◌∙◌, Ok, ap, sym}
 use Rattle.std.proofs.lemmas.Result.{err_from_is_err_and}
 use Rattle.pm_lines.specs.Engine.{over}
-use Rattle.pm_lines.specs.Lemmas.Engines.{as_handed, cut_short, unmade, unread, written}
+use Rattle.pm_lines.specs.Lemmas.Engines.{as_handed, cut_short}
 use Rattle.pm_text.specs.Replay.{replaying}
 use Rattle.pm_text.proofs.replays.replay.Goals as goal
-
-pub returns-in_err-input : goal.returns-in_err-input
-returns-in_err-input g c =
-    let p = err_from_is_err_and c.from_residual.result c.from_residual.ensures.1 in
-    rw (p.1, p.2) (unread replaying (over g.R.Read.remaining c.args.reader.now c.read_text.new.source g.W.Write.contents
-    c.args.writer.now c.args.writer.now) refl _ c.in_err-input.ensures.reads c.in_err-input.ensures.failed
-    c.requires.writer refl)
-
-pub returns-in_err-text : goal.returns-in_err-text
-returns-in_err-text g c =
-    let p = err_from_is_err_and c.from_residual-in_err-text.result c.from_residual-in_err-text.ensures.1 in
-    rw (p.1, p.2) (unmade replaying (over g.R.Read.remaining c.args.reader.now c.read_text.new.source g.W.Write.contents
-    c.args.writer.now c.args.writer.now) refl c.deref.result.now _
-    (as_handed _ _ _ _ c.deref.ensures.value c.in_ok-input.ensures.reads) c.in_err-text.ensures.faults
-    c.in_err-text.ensures.refused (λ is. c.in_err-text.ensures.memory (ap Err is)) c.in_ok-input.ensures.failed
-    c.requires.writer refl)
 
 pub returns-in_err-put : goal.returns-in_err-put
 returns-in_err-put g c =
@@ -33,15 +17,3 @@ returns-in_err-put g c =
           ∙ ap (λ t. Ok (t, c.in_ok-text.end)) (sym shown),
     ) c.in_ok-input.ensures.failed c.in_err-put.ensures.failed
     c.in_err-put.ensures.front)
-
-pub returns : goal.returns
-returns g c =
-    let shown = c.as_bytes.ensures.value ∙ c.as_str.ensures.value in
-    written replaying (over g.R.Read.remaining c.args.reader.now c.read_text.new.source g.W.Write.contents
-    c.args.writer.now c.put.new.self) c.as_bytes.result.now c.in_ok-text.end (
-      c.deref.result.now,
-      as_handed _ _ _ _ c.deref.ensures.value c.in_ok-input.ensures.reads,
-      c.in_ok-text.ensures.replayed
-          ∙ ap (λ t. Ok (t, c.in_ok-text.end)) (sym shown),
-    ) c.in_ok-input.ensures.failed c.in_ok-put.ensures.failed
-    c.in_ok-put.ensures.all

@@ -1,13 +1,6 @@
 use Rattle.std.proofs.Common.{◌∷◌, ◌^◌, ◌<◌, arith, rules}
-use Rattle.std.proofs.lemmas.Result.{err_from_is_err_and}
-use Rattle.pm_text.proofs.EventLemmas.{later-fault, one-more, room-left, stops-there}
+use Rattle.pm_text.proofs.EventLemmas.{one-more, room-left, stops-there}
 use Rattle.pm_text.proofs.runs.run_lines.Goals as goal
-
-pub returns-in_err-judge_lines : goal.returns-in_err-judge_lines
-returns-in_err-judge_lines c =
-    let p = err_from_is_err_and c.from_residual-in_err-judge_lines.result c.from_residual-in_err-judge_lines.ensures.1 in
-    rw (p.1, p.2) (later-fault c.args.form c.args.rows.now.lines _ c.args.world.now c.lines.world c.lines.taken _ c.lines.invariant.1 _ _
-    c.in-Some.ensures.lines _ c.in_ok-read_line.ensures _ c.in_err-judge_lines.ensures)
 
 pub returns-in-Err : goal.returns-in-Err
 returns-in-Err c =
