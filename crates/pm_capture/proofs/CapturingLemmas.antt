@@ -87,12 +87,6 @@ heard_now : (options : TellOptions) (bytes : List ℕ) → (kept_of options byte
 unfolding kept_of
 heard_now options bytes = refl
 
--- what was taught so far
-taught_now : (options : TellOptions) (bytes : List ℕ)
-    → (kept_of options bytes).heard.taught ≡ taught_from untaught (map judged_in (said options.times bytes))
-unfolding kept_of heard_of
-taught_now options bytes = refl
-
 -- what is heard where the line that goes on ends here
 heard_more : (options : TellOptions) (bytes : List ℕ)
     → heard_of options.all (said options.times bytes ++ ended_entries options bytes) ≡ heard_ended (kept_of options bytes)
@@ -340,21 +334,6 @@ takes-taken kept b = by (is_line_feed b) (record (line_ended kept) { taken = kep
 pub next-taken : (kept : Kept) (bytes : List ℕ) → (next kept bytes).taken ≡ kept.taken + length bytes
 next-taken kept [] = omega arith
 next-taken kept (b ∷ bytes) = let one = takes-taken kept b in let rest = next-taken (kept_takes kept b) bytes in omega arith
-
--- a byte leaves the options as they are
-takes-options : (kept : Kept) (b : ℕ) → (kept_takes kept b).options ≡ kept.options
-unfolding kept_takes
-takes-options kept b = by (is_line_feed b)
-  where
-    by : (c : Bool) → (cond c (record (line_ended kept) { taken = kept.taken + 1 })
-        (record kept { taken = kept.taken + 1; line = timed_takes kept.line b })).options ≡ kept.options
-    by true = refl
-    by false = refl
-
--- further bytes leave the options as they are
-pub next-options : (kept : Kept) (bytes : List ℕ) → (next kept bytes).options ≡ kept.options
-next-options kept [] = refl
-next-options kept (b ∷ bytes) = next-options (kept_takes kept b) bytes ∙ takes-options kept b
 
 -- what is kept of bytes counts each of them as taken
 pub length_kept : (options : TellOptions) (bytes : List ℕ) → (kept_of options bytes).taken ≡ length bytes

@@ -325,16 +325,3 @@ stops_too_long old text new_text bytes part room is short full said =
       omega (arith, count, full),
       said,
     )
-
--- the reader gave the bytes
-pub stops_piece : (r1 r2 : Option (List ℕ)) (text new_text : List ℕ) (old : Kept) (bytes : List ℕ) (fault : TextFault)
-    → StopsBytes text new_text old bytes fault → Consumes r1 r2 bytes → StopsHearing r1 r2 text new_text old fault
-stops_piece r1 r2 text new_text old bytes TooLong (front, more, split, some, full, said) given =
-    let P : List ℕ → Type 0 = λ l. Consumes r1 r2 l in
-    (front, more, some, subst P split given, full, said)
-stops_piece r1 r2 text new_text old bytes Memory (rest, some, split) given = (bytes, rest, some, given, split)
-stops_piece r1 r2 text new_text old bytes (Syntax line) stops given = absurd stops
-stops_piece r1 r2 text new_text old bytes (BadHex line) stops given = absurd stops
-stops_piece r1 r2 text new_text old bytes Read stops given = absurd stops
-stops_piece r1 r2 text new_text old bytes Write stops given = absurd stops
-stops_piece r1 r2 text new_text old bytes (Setup reason) stops given = absurd stops

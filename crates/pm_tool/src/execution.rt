@@ -1,5 +1,6 @@
-ghost use Rattle.std.specs.Prelude.{◌≡◌, ◌⊎◌, ◌≤◌, IsFalse, Ok, map, string_bytes};
+ghost use Rattle.std.specs.Prelude.{◌≡◌, ◌⊎◌, ◌≤◌, IsFalse, MatchResult, Err, Ok, map, string_bytes};
 ghost use Rattle.std.specs.Io.KnownBytes.{Keeps};
+ghost use Rattle.std.specs.IoError.{error_kind};
 ghost use Rattle.std.specs.Process.{exit_status};
 ghost use Rattle.std.specs.Vec.Iter.{into_iter_items};
 ghost use Rattle.clap.specs.Walk.{texts};
@@ -20,44 +21,40 @@ use pm_program::{
 };
 use pm_text::{Sink, Source, TextFault};
 use std::alloc::Global;
-use std::env::{self, Args, Env};
+use std::env::Args;
 use std::io::{self, Read, Write};
 use std::process::ExitCode;
 
 /// The program's name, as it begins each line on standard error.
 const NAME: &str = "pmb";
 
-/// Runs the program over the arguments of a runtime, and its standard input, output and error. What
-/// `main` does is this one call. No clause can say what a terminal or a file gives or takes: `run` says
-/// what is read and written. The status is at most 2. Takes memory for the arguments, and then as `run`.
-pub fn program<R: Env + AllocGlobal, I: Read + Drop, W: Write + Drop, E: Write + Drop>(
-    rt: &R,
-    input: I,
-    output: W,
-    errors: E,
+/// Runs the program over what `env::args` gave, and over standard input, output and error, as `run` does. `main`
+/// hands on what its runtime has: no clause can say what a terminal, a pipe or a file gives or takes. None of the
+/// streams may have failed before. The status is at most 2. Takes memory for the arguments, and then as `run`.
+pub fn program<R: Read, W: Write, E: Write>(
+    alloc: Global,
+    arguments: io::Result<Args>,
+    input: &mut Source<R>,
+    output: &mut Sink<W>,
+    errors: &mut Sink<E>,
 ) -> ExitCode
-    ensures { exit_status result ≤ 2 }
+    requires input { IsFalse input.old.failed }
+    requires output { IsFalse output.old.failed }
+    requires errors { IsFalse errors.old.failed }
+    ensures ends { MatchResult arguments
+        (λ given. (end : End) × RunEnds R.remaining input.old input.new (Ok (map string_bytes (into_iter_items given))) end
+        × IsEnd W.contents E.contents output.old output.new errors.old errors.new (exit_status result) end)
+        (λ error. (end : End) × RunEnds R.remaining input.old input.new (Err (error_kind error)) end
+        × IsEnd W.contents E.contents output.old output.new errors.old errors.new (exit_status result) end) }
+    ensures status { exit_status result ≤ 2 }
 {
-    let mut input = Source::new(input);
-    let mut output = Sink::new(output);
-    let mut errors = Sink::new(errors);
-    let status = match env::args(rt) {
-        Ok(given) => run_given(rt.alloc(), given, &mut input, &mut output, &mut errors),
-        Err(error) => run(
-            rt.alloc(),
-            Err(error.kind()),
-            &mut input,
-            &mut output,
-            &mut errors,
-        ),
-    };
-    ExitCode::from(status)
+    ExitCode::from(run_given(alloc, arguments, input, output, errors))
 }
 
-// Runs the program over arguments.
+// Runs the program over the arguments, and answers the status.
 fn run_given<R: Read, W: Write, E: Write>(
     alloc: Global,
-    given: Args,
+    arguments: io::Result<Args>,
     input: &mut Source<R>,
     output: &mut Sink<W>,
     errors: &mut Sink<E>,
@@ -65,9 +62,16 @@ fn run_given<R: Read, W: Write, E: Write>(
     requires input { IsFalse input.old.failed }
     requires output { IsFalse output.old.failed }
     requires errors { IsFalse errors.old.failed }
-    ensures { (end : End) × RunEnds R.remaining input.old input.new (Ok (map string_bytes (into_iter_items given))) end
-        × IsEnd W.contents E.contents output.old output.new errors.old errors.new result end }
+    ensures { MatchResult arguments
+        (λ given. (end : End) × RunEnds R.remaining input.old input.new (Ok (map string_bytes (into_iter_items given))) end
+        × IsEnd W.contents E.contents output.old output.new errors.old errors.new result end)
+        (λ error. (end : End) × RunEnds R.remaining input.old input.new (Err (error_kind error)) end
+        × IsEnd W.contents E.contents output.old output.new errors.old errors.new result end) }
 {
+    let given = match arguments {
+        Ok(given) => given,
+        Err(error) => return run(alloc, Err(error.kind()), input, output, errors),
+    };
     let Ok(given) = texts_of(alloc, given) else {
         return refuse_memory(errors, NAME);
     };

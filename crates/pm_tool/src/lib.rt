@@ -1,7 +1,7 @@
 //! The library under the program `pmb`: what the program does, over any reader and any two writers.
 //!
-//! `program` is the whole program, over the parts of a runtime, and `run` the same over any words and
-//! any streams: it answers the exit status. `hear` lets a model converter hear the frames of a text
+//! `program` is the whole program, over arguments and any streams, and `run` the same over any words:
+//! it answers the exit status. `hear` lets a model converter hear the frames of a text
 //! and writes its answers; `number` writes one word of a number format with its value. `replay` and
 //! `decode` are those of `pm_text`, and `decode` with options is the telling of `pm_capture`. `chosen` says
 //! which of the four a command line names, and `TellTexts` which options of `decode`.

@@ -2,9 +2,9 @@
 
 use crate::checks::is_true;
 use pm_text_fixtures::{FRAME, Paper, blank_paper, in_pieces};
-use pm_tool::program;
+use pm_tool::{Sink, Source, program};
 use std::alloc::{Alloc, Global};
-use std::env::{Env, FillError};
+use std::env::{self, Env, FillError};
 use std::process::ExitCode;
 
 // Arguments in memory, which need not be text.
@@ -46,8 +46,16 @@ impl Env for Arguments<'_> {
 // What the program ends with on these arguments and a frame, and what it writes on both streams.
 fn run_program(alloc: Global, words: &[&[u8]], output: &mut Paper, errors: &mut Paper) -> ExitCode {
     let arguments = Arguments { words, alloc };
-    let input = in_pieces(FRAME.as_bytes(), 7);
-    program(&arguments, input, output, errors)
+    let mut input = Source::new(in_pieces(FRAME.as_bytes(), 7));
+    let mut output = Sink::new(output);
+    let mut errors = Sink::new(errors);
+    program(
+        alloc,
+        env::args(&arguments),
+        &mut input,
+        &mut output,
+        &mut errors,
+    )
 }
 
 // Whether it ends so.

@@ -2,14 +2,19 @@
 //! on standard output.
 #![tactic(auto)]
 
-use pm_tool::program;
+use pm_tool::{Sink, Source, program};
+use std::env;
 use std::process::ExitCode;
 
 fn main(rt: HostRuntime) -> ExitCode {
+    let mut input = Source::new(rt.stdin().lock());
+    let mut output = Sink::new(rt.stdout().lock());
+    let mut errors = Sink::new(rt.stderr().lock());
     program(
-        &rt,
-        rt.stdin().lock(),
-        rt.stdout().lock(),
-        rt.stderr().lock(),
+        rt.alloc(),
+        env::args(&rt),
+        &mut input,
+        &mut output,
+        &mut errors,
     )
 }

@@ -2,10 +2,10 @@
 use Rattle.std.proofs.Common.{◌++◌, [], rules, arith}
 use Rattle.std.proofs.lemmas.Result.{err_from_is_err_and}
 use Rattle.pm_lines.specs.Engine.{over}
-use Rattle.pm_trace.proofs.BreakLemmas.{due_at_end, due_at_fault, read_at, why_at}
+use Rattle.pm_trace.proofs.BreakLemmas.{due_at_fault, read_at, why_at}
 use Rattle.pm_trace.proofs.DecodeLemmas.{puts_all}
 use Rattle.pm_capture.proofs.EndLemmas.{broke_off, hears_at, lines_cut, stops_at}
-use Rattle.pm_capture.proofs.GatheredLemmas.{all_put, cut_off, gathered_more, gathered_none, grown_more, most_now, put_more}
+use Rattle.pm_capture.proofs.GatheredLemmas.{cut_off, gathered_more, gathered_none, grown_more, most_now, put_more}
 use Rattle.pm_capture.proofs.telling.hear_pieces.Goals as goal
 
 pub reads-init : goal.reads-init
@@ -42,25 +42,6 @@ returns-in_err-count-clause-broken g c =
     c.in_ok-put_due.ensures.failed (puts_all _ _ _ _ (c.in_ok-put_due.ensures.due due) c.in_ok-put_due.ensures.puts) fault
     (stops_at _ _ _ _ c.reads.capture c.hear_piece-count.result fault was c.hear_piece-count.ensures.stops)
     (why_at c.hear_piece-count.result fault _ was c.hear_piece-count.ensures.failed))
-
-pub returns-then-branch-eq0-clause-ok : goal.returns-then-branch-eq0-clause-ok
-returns-then-branch-eq0-clause-ok g c =
-    let options = c.args.options.now in
-    let (front, gathered) = c.reads.invariant.gathered in
-    let was = c.in_ok-count.was {u = tt} in
-    let hears = hears_at _ _ _ _ _ _ c.hear_piece-count.result c.in_ok-count.field-0 was c.hear_piece-count.ensures.told in
-    let more = gathered_more options _ _ _ _ front _ c.reads.capture gathered _ _ c.hear_piece-count.new.capture hears in
-    let put = put_more options _ _ _ _ _ _ c.hear_piece-count.new.capture more _ _ c.in_ok-put_due.ensures.puts in
-    let none = c.in_ok-put_due.ensures.due
-        (due_at_end c.is_full.result c.hear_piece-count.result c.in_ok-count.field-0 c.is_full.ensures was
-    c.if-branch-eq0.true) in (
-      read_at c.hear_piece-count.result c.in_ok-count.field-0 _ was c.hear_piece-count.ensures.failed,
-      c.in_ok-put_due.ensures.failed,
-      none,
-      front ++ hears.bytes,
-      all_put options _ _ _ _ _ _ c.hear_piece-count.new.capture put none,
-      hears.at_end c.if-branch-eq0.true,
-    )
 
 pub reads-smaller : goal.reads-smaller
 reads-smaller g c =

@@ -7,11 +7,6 @@ use Rattle.pm_capture.proofs.EndLemmas.{all_told, text_cut, unmade}
 use Rattle.pm_capture.proofs.GatheredLemmas.{whole_input, end_all, end_front, end_counts, end_memory, none_all, none_front, none_end}
 use Rattle.pm_capture.proofs.telling.tell_all.Goals as goal
 
-pub returns-in_err-hear_pieces-clause-ends : goal.returns-in_err-hear_pieces-clause-ends
-returns-in_err-hear_pieces-clause-ends g c =
-    let p = err_from_is_err_and c.from_residual.result c.from_residual.ensures.1 in
-    rw (p.1, p.2) c.in_err-hear_pieces.ensures.broken.1
-
 pub returns-in_err-put-clause-ends : goal.returns-in_err-put-clause-ends
 returns-in_err-put-clause-ends g c =
     let p = err_from_is_err_and c.from_residual-in_err-put.result c.from_residual-in_err-put.ensures.1 in
@@ -24,11 +19,6 @@ returns-in_err-put-clause-ends g c =
     g.W.Write.contents c.args.writer.now c.put.new.self) read c.in_err-put.ensures.failed input
     (whole_input options _ _ _ _ (g.W.Write.contents c.hear_pieces.new.writer.inner) input old written at_end)
     (none_front options _ _ _ _ _ input old written none _ shown c.in_err-put.ensures.front))
-
-pub returns-in_err-put-clause-faults : goal.returns-in_err-put-clause-faults
-returns-in_err-put-clause-faults g c =
-    let p = err_from_is_err_and c.from_residual-in_err-put.result c.from_residual-in_err-put.ensures.1 in
-    rw (p.1, p.2, c.in_err-put.ensures.fault) tt
 
 pub returns-then-taken-eq0-clause-ends : goal.returns-then-taken-eq0-clause-ends
 returns-then-taken-eq0-clause-ends g c =
@@ -53,11 +43,6 @@ returns-in_err-tell_end-clause-ends g c =
     (end_memory options _ _ _ _ (g.W.Write.contents c.hear_pieces.new.writer.inner) input c.hear_pieces.new.capture written
     (λ e. c.if-taken-eq0.false (c.taken.ensures ∙ e))))
 
-pub returns-in_err-tell_end-clause-faults : goal.returns-in_err-tell_end-clause-faults
-returns-in_err-tell_end-clause-faults g c =
-    let p = err_from_is_err_and c.from_residual-in_err-tell_end.result c.from_residual-in_err-tell_end.ensures.1 in
-    rw (p.1, p.2) tt
-
 pub returns-in_err-put-2-clause-ends : goal.returns-in_err-put-2-clause-ends
 returns-in_err-put-2-clause-ends g c =
     let p = err_from_is_err_and c.from_residual-in_err-put-2.result c.from_residual-in_err-put-2.ensures.1 in
@@ -70,11 +55,6 @@ returns-in_err-put-2-clause-ends g c =
     g.W.Write.contents c.args.writer.now c.put-2.new.self) read c.in_err-put-2.ensures.failed input
     (whole_input options _ _ _ _ (g.W.Write.contents c.hear_pieces.new.writer.inner) input old written at_end)
     (end_front options _ _ _ _ _ input old written _ shown c.in_err-put-2.ensures.front))
-
-pub returns-in_err-put-2-clause-faults : goal.returns-in_err-put-2-clause-faults
-returns-in_err-put-2-clause-faults g c =
-    let p = err_from_is_err_and c.from_residual-in_err-put-2.result c.from_residual-in_err-put-2.ensures.1 in
-    rw (p.1, p.2, c.in_err-put-2.ensures.fault) tt
 
 pub returns-clause-ends : goal.returns-clause-ends
 returns-clause-ends g c =

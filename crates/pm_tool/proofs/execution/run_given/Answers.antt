@@ -1,6 +1,5 @@
-use Rattle.std.proofs.Common.{◌≡◌, ◌∙◌, ap, map, refl, string_bytes}
+use Rattle.std.proofs.Common.{map, refl, string_bytes}
 use Rattle.std.specs.Vec.Iter.{into_iter_items}
-use Rattle.clap.specs.Walk.{texts}
 use Rattle.pm_tool.specs.Execution.{wants_memory}
 use Rattle.pm_tool.specs.Telling.{tell_words}
 use Rattle.pm_tool.proofs.EndLemmas.{memory_ends}
@@ -9,7 +8,8 @@ use Rattle.pm_tool.proofs.execution.run_given.Goals as goal
 pub returns-in_default : goal.returns-in_default
 returns-in_default g c =
     let e = c.refuse_memory.ensures in
-    let words = map string_bytes (into_iter_items c.args.given) in (
+    let words = map string_bytes (into_iter_items c.in-Ok.given) in
+    rw c.in-Ok.is (
       wants_memory,
       memory_ends g.R.Read.remaining c.args.input.now words (tell_words words),
       record { status_is = e.status; printed = refl; said = e.said },
@@ -18,14 +18,9 @@ returns-in_default g c =
 pub returns-in_default-words_of : goal.returns-in_default-words_of
 returns-in_default-words_of g c =
     let e = c.refuse_memory-in_default-words_of.ensures in
-    let words = map string_bytes (into_iter_items c.args.given) in (
+    let words = map string_bytes (into_iter_items c.in-Ok.given) in
+    rw c.in-Ok.is (
       wants_memory,
       memory_ends g.R.Read.remaining c.args.input.now words (tell_words words),
       record { status_is = e.status; printed = refl; said = e.said },
     )
-
-pub returns : goal.returns
-returns g c =
-    let same : texts c.as_slice.result.now ≡ map string_bytes (into_iter_items c.args.given) =
-    ap texts c.as_slice.ensures.value ∙ c.in-Ok-words_of.ensures ∙ ap (map string_bytes) c.in-Ok.ensures in
-    rw (← same) c.run.ensures

@@ -1,26 +1,10 @@
-use Rattle.std.proofs.Common.{◌∙◌, ◌++◌, ap, inl, inr, refl, sym, Ok, Err, ⊎_elim}
+use Rattle.std.proofs.Common.{◌∙◌, ◌++◌, ap, sym, Ok}
 use Rattle.std.proofs.lemmas.Result.{err_from_is_err_and}
 use Rattle.pm_lines.specs.Engine.{over}
-use Rattle.pm_lines.specs.Lemmas.Engines.{as_handed, cut_short, of_text, unmade, unread, written}
+use Rattle.pm_lines.specs.Lemmas.Engines.{as_handed, cut_short}
 use Rattle.pm_tool.specs.Outcome.{hearing, text_alone}
 use Rattle.pm_tool.specs.Script.{output_lines}
 use Rattle.pm_tool.proofs.script.hear.Goals as goal
-
-pub returns-in_err-input-clause-ends : goal.returns-in_err-input-clause-ends
-returns-in_err-input-clause-ends g c =
-    let p = err_from_is_err_and c.from_residual.result c.from_residual.ensures.1 in
-    rw (p.1, p.2) (unread hearing (over g.R.Read.remaining c.args.reader.now c.read_text.new.source g.W.Write.contents
-    c.args.writer.now c.args.writer.now) refl _ c.in_err-input.ensures.reads c.in_err-input.ensures.failed
-    c.requires.writer refl)
-
-pub returns-in_err-lines-clause-ends : goal.returns-in_err-lines-clause-ends
-returns-in_err-lines-clause-ends g c =
-    let p = err_from_is_err_and c.from_residual-in_err-lines.result c.from_residual-in_err-lines.ensures.1 in
-    rw (p.1, p.2) (unmade hearing (over g.R.Read.remaining c.args.reader.now c.read_text.new.source g.W.Write.contents
-    c.args.writer.now c.args.writer.now) refl c.deref.result.now _
-    (as_handed _ _ _ _ c.deref.ensures.value c.in_ok-input.ensures.reads) (of_text _ c.in_err-lines.ensures.faults)
-    (⊎_elim (λ memory. inl memory) (λ wrong. inr (ap text_alone wrong)) c.in_err-lines.ensures.fault)
-    (λ is. c.in_err-lines.ensures.memory (ap Err is)) c.in_ok-input.ensures.failed c.requires.writer refl)
 
 pub returns-in_err-put_text-clause-ends : goal.returns-in_err-put_text-clause-ends
 returns-in_err-put_text-clause-ends g c =
@@ -33,14 +17,3 @@ returns-in_err-put_text-clause-ends g c =
           ∙ ap (λ l. Ok (l ++ output_lines c.in_ok-lines.converter)) (sym c.deref-2.ensures.value)),
     )
     c.in_ok-input.ensures.failed c.in_err-put_text.ensures.failed c.in_err-put_text.ensures.front)
-
-pub returns-clause-ends : goal.returns-clause-ends
-returns-clause-ends g c =
-    written hearing (over g.R.Read.remaining c.args.reader.now c.read_text.new.source g.W.Write.contents
-    c.args.writer.now c.put_text.new.writer) _ tt (
-      c.deref.result.now,
-      as_handed _ _ _ _ c.deref.ensures.value c.in_ok-input.ensures.reads,
-      ap text_alone (c.in_ok-lines.ensures.text
-          ∙ ap (λ l. Ok (l ++ output_lines c.in_ok-lines.converter)) (sym c.deref-2.ensures.value)),
-    )
-    c.in_ok-input.ensures.failed c.in_ok-put_text.ensures.failed c.in_ok-put_text.ensures.all

@@ -1,9 +1,8 @@
-use Rattle.std.proofs.Common.{◌≡◌, ◌∙◌, Bool, List, [], ap, codes, refl, subst, sym, true}
+use Rattle.std.proofs.Common.{◌≡◌, ◌∙◌, Bool, List, ap, codes, refl, subst, sym, true}
 use Rattle.clap.specs.Walk.{texts}
-use Rattle.clap.specs.Words.{App, HasKind, HasMatchesOf, Row, Text, app_of, fault_of, first_of, is_simple_and_free, one_of}
+use Rattle.clap.specs.Words.{App, HasMatchesOf, Row, Text, app_of, fault_of, first_of, is_simple_and_free, one_of}
 use Rattle.clap.specs.Words.{kind_of, takes}
 use Rattle.clap.specs.declared.error.kind.ErrorKind.TheVariants.{OutOfMemory}
-use Rattle.clap.proofs.FaultLemmas.{failed_up}
 use Rattle.clap.proofs.TakesLemmas.{passed_up}
 use Rattle.pm_tool.specs.Telling.{IsFlag, tell_app}
 use Rattle.pm_tool.proofs.commandline.telling.TellTexts.read.Goals as goal
@@ -26,15 +25,6 @@ returns-clause-given c =
       times = flag_at (codes "times") c.is_given-4.result c.is_given-4.ensures found;
       json = flag_at (codes "json") c.is_given-5.result c.is_given-5.ensures found;
     }
-
-pub returns-in_err-matches-clause-kinds : goal.returns-in_err-matches-clause-kinds
-returns-in_err-matches-clause-kinds c =
-    let app : app_of c.in_ok-tell_command.field-0 ≡ tell_app = c.in_ok-tell_command.ensures in
-    let error = c.in_err-matches.field-0.0 in
-    failed_up c.from_residual-in_err-matches.result error (λ _. fault_of tell_app (texts c.args.words.now) ≡ [])
-    (fault_of tell_app (texts c.args.words.now)) c.from_residual-in_err-matches.ensures.1
-    (subst (λ (a : App). HasKind (fault_of a (texts c.args.words.now)) error) app
-    (c.in_err-matches.ensures.kinds (ap is_simple_and_free app ∙ refl)))
 
 pub returns-clause-kinds : goal.returns-clause-kinds
 returns-clause-kinds c =
