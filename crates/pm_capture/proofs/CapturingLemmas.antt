@@ -98,7 +98,7 @@ heard_more options bytes = by (skips_timed (kept_of options bytes).line)
 
     by : (c : Bool) → heard_of options.all (said options.times bytes ++ entry_if c entry)
         ≡ cond c (heard_of options.all (said options.times bytes))
-            (heard_with options.all (heard_of options.all (said options.times bytes)) entry)
+        (heard_with options.all (heard_of options.all (said options.times bytes)) entry)
     by true = ap (heard_of options.all) (append-nil (said options.times bytes))
     by false = heard_of-snoc options.all (said options.times bytes) entry
 
@@ -112,7 +112,7 @@ text_here options bytes = by (skips_timed (kept_of options bytes).line)
     by : (c : Bool) → lines_text options (taught_from untaught (map judged_in (said options.times bytes)))
         (entry_if c (entry_ended (kept_of options bytes)))
         ≡ cond c [] (line_text options (taught_from untaught (map judged_in (said options.times bytes)))
-            (entry_ended (kept_of options bytes)))
+        (entry_ended (kept_of options bytes)))
     by true = refl
     by false = append-nil (line_text options (taught_from untaught (map judged_in (said options.times bytes)))
         (entry_ended (kept_of options bytes)))
@@ -163,7 +163,7 @@ kept_of-snoc options bytes b = by (is_line_feed b) refl
     by : (c : Bool) → is_line_feed b ≡ c → kept_of options (bytes ++ b ∷ [])
         ≡ cond c (record (line_ended (kept_of options bytes)) { taken = length bytes + 1 })
         (record (kept_of options bytes)
-            { taken = length bytes + 1; line = timed_takes (timed_of options.times (since is_line_feed bytes)) b })
+        { taken = length bytes + 1; line = timed_takes (timed_of options.times (since is_line_feed bytes)) b })
     by true is = kept_of-mark options bytes b is
     by false other = kept_of-other options bytes b other
 
@@ -290,7 +290,7 @@ heard-end options text = ap (heard_of options.all) (entries_at_end options text)
   where
     by : (c : Bool) → (kept_of options text).line.is_begun ≡ c
         → heard_of options.all (said options.times text ++ cond c (ended_entries options text) [])
-            ≡ (kept_at_end (kept_of options text)).heard
+        ≡ (kept_at_end (kept_of options text)).heard
     by true is = heard_more options text ∙ sym (ap (λ d. (cond d (line_ended (kept_of options text)) (kept_of options text)).heard) is)
     by false is = ap (heard_of options.all) (append-nil (said options.times text)) ∙ sym (heard_now options text)
         ∙ sym (ap (λ d. (cond d (line_ended (kept_of options text)) (kept_of options text)).heard) is)
@@ -315,7 +315,7 @@ unfolding capture_text
 capture_text-end options text =
     ap (λ l. l ++ counts_text options (heard_of options.all (entries_of options.times text))) (lines-end options text)
     ∙ append_assoc (said_text options text) (told_at_end (kept_of options text))
-        (counts_text options (heard_of options.all (entries_of options.times text)))
+    (counts_text options (heard_of options.all (entries_of options.times text)))
     ∙ ap (λ h. said_text options text ++ (told_at_end (kept_of options text) ++ counts_text options h)) (heard-end options text)
 
 -- ---- how many bytes were taken

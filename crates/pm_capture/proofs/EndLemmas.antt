@@ -35,9 +35,13 @@ module _ {R W : Type 0} (options : TellOptions) (run : Run R W) (short : options
       record { given = whole.given; ended = whole.ended; short = subst P most_is whole.short }
 
   pub as_engine : (result : Result DecodeEnd TextFault) → Ends options run result → EngineEnds (telling options) run result
-  as_engine (Ok end) (read, sound, input, whole, is, got) =
-      (read, sound, capture_text options input, (input, as_whole _ _ input whole, ap (λ e. Ok (capture_text options input, e)) (sym is)),
-          got)
+  as_engine (Ok end) (read, sound, input, whole, is, got) = (
+    read,
+    sound,
+    capture_text options input,
+    (input, as_whole _ _ input whole, ap (λ e. Ok (capture_text options input, e)) (sym is)),
+    got,
+  )
   as_engine (Err Write) (failed, text, inl (front, few, given, is), cut) =
       let P : ℕ → Type 0 = λ n. length front ≤ n in (
         failed,
@@ -73,9 +77,15 @@ module _ {R W : Type 0} (options : TellOptions) (run : Run R W) where
       × Consumes (run.remaining run.reader.inner) (run.remaining run.reader'.inner) (front ++ more)
       × Appends (run.contents run.writer.inner) (run.contents run.writer'.inner) (said_text options front)
       → Ends options run (Err TooLong)
-  too_long read sound (front, more, full, some, given, got) =
-      (sound, (λ t. absurd (true≢false (sym t ∙ read)), λ e. absurd (cc)), front, (more, full, some, given), said_text options front, refl,
-          got)
+  too_long read sound (front, more, full, some, given, got) = (
+    sound,
+    (λ t. absurd (true≢false (sym t ∙ read)), λ e. absurd (cc)),
+    front,
+    (more, full, some, given),
+    said_text options front,
+    refl,
+    got,
+  )
 
   -- X4: the lines of what came before were
   pub unread : IsTrue run.reader'.failed → IsFalse run.writer'.failed → (front : List ℕ) → length front ≤ most_bytes options.long
@@ -143,7 +153,7 @@ module _ {R W : Type 0} (options : TellOptions) (run : Run R W) (r1 w1 : Option 
     tt,
     too_long options run (false_unless run.reader'.failed (λ t. let wrong : TooLong ≡ Read = why.0 t in cc)) sound
         (put_too_long options _ _ _ _ bytes text old gathered (run.remaining run.reader'.inner) text' old (run.contents run.writer'.inner)
-            stops puts),
+        stops puts),
   )
   broke_off Read stops why =
       let (short, given, got) = put_unread options _ _ _ _ bytes text old gathered (run.remaining run.reader'.inner) text' old
@@ -153,7 +163,7 @@ module _ {R W : Type 0} (options : TellOptions) (run : Run R W) (r1 w1 : Option 
     tt,
     unmade options run (false_unless run.reader'.failed (λ t. let wrong : Memory ≡ Read = why.0 t in cc)) sound
         (put_memory options _ _ _ _ bytes text old gathered (run.remaining run.reader'.inner) text' old (run.contents run.writer'.inner)
-            stops puts),
+        stops puts),
   )
   broke_off (Syntax line) stops why = absurd stops
   broke_off (BadHex line) stops why = absurd stops

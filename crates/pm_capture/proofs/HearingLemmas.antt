@@ -52,7 +52,7 @@ heard_of-snoc all entries entry = by (other_code all entry) refl
         ≡ counts_of (lines ++ cond (not (is_some other)) (told_in entry ∷ []) [])
     counts other is =
         let same : map told_in (filter (is_usual all) (entries ++ entry ∷ [])) ≡ lines
-            ++ cond (not (is_some other)) (told_in entry ∷ []) [] =
+        ++ cond (not (is_some other)) (told_in entry ∷ []) [] =
         usual-snoc all entries entry ∙ kept other is in
         ap counts_of same
 

@@ -21,7 +21,7 @@ module _ (vout : Option AnyFormat) (long : Bool) where
   -- a line by what it reads as
   line_by : (taught : Taught) (number : ℕ) (parts : Result TraceLine LineFault)
       → line_text (plain_options vout long) taught (number, record { time = None; parts = parts })
-          ≡ told_line (number, reading_judged parts)
+      ≡ told_line (number, reading_judged parts)
   unfolding line_text plain_line told_text
   line_by taught number (Ok parts) =
       let text = judged_text number (parts_judged parts.write parts.read) in

@@ -111,7 +111,7 @@ first_word-snoc xs b = ap (before is_space) (from_first-snoc (λ x. not (is_spac
     by false none =
         alone (is_space b) refl
         ∙ ap (λ l. word_takes (has_bytes (from_first is_space l)) (is_space b) (before is_space l) b)
-            (sym (none_there (past_spaces xs) none))
+        (sym (none_there (past_spaces xs) none))
 
 -- a byte at the end of a line goes behind its first word where that is over or the byte is the space that ends it
 behind_word-snoc : (xs : List ℕ) (b : ℕ) → behind_word (xs ++ b ∷ [])

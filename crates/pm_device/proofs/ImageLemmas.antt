@@ -101,11 +101,17 @@ pub same-held : (image : Image) (h : Held) → config_held image.config ≡ h.co
     map is_set image.cut ≡ h.cut → latches_held image.latches ≡ h.faults → held image ≡ h
 same-held image h config words store page readings cut faults =
     ap (λ (x : Config). record (held image) { config = x }) config
-    ∙ (ap₂ (λ (x y : List ℕ). record h
-        { words = x; store = y; page = image.page; readings = readings_held image.readings; cut = map is_set image.cut; faults =
-        latches_held image.latches }) words store
+    ∙ (ap₂ (λ (x y : List ℕ). record h {
+      words = x;
+      store = y;
+      page = image.page;
+      readings = readings_held image.readings;
+      cut = map is_set image.cut;
+      faults =
+          latches_held image.latches;
+    }) words store
     ∙ (ap (λ (x : ℕ). record h
-        { page = x; readings = readings_held image.readings; cut = map is_set image.cut; faults = latches_held image.latches }) page
+    { page = x; readings = readings_held image.readings; cut = map is_set image.cut; faults = latches_held image.latches }) page
     ∙ (ap (λ (x : Measured). record h { readings = x; cut = map is_set image.cut; faults = latches_held image.latches }) readings
     ∙ (ap (λ (x : List Bool). record h { cut = x; faults = latches_held image.latches }) cut
     ∙ ap (λ (x : CmlFaults). record h { faults = x }) faults))))

@@ -77,8 +77,8 @@ guard-free g (job.Order cell word) begun free is =
 guard-free g (job.OrderMicro cell x) begun free is =
     let third = later-none (word_fault g.host cell x) _ (later-none (of_host (cell_fault g.host cell)) _ free) in
     go (micro_word g.host cell x)
-        (first-none (option_and_then (λ n. guarded_order (limits_at g (output_of cell)) g.host cell n) (micro_word g.host cell x)) None
-        third) is
+    (first-none (option_and_then (λ n. guarded_order (limits_at g (output_of cell)) g.host cell n) (micro_word g.host cell x)) None
+    third) is
   where
     go : (found : Option ℕ) → option_and_then (λ n. guarded_order (limits_at g (output_of cell)) g.host cell n) found ≡ None →
         option_map (λ n. host.Order cell n) found ≡ Some begun → job_fault g.host begun ≡ None
@@ -170,7 +170,7 @@ orders-within config passes output bounds before (event ∷ events) all =
 -- the words stay within where a driver leads
 led-within : LegalLivesAreFollowed → {B : Type 0} (gives : B → Call → B → Type 0) (held : B → Held) (acts : List Act)
     (end : Option JobEnd) (old new : Driven B) (output : ℕ) (bounds : Bounds) (lived : HasLifeWithin output bounds old.host (held old.bus))
-        →
+    →
     (leads : Leads gives held acts end old new) → JobsWithin lived.has.config output bounds (jobs_asked leads.events) →
     HasLifeWithin output bounds new.host (held new.bus)
 led-within laws gives held acts end old new output bounds lived leads all =

@@ -81,8 +81,17 @@ read_tells : CellsHavePlaces → (s : Summary) (cell : Cell) (word pass read : �
     → Tells s (Some (Reads cell word pass)) (Got bytes) (read_another (marked (idle s) (Good cell read)) cell word pass read)
 read_tells law s cell word pass read bytes true last whole there is e l =
     let same : read ≡ word = eqb-true read word e in
-    rw e (refl, ((is ∙ ap Some same, subst (IsRead (marked (idle s) (Good cell read)) cell) same
-        (marked-read law (idle s) cell read whole there)), refl))
+    rw e (
+      refl,
+      (
+        (
+          is ∙ ap Some same,
+          subst (IsRead (marked (idle s) (Good cell read)) cell) same
+              (marked-read law (idle s) cell read whole there),
+        ),
+        refl,
+      ),
+    )
 read_tells law s cell word pass read bytes false true whole there is e l =
     rw (e, l) (refl, ((is, (λ same. false≢true (sym e ∙ eq-eqb read word same)), marked-read law (idle s) cell read whole there), refl))
 read_tells law s cell word pass read bytes false false whole there is e l = rw (e, l) (refl, refl)
@@ -155,7 +164,7 @@ answer_tells law s (Mode output) tries bytes payload sound whole there is =
     mode_tells s output tries (Got bytes) (mode_of (word_in payload)) (output-there s output sound there)
 answer_tells law s (Coefficients output) tries bytes payload sound whole there is =
     learned_tells s output tries false (Got bytes) (result_ok (shape_in Direct (coefficients_of payload)))
-        (output-there s output sound there)
+    (output-there s output sound there)
 
 -- a question was asked
 asked_tells : CellsHavePlaces → (s : Summary) (question : Question) (tries : ℕ) (bytes : List ℕ) (payload : Option (List ℕ)) → IsSound s

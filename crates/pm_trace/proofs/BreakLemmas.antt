@@ -63,7 +63,7 @@ module _ {R W : Type 0} (run : Run R W) (r1 w1 : Option (List ℕ)) (bytes text 
     tt,
     too_long run (false_unless run.reader'.failed (λ t. let wrong : TooLong ≡ Read = why.0 t in cc)) sound
         (put_too_long _ _ _ _ bytes text old gathered (run.remaining run.reader'.inner) text' old (run.contents run.writer'.inner) stops
-            puts),
+        puts),
   )
   broke_off Read stops why =
       let (short, given, got) = put_unread _ _ _ _ bytes text old gathered (run.remaining run.reader'.inner) text' old
@@ -73,7 +73,7 @@ module _ {R W : Type 0} (run : Run R W) (r1 w1 : Option (List ℕ)) (bytes text 
     tt,
     unmade run (false_unless run.reader'.failed (λ t. let wrong : Memory ≡ Read = why.0 t in cc)) sound
         (put_memory _ _ _ _ bytes text old gathered (run.remaining run.reader'.inner) text' old (run.contents run.writer'.inner) stops
-            puts),
+        puts),
   )
   broke_off (Syntax line) stops why = absurd stops
   broke_off (BadHex line) stops why = absurd stops

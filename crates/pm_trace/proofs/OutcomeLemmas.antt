@@ -18,9 +18,13 @@ module _ {R W : Type 0} (run : Run R W) where
       × Consumes (run.remaining run.reader.inner) (run.remaining run.reader'.inner) (front ++ more)
       × Appends (run.contents run.writer.inner) (run.contents run.writer'.inner) (told_lines (said front))
       → EngineEnds decoding run (Err TooLong)
-  too_long read sound (front, more, full, some, given, got) =
-      (sound, (λ t. absurd (true≢false (sym t ∙ read)), λ e. absurd (cc)), front, (more, full, some, given),
-          (told_lines (said front), refl, got))
+  too_long read sound (front, more, full, some, given, got) = (
+    sound,
+    (λ t. absurd (true≢false (sym t ∙ read)), λ e. absurd (cc)),
+    front,
+    (more, full, some, given),
+    (told_lines (said front), refl, got),
+  )
 
   -- X4: the lines of what came before were
   pub unread : IsTrue run.reader'.failed → IsFalse run.writer'.failed → (front : List ℕ) → length front ≤ max_text

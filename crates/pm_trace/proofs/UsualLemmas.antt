@@ -34,7 +34,7 @@ usual_counted counts usual = by usual.is_read
   where
     by : (is_read : Bool) → one_counted counts (cond is_read (Accepted usual.addr (PagePlusRead usual.page usual.code) (Some
         (usual.low ∷ usual.high ∷ [])))
-            (Accepted usual.addr (PagePlusWrite usual.page usual.code (Word (usual.low + 256 * usual.high))) None))
+        (Accepted usual.addr (PagePlusWrite usual.page usual.code (Word (usual.low + 256 * usual.high))) None))
         ≡ record counts { accepted = counts.accepted + 1; codes = one_more counts.codes usual.code }
     by true = refl
     by false = refl
@@ -45,7 +45,7 @@ usual_new counts usual none = by usual.is_read
   where
     by : (is_read : Bool) → IsNewCode counts (cond is_read (Accepted usual.addr (PagePlusRead usual.page usual.code) (Some
         (usual.low ∷ usual.high ∷ [])))
-            (Accepted usual.addr (PagePlusWrite usual.page usual.code (Word (usual.low + 256 * usual.high))) None))
+        (Accepted usual.addr (PagePlusWrite usual.page usual.code (Word (usual.low + 256 * usual.high))) None))
     by true = none
     by false = none
 
@@ -106,7 +106,7 @@ attributes_are code found is = by (line_of code) is
   where
     by : (line : Option Line) → option_map (λ l. attributes l.length l.scope l.reads l.protection) line ≡ Some found
         → (option_map_or (λ l. l.length) line 0 ≡ found.length)
-            × (option_map_or (λ l. is_ever_written l.protection) line false ≡ is_ever_written found.protection)
+        × (option_map_or (λ l. is_ever_written l.protection) line false ≡ is_ever_written found.protection)
         × (option_map_or (λ l. l.reads) line false ≡ found.reads)
     by (Some line) is =
         let same : attributes line.length line.scope line.reads line.protection ≡ found = cc in
@@ -243,7 +243,7 @@ pub usual_write_is : (write : List ℕ) → length write ≡ 8 → get_or write 
     → get_or write 7 0 ≡ pec_of (get_or write 0 0 ∷ 5 ∷ 4 ∷ get_or write 3 0 ∷ get_or write 4 0 ∷ get_or write 5 0 ∷ get_or write 6 0 ∷ [])
     → parts_judged write None
     ≡ Accepted (get_or write 0 0 / 2)
-        (PagePlusWrite (get_or write 3 0) (get_or write 4 0) (Word (get_or write 5 0 + 256 * get_or write 6 0))) None
+    (PagePlusWrite (get_or write 3 0) (get_or write 4 0) (Word (get_or write 5 0 + 256 * get_or write 6 0))) None
 usual_write_is [] many second third has written sum = absurd (omega arith)
 usual_write_is (a ∷ []) many second third has written sum = absurd (omega arith)
 usual_write_is (a ∷ b ∷ []) many second third has written sum = absurd (omega arith)
@@ -363,7 +363,7 @@ usual_line number usual small = by usual.is_read
         (Accepted usual.addr (PagePlusWrite usual.page usual.code (Word (usual.low + 256 * usual.high))) None)))) ++ codes "\n"
         ≡ ((decimal number ++ ((codes " " ++ hex_byte usual.addr) ++ (codes " page " ++ (decimal usual.page ++ codes " "))))
         ++ name_of usual.code) ++
-            ((cond is_read (codes " read ") (codes " write ")) ++ (hex_byte usual.high ++ (hex_byte usual.low ++ codes "\n")))
+        ((cond is_read (codes " read ") (codes " write ")) ++ (hex_byte usual.high ++ (hex_byte usual.low ++ codes "\n")))
     by true =
         parts_joined (decimal number) (codes " ") (hex_byte usual.addr) (codes "page ") (decimal usual.page) (name_of usual.code)
         (codes " read ") (hex_byte usual.high) (hex_byte usual.low) (codes "\n")

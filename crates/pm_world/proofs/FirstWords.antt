@@ -84,8 +84,8 @@ good-small addr cell bytes word are good = go (is_none (answer_fault addr (cell_
   go : (b : Bool) → option_map word_in (cond b (Some (answer_payload (cell_read cell) bytes)) None) ≡ Some word → word < 2 ^ 16
   go true h = subst (λ n. n < 2 ^ 16) (same-word h)
       (word-small (answer_payload (cell_read cell) bytes) (λ place. part-bytes bytes _ _ place are)) where
-    same-word : {a b : ℕ} → Some a ≡ Some b → a ≡ b
-    same-word e = cc
+        same-word : {a b : ℕ} → Some a ≡ Some b → a ≡ b
+        same-word e = cc
   go false h = cc
 
 -- what begins to be sent is no answer
@@ -110,7 +110,7 @@ marks-small setup (host.Finished acked ∷ before) are =
 marks-small setup (host.Got bytes ∷ before) (are, rest) =
     puts-small (puts setup (host.Got bytes ∷ before)) _ (are-puts setup (host.Got bytes ∷ before))
     (goods-small setup before bytes (goods setup before bytes) (marks setup before) are (are-goods setup before bytes)
-        (marks-small setup before rest))
+    (marks-small setup before rest))
 marks-small setup (host.Restarted ∷ before) are = marks-small setup before are
 
 -- the words that are due at the start

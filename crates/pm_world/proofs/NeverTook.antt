@@ -178,7 +178,7 @@ exchange-read laws config passes before arrival back cell word read entry lived 
       go (Some message) sends free came =
           reads-true laws arrival back message (knows laws config passes before (earlier lived)) sends free cell read
           (asks-cell laws setup entries cell word message opened sends
-              (exchange-reads (now config passes before) arrival back message free))
+          (exchange-reads (now config passes before) arrival back message free))
           (ap (word_told setup.addr cell) (same_Some _ entry came) ∙ good)
 
 -- an order that is open, or over; and where it differs, the cell has the word that was read

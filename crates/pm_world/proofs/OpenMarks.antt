@@ -34,9 +34,9 @@ pub open-append : (new ms : List Mark) → are_open (new ++ ms) ≡ (are_open ne
 open-append [] ms = refl
 open-append (mark ∷ new) ms =
     ap (λ b. leaves_open mark && b) (open-append new ms) ∙ and-assoc (leaves_open mark) (are_open new) (are_open ms) where
-  and-assoc : (a b c : Bool) → (a && (b && c)) ≡ ((a && b) && c)
-  and-assoc true b c = refl
-  and-assoc false b c = refl
+      and-assoc : (a b c : Bool) → (a && (b && c)) ≡ ((a && b) && c)
+      and-assoc true b c = refl
+      and-assoc false b c = refl
 
 -- a word that isn't listed isn't among those that are left
 any-filter : (test keep : ℕ → Bool) (xs : List ℕ) → list_any test xs ≡ false → list_any test (filter keep xs) ≡ false
@@ -95,9 +95,9 @@ open-finds (Put Protect word ∷ ms) h =
     go (Some ws) e rest = ap (λ b. b || list_any is_other ws) e ∙ rest
 open-finds (Good (Out output register) word ∷ ms) h =
     go (is_possible word (possible_from (words_since ms (Out output register)))) (open-finds ms h) where
-  go : (b : Bool) → Finds (words_since ms Protect) ≡ false → Finds (cond b (words_since ms Protect) None) ≡ false
-  go true rest = rest
-  go false rest = refl
+      go : (b : Bool) → Finds (words_since ms Protect) ≡ false → Finds (cond b (words_since ms Protect) None) ≡ false
+      go true rest = rest
+      go false rest = refl
 open-finds (Good Protect word ∷ ms) h =
     ap (λ b. b || false) (zero-other word (and-both (eqb word 0) (are_open ms) h).0)
 

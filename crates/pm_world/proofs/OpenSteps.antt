@@ -245,7 +245,7 @@ accepted-marks laws config passes before event job lived asks =
     let entries = (life config passes before).entries in
     let all : (life config passes (event ∷ before)).entries ≡ host.Accepted job ∷ entries =
     entries-more config passes before event
-        ∙ ap (λ (share : Share). option_to_list share.told ++ entries) (asked-share (now config passes before) event job asks) in
+    ∙ ap (λ (share : Share). option_to_list share.told ++ entries) (asked-share (now config passes before) event job asks) in
     let opened : host.open_job setup (host.Accepted job ∷ since config passes before) ≡ Some job =
     ap (λ es. host.open_job setup (since_restart es)) (sym all)
     ∙ (life-job laws config passes (event ∷ before) lived ∙ (by-acceptance laws config passes before event job lived asks).open') in

@@ -53,7 +53,7 @@ own-answered laws config passes events request lived sends answered =
     let found = laws.reads_are_answered.answered held request (frame_of config.addr request) asked answered in
     subst (λ bytes. IsAnswer config.addr request (payload_for held request) bytes)
     (sym (ap (λ ending. answer_in (reply_of held (frame_of config.addr request) ending)) (whole-restart request reads)
-        ∙ ap answer_in found.1))
+    ∙ ap answer_in found.1))
     found.2
 
 -- no command is the read of an output

@@ -124,7 +124,7 @@ start-at laws config cell here = (laws.settings_are_a_map.made (start_word confi
 -- a word of a run that is the cell's own there is so among the events
 run-own : Below → (config : Config) (passes : ℕ) (events : List Event) (cell : Cell) (word : ℕ) → IsSound config →
     IsCell config.count cell → IsMachineOwn (start_settings config) (retold config passes events) cell word
-        → IsOwnWord config passes events cell word
+    → IsOwnWord config passes events cell word
 run-own laws config passes events cell word sound here (inl e) =
     inl (e ∙ start-at laws config cell (eight config.count cell sound.few here))
 run-own laws config passes events cell word sound here (inr h) = inr (retold-ordered config passes events cell word h)

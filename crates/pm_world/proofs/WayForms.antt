@@ -79,7 +79,7 @@ sent-heard laws config passes events cell word arrival lived stage =
 delivered-form : Below → (config : Config) (passes : ℕ) (before : List Event) (arrival : Arrival) (way : Way) →
     IsLived config passes (Deliver arrival ∷ before) → FormOf config passes before way →
     FormOf config passes (Deliver arrival ∷ before)
-        (delivered_on (hears_whole (now config passes (Deliver arrival ∷ before)).host arrival) way)
+    (delivered_on (hears_whole (now config passes (Deliver arrival ∷ before)).host arrival) way)
 delivered-form laws config passes before arrival (Sent cell word whole) lived form =
     let stage = subst (λ es. (now config passes es).host.stage ≡ Some (Writes cell word 0)) (sym form.is)
     (sent-stage laws form.before form.order form.arrivals (subst (IsLived config passes) form.is (earlier lived)) form.asks) in

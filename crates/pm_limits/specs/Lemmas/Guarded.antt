@@ -70,7 +70,7 @@ order-within : (g : Guarded) (cell : Cell) (output : ℕ) (register : Reg) (word
 order-within g cell output register word bounds free is voltage limits =
     let judge = head (judged (limits_at g (output_of cell)) g.host cell word) _ (second (of_host (cell_fault g.host cell)) _ free) in
     let none = sym (judged-voltage g output register word voltage)
-        ∙ ap (λ (c : Cell). judged (limits_at g (output_of c)) g.host c word) (sym is) ∙ judge in
+    ∙ ap (λ (c : Cell). judged (limits_at g (output_of c)) g.host c word) (sym is) ∙ judge in
     let-through (limits_at g output) (format_at g.host output) word bounds limits none
 
 -- as a word or in microvolts
@@ -86,7 +86,7 @@ guarded-voltage g (job.Order cell w) output register word bounds free is voltage
 guarded-voltage g (job.OrderMicro cell x) output register word bounds free is voltage limits =
     let third = second (word_fault g.host cell x) _ (second (of_host (cell_fault g.host cell)) _ free) in
     go (micro_word g.host cell x)
-        (head (option_and_then (λ n. guarded_order (limits_at g (output_of cell)) g.host cell n) (micro_word g.host cell x)) None third) is
+    (head (option_and_then (λ n. guarded_order (limits_at g (output_of cell)) g.host cell n) (micro_word g.host cell x)) None third) is
   where
     go : (found : Option ℕ) → option_and_then (λ n. guarded_order (limits_at g (output_of cell)) g.host cell n) found ≡ None →
         option_map (λ n. Order cell n) found ≡ Some (Order (Out output register) word) →
@@ -119,7 +119,7 @@ alone : (g : Guarded) (cell : Cell) (word : ℕ) → judged (limits_at g (output
     guarded_order (limits_at g (output_of cell)) g.host cell word ≡ of_host (order_fault g.host cell word)
 alone g cell word none =
     ap (λ (j : Option LimitFault). option_or (of_host (cell_fault g.host cell))
-        (option_or j (option_or (of_host (order_fault g.host cell word)) None)))
+    (option_or j (option_or (of_host (order_fault g.host cell word)) None)))
     none
     ∙ merge (cell_fault g.host cell) _
   where
@@ -135,14 +135,14 @@ pub guarded-off : (g : Guarded) (output byte : ℕ) → has_on byte ≡ false �
     ≡ of_host (begin_fault g.host (job.Order (Out output Operation) byte))
 guarded-off g output byte off = alone g (Out output Operation) byte
     (ap (λ (b : Bool). cond (b && not (is_yes (within_of (limits_at g output) (band_on g.host output byte)))) (Some NotKnownWithin) None)
-        off)
+    off)
 
 -- where an output has no limits, they say nothing
 judged-free : (g : Guarded) (output : ℕ) (register : Reg) (word : ℕ) → limits_at g output ≡ None →
     judged (limits_at g output) g.host (Out output register) word ≡ None
 judged-free g output Operation word none =
     ap (λ (l : Option Bounds). cond (has_on word && not (is_yes (within_of l (band_on g.host output word)))) (Some NotKnownWithin) None)
-        none
+    none
     ∙ go (has_on word)
   where
     go : (b : Bool) → cond (b && false) (Some NotKnownWithin) None ≡ None

@@ -25,7 +25,7 @@ pub returns-in-Write-clause-open : goal.returns-in-Write-clause-open
 returns-in-Write-clause-open g c =
     told-open (Wrote c.as_slice.result.now c.write-acked.result) c.args.guard.now.host c.told-step.new.self.host c.told-step.result
     (busy-host (λ message. IsWrite c.args.guard.now.host.setup.addr message c.in-Write.packet.now.items) c.args.guard.now.host
-        c.in-Write.ensures.1)
+    c.in-Write.ensures.1)
     c.told-step.ensures.after c.told-step.ensures.step
 
 pub returns-in-Request-clause-leads : goal.returns-in-Request-clause-leads
@@ -34,7 +34,7 @@ returns-in-Request-clause-leads g c =
     let came : List ℕ = take c.read-count.result c.read-count.new.answer in
     let long : length room ≡ c.in-Request.bytes = length-take-le c.in-Request.bytes (replicate 8 0) c.in-Request.ensures.3 in
     told-leads g.B.Bus.gives g.B.Bus.held c.frames_lead.ensures (Read c.as_slice-in-Request.result.now (length room) came)
-        c.args.guard.now.host
+    c.args.guard.now.host
     c.told-step-in-Request.new.self.host c.told-step-in-Request.result c.args.bus.now c.read-count.new.self (
       subst (λ f. IsSomeAnd (sending_in c.args.guard.now.host) (λ message. IsRequest c.args.guard.now.host.setup.addr message f))
           (sym c.as_slice-in-Request.ensures.value) c.in-Request.ensures.1,
@@ -45,7 +45,7 @@ returns-in-Request-clause-leads g c =
 pub returns-in-Request-clause-open : goal.returns-in-Request-clause-open
 returns-in-Request-clause-open g c =
     told-open (Read c.as_slice-in-Request.result.now 0 _) c.args.guard.now.host c.told-step-in-Request.new.self.host
-        c.told-step-in-Request.result
+    c.told-step-in-Request.result
     (busy-host (λ message. IsRequest c.args.guard.now.host.setup.addr message c.in-Request.frame.now.items) c.args.guard.now.host
     c.in-Request.ensures.1)
     c.told-step-in-Request.ensures.after c.told-step-in-Request.ensures.step

@@ -26,9 +26,9 @@ returns c =
     let far = fun_ext (λ (byte : ℕ). ap value (c.of-ends.ensures.selected side byte)) in
     ap (λ (v : ℕ → Ratio). limited (v (farthest_of side v bytes)) (value (word_on side ends.min)) (value (word_on side ends.max))) far
     ∙ ap (λ (w : ℕ). limited (reach side shape known (farthest_of side (reach side shape known) bytes)) (value w)
-        (value (word_on side ends.max))) (c.of-ends.ensures.least side)
+    (value (word_on side ends.max))) (c.of-ends.ensures.least side)
     ∙ ap (λ (w : ℕ). limited (reach side shape known (farthest_of side (reach side shape known) bytes))
-        (value (word_end side shape known VoutMin)) (value w)) (c.of-ends.ensures.greatest side)
+    (value (word_end side shape known VoutMin)) (value w)) (c.of-ends.ensures.greatest side)
     in
     ap₂ (λ least greatest. record { least = least; greatest = greatest })
     (c.reached.ensures ∙ at Lowest) (c.reached-2.ensures ∙ at Highest)

@@ -29,7 +29,7 @@ returns-in-None g c =
     subst (λ line. Says g.E.Write.contents c.args.errors.now c.put_all.new.self line)
     (lettered c.args.program.now _ c.as_bytes.ensures.value (Device f) _ _ (c.as_bytes-in-None.ensures.value ∙ c.words-setup.ensures)
     ∙ line-none c.args.program.now (config_fault_words f) _ (detail_of f) _ _ (c.as_bytes-in-None-2.ensures.value ∙ c.words-words.ensures)
-        detail
+    detail
     ∙ ap (line_with c.args.program.now f) (sym named))
     (put_said g.E.Write.contents c.put_all.result c.args.errors.now c.put_all.new.self _
     c.put_all.ensures.all c.put_all.ensures.front c.put_all.ensures.failed)
@@ -43,9 +43,9 @@ returns-in-Some g c =
     ∙ ap (λ o. option_map_or (λ t. codes " " ++ t) o []) c.detail.ensures in
     subst (λ line. Says g.E.Write.contents c.args.errors.now c.put_all-in-Some.new.self line)
     (lettered c.args.program.now _ c.as_bytes-in-Some.ensures.value (Device f) _ _
-        (c.as_bytes-in-Some-2.ensures.value ∙ c.words-setup.ensures)
+    (c.as_bytes-in-Some-2.ensures.value ∙ c.words-setup.ensures)
     ∙ line-some c.args.program.now (config_fault_words f) _ (detail_of f) _ _ (c.as_bytes-in-Some-3.ensures.value ∙ c.words-words.ensures)
-        detail
+    detail
     c.in-Some.output _ (c.as_bytes-in-Some-4.ensures.value ∙ c.format.ensures.text) ∙ ap (line_with c.args.program.now f) (sym named))
     (put_said g.E.Write.contents c.put_all-in-Some.result c.args.errors.now c.put_all-in-Some.new.self _
     c.put_all-in-Some.ensures.all c.put_all-in-Some.ensures.front c.put_all-in-Some.ensures.failed)

@@ -12,7 +12,7 @@ returns-then-is_empty-clause-ok g c =
     c.in-Ok-false.field-0-test c.in-Ok-false.ensures.ok in
     let none : length c.read_line.new.line.items ≡ 0 = search rules in
     last_empty g.P.Port.goes g.met.P.Port.joined g.S.Speaker.speech g.met.S.Speaker.kept_text g.met.S.Speaker.kept_after c.args.speaker.now
-        c.args.speaker.now c.args.port.now c.read_line.new.port
+    c.args.speaker.now c.args.port.now c.read_line.new.port
     c.read_line.new.line.items none heard refl
 
 pub returns-in-Ok-true-clause-ok : goal.returns-in-Ok-true-clause-ok
@@ -24,10 +24,10 @@ returns-in-Ok-true-clause-ok g c =
     (subst (λ (more : Bool). IsHeard g.P.Port.goes c.args.port.now c.read_line.new.port more c.read_line.new.line.items)
     c.in-Ok-true.field-0-test c.in-Ok-true.ensures.ok) in
     IfOk-weaker c.answer_kept.result _ _
-        (λ handed fact. subst (λ (more : Bool). (things : List Happening) × IsTurn g.S.Speaker.speech s after more things
+    (λ handed fact. subst (λ (more : Bool). (things : List Happening) × IsTurn g.S.Speaker.speech s after more things
     × g.P.Port.goes c.args.port.now things c.answer_kept.new.port) (sym fact.0)
     (whole_turn g.P.Port.goes g.met.P.Port.joined g.S.Speaker.speech g.met.S.Speaker.kept_text g.met.S.Speaker.kept_after s after
-        c.args.port.now c.read_line.new.port c.answer_kept.new.port
+    c.args.port.now c.read_line.new.port c.answer_kept.new.port
     kept heard c.answer_kept.ensures.after fact.1)) c.answer_kept.ensures.ok
 
 pub returns-in-Ok-true-clause-err : goal.returns-in-Ok-true-clause-err
@@ -39,10 +39,10 @@ returns-in-Ok-true-clause-err g c =
     (subst (λ (more : Bool). IsHeard g.P.Port.goes c.args.port.now c.read_line.new.port more c.read_line.new.line.items)
     c.in-Ok-true.field-0-test c.in-Ok-true.ensures.ok) in
     IfErr-weaker c.answer_kept.result _ _
-        (λ fault fact. subst (λ (f : TextFault). (things : List Happening) × IsCut g.S.Speaker.speech s after f things
+    (λ fault fact. subst (λ (f : TextFault). (things : List Happening) × IsCut g.S.Speaker.speech s after f things
     × g.P.Port.goes c.args.port.now things c.answer_kept.new.port) (sym fact.0)
     (cut_turn g.P.Port.goes g.met.P.Port.joined g.S.Speaker.speech g.met.S.Speaker.kept_text g.met.S.Speaker.kept_after s after
-        c.args.port.now c.read_line.new.port c.answer_kept.new.port
+    c.args.port.now c.read_line.new.port c.answer_kept.new.port
     kept true heard c.answer_kept.ensures.after fact.1))
     c.answer_kept.ensures.err
 
@@ -59,7 +59,7 @@ returns-else-is_empty-clause-ok g c =
     IfOk-weaker c.answer_kept-in-Ok-false.result _ _ (λ handed fact. subst (λ (more : Bool). (things : List Happening)
     × IsTurn g.S.Speaker.speech s after more things × g.P.Port.goes c.args.port.now things c.answer_kept-in-Ok-false.new.port) (sym fact.0)
     (last_whole g.P.Port.goes g.met.P.Port.joined g.S.Speaker.speech g.met.S.Speaker.kept_text g.met.S.Speaker.kept_after s after
-        c.args.port.now c.read_line.new.port c.answer_kept-in-Ok-false.new.port
+    c.args.port.now c.read_line.new.port c.answer_kept-in-Ok-false.new.port
     kept some heard c.answer_kept-in-Ok-false.ensures.after fact.1))
     c.answer_kept-in-Ok-false.ensures.ok
 
@@ -75,6 +75,6 @@ returns-else-is_empty-clause-err g c =
     IfErr-weaker c.answer_kept-in-Ok-false.result _ _ (λ fault fact. subst (λ (f : TextFault). (things : List Happening)
     × IsCut g.S.Speaker.speech s after f things × g.P.Port.goes c.args.port.now things c.answer_kept-in-Ok-false.new.port) (sym fact.0)
     (cut_turn g.P.Port.goes g.met.P.Port.joined g.S.Speaker.speech g.met.S.Speaker.kept_text g.met.S.Speaker.kept_after s after
-        c.args.port.now c.read_line.new.port c.answer_kept-in-Ok-false.new.port
+    c.args.port.now c.read_line.new.port c.answer_kept-in-Ok-false.new.port
     kept false heard c.answer_kept-in-Ok-false.ensures.after
     fact.1)) c.answer_kept-in-Ok-false.ensures.err

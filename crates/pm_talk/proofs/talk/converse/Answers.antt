@@ -8,7 +8,7 @@ pub turns-preserved : goal.turns-preserved
 turns-preserved g c =
     let (lines, all, counted, held, going) = c.turns.invariant in
     let turned = subst (λ (more : Bool). (things : List Happening)
-        × IsTurn g.S.Speaker.speech c.turns.speaker c.answer_next.new.speaker more things
+    × IsTurn g.S.Speaker.speech c.turns.speaker c.answer_next.new.speaker more things
     × g.P.Port.goes c.turns.port things c.answer_next.new.port) c.in-Ok-true.field-0-test c.in-Ok-true.ensures.ok in
     let (things, (line, is, happened, after), went) = turned in
     let s = c.args.speaker.now in (

@@ -8,4 +8,4 @@ abbrev pub invariant-turns : goal.invariant-turns
 invariant-turns g l =
     (lines : List (List ℕ)) × (list_all is_line lines ≡ true) × (length lines ≡ l._turn)
     × (l.speaker ≡ after_lines g.S.Speaker.speech l.fn.speaker lines)
-        × g.P.Port.goes l.fn.port (talk g.S.Speaker.speech l.fn.speaker lines) l.port
+    × g.P.Port.goes l.fn.port (talk g.S.Speaker.speech l.fn.speaker lines) l.port

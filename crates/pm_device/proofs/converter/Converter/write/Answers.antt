@@ -19,7 +19,7 @@ returns c =
     } in
     read-back image c.args.self.now refl
     (same-held image c.args.self.now (search rules) (search rules) (search rules) (search rules) (search rules) (search rules)
-        (search rules))
+    (search rules))
     record {
       config = search rules;
       words = (record { count = c.self.inside.settings.count; words = c.self.inside.settings.words }, search rules);

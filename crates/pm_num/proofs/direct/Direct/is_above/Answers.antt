@@ -9,7 +9,7 @@ returns-then-self-lt0 c =
     let y : to_z w16 (of_z w16 c.cast_signed-y.result) ≡ signed 16 c.args.word = search rules in
     let z : to_z w16 (of_z w16 c.cast_signed-z.result) ≡ signed 16 c.args.other = search rules in
     ap₂ int_lt y z ∙ direct-above_falling f.m f.b f.r c.args.word c.args.other (search rules) (search rules) c.ranges.word.fits
-        c.ranges.other.fits
+    c.ranges.other.fits
 
 pub returns-else-self-lt0 : goal.returns-else-self-lt0
 returns-else-self-lt0 c =
@@ -17,4 +17,4 @@ returns-else-self-lt0 c =
     let y : to_z w16 (of_z w16 c.cast_signed-y.result) ≡ signed 16 c.args.word = search rules in
     let z : to_z w16 (of_z w16 c.cast_signed-z.result) ≡ signed 16 c.args.other = search rules in
     ap₂ int_lt z y ∙ direct-above_rising f.m f.b f.r c.args.word c.args.other (search rules) (search rules) c.ranges.word.fits
-        c.ranges.other.fits
+    c.ranges.other.fits

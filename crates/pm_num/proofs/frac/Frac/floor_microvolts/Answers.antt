@@ -49,6 +49,6 @@ pub returns-clause-floor : goal.returns-clause-floor
 returns-clause-floor c =
     let is_near = found c in
     let same : to_z w64 (of_z w64 (to_z w128 (of_z w128 c.floor_micro-microvolts.result))) ≡ c.floor_micro-microvolts.result =
-        omega (arith, ints) in
+    omega (arith, ints) in
     subst (λ x. IsMicroFloor c.args.self.now x) (sym same)
     record { reached = c.floor_micro-microvolts.ensures.reached; greatest = c.floor_micro-microvolts.ensures.greatest }
