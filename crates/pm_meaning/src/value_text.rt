@@ -162,9 +162,18 @@ pub fn push_names(
     if bits & *bit == 0 {
         return push_names(text, between, around, rest, bits, is_first);
     }
-    text.push_str(if is_first { "" } else { between })?;
+    push_name(text, if is_first { "" } else { between }, around, name)?;
+    push_names(text, between, around, rest, bits, false)
+}
+
+// Appends a name with a text around it, and another text before both.
+#[tactic(auto, using(pm_lines::proofs::Joins::joins))]
+fn push_name(text: &mut String, before: &str, around: &str, name: &str) -> Result<(), AllocError>
+    ensures { OnOk result (string_bytes text.new ≡ string_bytes text.old
+        ++ (before.now ++ (around.now ++ (name.now ++ around.now)))) }
+{
+    text.push_str(before)?;
     text.push_str(around)?;
     text.push_str(name)?;
-    text.push_str(around)?;
-    push_names(text, between, around, rest, bits, false)
+    text.push_str(around)
 }
