@@ -1,5 +1,5 @@
-//! Tests over the public calls of frames: packets written by hand as bytes, each also made from a message and
-//! read again, and every fault with its place.
+//! Tests over the public calls of numbers, tables and frames: known words and values, each row of the command table,
+//! and packets written by hand as bytes, each also made from a message and read again, and every fault with its place.
 #![tactic(auto)]
 
 #[cfg(test)]
@@ -21,6 +21,10 @@ mod framing;
 #[cfg(test)]
 mod layouts;
 #[cfg(test)]
+mod numbers;
+#[cfg(test)]
 mod packet_error_code;
 #[cfg(test)]
 mod round_trips;
+#[cfg(test)]
+mod tables;

@@ -29,8 +29,6 @@ mod laws;
 mod linear11;
 mod num_format;
 mod power;
-#[cfg(test)]
-mod tests;
 mod ulinear16;
 mod whole;
 

@@ -9,18 +9,3 @@ pub fn address_ok(addr: u8) -> bool
 {
     (0x08..=0x77).contains(&addr)
 }
-
-#[cfg(test)]
-mod tests {
-    use super::*;
-    use crate::tests::agrees;
-
-    // The addresses 0000xxx and 1111xxx are reserved, and an address has seven bits.
-    #[test]
-    fn an_address_has_seven_bits_and_no_reserved_upper_four(rt: HostRuntime) {
-        for addr in 0..=u8::MAX {
-            let wanted = addr >> 7 == 0 && addr >> 3 != 0b0000 && addr >> 3 != 0b1111;
-            agrees(&rt, usize::from(addr), &address_ok(addr), &wanted);
-        }
-    }
-}

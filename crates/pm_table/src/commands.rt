@@ -259,6 +259,3 @@ fn action(length: u8, scope: Scope, protection: Protection) -> Attributes
         ..setting(length, scope, protection)
     }
 }
-
-#[cfg(test)]
-mod tests;

@@ -32,26 +32,3 @@ impl TableFault {
         }
     }
 }
-
-#[cfg(test)]
-mod tests {
-    use super::*;
-    use crate::tests::agrees;
-    use std::alloc::AllocError;
-
-    static ROWS: [(TableFault, &str); 4] = [
-        (TableFault::VidMode, "C1 VidMode"),
-        (TableFault::HalfMode, "C2 HalfMode"),
-        (TableFault::RelativeMode, "C3 RelativeMode"),
-        (TableFault::BadParameter, "C4 BadParameter"),
-    ];
-
-    #[test]
-    fn each_fault_shows_its_words(rt: HostRuntime) -> Result<(), AllocError> {
-        for (row, (fault, wanted)) in ROWS.iter().enumerate() {
-            let shown = format!(in rt.alloc(); "{fault}")?;
-            agrees(&rt, row, &shown.as_str(), wanted);
-        }
-        Ok(())
-    }
-}

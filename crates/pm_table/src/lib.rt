@@ -30,8 +30,6 @@ mod operation;
 mod protection;
 mod reg;
 mod scope;
-#[cfg(test)]
-mod tests;
 mod vout_mode;
 
 pub use address::address_ok;

@@ -106,11 +106,6 @@ pub record Frame (config : Config) (passes : ℕ) (before : List Event) (event :
   pub tells : StepTells (now config passes before).host entry (step_by (now config passes (event ∷ before)).end)
       (now config passes (event ∷ before)).host
 
--- what may be told, where this is what is told
-may-come : (s : State) (told : Option host.Entry) (entry : host.Entry) → told ≡ Some entry →
-    option_map_or (λ e. may_come s.host e) told true ≡ true → may_come s.host entry ≡ true
-may-come s told entry is h = sym (ap (λ o. option_map_or (λ e. may_come s.host e) o true) is) ∙ h
-
 -- by the life
 pub by-frame : Below → (config : Config) (passes : ℕ) (before : List Event) (event : Event) (entry : host.Entry) →
     IsLived config passes (event ∷ before) → (share_of (now config passes before) event).told ≡ Some entry → is_of_frame entry ≡ true →

@@ -294,11 +294,3 @@ heard-shown h arrival frame shown = go (sending_in h) shown where
   go (Some message) is =
       ap (λ f. is_whole f arrival) (is.spelled ∙ sym (frame-write h.setup.addr message is.writes))
       ∙ ap (λ b. not b && is_whole (frame_of h.setup.addr message) arrival) (sym is.writes)
-
--- and no request is a write
-pub heard-read : (h : Summary) (arrival : Arrival) → sends_read h ≡ true → false ≡ hears_whole h arrival
-heard-read h arrival reads = go (sending_in h) reads where
-  go : (o : Option Message) → option_map_or is_read_message o false ≡ true →
-      false ≡ option_map_or (λ m. not (is_read_message m) && is_whole (frame_of h.setup.addr m) arrival) o false
-  go None e = refl
-  go (Some message) e = sym (ap (λ b. not b && is_whole (frame_of h.setup.addr message) arrival) e)

@@ -1,0 +1,119 @@
+//! Limits by themselves, and how they are narrowed; a guard and its band below.
+
+mod bands;
+mod faults;
+mod guards;
+mod orders;
+
+use self::guards::{LINEAR, first, guard, learn, refusal};
+use crate::checks::equal;
+use pm_host::{HostFault, Job};
+use pm_limits::{Guard, LimitFault, Limits};
+use pm_num::NumFault;
+use pm_table::Reg;
+
+const TOO_LARGE: Option<LimitFault> = Some(LimitFault::Host(HostFault::Num(NumFault::TooLarge)));
+
+const INVERTED: Option<LimitFault> = Some(LimitFault::LimitsInverted);
+
+const WIDENED: Option<LimitFault> = Some(LimitFault::LimitsWidened);
+
+static NEW: [(i64, i64, Option<LimitFault>); 9] = [
+    (0, 0, None),
+    (-1_000_000_000_000_000, 1_000_000_000_000_000, None),
+    (-1_000_000_000_000_001, 0, TOO_LARGE),
+    (0, 1_000_000_000_000_001, TOO_LARGE),
+    (1_000_000_000_000_001, 0, TOO_LARGE),
+    (i64::MIN, i64::MAX, TOO_LARGE),
+    (1, 0, INVERTED),
+    (-1, 0, None),
+    (0, -1, INVERTED),
+];
+
+#[test]
+fn limits_are_in_order_and_in_range(rt: HostRuntime) {
+    for (least, most, wanted) in &NEW {
+        equal(
+            &rt,
+            &Limits::new(*least, *most).err(),
+            wanted,
+            &(least, most),
+        );
+    }
+}
+
+// The limits of an output, in microvolts.
+fn limits_of(guard: &Guard, output: u8) -> Option<(i64, i64)> {
+    match guard.limits(output) {
+        Some(limits) => Some((limits.least(), limits.most())),
+        None => None,
+    }
+}
+
+// Each narrowing of the first output's limits, and what is left of them.
+static NARROWED: [(i64, i64, Option<LimitFault>, (i64, i64)); 7] = [
+    (3_199_999, 3_465_000, WIDENED, (3_200_000, 3_465_000)),
+    (3_200_000, 3_465_001, WIDENED, (3_200_000, 3_465_000)),
+    (3_200_000, 3_465_000, None, (3_200_000, 3_465_000)),
+    (3_300_000, 3_250_000, INVERTED, (3_200_000, 3_465_000)),
+    (3_250_000, 3_400_000, None, (3_250_000, 3_400_000)),
+    (3_200_000, 3_400_000, WIDENED, (3_250_000, 3_400_000)),
+    (i64::MIN, 0, TOO_LARGE, (3_250_000, 3_400_000)),
+];
+
+#[test]
+fn limits_are_narrowed_and_never_widened(rt: HostRuntime) {
+    let mut guard = guard(3_200_000, 3_465_000);
+    for (least, most, wanted, left) in &NARROWED {
+        equal(
+            &rt,
+            &guard.narrow(0, *least, *most).err(),
+            wanted,
+            &(least, most),
+        );
+        equal(&rt, &limits_of(&guard, 0), &Some(*left), &(least, most));
+        equal(&rt, &limits_of(&guard, 1), &None, &(least, most));
+    }
+    let absent = Some(LimitFault::Host(HostFault::UnknownOutput));
+    equal(&rt, &guard.narrow(2, i64::MAX, 0).err(), &absent, &1);
+    equal(&rt, &guard.narrow(1, -5, 5).err(), &None, &2);
+    equal(&rt, &limits_of(&guard, 1), &Some((-5, 5)), &3);
+    equal(
+        &rt,
+        &limits_of(&guard, 0),
+        &Some((3_250_000, 3_400_000)),
+        &4,
+    );
+    equal(&rt, &limits_of(&guard, 255), &None, &5);
+}
+
+#[test]
+fn a_narrowing_holds_from_then_on(rt: HostRuntime) {
+    let mut guard = guard(3_200_000, 3_465_000);
+    learn(&mut guard, 0, LINEAR, &[]);
+    let job = Job::Order(first(Reg::VoutCommand), 14192);
+    equal(&rt, &refusal(&mut guard, job), &None, &1);
+    equal(&rt, &guard.narrow(0, 3_200_000, 3_400_000).err(), &None, &2);
+    equal(
+        &rt,
+        &refusal(&mut guard, job),
+        &Some(LimitFault::AboveLimit),
+        &3,
+    );
+}
+
+// The example of the root, word for word.
+fn guarded() -> Result<Guard, LimitFault> {
+    let mut guard = Guard::new(0x58, 1, 2, [None; 8]).map_err(LimitFault::Host)?;
+    guard.narrow(0, 3_200_000, 3_465_000)?;
+    Ok(guard)
+}
+
+#[test]
+fn the_example_of_the_root_runs(rt: HostRuntime) {
+    let limits = match guarded() {
+        Ok(guard) => limits_of(&guard, 0),
+        Err(_) => None,
+    };
+    equal(&rt, &limits, &Some((3_200_000, 3_465_000)), &1);
+}

@@ -1,5 +1,0 @@
-use Rattle.std.proofs.Common.{length}
-use Rattle.pm_session_tests.proofs.fakes.Log.+keep_all.Given as goal
-
-abbrev pub decreases-keep_all : goal.decreases-keep_all
-decreases-keep_all l = length l.bytes.now

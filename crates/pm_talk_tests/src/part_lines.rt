@@ -1,0 +1,5 @@
+//! The converter in lines: each form of line, each refusal, setups, and the whole program.
+
+mod lines;
+mod runs;
+mod shelf;
