@@ -1,7 +1,11 @@
 """The command line: what it says, where, and with which status."""
+import _ctypes
 import contextlib
 import io
 import json
+import os
+import subprocess
+import sys
 import unittest
 from unittest import mock
 
@@ -63,3 +67,13 @@ class CommandLine(unittest.TestCase):
         with mock.patch.object(program, "LinuxBus", side_effect=OSError(16, "Device or resource busy")):
             self.assertEqual(run("1", "58", "check", "0"), (
                 2, "", "pmhost: /dev/i2c-1: Device or resource busy: a driver of the kernel holds the part: unbind it, or give --force\n"))
+
+    def test_no_library_and_another_library(self):
+        for path in ("/nowhere.so", _ctypes.__file__):
+            with self.subTest(path=path):
+                ended = subprocess.run([sys.executable, "-c", "import pmhost"], env={**os.environ, "PMHOST_LIBRARY": path},
+                                       stderr=subprocess.PIPE, text=True, check=False)
+                last = ended.stderr.splitlines()[-1]
+                self.assertEqual(ended.returncode, 1)
+                self.assertTrue(last.startswith(f"ImportError: {path}: "), last)
+                self.assertTrue(last.endswith("`pip install ./python` makes this package's library, PMHOST_LIBRARY names another"), last)

@@ -9,8 +9,17 @@ HOST_VERSION = 4
 HOST_SIZE = 2056
 CELLS = 49
 
-_loaded = c.CDLL(PATH)
-_loaded.pm_part_size.restype = c.c_uint64
+
+def _load():
+    try:
+        loaded = c.CDLL(PATH)
+        loaded.pm_part_size.restype = c.c_uint64
+    except (OSError, AttributeError) as fault:
+        raise ImportError(f"{fault}; `pip install ./python` makes this package's library, PMHOST_LIBRARY names another") from None
+    return loaded
+
+
+_loaded = _load()
 
 
 class HostImage(c.Structure):
@@ -143,6 +152,8 @@ CALLS = {
 
 def _library():
     for name, (answers, takes) in CALLS.items():
+        if not hasattr(_loaded, name):
+            raise ImportError(f"{PATH} is another library than this package is for: it has no {name}")
         call = getattr(_loaded, name)
         call.restype, call.argtypes = answers, takes
     found = _loaded.pm_version() >> 8, _loaded.pm_host_version(), _loaded.pm_host_size()
