@@ -23,64 +23,84 @@ fn ran(
     )
 }
 
-#[test]
-fn each_end_has_its_status_and_its_line(rt: HostRuntime) {
-    let good = ["pmbhost", "--address=58", "--outputs=2", "--passes=2"];
-    expect_run(&rt, ran(rt.alloc(), Ok(&good), 0), 0, "seen no\n", "");
-    expect_run(
-        &rt,
-        ran(rt.alloc(), Ok(&good), 1),
+// Options, the call of the writer that fails, 0 for none, the status, and what is written and said.
+static ENDS: [([&str; 3], usize, u8, &str, &str); 8] = [
+    (
+        ["--address=58", "--outputs=2", "--passes=2"],
+        0,
+        0,
+        "seen no\n",
+        "",
+    ),
+    (
+        ["--address=58", "--outputs=2", "--passes=2"],
+        1,
         1,
         "",
         "pmbhost: X5 Write\n",
-    );
-    let absent = ["pmbhost", "--outputs=2", "--passes=2"];
-    expect_run(
-        &rt,
-        ran(rt.alloc(), Ok(&absent), 0),
+    ),
+    (
+        ["--address=78", "--outputs=2", "--passes=2"],
+        0,
         2,
         "",
         "pmbhost: bad address\n",
-    );
-    let reserved = ["pmbhost", "--address=78", "--outputs=2", "--passes=2"];
-    expect_run(
-        &rt,
-        ran(rt.alloc(), Ok(&reserved), 0),
-        2,
-        "",
-        "pmbhost: bad address\n",
-    );
-    let signed = ["pmbhost", "--address=58", "--outputs=-1", "--passes=2"];
-    expect_run(
-        &rt,
-        ran(rt.alloc(), Ok(&signed), 0),
+    ),
+    (
+        ["--address=58", "--outputs=-1", "--passes=2"],
+        0,
         2,
         "",
         "pmbhost: bad outputs\n",
-    );
-    let plus = ["pmbhost", "--address=58", "--outputs=2", "--passes=+2"];
-    expect_run(
-        &rt,
-        ran(rt.alloc(), Ok(&plus), 0),
+    ),
+    (
+        ["--address=58", "--outputs=2", "--passes=+2"],
+        0,
         2,
         "",
         "pmbhost: bad passes\n",
-    );
-    let many = ["pmbhost", "--address=58", "--outputs=9", "--passes=0"];
-    expect_run(
-        &rt,
-        ran(rt.alloc(), Ok(&many), 0),
+    ),
+    (
+        ["--address=58", "--outputs=9", "--passes=0"],
+        0,
         1,
         "",
         "pmbhost: H1 OutputCount\n",
-    );
-    let long = ["pmbhost", "--address=58", "--outputs=8", "--passes=16"];
-    expect_run(
-        &rt,
-        ran(rt.alloc(), Ok(&long), 0),
+    ),
+    (
+        ["--address=58", "--outputs=8", "--passes=16"],
+        0,
         1,
         "",
         "pmbhost: H2 Passes\n",
+    ),
+    (
+        ["--address=58", "--outputs=8", "--passes=0"],
+        0,
+        1,
+        "",
+        "pmbhost: H2 Passes\n",
+    ),
+];
+
+#[test]
+fn each_end_has_its_status_and_its_line(rt: HostRuntime) {
+    for &([address, outputs, passes], fails_at, status, written, said) in &ENDS {
+        let words = ["pmbhost", address, outputs, passes];
+        expect_run(
+            &rt,
+            ran(rt.alloc(), Ok(&words), fails_at),
+            status,
+            written,
+            said,
+        );
+    }
+    expect_run(
+        &rt,
+        ran(rt.alloc(), Ok(&["pmbhost", "--outputs=2", "--passes=2"]), 0),
+        2,
+        "",
+        "pmbhost: bad address\n",
     );
     expect_run(
         &rt,
