@@ -1,16 +1,16 @@
 mod calls;
 mod checks;
 mod limits;
+mod packets;
 
 use self::calls::{
-    PACKET, band, check, clear, finished, format, got, host, learn, limits, microvolts, narrow,
-    nearest, new, order, order_micro, possible, read_request, read_write, restart, restart_seen,
-    restore, sending, shown, standing, store, within, written,
+    band, check, clear, finished, format, got, host, learn, limits, microvolts, narrow, nearest,
+    new, order, order_micro, possible, restart, restart_seen, restore, shown, standing, store,
+    within,
 };
 use self::checks::{equal, is_true};
 use crate::guard_image::GuardImage;
 use crate::host::{pm_host_size, pm_host_version, pm_version};
-use crate::packet::pm_pec;
 use pm_host::{FormatImage, WordsImage};
 
 #[test]
@@ -210,26 +210,6 @@ fn damaged_memory_says_what_can_be_read(rt: HostRuntime) {
     equal(&rt, &possible(&image, 1, 0x21), &(0, 0, 0), &1);
     equal(&rt, &standing(&image, 1, 0x21), &(0, 0, 0), &2);
     equal(&rt, &format(&image, 1), &(0, 0, 0), &3);
-}
-
-#[test]
-fn packets_stand_alone(rt: HostRuntime) {
-    let bytes = [0xB0, 0x05, 0x04, 0x00, 0x21, 0xCD, 0x34, 0x5A];
-    equal(&rt, &pm_pec(&bytes[..7]), &0x5A, &1);
-    let (number, packet) = read_write(0x58, &bytes);
-    equal(
-        &rt,
-        &(number, packet.kind, packet.page, packet.code),
-        &(0, 4, 0, 0x21),
-        &2,
-    );
-    equal(&rt, &(packet.count, packet.word), &(2, 0x34CD), &3);
-    equal(&rt, &written(0x58, &packet, &bytes), &(0, 8, true), &4);
-    equal(&rt, &written(0x07, &packet, &bytes), &(0xE3, 9, false), &5);
-    equal(&rt, &written(0x58, &PACKET, &bytes), &(0xE4, 9, false), &6);
-    equal(&rt, &read_write(0x59, &bytes).0, &0x31, &7);
-    equal(&rt, &read_write(0x58, &bytes[..7]).0, &0x32, &8);
-    equal(&rt, &read_request(0x58, &bytes[..5]), &0x37, &9);
 }
 
 #[test]
