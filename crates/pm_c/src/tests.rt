@@ -76,6 +76,33 @@ fn an_end_has_its_number(rt: HostRuntime) {
     equal(&rt, &order_micro(&mut image, 0, 0x21, 3_300_000), &7, &15);
 }
 
+// What came back for a check of VOUT_COMMAND with one try, and the word of its end: which fault that had, and 0 where
+// nothing came.
+static FAULTS: [(&[u8], u16); 6] = [
+    (&[], 0),
+    (&[0xB3, 0x02, 0xCD, 0x34, 0xB9], 0x31),
+    (&[0xB1, 0x02, 0xCD, 0x34], 0x32),
+    (&[0xB1, 0x02, 0xCD, 0x34, 0xB9, 0x00], 0x33),
+    (&[0xB1, 0x01, 0xCD, 0x34, 0xB9], 0x34),
+    (&[0xB1, 0x02, 0xCD, 0x34, 0xB8], 0x35),
+];
+
+#[test]
+fn an_unknown_end_says_which_fault_the_answer_had(rt: HostRuntime) {
+    for &(bytes, word) in &FAULTS {
+        let mut image = host(1);
+        let _ = check(&mut image, 0, 0x21);
+        equal(&rt, &got(&mut image, bytes), &(3, word), &word);
+    }
+    let mut image = host(2);
+    let _ = check(&mut image, 0, 0x21);
+    equal(&rt, &got(&mut image, FAULTS[5].0), &(0, 0), &"goes on");
+    equal(&rt, &got(&mut image, &[]), &(3, 0), &"none came");
+    let _ = learn(&mut image, 0);
+    let vid = [0xB1, 0x01, 0x20, 0xC2];
+    equal(&rt, &got(&mut image, &vid), &(3, 0), &"no format");
+}
+
 #[test]
 fn a_restore_leaves_no_word_of_an_output_confirmed(rt: HostRuntime) {
     let mut image = host(2);

@@ -1,4 +1,4 @@
-use Rattle.std.proofs.Common.{◌≡◌, ◌≢◌, ℕ, ◌+◌, ◌<◌, Bool, true, false, None, List, drop, length, get_or, set, nat_eq, sym, ◌∙◌, subst, refl}
+use Rattle.std.proofs.Common.{◌≡◌, ◌≢◌, ℕ, ◌+◌, ◌<◌, Bool, true, false, None, List, length, get_or, set, nat_eq, sym, subst, refl}
 use Rattle.std.proofs.Common.{rules}
 use Rattle.std.proofs.lemmas.List.{drop-set-lt, get_or-set_same, get_or-set_other}
 use Rattle.pm_table.specs.declared.cell.Cell.{Cell}
@@ -34,6 +34,6 @@ loop-number-preserved c =
     record {
       known = further s c.loop-number.number c.loop-number.cells c.of_cell.result small is.known
           (subst (λ (cell : Cell). IsKnown s cell c.of_cell.result) c.cell_of_number.ensures.cell c.of_cell.ensures);
-      rest = drop-set-lt c.count c.loop-number.cells c.loop-number.number c.of_cell.result (search rules) ∙ is.rest;
+      rest = search (rules, drop-set-lt, is.rest);
       long = search rules;
     }

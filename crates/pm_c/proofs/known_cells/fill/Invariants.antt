@@ -7,6 +7,6 @@ use Rattle.pm_c.proofs.known_cells.fill.Given as goal
 abbrev pub invariant-loop-number : goal.invariant-loop-number
 invariant-loop-number l = record {
   known : AreKnown (held None l.state) l.number l.cells;
-  rest : drop l.count l.cells ≡ drop l.count l.fn.cells.now;
+  rest : drop l.count l.cells ≡ drop l.count l.fn.cells;
   long : length l.cells ≡ 49;
 }
