@@ -1,10 +1,11 @@
 -- What the calls of a host answer and do, by the host's own model. Memory that holds no host, a code
 -- that is no cell's and a frame of the other kind are refused first; then the host decides.
-use Rattle.std.specs.Prelude.{◌≡◌, ◌≢◌, ◌≤◌, ℕ, Bool, true, false, if◌then◌else◌, take, Option, Some, None, option_map, option_and_then, MatchOption}
+use Rattle.std.specs.Prelude.{◌≡◌, ◌≢◌, ◌≤◌, ℕ, Bool, true, false, if◌then◌else◌, ◌∷◌, take, Option, Some, None, option_map, option_and_then, MatchOption}
 use Rattle.std.specs.Option.{option_map_or}
 use Rattle.pm_table.specs.declared.cell.Cell.{Cell}
 use Rattle.pm_frame.specs.declared.message.Message.{Message}
-use Rattle.pm_frame.specs.Fault.{whole_answer}
+use Rattle.pm_frame.specs.Fault.{answer_fault, whole_answer}
+use Rattle.pm_frame.specs.FaultWords.{frame_fault_number}
 use Rattle.pm_frame.specs.Layout.{is_read_message}
 use Rattle.pm_limits.specs.Guard.{Guarded, guard_fault}
 use Rattle.pm_c.specs.declared.guard_image.GuardImage.{GuardImage}
@@ -22,7 +23,7 @@ use Rattle.pm_host.specs.Messages.{IsFrameOf}
 use Rattle.pm_host.specs.Jobs.{accepted_job}
 use Rattle.pm_host.specs.Refusals.{is_within, setup_fault, may_come}
 use Rattle.pm_host.specs.Summary.{Summary, next, step_of, sending_in, possible_at, standing_at}
-use Rattle.pm_host.specs.Transcript.{Entry, Accepted}
+use Rattle.pm_host.specs.Transcript.{Entry, Accepted, Got}
 use Rattle.pm_c.specs.declared.host_step.HostStep.{HostStep}
 use Rattle.pm_c.specs.declared.sending_image.SendingImage.{SendingImage}
 use Rattle.pm_c.specs.Numbers.{accepted, no_host, no_cell, other_frame, no_address, outcome, limit_outcome}
@@ -88,12 +89,24 @@ step_kind (Ended (Differs word)) = 2
 step_kind (Ended Unknown) = 3
 step_kind (Ended Learned) = 4
 
-abbrev pub step_word : Step → ℕ
-step_word (Ended (Differs word)) = word
-step_word _ = 0
+-- with Differs the word that was read, with Unknown which fault the last answer had
+abbrev pub step_word : ℕ → Step → ℕ
+step_word fault (Ended (Differs word)) = word
+step_word fault (Ended Unknown) = fault
+step_word fault _ = 0
 
-abbrev pub host_step : Step → HostStep
-host_step step = record { kind = step_kind step; word = step_word step }
+abbrev pub host_step : ℕ → Step → HostStep
+host_step fault step = record { kind = step_kind step; word = step_word fault step }
+
+-- which fault the answer to a message had, by its number: 0 where nothing came, where what came is good, and where
+-- the message is no request
+abbrev pub told_fault : ℕ → Message → Entry → ℕ
+told_fault addr message (Got (byte ∷ bytes)) =
+    option_map_or frame_fault_number (answer_fault addr message (byte ∷ bytes)) 0
+told_fault addr message entry = 0
+
+abbrev pub fault_in : Summary → Entry → ℕ
+fault_in s entry = option_map_or (λ message. told_fault s.setup.addr message entry) (sending_in s) 0
 
 abbrev pub refused_step : ℕ → HostStep
 refused_step number = record { kind = number; word = 0 }
@@ -105,7 +118,7 @@ is_told host entry = option_map_or (λ s. may_come s entry) host false
 abbrev pub told_answer : Option Summary → Entry → HostStep
 told_answer None entry = refused_step no_host
 told_answer (Some s) entry =
-    if may_come s entry then host_step (step_of s entry) else refused_step other_frame
+    if may_come s entry then host_step (fault_in s entry) (step_of s entry) else refused_step other_frame
 
 abbrev pub after : Option Summary → Entry → Option Summary
 after host entry = option_map (λ s. next s entry) host

@@ -1,6 +1,6 @@
 //! What a host knows of every cell, in one answer.
 
-ghost use Rattle.std.specs.Prelude.{◌≡◌, ◌≢◌, ◌<◌, ◌≤◌, IsSomeAnd, None};
+ghost use Rattle.std.specs.Prelude.{◌≡◌, ◌≢◌, ◌<◌, ◌≤◌, drop, IsSomeAnd, None};
 ghost use Rattle.pm_table.specs.Cell.{nth_cell, IsCell};
 ghost use Rattle.pm_host.specs.Image.{held, host_of};
 ghost use Rattle.pm_c.specs.Host.{memory_number};
@@ -42,6 +42,7 @@ pub struct KnownCells {
 pub extern "C" fn pm_host_known(host: &GuardImage, known: &mut KnownCells) -> u8
     ensures number { result ≡ memory_number (host_of host.now.host) }
     ensures said { result ≡ 0 → IsSomeAnd (host_of host.now.host) (λ s. IsKnownOf s known.new) }
+    ensures rest { drop known.new.count known.new.cells ≡ drop known.new.count known.old.cells }
     ensures refused { result ≢ 0 → known.new ≡ known.old }
 {
     if host.open_stage().is_err() {
@@ -56,6 +57,7 @@ fn fill(state: &State, cells: &mut [KnownCell; Cell::PLACES]) -> u16
     requires { state.now.outputs ≤ 8 }
     ensures count { result ≡ cell_count state.now.outputs }
     ensures cells { AreKnown (held None state.now) result cells.new }
+    ensures rest { drop result cells.new ≡ drop result cells.old }
 {
     let count = usize::from(state.outputs) * Reg::COUNT + 1;
     for number in 0..count {

@@ -1,16 +1,16 @@
 mod calls;
 mod checks;
 mod limits;
+mod packets;
 
 use self::calls::{
-    PACKET, band, check, clear, finished, format, got, host, learn, limits, microvolts, narrow,
-    nearest, new, order, order_micro, possible, read_request, read_write, restart, restart_seen,
-    restore, sending, shown, standing, store, within, written,
+    band, check, clear, finished, format, got, host, learn, limits, microvolts, narrow, nearest,
+    new, order, order_micro, possible, restart, restart_seen, restore, shown, standing, store,
+    within,
 };
 use self::checks::{equal, is_true};
 use crate::guard_image::GuardImage;
 use crate::host::{pm_host_size, pm_host_version, pm_version};
-use crate::packet::pm_pec;
 use pm_host::{FormatImage, WordsImage};
 
 #[test]
@@ -74,6 +74,33 @@ fn an_end_has_its_number(rt: HostRuntime) {
     equal(&rt, &restart(&mut image), &0, &13);
     equal(&rt, &shown(&image, &[]), &(0, 0, 0, true), &14);
     equal(&rt, &order_micro(&mut image, 0, 0x21, 3_300_000), &7, &15);
+}
+
+// What came back for a check of VOUT_COMMAND with one try, and the word of its end: which fault that had, and 0 where
+// nothing came.
+static FAULTS: [(&[u8], u16); 6] = [
+    (&[], 0),
+    (&[0xB3, 0x02, 0xCD, 0x34, 0xB9], 0x31),
+    (&[0xB1, 0x02, 0xCD, 0x34], 0x32),
+    (&[0xB1, 0x02, 0xCD, 0x34, 0xB9, 0x00], 0x33),
+    (&[0xB1, 0x01, 0xCD, 0x34, 0xB9], 0x34),
+    (&[0xB1, 0x02, 0xCD, 0x34, 0xB8], 0x35),
+];
+
+#[test]
+fn an_unknown_end_says_which_fault_the_answer_had(rt: HostRuntime) {
+    for &(bytes, word) in &FAULTS {
+        let mut image = host(1);
+        let _ = check(&mut image, 0, 0x21);
+        equal(&rt, &got(&mut image, bytes), &(3, word), &word);
+    }
+    let mut image = host(2);
+    let _ = check(&mut image, 0, 0x21);
+    equal(&rt, &got(&mut image, FAULTS[5].0), &(0, 0), &"goes on");
+    equal(&rt, &got(&mut image, &[]), &(3, 0), &"none came");
+    let _ = learn(&mut image, 0);
+    let vid = [0xB1, 0x01, 0x20, 0xC2];
+    equal(&rt, &got(&mut image, &vid), &(3, 0), &"no format");
 }
 
 #[test]
@@ -210,26 +237,6 @@ fn damaged_memory_says_what_can_be_read(rt: HostRuntime) {
     equal(&rt, &possible(&image, 1, 0x21), &(0, 0, 0), &1);
     equal(&rt, &standing(&image, 1, 0x21), &(0, 0, 0), &2);
     equal(&rt, &format(&image, 1), &(0, 0, 0), &3);
-}
-
-#[test]
-fn packets_stand_alone(rt: HostRuntime) {
-    let bytes = [0xB0, 0x05, 0x04, 0x00, 0x21, 0xCD, 0x34, 0x5A];
-    equal(&rt, &pm_pec(&bytes[..7]), &0x5A, &1);
-    let (number, packet) = read_write(0x58, &bytes);
-    equal(
-        &rt,
-        &(number, packet.kind, packet.page, packet.code),
-        &(0, 4, 0, 0x21),
-        &2,
-    );
-    equal(&rt, &(packet.count, packet.word), &(2, 0x34CD), &3);
-    equal(&rt, &written(0x58, &packet, &bytes), &(0, 8, true), &4);
-    equal(&rt, &written(0x07, &packet, &bytes), &(0xE3, 9, false), &5);
-    equal(&rt, &written(0x58, &PACKET, &bytes), &(0xE4, 9, false), &6);
-    equal(&rt, &read_write(0x59, &bytes).0, &0x31, &7);
-    equal(&rt, &read_write(0x58, &bytes[..7]).0, &0x32, &8);
-    equal(&rt, &read_request(0x58, &bytes[..5]), &0x37, &9);
 }
 
 #[test]

@@ -38,8 +38,9 @@ fn tell(host: &mut GuardImage, told: Told<'_>) -> HostStep
     match stage {
         Some(stage) if stage.awaits(&told) => {
             let progress = host.host.state.told(stage, told);
+            let address = host.host.state.address;
             host.host.write_stage(progress.stage());
-            step_after(progress.step())
+            step_after(progress.step(), address, stage, told)
         }
         _ => no_step(OTHER_FRAME),
     }

@@ -58,6 +58,8 @@ fn a_request_is_answered(rt: HostRuntime) {
         &3,
     );
     equal(&rt, &hear(&mut part, &[0xB2, 0x03], 0).0, &0x81, &4);
+    equal(&rt, &hear(&mut part, REQUEST, 2).0, &0x83, &5);
+    equal(&rt, &hear(&mut part, REQUEST, 0).0, &0x41, &6);
 }
 
 #[test]

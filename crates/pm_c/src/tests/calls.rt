@@ -146,9 +146,10 @@ pub(super) fn read_write(address: u8, bytes: &[u8]) -> (u8, Packet) {
     (number, packet)
 }
 
-pub(super) fn read_request(address: u8, bytes: &[u8]) -> u8 {
+pub(super) fn read_request(address: u8, bytes: &[u8]) -> (u8, Packet) {
     let mut packet = PACKET;
-    pm_packet_read_request(address, bytes, &mut packet)
+    let number = pm_packet_read_request(address, bytes, &mut packet);
+    (number, packet)
 }
 
 pub(super) fn written(address: u8, packet: &Packet, bytes: &[u8]) -> (u8, u8, bool) {
@@ -203,12 +204,13 @@ pub(super) fn end_name(kind: u16, text: &[u8]) -> bool {
     pm_end_name(kind, &mut name) == 0 && name.text.starts_with(text)
 }
 
-// What came back for a packet of this kind and VOUT_COMMAND.
-pub(super) fn answer(address: u8, kind: u8, bytes: &[u8]) -> (u8, u8, u16) {
+// What came back for a request of this kind, page or side, and code.
+pub(super) fn answer(address: u8, request: (u8, u8, u8), bytes: &[u8]) -> (u8, u8, u16, [u8; 5]) {
+    let (kind, page, code) = request;
     let request = Packet {
         kind,
-        page: 0,
-        code: 0x21,
+        page,
+        code,
         count: 2,
         word: 0,
     };
@@ -218,7 +220,7 @@ pub(super) fn answer(address: u8, kind: u8, bytes: &[u8]) -> (u8, u8, u16) {
         word: 7,
     };
     let number = pm_packet_read_answer(address, &request, bytes, &mut payload);
-    (number, payload.length, payload.word)
+    (number, payload.length, payload.word, payload.bytes)
 }
 
 pub(super) fn known(image: &GuardImage) -> (u8, KnownCells) {

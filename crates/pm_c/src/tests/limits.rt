@@ -1,7 +1,7 @@
-//! Limits, the band, names, answers, and what is known of every cell.
+//! Limits, the band, names, and what is known of every cell.
 
 use super::calls::{
-    answer, band, check, end_name, got, host, known, learn, limits, narrow, order, order_micro,
+    band, check, end_name, got, host, known, learn, limits, narrow, order, order_micro,
     refusal_name, within,
 };
 use super::checks::{equal, is_true};
@@ -96,48 +96,78 @@ fn the_band_is_rounded_outward(rt: HostRuntime) {
     equal(&rt, &within(&image, 0), &0x91, &5);
 }
 
+// What came for a read of VOUT_MIN and of VOUT_MAX, the limits that the output then has, and whether its voltage lies
+// within them: its whole band a microvolt below them and above them, and touching them.
+static BEYOND: [([u8; 5], [u8; 5], i64, i64, u8); 4] = [
+    (LEAST, LOWERED, 3_300_049, 3_465_000, 0x92),
+    (LEAST, LOWERED, 3_300_048, 3_465_000, 0x93),
+    (RAISED, GREATEST, 3_135_000, 3_300_048, 0x92),
+    (RAISED, GREATEST, 3_135_000, 3_300_049, 0x93),
+];
+
+// VOUT_MIN of 0000h and 34CDh, VOUT_MAX of 34CDh and FFFFh.
+const LEAST: [u8; 5] = [0xB1, 0x02, 0x00, 0x00, 0xEC];
+
+const RAISED: [u8; 5] = [0xB1, 0x02, 0xCD, 0x34, 0x64];
+
+const LOWERED: [u8; 5] = [0xB1, 0x02, 0xCD, 0x34, 0x54];
+
+const GREATEST: [u8; 5] = [0xB1, 0x02, 0xFF, 0xFF, 0xF8];
+
 #[test]
-fn each_number_has_its_name(rt: HostRuntime) {
-    is_true(&rt, refusal_name(0x06, b"H6 TooUncertain\0\0"), &1);
-    is_true(&rt, refusal_name(0x15, b"N5 TooLarge\0"), &2);
-    is_true(&rt, refusal_name(0x25, b"L5 NotKnownWithin\0"), &3);
-    is_true(&rt, refusal_name(0x35, b"F5 WrongPec\0"), &4);
-    is_true(&rt, refusal_name(0x47, b"K7 ReadOnly\0"), &5);
-    is_true(&rt, refusal_name(0xE6, b"NoLimits\0"), &6);
-    is_true(&rt, !refusal_name(0x00, b""), &7);
-    is_true(&rt, !refusal_name(0x27, b""), &8);
-    is_true(&rt, !refusal_name(0x50, b""), &9);
-    is_true(&rt, refusal_name(0x55, b"V5 BadCoefficients\0"), &12);
-    is_true(&rt, end_name(2, b"differs\0"), &10);
-    is_true(&rt, !end_name(5, b""), &11);
+fn a_band_beyond_its_limits_is_outside(rt: HostRuntime) {
+    for (min, max, least, most, wanted) in &BEYOND {
+        let mut image = learned();
+        let _ = check(&mut image, 0, 0x2B);
+        let _ = got(&mut image, min);
+        let _ = check(&mut image, 0, 0x24);
+        let _ = got(&mut image, max);
+        let _ = narrow(&mut image, 0, *least, *most);
+        equal(&rt, &within(&image, 0), wanted, &(least, most));
+    }
 }
 
-// An address, the bytes that came for a read of VOUT_COMMAND, the number, and the length and the word of the payload.
-static ANSWERS: [(u8, &[u8], u8, u8, u16); 6] = [
-    (0x58, &[0xB1, 0x02, 0xCD, 0x34, 0xB9], 0, 2, 0x34CD),
-    (0x58, &[0xB1, 0x02, 0xCD, 0x34, 0xB8], 0x35, 7, 7),
-    (0x58, &[0xB1, 0x01, 0xCD, 0x34, 0xB9], 0x34, 7, 7),
-    (0x58, &[0xB1, 0x02, 0xCD], 0x32, 7, 7),
-    (0x58, &[], 0x31, 7, 7),
-    (0x78, &[0xB1, 0x02, 0xCD, 0x34, 0xB9], 0xE3, 7, 7),
+// Each refusal that a caller in C alone gets and one of each other kind, with its name; an empty name for a number
+// that has none.
+static REFUSALS: [(u8, &[u8]); 18] = [
+    (0x00, b""),
+    (0x06, b"H6 TooUncertain\0\0"),
+    (0x15, b"N5 TooLarge\0"),
+    (0x25, b"L5 NotKnownWithin\0"),
+    (0x27, b""),
+    (0x35, b"F5 WrongPec\0"),
+    (0x47, b"K7 ReadOnly\0"),
+    (0x50, b""),
+    (0x55, b"V5 BadCoefficients\0"),
+    (0xE0, b"NoHost\0"),
+    (0xE1, b"NoCell\0"),
+    (0xE2, b"OtherFrame\0"),
+    (0xE3, b"NoAddress\0"),
+    (0xE4, b"NoPacket\0"),
+    (0xE5, b"NoPart\0"),
+    (0xE6, b"NoLimits\0"),
+    (0xE7, b"NoName\0"),
+    (0xE8, b"NoReading\0"),
+];
+
+// The kind of a step, and its name.
+static ENDS: [(u16, &[u8]); 6] = [
+    (0, b"next\0"),
+    (1, b"done\0"),
+    (2, b"differs\0"),
+    (3, b"unknown\0"),
+    (4, b"learned\0"),
+    (5, b""),
 ];
 
 #[test]
-fn an_answer_is_read(rt: HostRuntime) {
-    for &(address, bytes, number, length, word) in &ANSWERS {
-        equal(
-            &rt,
-            &answer(address, 6, bytes),
-            &(number, length, word),
-            &number,
-        );
+fn each_number_has_its_name(rt: HostRuntime) {
+    for &(number, name) in &REFUSALS {
+        is_true(&rt, refusal_name(number, name) != name.is_empty(), &number);
     }
-    equal(
-        &rt,
-        &answer(0x58, 4, ANSWERS[0].1),
-        &(0xE4, 7, 7),
-        &"a write",
-    );
+    for &(kind, name) in &ENDS {
+        is_true(&rt, end_name(kind, name) != name.is_empty(), &kind);
+    }
 }
 
 #[test]
@@ -147,6 +177,12 @@ fn every_cell_is_known(rt: HostRuntime) {
     let (number, known) = known(&image);
     equal(&rt, &(number, known.count), &(0, 13), &1);
     let (first, ordered, last) = (known.cells[0], known.cells[11], known.cells[12]);
+    equal(
+        &rt,
+        &(known.cells[13].code, known.cells[48].output),
+        &(7, 7),
+        &6,
+    );
     equal(
         &rt,
         &(first.output, first.code, first.words.count),

@@ -1,6 +1,6 @@
 use Rattle.std.proofs.Common.{◌≡◌, ◌≢◌, ℕ, ◌+◌, ◌<◌, Bool, true, false, None, List, length, get_or, set, nat_eq, sym, subst, refl}
 use Rattle.std.proofs.Common.{rules}
-use Rattle.std.proofs.lemmas.List.{get_or-set_same, get_or-set_other}
+use Rattle.std.proofs.lemmas.List.{drop-set-lt, get_or-set_same, get_or-set_other}
 use Rattle.pm_table.specs.declared.cell.Cell.{Cell}
 use Rattle.pm_table.specs.Cell.{nth_cell}
 use Rattle.pm_host.specs.Image.{held}
@@ -34,5 +34,6 @@ loop-number-preserved c =
     record {
       known = further s c.loop-number.number c.loop-number.cells c.of_cell.result small is.known
           (subst (λ (cell : Cell). IsKnown s cell c.of_cell.result) c.cell_of_number.ensures.cell c.of_cell.ensures);
+      rest = search (rules, drop-set-lt, is.rest);
       long = search rules;
     }
