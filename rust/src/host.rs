@@ -3,9 +3,10 @@
 use core::fmt;
 
 use crate::bus::{Bus, Operation};
+use crate::done::{Done, NotDone};
 use crate::ffi;
 use crate::number::Format;
-use crate::packet::Bytes;
+use crate::packet::{Bytes, Packet};
 use crate::refusal::{accepted, Refusal};
 
 /// A register of an output.
@@ -76,7 +77,30 @@ impl Register {
 }
 
 /// How a job stands.
+///
+/// ```
+/// # #![deny(unused_must_use)]
+/// # fn main() -> Result<(), pm_host::Refusal> {
+/// # let mut host = pm_host::Host::new(0x58, 1, 1)?;
+/// # host.store()?;
+/// assert_eq!(host.finished(false)?, pm_host::Step::Unknown);
+/// # Ok(())
+/// # }
+/// ```
+///
+/// The compiler warns where it is dropped:
+///
+/// ```compile_fail
+/// # #![deny(unused_must_use)]
+/// # fn main() -> Result<(), pm_host::Refusal> {
+/// # let mut host = pm_host::Host::new(0x58, 1, 1)?;
+/// # host.store()?;
+/// host.finished(false)?;
+/// # Ok(())
+/// # }
+/// ```
 #[derive(Clone, Copy, Debug, PartialEq, Eq)]
+#[must_use = "a job may have ended in another way than `Done`"]
 pub enum Step {
     /// It goes on: send what is to be sent now.
     Next,
@@ -176,6 +200,7 @@ pub struct Band {
 
 /// Whether an output's voltage lies within its limits, by what is known.
 #[derive(Clone, Copy, Debug, PartialEq, Eq)]
+#[must_use = "the output may be outside its limits"]
 pub enum Within {
     /// Its whole band does, or it has no limits.
     Yes,
@@ -352,41 +377,57 @@ impl Host {
         step_of(unsafe { ffi::pm_host_got(&mut self.image, bytes.as_ptr(), bytes.len() as u64) })
     }
 
-    /// Carries the open job out over a bus, and says how it ended: `Unknown` where none was open. What the bus says of a
-    /// transaction that failed is let go: the host tries again by itself.
-    pub fn run<B: Bus>(&mut self, bus: &mut B) -> Result<Step, Refusal> {
-        let mut step = Step::Unknown;
+    /// Carries the open job out over a bus. `Refused(OtherFrame)` where none is open. A transaction that failed is tried
+    /// again by the host itself, and the last one's error is that of `Unknown`.
+    pub fn run<B: Bus>(&mut self, bus: &mut B) -> Result<(), NotDone<B::Error>> {
+        let mut last = Last { error: None, fault: None };
         loop {
-            step = match self.sending() {
-                Sending::Nothing => return Ok(step),
-                Sending::Write(frame) => self.written(bus, &frame)?,
-                Sending::Request { frame, answer } => self.asked(bus, &frame, answer)?,
+            let step = match self.sending() {
+                Sending::Nothing => return Err(NotDone::Refused(Refusal::OtherFrame)),
+                Sending::Write(frame) => self.written(bus, &frame, &mut last)?,
+                Sending::Request { frame, answer } => self.asked(bus, &frame, answer, &mut last)?,
             };
+            match step {
+                Step::Next => {}
+                Step::Done | Step::Learned => return Ok(()),
+                Step::Differs(word) => return Err(NotDone::Differs { word }),
+                Step::Unknown => return Err(NotDone::Unknown { error: last.error, fault: last.fault }),
+            }
         }
     }
 
-    fn written<B: Bus>(&mut self, bus: &mut B, frame: &[u8]) -> Result<Step, Refusal> {
-        let acked = bus.transaction(frame[0] >> 1, &mut [Operation::Write(&frame[1..])]).is_ok();
+    fn written<B: Bus>(&mut self, bus: &mut B, frame: &[u8], last: &mut Last<B::Error>) -> Result<Step, Refusal> {
+        let went = bus.transaction(frame[0] >> 1, &mut [Operation::Write(&frame[1..])]);
+        let acked = went.is_ok();
+        last.error = went.err().or(last.error.take());
         self.finished(acked)
     }
 
-    fn asked<B: Bus>(&mut self, bus: &mut B, frame: &[u8], answer: usize) -> Result<Step, Refusal> {
+    fn asked<B: Bus>(&mut self, bus: &mut B, frame: &[u8], answer: usize, last: &mut Last<B::Error>) -> Result<Step, Refusal> {
         let mut bytes = [0; 8];
         let came = &mut bytes[..answer.min(8)];
         let mut operations = [Operation::Write(&frame[1..]), Operation::Read(&mut came[1..])];
-        let is_good = bus.transaction(frame[0] >> 1, &mut operations).is_ok();
-        came[0] = frame[0] | 1;
-        if is_good {
-            self.got(came)
-        } else {
-            self.got(&[])
+        let went = bus.transaction(frame[0] >> 1, &mut operations);
+        if let Err(error) = went {
+            *last = Last { error: Some(error), fault: None };
+            return self.got(&[]);
         }
+        came[0] = frame[0] | 1;
+        last.fault = fault_of(frame, came);
+        self.got(came)
     }
 
-    /// Begins a job and carries it out over a bus.
-    pub fn carry_out<B: Bus>(&mut self, job: Job, bus: &mut B) -> Result<Step, Refusal> {
+    /// Begins a job and carries it out over a bus: what it is worth where it was done, and why where it wasn't.
+    pub fn carry_out<B: Bus>(&mut self, job: Job, bus: &mut B) -> Result<Done, NotDone<B::Error>> {
         self.begin(job)?;
-        self.run(bus)
+        self.run(bus)?;
+        let found = match job {
+            Job::Order(cell, _) | Job::OrderMicro(cell, _) | Job::Check(cell) => self.standing(cell)?.map(Done::Word),
+            Job::Learn(output) => self.format(output)?.map(Done::Learned),
+            Job::Clear(_) | Job::Store | Job::Restore => Some(Done::Acknowledged),
+        };
+        // A word that was read is confirmed, and a format that was learned is known.
+        found.ok_or(NotDone::Unknown { error: None, fault: None })
     }
 
     /// Drops the open job and all that is known; the limits stay.
@@ -427,9 +468,22 @@ impl Host {
     }
 
     /// Whether a restart of the device was seen since the host started.
+    #[must_use]
     pub fn restart_seen(&self) -> bool {
         unsafe { ffi::pm_host_restart_seen(&self.image) == 1 }
     }
+}
+
+/// What went wrong last while a job was carried out: what the bus said of a transaction, and what an answer had.
+struct Last<E> {
+    error: Option<E>,
+    fault: Option<Refusal>,
+}
+
+/// What is wrong with an answer to this request, the read address first.
+fn fault_of(request: &[u8], answer: &[u8]) -> Option<Refusal> {
+    let address = request[0] >> 1;
+    Packet::read_request(address, request).and_then(|it| it.read_answer(address, answer)).err()
 }
 
 fn confirmed(standing: ffi::StandingImage) -> Option<u16> {
