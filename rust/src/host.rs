@@ -6,7 +6,7 @@ use crate::bus::{Bus, Operation};
 use crate::done::{Done, NotDone};
 use crate::ffi;
 use crate::number::Format;
-use crate::packet::{Bytes, Packet};
+use crate::packet::Bytes;
 use crate::refusal::{accepted, Refusal};
 
 /// A register of an output.
@@ -83,7 +83,7 @@ impl Register {
 /// # fn main() -> Result<(), pm_host::Refusal> {
 /// # let mut host = pm_host::Host::new(0x58, 1, 1)?;
 /// # host.store()?;
-/// assert_eq!(host.finished(false)?, pm_host::Step::Unknown);
+/// assert_eq!(host.finished(false)?, pm_host::Step::Unknown { fault: None });
 /// # Ok(())
 /// # }
 /// ```
@@ -108,8 +108,12 @@ pub enum Step {
     Done,
     /// The last pass of an order read this other word.
     Differs(u16),
-    /// No good answer came in the last pass.
-    Unknown,
+    /// No good answer came in the last pass, or no pass was acknowledged.
+    Unknown {
+        /// What was wrong with the last answer, F1 to F5; `None` where no byte came, where the job sent a command, or where
+        /// the answer was good and names no format.
+        fault: Option<Refusal>,
+    },
     /// A learn found the format.
     Learned,
 }
@@ -120,7 +124,8 @@ impl fmt::Display for Step {
             Step::Next => to.write_str("next"),
             Step::Done => to.write_str("done"),
             Step::Differs(word) => write!(to, "differs {word:04X}"),
-            Step::Unknown => to.write_str("unknown"),
+            Step::Unknown { fault: None } => to.write_str("unknown"),
+            Step::Unknown { fault: Some(fault) } => write!(to, "unknown, the last answer: {fault}"),
             Step::Learned => to.write_str("learned"),
         }
     }
@@ -380,41 +385,46 @@ impl Host {
     /// Carries the open job out over a bus. `Refused(OtherFrame)` where none is open. A transaction that failed is tried
     /// again by the host itself, and the last one's error is that of `Unknown`.
     pub fn run<B: Bus>(&mut self, bus: &mut B) -> Result<(), NotDone<B::Error>> {
-        let mut last = Last { error: None, fault: None };
+        let mut error = None;
         loop {
             let step = match self.sending() {
                 Sending::Nothing => return Err(NotDone::Refused(Refusal::OtherFrame)),
-                Sending::Write(frame) => self.written(bus, &frame, &mut last)?,
-                Sending::Request { frame, answer } => self.asked(bus, &frame, answer, &mut last)?,
+                Sending::Write(frame) => self.written(bus, &frame, &mut error)?,
+                Sending::Request { frame, answer } => self.asked(bus, &frame, answer, &mut error)?,
             };
             match step {
                 Step::Next => {}
                 Step::Done | Step::Learned => return Ok(()),
                 Step::Differs(word) => return Err(NotDone::Differs { word }),
-                Step::Unknown => return Err(NotDone::Unknown { error: last.error, fault: last.fault }),
+                Step::Unknown { fault } => return Err(NotDone::Unknown { error, fault }),
             }
         }
     }
 
-    fn written<B: Bus>(&mut self, bus: &mut B, frame: &[u8], last: &mut Last<B::Error>) -> Result<Step, Refusal> {
-        let went = bus.transaction(frame[0] >> 1, &mut [Operation::Write(&frame[1..])]);
-        let acked = went.is_ok();
-        last.error = went.err().or(last.error.take());
-        self.finished(acked)
+    fn written<B: Bus>(&mut self, bus: &mut B, frame: &[u8], error: &mut Option<B::Error>) -> Result<Step, Refusal> {
+        match bus.transaction(frame[0] >> 1, &mut [Operation::Write(&frame[1..])]) {
+            Ok(()) => self.finished(true),
+            Err(why) => {
+                *error = Some(why);
+                self.finished(false)
+            }
+        }
     }
 
-    fn asked<B: Bus>(&mut self, bus: &mut B, frame: &[u8], answer: usize, last: &mut Last<B::Error>) -> Result<Step, Refusal> {
+    fn asked<B: Bus>(&mut self, bus: &mut B, frame: &[u8], answer: usize, error: &mut Option<B::Error>) -> Result<Step, Refusal> {
         let mut bytes = [0; 8];
         let came = &mut bytes[..answer.min(8)];
         let mut operations = [Operation::Write(&frame[1..]), Operation::Read(&mut came[1..])];
-        let went = bus.transaction(frame[0] >> 1, &mut operations);
-        if let Err(error) = went {
-            *last = Last { error: Some(error), fault: None };
-            return self.got(&[]);
+        match bus.transaction(frame[0] >> 1, &mut operations) {
+            Ok(()) => {
+                came[0] = frame[0] | 1;
+                self.got(came)
+            }
+            Err(why) => {
+                *error = Some(why);
+                self.got(&[])
+            }
         }
-        came[0] = frame[0] | 1;
-        last.fault = fault_of(frame, came);
-        self.got(came)
     }
 
     /// Begins a job and carries it out over a bus: what it is worth where it was done, and why where it wasn't.
@@ -474,18 +484,6 @@ impl Host {
     }
 }
 
-/// What went wrong last while a job was carried out: what the bus said of a transaction, and what an answer had.
-struct Last<E> {
-    error: Option<E>,
-    fault: Option<Refusal>,
-}
-
-/// What is wrong with an answer to this request, the read address first.
-fn fault_of(request: &[u8], answer: &[u8]) -> Option<Refusal> {
-    let address = request[0] >> 1;
-    Packet::read_request(address, request).and_then(|it| it.read_answer(address, answer)).err()
-}
-
 fn confirmed(standing: ffi::StandingImage) -> Option<u16> {
     (standing.is_confirmed == 1).then_some(standing.word)
 }
@@ -495,7 +493,7 @@ fn step_of(step: ffi::StepImage) -> Result<Step, Refusal> {
         0 => Ok(Step::Next),
         1 => Ok(Step::Done),
         2 => Ok(Step::Differs(step.word)),
-        3 => Ok(Step::Unknown),
+        3 => Ok(Step::Unknown { fault: accepted(step.word.to_le_bytes()[0]).err() }),
         4 => Ok(Step::Learned),
         number => Err(Refusal::of(number.to_le_bytes()[0])),
     }

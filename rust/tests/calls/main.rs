@@ -96,6 +96,8 @@ fn a_refusal_has_its_letter_and_its_name() {
     let names: Vec<String> = (0..6).filter_map(|kind| end_name(kind).map(|name| name.to_string())).collect();
     assert_eq!(names, ["next", "done", "differs", "unknown", "learned"]);
     assert_eq!(Step::Differs(0x34CD).to_string(), "differs 34CD");
+    assert_eq!(Step::Unknown { fault: None }.to_string(), "unknown");
+    assert_eq!(Step::Unknown { fault: Some(Refusal::F2Short) }.to_string(), "unknown, the last answer: F2 Short");
     for (number, made) in [(0, Host::new(0x58, 0, 1)), (1, Host::new(0x58, 1, 16)), (2, Host::new(0x78, 1, 1))] {
         let wanted = [Refusal::H1OutputCount, Refusal::H2Passes, Refusal::NoAddress][number];
         assert_eq!(made.err(), Some(wanted));
@@ -108,7 +110,8 @@ fn a_frame_of_the_other_kind_is_refused() {
     assert_eq!(host.finished(true), Err(Refusal::OtherFrame));
     host.check(COMMAND).unwrap();
     assert_eq!((host.finished(true), host.order(COMMAND, 1)), (Err(Refusal::OtherFrame), Err(Refusal::H3Busy)));
-    assert_eq!((host.got(&[]), host.got(&[0xB1; 300])), (Ok(Step::Next), Ok(Step::Unknown)));
+    let too_long = Step::Unknown { fault: Some(Refusal::F3Long) };
+    assert_eq!((host.got(&[]), host.got(&[0xB1; 300])), (Ok(Step::Next), Ok(too_long)));
 }
 
 #[test]
