@@ -142,8 +142,8 @@ rows() {
     while IFS='|' read -r mishaps arguments status out err; do
         row=$((row + 1))
         printf '%b' "${out:+$out\n}${err:+$2: $err\n}" > "$folder/wanted"
-        # (a shell of its own says that a program ended by a signal, and is not heard)
-        (eval "MISHAPS=\$mishaps timeout 60 $3 $arguments" > "$folder/out" 2> "$folder/log" < /dev/null) 2> /dev/null
+        # (what the shell itself says of a program that a signal ended is not heard)
+        { (eval "MISHAPS=\$mishaps exec timeout 60 $3 $arguments" > "$folder/out" 2> "$folder/log" < /dev/null); } 2> /dev/null
         ended=$?
         cat "$folder/log" >> "$folder/out"
         if [ "$ended" = "$status" ] && cmp -s "$folder/wanted" "$folder/out"; then
@@ -226,6 +226,23 @@ int main(void) {' row=0
     echo "$1, dropped answers: $row rows"
 }
 
+# snippets NAME COMPILER: the C of docs/firmware.md builds with no warning
+snippets() {
+    {
+        printf '#include "pm.h"\n#include <stddef.h>\nextern pm_host host;\nvoid log_line(const char *line);\n'
+        printf 'uint8_t write_to_bus(void *context, const uint8_t *bytes, uint64_t count);\n'
+        printf 'uint64_t read_from_bus(void *context, const uint8_t *request, uint64_t count, uint8_t *answer, uint64_t room);\n'
+        awk '/^```c$/ {print "int snippet_" ++count "(void);\nint snippet_" count "(void) {"; within = 1; next}
+            /^```$/ && within {print "return 1; }"; within = 0}
+            within {print}' docs/firmware.md
+    } > "$folder/snippets.c"
+    : > "$folder/wanted"; : > "$folder/out"
+    grep -q pm_host_run "$folder/snippets.c" &&
+        $2 $headers -Wall -Wextra -Wconversion -Wpedantic -Werror -Wno-unused-variable -c "$folder/snippets.c" \
+        -o "$folder/object" > "$folder/log" 2>&1
+    told "$1 docs/firmware.md" $?
+}
+
 mkdir "$folder/objects"
 for each in "${archives[@]}"; do
     size -t "$each" | awk -v name="$(basename "$each")" 'END {print name ": " $1 " bytes of text"}'
@@ -255,6 +272,7 @@ for each in $compilers; do
         fi ;;
     esac
     dropped $each "$each $flags"
+    snippets $each "$each $flags"
     for option in "${options[@]}"; do
         compiler="$each $option $flags"
         name=$each; case $option in *sanitize*) name="$each, sanitized" ;; esac
@@ -323,6 +341,12 @@ packaged() {
 if command -v cargo > /dev/null; then
     export PM_ARCHIVES=$built CARGO_TARGET_DIR=$folder/cargo
     packaged "Rust package" cargo test --offline --manifest-path rust/Cargo.toml
+    if cargo clippy --version > /dev/null 2>&1 && cargo fmt --version > /dev/null 2>&1; then
+        packaged "Rust lints" cargo clippy --offline --manifest-path rust/Cargo.toml --all-targets -- -D warnings
+        packaged "Rust layout" cargo fmt --manifest-path rust/Cargo.toml --check
+    else
+        echo "cargo clippy and cargo fmt: not on this machine"
+    fi
     cp examples/c/order.expected "$folder/wanted"
     cargo run -q --offline --manifest-path rust/Cargo.toml --example order > "$folder/out" 2> "$folder/log"
     told "Rust order" $?

@@ -329,7 +329,7 @@ uint8_t pm_packet_read_answer(uint8_t address, const pm_packet *request, const u
 enum {
     PM_ACKED = 0xA5,     /* every byte was acknowledged */
     PM_NOT_ACKED = 0x5A, /* some byte wasn't */
-    PM_UNHEARD = 0x3C    /* nobody acknowledged the address */
+    PM_UNHEARD = 0x3C    /* nobody acknowledged the address; it counts as not acknowledged */
 };
 
 /* A bus of yours. `write` puts a packet on it, the address byte first and the PEC last, and answers PM_ACKED, PM_NOT_ACKED
