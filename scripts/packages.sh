@@ -41,7 +41,8 @@ lacks() {
 }
 
 ended() {
-    times | awk -F'[ms ]' 'NR == 2 {printf "%.0f processor seconds\n", $1 * 60 + $2 + $4 * 60 + $5}'
+    times > "$folder/times" # (of this shell's own children: no pipe)
+    awk -F'[ms ]+' 'NR == 2 {printf "%.0f processor seconds\n", $1 * 60 + $2 + $3 * 60 + $4}' "$folder/times"
     echo "$passed passed, $failed failed"
     [ "$failed" = 0 ]; exit
 }
