@@ -238,7 +238,7 @@ snippets() {
     } > "$folder/snippets.c"
     : > "$folder/wanted"; : > "$folder/out"
     grep -q pm_host_run "$folder/snippets.c" &&
-        $2 $headers -Wall -Wextra -Wconversion -Wpedantic -Werror -Wno-unused-variable -c "$folder/snippets.c" \
+        $2 $headers -Wall -Wextra -Wconversion -Wpedantic -Werror -c "$folder/snippets.c" \
         -o "$folder/object" > "$folder/log" 2>&1
     told "$1 docs/firmware.md" $?
 }
