@@ -16,9 +16,8 @@ pub enum Done {
     Acknowledged,
 }
 
-/// Why a job wasn't done. `E` is the error of the bus.
-///
-/// Its source, where a transaction failed, is what the bus said of the last one that did.
+/// Why a job wasn't done. `E` is the error of the bus. Where that is an error of `core`, so is this, and its source is what
+/// the bus said of the last transaction that failed.
 #[derive(Clone, Copy, Debug, PartialEq, Eq)]
 pub enum NotDone<E> {
     /// The host refused it. Nothing was sent, and nothing changed.
