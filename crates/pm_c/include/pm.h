@@ -244,8 +244,8 @@ uint8_t pm_host_restore(pm_host *host);
  * pm_host_new, and where it is PM_NOTHING until a job begins. PM_NO_HOST, and then PM_NOTHING. */
 uint8_t pm_host_sending(const pm_host *host, pm_sending *sending);
 
-/* A write was sent; `acked` isn't 0 where every byte was acknowledged. PM_NO_HOST, PM_OTHER_FRAME where no
- * write is to be sent. */
+/* A write was sent; `acked` isn't 0 where every byte was acknowledged. The status of many HALs is 0 then: ask it, and don't
+ * hand it on. PM_NO_HOST, PM_OTHER_FRAME where no write is to be sent. */
 pm_step pm_host_finished(pm_host *host, uint8_t acked);
 
 /* A request was sent, and these bytes came back, the read address first; 0 bytes where none came.
