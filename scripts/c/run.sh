@@ -117,6 +117,7 @@ ok ok term|/dev/i2c-1 58 0 3300000|143|transfer 3 went on|
 quit|/dev/i2c-1 58 0 3300000|131|transfer 1 went on|
 ok short0 short1 short0 short0 short0 short1|/dev/i2c-1 58 0 3300000|1|ended unknown, the output may hold the old or the ordered word|order: 6 of 6 transfers failed, the last: 1 of 2 messages went
 ok false ok false ok false empty|/dev/i2c-1 58 0 3300000|1|ended unknown, the output may hold the old or the ordered word|order: the last answer: F4 WrongCount
+ok ok deaf ok damaged ok deaf|/dev/i2c-1 58 0 3300000|1|ended unknown, the output may hold the old or the ordered word|order: 2 of 6 transfers failed, the last: No such device or address; no answer was good
 ok ok empty ok empty ok damaged|/dev/i2c-1 58 0 3300000|1|ended unknown, the output may hold the old or the ordered word|order: the last answer: F4 WrongCount
 END
 }
