@@ -1,6 +1,6 @@
 //! Finds the archives libpm_c.a and libpm_part.a for the target that is built for: in the folder that
-//! PM_ARCHIVES_<target> names, with `_` for `-`, or PM_ARCHIVES; for x86-64 Linux else those that `rt lib` left in
-//! crates/pm_c/out and crates/pm_part/out.
+//! PM_ARCHIVES_<target> names, with `_` for `-`; for x86-64 Linux else in that of PM_ARCHIVES, or those that `rt lib`
+//! left in crates/pm_c/out and crates/pm_part/out.
 
 use std::path::{Path, PathBuf};
 use std::{env, fs, process};
@@ -18,10 +18,11 @@ fn named(name: &str) -> Option<PathBuf> {
 
 fn archive(target: &str, library: &str) -> PathBuf {
     let own = format!("PM_ARCHIVES_{}", target.replace('-', "_"));
-    if let Some(folder) = named(&own).or_else(|| named("PM_ARCHIVES")) {
+    let is_built_here = target.starts_with("x86_64") && target.contains("linux");
+    if let Some(folder) = named(&own).or_else(|| named("PM_ARCHIVES").filter(|_| is_built_here)) {
         return folder.join(format!("lib{library}.a"));
     }
-    if !(target.starts_with("x86_64") && target.contains("linux")) {
+    if !is_built_here {
         refuse(format!("no archives for {target}: build them by scripts/c/targets.sh --out FOLDER, and give {own}=FOLDER/NAME"));
     }
     let home = env::var_os("CARGO_MANIFEST_DIR").expect("cargo sets it");
@@ -32,6 +33,12 @@ fn main() {
     let target = env::var("TARGET").expect("cargo sets it");
     let folder = PathBuf::from(env::var_os("OUT_DIR").expect("cargo sets it"));
     println!("cargo:rustc-link-search=native={}", folder.display());
+    if target.contains("linux") {
+        // Tests only: tests/calls/other_library.rs answers these calls as another library's would.
+        println!(
+            "cargo:rustc-link-arg-tests=-Wl,--wrap=pm_version,--wrap=pm_host_version,--wrap=pm_host_size,--wrap=pm_part_size"
+        );
+    }
     for library in ["pm_c", "pm_part"] {
         let from = archive(&target, library);
         if !from.is_file() {

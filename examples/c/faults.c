@@ -58,7 +58,7 @@ static pm_step exchange(pm_host *host, pm_part *part) {
     int heard = fate != 1;
     if (frame.kind == PM_WRITE) {
         int taken = heard && pm_part_hear(part, frame.bytes, count, 0, &reply) == PM_HEARD_TAKEN;
-        return pm_host_finished(host, fate == 2 ? !taken : taken);
+        return pm_host_finished(host, (uint8_t)(fate == 2 ? !taken : taken));
     }
     if (heard)
         pm_part_hear(part, frame.bytes, count, 1, &reply);
@@ -77,7 +77,9 @@ static uint8_t put(void *part, const uint8_t *bytes, uint64_t count) {
     if (fate == 0)
         count = damage(sent, (size_t)count);
     int taken = fate != 1 && pm_part_hear((pm_part *)part, sent, count, 0, &reply) == PM_HEARD_TAKEN;
-    return (uint8_t)(fate == 2 ? !taken : taken);
+    if (fate == 2 ? !taken : taken)
+        return PM_ACKED;
+    return fate == 1 ? PM_UNHEARD : PM_NOT_ACKED;
 }
 
 static uint64_t ask(void *part, const uint8_t *request, uint64_t count, uint8_t *answer, uint64_t room) {
@@ -96,33 +98,35 @@ static uint64_t ask(void *part, const uint8_t *request, uint64_t count, uint8_t 
     return fate == 4 ? 0 : fate == 5 ? room + 1 : came;
 }
 
-static void begin(pm_host *host) {
+/* Begins a job: 0, or why it is refused. */
+static uint8_t begin(pm_host *host) {
     uint8_t output = (uint8_t)draw(OUTPUTS), code = codes[draw(CODES)];
     switch (draw(10)) {
-    case 0: pm_host_check(host, output, code); break;
-    case 1: pm_host_learn(host, output); break;
-    case 2: pm_host_clear(host, output); break;
-    case 3: pm_host_store(host); break;
-    case 4: pm_host_restore(host); break;
-    case 5: pm_host_order_micro(host, output, code, (int64_t)draw(4000000)); break;
-    default:
-        pm_host_order(host, output, code, code == PM_OPERATION ? 0x80 : (uint16_t)(0x1000 + draw(0x400)));
+    case 0: return pm_host_check(host, output, code);
+    case 1: return pm_host_learn(host, output);
+    case 2: return pm_host_clear(host, output);
+    case 3: return pm_host_store(host);
+    case 4: return pm_host_restore(host);
+    case 5: return pm_host_order_micro(host, output, code, (int64_t)draw(4000000));
+    default: return pm_host_order(host, output, code, code == PM_OPERATION ? 0x80 : (uint16_t)(0x1000 + draw(0x400)));
     }
 }
 
 int main(int count, char **words) {
     long jobs = count > 1 ? atol(words[1]) : 20000;
-    long confirmed = 0, wrong = 0, unlisted = 0, done = 0, ended = 0;
+    long confirmed = 0, wrong = 0, unlisted = 0, done = 0, ended = 0, refused = 0;
     pm_host host;
     pm_part part = new_part();
     int restarted = 0;
     if (pm_part_size() != sizeof part || pm_host_size() != sizeof host)
         return 1;
-    pm_host_new(&host, 0x58, OUTPUTS, 3);
+    if (pm_host_new(&host, 0x58, OUTPUTS, 3) != PM_OK)
+        return 1;
     for (long job = 0; job < jobs; job++) {
         pm_sending frame;
-        begin(&host);
-        if (draw(2)) {
+        if (begin(&host) != PM_OK) {
+            refused++;
+        } else if (draw(2)) {
             pm_step step = pm_host_run(&host, put, ask, &part);
             done += step.kind == PM_DONE;
             ended++;
@@ -156,7 +160,7 @@ int main(int count, char **words) {
             restarted = 0;
         }
     }
-    printf("%ld jobs, %ld ended, %ld done; %ld confirmed, %ld wrong, %ld not listed\n", jobs, ended, done, confirmed,
-           wrong, unlisted);
-    return wrong || unlisted || !done;
+    printf("%ld jobs, %ld refused, %ld ended, %ld done; %ld confirmed, %ld wrong, %ld not listed\n", jobs, refused, ended,
+           done, confirmed, wrong, unlisted);
+    return wrong || unlisted || !done || refused + ended != jobs;
 }

@@ -10,6 +10,7 @@
  *     false     a write isn't heard, and succeeds
  *     damaged   a bit of the answer is changed
  *     empty     a read succeeds, and nothing was written into its buffer
+ *     int       SIGINT comes in the midst of it, and it goes on; so with term and quit
  *
  * /dev/i2c-2 is held by a driver of the kernel, /dev/i2c-3 may not be opened, /dev/i2c-4 is no bus, and there
  * are no others. Of a transfer that went well it answers the number of messages, as a kernel does. */
@@ -18,6 +19,7 @@
 #include <fcntl.h>
 #include <linux/i2c-dev.h>
 #include <linux/i2c.h>
+#include <signal.h>
 #include <stdarg.h>
 #include <stdio.h>
 #include <stdlib.h>
@@ -65,9 +67,19 @@ static int heard(const struct i2c_msg *messages, int reads, pm_part_reply *reply
     return reads ? answer == PM_HEARD_ANSWERED && reply->length == messages[1].len + 1 : answer == PM_HEARD_TAKEN;
 }
 
+/* The signal of this transfer's mishap, as a keyboard or a shell sends it, or 0. */
+static int signalled(int place) {
+    int number = is_mishap(place, "int") ? SIGINT : is_mishap(place, "term") ? SIGTERM : is_mishap(place, "quit") ? SIGQUIT : 0;
+    if (number) {
+        signal(number, SIG_DFL);
+        raise(number);
+    }
+    return number;
+}
+
 static int transfer(const struct i2c_rdwr_ioctl_data *whole) {
     static int place;
-    int at = place++, reads = whole->nmsgs == 2;
+    int at = place++, reads = whole->nmsgs == 2, number = signalled(at);
     pm_part_reply reply = {0, 0, {0}};
     if (is_mishap(at, "deaf"))
         return fails(ENXIO);
@@ -81,6 +93,10 @@ static int transfer(const struct i2c_rdwr_ioctl_data *whole) {
         memcpy(whole->msgs[1].buf, reply.bytes + 1, reply.length - 1u);
     if (reads && is_mishap(at, "damaged"))
         whole->msgs[1].buf[0] ^= 4;
+    if (number) {
+        printf("transfer %d went on\n", at + 1);
+        fflush(stdout);
+    }
     return (int)whole->nmsgs;
 }
 

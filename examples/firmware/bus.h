@@ -3,9 +3,11 @@
 #ifndef BUS_H
 #define BUS_H
 
+#include "pm.h"
 #include <stdint.h>
 
-/* Writes a frame of `count` bytes, which a stop ends: 1 where every byte was acknowledged, otherwise 0. */
+/* Writes a frame of `count` bytes, which a stop ends: PM_ACKED where every byte was acknowledged, PM_UNHEARD where nobody
+ * acknowledged the address, otherwise PM_NOT_ACKED. */
 uint8_t bus_write(const uint8_t *frame, unsigned count);
 
 /* Writes a request of `count` bytes, then after a repeated start and the read address reads what the part sends,

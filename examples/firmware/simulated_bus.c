@@ -67,9 +67,11 @@ uint8_t bus_write(const uint8_t *frame, unsigned count) {
     fault wrong = next_fault();
     pm_part_reply reply;
     if (wrong == FALSE_ACKNOWLEDGEMENT)
-        return 1;
-    uint8_t is_taken = hear(frame, count, wrong, 0, &reply) == PM_HEARD_TAKEN;
-    return wrong == ANSWER_LOST ? 0 : is_taken;
+        return PM_ACKED;
+    uint8_t heard = hear(frame, count, wrong, 0, &reply);
+    if (heard == PM_HEARD_SILENT)
+        return PM_UNHEARD;
+    return heard == PM_HEARD_TAKEN && wrong != ANSWER_LOST ? PM_ACKED : PM_NOT_ACKED;
 }
 
 unsigned bus_read(const uint8_t *request, unsigned count, uint8_t *answer, unsigned wanted) {

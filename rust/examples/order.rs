@@ -30,7 +30,7 @@ fn main() -> Result<(), Refusal> {
         Step::Next => 0,
         Step::Done => 1,
         Step::Differs(_) => 2,
-        Step::Unknown => 3,
+        Step::Unknown { .. } => 3,
         Step::Learned => 4,
     };
     match host.standing(command)? {

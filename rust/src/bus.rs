@@ -36,7 +36,8 @@ pub enum Operation<'a> {
 /// }
 /// ```
 pub trait Bus {
-    /// Why a transaction failed.
+    /// Why a transaction failed. The last one is handed on by `NotDone::Unknown`, as its source where this type is an
+    /// error of `core`.
     type Error;
 
     /// Carries one transaction out with the part at this 7-bit address: a write and a stop, or a write, a repeated start

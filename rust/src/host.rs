@@ -3,6 +3,7 @@
 use core::fmt;
 
 use crate::bus::{Bus, Operation};
+use crate::done::{Done, NotDone};
 use crate::ffi;
 use crate::number::Format;
 use crate::packet::Bytes;
@@ -76,7 +77,30 @@ impl Register {
 }
 
 /// How a job stands.
+///
+/// ```
+/// # #![deny(unused_must_use)]
+/// # fn main() -> Result<(), pm_host::Refusal> {
+/// # let mut host = pm_host::Host::new(0x58, 1, 1)?;
+/// # host.store()?;
+/// assert_eq!(host.finished(false)?, pm_host::Step::Unknown { fault: None });
+/// # Ok(())
+/// # }
+/// ```
+///
+/// The compiler warns where it is dropped:
+///
+/// ```compile_fail
+/// # #![deny(unused_must_use)]
+/// # fn main() -> Result<(), pm_host::Refusal> {
+/// # let mut host = pm_host::Host::new(0x58, 1, 1)?;
+/// # host.store()?;
+/// host.finished(false)?;
+/// # Ok(())
+/// # }
+/// ```
 #[derive(Clone, Copy, Debug, PartialEq, Eq)]
+#[must_use = "a job may have ended in another way than `Done`"]
 pub enum Step {
     /// It goes on: send what is to be sent now.
     Next,
@@ -84,8 +108,12 @@ pub enum Step {
     Done,
     /// The last pass of an order read this other word.
     Differs(u16),
-    /// No good answer came in the last pass.
-    Unknown,
+    /// No good answer came in the last pass, or no pass was acknowledged.
+    Unknown {
+        /// What was wrong with the last answer, F1 to F5; `None` where no byte came, where the job sent a command, or where
+        /// the answer was good and names no format.
+        fault: Option<Refusal>,
+    },
     /// A learn found the format.
     Learned,
 }
@@ -96,7 +124,8 @@ impl fmt::Display for Step {
             Step::Next => to.write_str("next"),
             Step::Done => to.write_str("done"),
             Step::Differs(word) => write!(to, "differs {word:04X}"),
-            Step::Unknown => to.write_str("unknown"),
+            Step::Unknown { fault: None } => to.write_str("unknown"),
+            Step::Unknown { fault: Some(fault) } => write!(to, "unknown, the last answer: {fault}"),
             Step::Learned => to.write_str("learned"),
         }
     }
@@ -176,6 +205,7 @@ pub struct Band {
 
 /// Whether an output's voltage lies within its limits, by what is known.
 #[derive(Clone, Copy, Debug, PartialEq, Eq)]
+#[must_use = "the output may be outside its limits"]
 pub enum Within {
     /// Its whole band does, or it has no limits.
     Yes,
@@ -352,41 +382,62 @@ impl Host {
         step_of(unsafe { ffi::pm_host_got(&mut self.image, bytes.as_ptr(), bytes.len() as u64) })
     }
 
-    /// Carries the open job out over a bus, and says how it ended: `Unknown` where none was open. What the bus says of a
-    /// transaction that failed is let go: the host tries again by itself.
-    pub fn run<B: Bus>(&mut self, bus: &mut B) -> Result<Step, Refusal> {
-        let mut step = Step::Unknown;
+    /// Carries the open job out over a bus. `Refused(OtherFrame)` where none is open. A transaction that failed is tried
+    /// again by the host itself, and the last one's error is that of `Unknown`.
+    pub fn run<B: Bus>(&mut self, bus: &mut B) -> Result<(), NotDone<B::Error>> {
+        let mut error = None;
         loop {
-            step = match self.sending() {
-                Sending::Nothing => return Ok(step),
-                Sending::Write(frame) => self.written(bus, &frame)?,
-                Sending::Request { frame, answer } => self.asked(bus, &frame, answer)?,
+            let step = match self.sending() {
+                Sending::Nothing => return Err(NotDone::Refused(Refusal::OtherFrame)),
+                Sending::Write(frame) => self.written(bus, &frame, &mut error)?,
+                Sending::Request { frame, answer } => self.asked(bus, &frame, answer, &mut error)?,
             };
+            match step {
+                Step::Next => {}
+                Step::Done | Step::Learned => return Ok(()),
+                Step::Differs(word) => return Err(NotDone::Differs { word }),
+                Step::Unknown { fault } => return Err(NotDone::Unknown { error, fault }),
+            }
         }
     }
 
-    fn written<B: Bus>(&mut self, bus: &mut B, frame: &[u8]) -> Result<Step, Refusal> {
-        let acked = bus.transaction(frame[0] >> 1, &mut [Operation::Write(&frame[1..])]).is_ok();
-        self.finished(acked)
+    fn written<B: Bus>(&mut self, bus: &mut B, frame: &[u8], error: &mut Option<B::Error>) -> Result<Step, Refusal> {
+        match bus.transaction(frame[0] >> 1, &mut [Operation::Write(&frame[1..])]) {
+            Ok(()) => self.finished(true),
+            Err(why) => {
+                *error = Some(why);
+                self.finished(false)
+            }
+        }
     }
 
-    fn asked<B: Bus>(&mut self, bus: &mut B, frame: &[u8], answer: usize) -> Result<Step, Refusal> {
+    fn asked<B: Bus>(&mut self, bus: &mut B, frame: &[u8], answer: usize, error: &mut Option<B::Error>) -> Result<Step, Refusal> {
         let mut bytes = [0; 8];
         let came = &mut bytes[..answer.min(8)];
         let mut operations = [Operation::Write(&frame[1..]), Operation::Read(&mut came[1..])];
-        let is_good = bus.transaction(frame[0] >> 1, &mut operations).is_ok();
-        came[0] = frame[0] | 1;
-        if is_good {
-            self.got(came)
-        } else {
-            self.got(&[])
+        match bus.transaction(frame[0] >> 1, &mut operations) {
+            Ok(()) => {
+                came[0] = frame[0] | 1;
+                self.got(came)
+            }
+            Err(why) => {
+                *error = Some(why);
+                self.got(&[])
+            }
         }
     }
 
-    /// Begins a job and carries it out over a bus.
-    pub fn carry_out<B: Bus>(&mut self, job: Job, bus: &mut B) -> Result<Step, Refusal> {
+    /// Begins a job and carries it out over a bus: what it is worth where it was done, and why where it wasn't.
+    pub fn carry_out<B: Bus>(&mut self, job: Job, bus: &mut B) -> Result<Done, NotDone<B::Error>> {
         self.begin(job)?;
-        self.run(bus)
+        self.run(bus)?;
+        let found = match job {
+            Job::Order(cell, _) | Job::OrderMicro(cell, _) | Job::Check(cell) => self.standing(cell)?.map(Done::Word),
+            Job::Learn(output) => self.format(output)?.map(Done::Learned),
+            Job::Clear(_) | Job::Store | Job::Restore => Some(Done::Acknowledged),
+        };
+        // A word that was read is confirmed, and a format that was learned is known.
+        found.ok_or(NotDone::Unknown { error: None, fault: None })
     }
 
     /// Drops the open job and all that is known; the limits stay.
@@ -427,6 +478,7 @@ impl Host {
     }
 
     /// Whether a restart of the device was seen since the host started.
+    #[must_use]
     pub fn restart_seen(&self) -> bool {
         unsafe { ffi::pm_host_restart_seen(&self.image) == 1 }
     }
@@ -441,7 +493,7 @@ fn step_of(step: ffi::StepImage) -> Result<Step, Refusal> {
         0 => Ok(Step::Next),
         1 => Ok(Step::Done),
         2 => Ok(Step::Differs(step.word)),
-        3 => Ok(Step::Unknown),
+        3 => Ok(Step::Unknown { fault: accepted(step.word.to_le_bytes()[0]).err() }),
         4 => Ok(Step::Learned),
         number => Err(Refusal::of(number.to_le_bytes()[0])),
     }

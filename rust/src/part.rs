@@ -62,6 +62,7 @@ impl fmt::Debug for Part {
 
 /// What it makes of a frame.
 #[derive(Clone, Copy, Debug, PartialEq, Eq)]
+#[must_use = "the part may have taken nothing"]
 pub enum Heard {
     /// It is for another device.
     Silent,
@@ -211,6 +212,14 @@ fn written<T: Default>(call: impl FnOnce(&mut T) -> u8) -> Result<T, Refusal> {
 /// Nothing acknowledged, or nothing came.
 #[derive(Clone, Copy, Debug, PartialEq, Eq)]
 pub struct NoAnswer;
+
+impl fmt::Display for NoAnswer {
+    fn fmt(&self, to: &mut fmt::Formatter<'_>) -> fmt::Result {
+        to.write_str("the part didn't acknowledge or answer")
+    }
+}
+
+impl core::error::Error for NoAnswer {}
 
 impl Bus for Part {
     type Error = NoAnswer;

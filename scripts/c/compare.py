@@ -23,10 +23,11 @@ import lives  # noqa: E402
 from plain import limits  # noqa: E402
 from plain.converter import PROTECT, REGISTERS, Converter  # noqa: E402
 from plain.host import ANY, Host  # noqa: E402
+from plain.packets import answer_fault  # noqa: E402
 
 ADDRESS = 0x58
 KINDS = {"next": 0, "done": 1, "differs": 2, "unknown": 3, "learned": 4}
-NUMBERS = {"H": 0, "N": 0x10, "L": 0x20}
+NUMBERS = {"H": 0, "N": 0x10, "L": 0x20, "F": 0x30}
 WITHIN = {"yes": 0x91, "no": 0x92, "unknown": 0x93}
 PLACES = 49
 
@@ -168,7 +169,7 @@ class Life:
     def told(self):
         """What became of the frame that is sent."""
         frame, reads, fate = list(self.plain.sending_frame()), self.plain.sending_reads(), self.draw.random()
-        job = self.plain.last_job()[0]
+        job, message, got = self.plain.last_job()[0], self.plain.sending(), []
         sent = self.damaged(frame) if fate < 0.1 else frame
         answer = self.device.hear(sent, "restart" if reads else "stop") if fate > 0.05 else None
         if reads:
@@ -182,7 +183,8 @@ class Life:
             self.plain.told(("finished", acked))
             step = self.loaded.pm_host_finished(self.image, int(acked))
         end = "next" if self.plain.sending() is not None else self.plain.job()
-        word = int(end.split(" ")[1], 16) if end.startswith("differs") else 0
+        fault = answer_fault(ADDRESS, message, got) if got and end == "unknown" else None
+        word = int(end.split(" ")[1], 16) if end.startswith("differs") else number_of(fault and fault[0])
         self.same(f"told, {job[0]}", (step.kind, step.word), (KINDS[end.split(" ")[0]], word))
         self.seen[f"{job[0]} {end.split(' ')[0]}"] += 1
 

@@ -14,7 +14,8 @@ int main(void) {
     if (pm_host_new(&host, 0x58, 2, 3) != PM_OK)
         return 1;
     for (int i = 0; i < ORDERS; i++) {
-        pm_host_order(&host, 0, PM_VOUT_COMMAND, 0x34CD);
+        if (pm_host_order(&host, 0, PM_VOUT_COMMAND, 0x34CD) != PM_OK)
+            return 1;
         pm_host_sending(&host, &frame);
         pm_host_finished(&host, 1);
         pm_host_sending(&host, &frame);

@@ -1,24 +1,32 @@
 #!/usr/bin/env bash
 # Builds the static libraries of crates/pm_c and crates/pm_part and, with each compiler of this machine, the programs of
-# examples/c over them; runs them and compares what they write. So it does with the packages rust/ and python/, and
-# their tests.
+# examples/c and examples/firmware over them; runs them and compares what they write. So it does with the packages rust/ and
+# python/, and their tests.
 #
-#   scripts/c/run.sh [--built FOLDER] [JOBS]
+#   scripts/c/run.sh [--built FOLDER] [--gcc]
 #
-# JOBS is how many jobs both ends live through, 20000 if left out. With --built the archives of that folder are taken,
-# and nothing is built: libpm_c.a and libpm_part.a of Rattle's own compiler, and llvm_pm_c.a and llvm_pm_part.a of LLVM, if
-# they are there. Random calls of every export (scripts/c/same.c) over the archives of Rattle's own compiler and over
-# LLVM's answer and write the same. Programs of gcc and clang are run once more with their sanitizers, where they have them.
-# The order over a Linux bus runs over a stand-in for the kernel, with all that a user or a bus does wrong, and
-# so does scripts/bus.py, if pmbhost is built or PMBHOST names one. The stack that the archive says it needs must
-# be what the header promises. Says a line for each program, what isn't on this machine, and last how many passed
-# and failed.
+# With --built the archives of that folder are taken, and nothing is built: libpm_c.a and libpm_part.a of Rattle's own
+# compiler, and llvm_pm_c.a and llvm_pm_part.a of LLVM, if they are there. With --gcc only the programs run, built by gcc:
+# no other compiler, no sanitizer, no package, and not scripts/bus.py.
+#
+# The examples build with no warning. A program that drops an answer that must be asked builds with one. Random calls of every
+# export (scripts/c/same.c) over the archives of Rattle's own compiler and over LLVM's answer and write the same. Programs
+# of gcc and clang are run once more with their sanitizers, where they have them. The order over a Linux bus runs over a
+# stand-in for the kernel, with all that a user or a bus does wrong, and so does scripts/bus.py, if pmbhost is built or
+# PMBHOST names one. The stack that the archive says it needs must be what the header promises. Says a line for each
+# program, what isn't on this machine, and last how many passed and failed.
 set -u
 case " $* " in *" --help "* | *" -h "*) sed -n '2,/^[^#]/s/^# \{0,1\}//p' "$0"; exit 0 ;; esac
 cd "$(dirname "$0")/../.."
-built=''
-if [ "${1-}" = --built ]; then built=$(realpath "$2"); shift 2; fi
-jobs=${1-20000}
+ulimit -c 0
+built='' only_gcc=''
+while [ $# != 0 ]; do
+    case $1 in
+        --built) built=$(realpath "${2-}") || exit 2; shift 2 ;;
+        --gcc) only_gcc=yes; shift ;;
+        *) echo "run.sh: '$1': give --built FOLDER, --gcc, or nothing" >&2; exit 2 ;;
+    esac
+done
 folder=$(mktemp -d)
 trap 'rm -rf "$folder"' EXIT
 if [ -z "$built" ]; then
@@ -93,8 +101,9 @@ lost ok ok lost ok ok|/dev/i2c-1 58 0 3300000|0|ended done, confirmed 34CD, 3300
 deaf deaf deaf|/dev/i2c-1 58 0 3300000|1||learn: 3 of 3 transfers failed, the last: No such device or address
 |/dev/i2c-1 59 0 3300000|1||learn: 3 of 3 transfers failed, the last: Remote I/O error
 |/dev/i2c-1 58 1 3300000|1||learn: 3 of 3 transfers failed, the last: Remote I/O error
-damaged empty damaged|/dev/i2c-1 58 0 3300000|1||learn: no answer was good, or its format is neither ULINEAR16 nor DIRECT
-damaged deaf damaged|/dev/i2c-1 58 0 3300000|1||learn: 1 of 3 transfers failed, the last: No such device or address; no answer was good, or its format is neither ULINEAR16 nor DIRECT
+damaged empty damaged|/dev/i2c-1 58 0 3300000|1||learn: the last answer: F4 WrongCount
+damaged deaf damaged|/dev/i2c-1 58 0 3300000|1||learn: 1 of 3 transfers failed, the last: No such device or address; the last answer: F4 WrongCount
+damaged damaged deaf|/dev/i2c-1 58 0 3300000|1||learn: 1 of 3 transfers failed, the last: No such device or address; no answer was good, or its format is neither ULINEAR16 nor DIRECT
 short0 short1 short0|/dev/i2c-1 58 0 3300000|1||learn: 3 of 3 transfers failed, the last: 0 of 2 messages went
 short0 short0 short1|/dev/i2c-1 58 0 3300000|1||learn: 3 of 3 transfers failed, the last: 1 of 2 messages went
 |/dev/i2c-1 58 0 99000000|1||refused: N4 AboveGreatest: above all values of the format
@@ -103,9 +112,13 @@ short0 short0 short1|/dev/i2c-1 58 0 3300000|1||learn: 3 of 3 transfers failed, 
 ok short0 ok short0h ok|/dev/i2c-1 58 0 3300000|0|ended done, confirmed 34CD, 3300048 uV|
 ok short0 ok short0 ok short0|/dev/i2c-1 58 0 3300000|1|ended differs, confirmed 1000, 1000000 uV|order: 3 of 6 transfers failed, the last: 0 of 1 messages went; the write was lost, or the part refused, limited or rounded the word
 ok false ok false ok false|/dev/i2c-1 58 0 3300000|1|ended differs, confirmed 1000, 1000000 uV|order: the write was lost, or the part refused, limited or rounded the word
+ok int|/dev/i2c-1 58 0 3300000|130|transfer 2 went on|
+ok ok term|/dev/i2c-1 58 0 3300000|143|transfer 3 went on|
+quit|/dev/i2c-1 58 0 3300000|131|transfer 1 went on|
 ok short0 short1 short0 short0 short0 short1|/dev/i2c-1 58 0 3300000|1|ended unknown, the output may hold the old or the ordered word|order: 6 of 6 transfers failed, the last: 1 of 2 messages went
-ok false ok false ok false empty|/dev/i2c-1 58 0 3300000|1|ended unknown, the output may hold the old or the ordered word|order: no answer was good
-ok ok empty ok empty ok damaged|/dev/i2c-1 58 0 3300000|1|ended unknown, the output may hold the old or the ordered word|order: no answer was good
+ok false ok false ok false empty|/dev/i2c-1 58 0 3300000|1|ended unknown, the output may hold the old or the ordered word|order: the last answer: F4 WrongCount
+ok ok deaf ok damaged ok deaf|/dev/i2c-1 58 0 3300000|1|ended unknown, the output may hold the old or the ordered word|order: 2 of 6 transfers failed, the last: No such device or address; no answer was good
+ok ok empty ok empty ok damaged|/dev/i2c-1 58 0 3300000|1|ended unknown, the output may hold the old or the ordered word|order: the last answer: F4 WrongCount
 END
 }
 
@@ -130,7 +143,8 @@ rows() {
     while IFS='|' read -r mishaps arguments status out err; do
         row=$((row + 1))
         printf '%b' "${out:+$out\n}${err:+$2: $err\n}" > "$folder/wanted"
-        eval "MISHAPS=\$mishaps timeout 60 $3 $arguments" > "$folder/out" 2> "$folder/log" < /dev/null
+        # (what the shell itself says of a program that a signal ended is not heard)
+        { (eval "MISHAPS=\$mishaps exec timeout 60 $3 $arguments" > "$folder/out" 2> "$folder/log" < /dev/null); } 2> /dev/null
         ended=$?
         cat "$folder/log" >> "$folder/out"
         if [ "$ended" = "$status" ] && cmp -s "$folder/wanted" "$folder/out"; then
@@ -144,8 +158,8 @@ rows() {
 
 # bus_program NAME COMPILER: the order over the Linux bus, and each row of it
 bus_program() {
-    program "$1 Linux bus" examples/c/i2c_dev.expected "$2 -D_DEFAULT_SOURCE $wraps" examples/c/i2c_dev.c \
-        examples/c/stand_in.c -- /dev/i2c-1 58 0 3300000
+    program "$1 Linux bus" examples/c/i2c_dev.expected "$2 $strict $wraps" examples/c/i2c_dev.c examples/c/stand_in.c \
+        -- /dev/i2c-1 58 0 3300000
     bus_rows > "$folder/rows"
     rows "$1 Linux bus" i2c_dev "$folder/program" < "$folder/rows"
 }
@@ -177,6 +191,59 @@ program() {
     told "$name" $?
 }
 
+# The calls whose answer must be asked.
+asked_calls() {
+    cat << 'END'
+pm_host_new(&host, 0x58, 1, 3)
+pm_host_narrow(&host, 0, 3135000, 3465000)
+pm_host_order(&host, 0, PM_VOUT_COMMAND, 0x34CD)
+pm_host_order_micro(&host, 0, PM_VOUT_COMMAND, 3300000)
+pm_host_check(&host, 0, PM_VOUT_COMMAND)
+pm_host_learn(&host, 0)
+pm_host_clear(&host, 0)
+pm_host_store(&host)
+pm_host_restore(&host)
+pm_host_run(&host, 0, 0, 0).kind
+END
+}
+
+# dropped NAME COMPILER: of each call, a program that drops its answer is refused for that, and one that asks it isn't
+dropped() {
+    local call before='#include "pm.h"
+static pm_host host;
+int main(void) {' row=0
+    while read -r call; do
+        row=$((row + 1))
+        echo "$before return $call; }" > "$folder/asks.c"
+        echo "$before ${call%.kind}; return 0; }" > "$folder/drops.c"
+        if $2 $headers -Werror=unused-result -c "$folder/asks.c" -o "$folder/object" > "$folder/log" 2>&1 &&
+            ! $2 $headers -Werror=unused-result -c "$folder/drops.c" -o "$folder/object" > "$folder/log" 2>&1 &&
+            grep -q 'unused-result' "$folder/log"; then
+            passed=$((passed + 1))
+        else
+            failed=$((failed + 1)); echo "$1, a dropped ${call%%(*}: FAILED, no warning"; cat "$folder/log"
+        fi
+    done < <(asked_calls)
+    echo "$1, dropped answers: $row rows"
+}
+
+# snippets NAME COMPILER: the C of docs/firmware.md builds with no warning
+snippets() {
+    {
+        printf '#include "pm.h"\n#include <stddef.h>\nextern pm_host host;\nvoid log_line(const char *line);\n'
+        printf 'uint8_t write_to_bus(void *context, const uint8_t *bytes, uint64_t count);\n'
+        printf 'uint64_t read_from_bus(void *context, const uint8_t *request, uint64_t count, uint8_t *answer, uint64_t room);\n'
+        awk '/^```c$/ {print "int snippet_" ++count "(void);\nint snippet_" count "(void) {"; within = 1; next}
+            /^```$/ && within {print "return 1; }"; within = 0}
+            within {print}' docs/firmware.md
+    } > "$folder/snippets.c"
+    : > "$folder/wanted"; : > "$folder/out"
+    grep -q pm_host_run "$folder/snippets.c" &&
+        $2 $headers -Wall -Wextra -Wconversion -Wpedantic -Werror -c "$folder/snippets.c" \
+        -o "$folder/object" > "$folder/log" 2>&1
+    told "$1 docs/firmware.md" $?
+}
+
 mkdir "$folder/objects"
 for each in "${archives[@]}"; do
     size -t "$each" | awk -v name="$(basename "$each")" 'END {print name ": " $1 " bytes of text"}'
@@ -185,16 +252,19 @@ done
 headers="-Icrates/pm_c/include -Icrates/pm_part/include"
 for object in "$folder"/objects/*; do bound "$object"; done
 host=${PMBHOST-$PWD/crates/pmbhost/out/pmbhost}
-bus_script
-[ ${#llvm[@]} != 0 ] || echo "LLVM's archives: --built FOLDER has none to compare"
-printf 'first' > "$folder/faults.wanted"
+[ -n "$only_gcc" ] || bus_script
+[ -n "$only_gcc" ] || [ ${#llvm[@]} != 0 ] || echo "LLVM's archives: --built FOLDER has none to compare"
 printf 'first' > "$folder/same.wanted"
 wraps="-Wl,--wrap=open,--wrap=ioctl,--wrap=close"
-for each in gcc clang g++ clang++; do
+strict="-Wconversion -Wpedantic"
+firmware="examples/firmware/main.c examples/firmware/simulated_bus.c examples/firmware/hosted.c"
+compilers="gcc clang g++ clang++"
+[ -z "$only_gcc" ] || compilers=gcc
+for each in $compilers; do
     command -v $each > /dev/null || { echo "$each: not on this machine"; continue; }
     case $each in *++) flags="-x c++ -std=c++17" rest="-x none" ;; *) flags=-std=c11 rest= ;; esac
     options=("-O2 -Wall -Wextra -Werror")
-    case $each in gcc | clang)
+    case $each$only_gcc in gcc | clang)
         sanitizers="-g -fsanitize=address,undefined -fno-sanitize-recover=all"
         if echo 'int main(void){return 0;}' | $each -x c $sanitizers - -o "$folder/probe" 2> /dev/null; then
             options+=("-O1 $sanitizers")
@@ -202,18 +272,19 @@ for each in gcc clang g++ clang++; do
             echo "$each: no sanitizers"
         fi ;;
     esac
+    dropped $each "$each $flags"
+    snippets $each "$each $flags"
     for option in "${options[@]}"; do
         compiler="$each $option $flags"
         name=$each; case $option in *sanitize*) name="$each, sanitized" ;; esac
-        program "$name order" examples/c/order.expected "$compiler" examples/c/order.c $rest -- 
-        program "$name part" examples/c/part.expected "$compiler" examples/c/part.c $rest -- 
-        # All programs of both ends write one line, whoever compiled them.
-        if [ "$(cat "$folder/faults.wanted")" = first ]; then
-            $compiler $headers examples/c/faults.c $rest "${archives[@]}" -o "$folder/program" > "$folder/log" 2>&1
-            "$folder/program" "$jobs" > "$folder/faults.wanted" && cat "$folder/faults.wanted"
-        fi
-        program "$name both ends" "$folder/faults.wanted" "$compiler" examples/c/faults.c $rest -- "$jobs"
-        # So do random calls over the archive of either compiler.
+        program "$name order" examples/c/order.expected "$compiler $strict" examples/c/order.c $rest --
+        program "$name part" examples/c/part.expected "$compiler $strict" examples/c/part.c $rest --
+        program "$name pm_host_run" examples/c/run_rows.expected "$compiler $strict" examples/c/run_rows.c $rest --
+        program "$name both ends" examples/c/faults.expected "$compiler $strict" examples/c/faults.c $rest --
+        case $each in gcc | clang)
+            program "$name firmware" examples/firmware/console.expected "$compiler $strict -Iexamples/firmware" $firmware -- ;;
+        esac
+        # Random calls over the archive of either compiler write one line, whoever compiled them.
         if [ "$(cat "$folder/same.wanted")" = first ]; then
             $compiler $headers scripts/c/same.c $rest "${archives[@]}" -o "$folder/program" > "$folder/log" 2>&1
             "$folder/program" 1 2 > "$folder/same.wanted" && cat "$folder/same.wanted"
@@ -229,6 +300,11 @@ for each in gcc clang g++ clang++; do
         esac
     done
 done
+if [ -n "$only_gcc" ]; then
+    echo "$passed passed, $failed failed"
+    [ "$failed" = 0 ]; exit
+fi
+
 # installed NAME WANTED SOURCE WORDS ..: a program over what scripts/install.sh installs, found by pkg-config
 installed() {
     local name="installed $1" wanted=$2 source=$3; shift 3
@@ -236,7 +312,7 @@ installed() {
     if ! gcc -O2 -Wall -Wextra -Werror "$source" "$@" -o "$folder/program" > "$folder/log" 2>&1; then
         told "$name" build; return
     fi
-    LD_LIBRARY_PATH=$folder/prefix/lib "$folder/program" "$jobs" > "$folder/out" 2> "$folder/log"
+    LD_LIBRARY_PATH=$folder/prefix/lib "$folder/program" > "$folder/out" 2> "$folder/log"
     told "$name" $?
 }
 
@@ -244,7 +320,7 @@ if command -v pkg-config > /dev/null && command -v gcc > /dev/null; then
     scripts/install.sh "$folder/prefix" --library --archives "$built" > "$folder/log" 2>&1 || told "installed" install
     export PKG_CONFIG_PATH=$folder/prefix/lib/pkgconfig
     order="examples/c/order.expected examples/c/order.c" part="examples/c/part.expected examples/c/part.c"
-    ends="$folder/faults.wanted examples/c/faults.c"
+    ends="examples/c/faults.expected examples/c/faults.c"
     installed "order, shared" $order $(pkg-config --cflags --libs pm_host)
     installed "order, static" $order $(pkg-config --cflags pm_host) "$folder/prefix/lib/libpm_c.a"
     installed "part, shared" $part $(pkg-config --cflags --libs pm_part)
@@ -266,6 +342,12 @@ packaged() {
 if command -v cargo > /dev/null; then
     export PM_ARCHIVES=$built CARGO_TARGET_DIR=$folder/cargo
     packaged "Rust package" cargo test --offline --manifest-path rust/Cargo.toml
+    if cargo clippy --version > /dev/null 2>&1 && cargo fmt --version > /dev/null 2>&1; then
+        packaged "Rust lints" cargo clippy --offline --manifest-path rust/Cargo.toml --all-targets -- -D warnings
+        packaged "Rust layout" cargo fmt --manifest-path rust/Cargo.toml --check
+    else
+        echo "cargo clippy and cargo fmt: not on this machine"
+    fi
     cp examples/c/order.expected "$folder/wanted"
     cargo run -q --offline --manifest-path rust/Cargo.toml --example order > "$folder/out" 2> "$folder/log"
     told "Rust order" $?

@@ -179,7 +179,7 @@ target() {
     { compile "$name" "" && compile "$name" .part; } > "$folder/$name.log" 2>&1 ||
         { echo "$name build: FAILED"; head -4 "$folder/$name.log"; return; }
     program "$name" order examples/c/order.expected "" examples/c/order.c
-    program "$name" faults "$folder/faults.wanted" "" examples/c/faults.c
+    program "$name" faults examples/c/faults.expected "" examples/c/faults.c
     program "$name" firmware examples/firmware/console.expected "" examples/firmware/main.c examples/firmware/simulated_bus.c
     program "$name" same "$folder/same.wanted" "-DSEEDS=$seeds" scripts/c/same.c
     measured "$name" > "$folder/$name.measured"

@@ -31,6 +31,16 @@
 
 #include <stdint.h>
 
+/* Before each call whose answer must be asked, since nothing was sent where it is a refusal: a compiler warns where the
+ * answer is dropped. */
+#if (defined __cplusplus && __cplusplus >= 201703L) || (defined __STDC_VERSION__ && __STDC_VERSION__ >= 202311L)
+#define PM_MUST_USE [[nodiscard]]
+#elif defined __GNUC__
+#define PM_MUST_USE __attribute__((warn_unused_result))
+#else
+#define PM_MUST_USE
+#endif
+
 #ifdef __cplusplus
 extern "C" {
 #endif
@@ -120,7 +130,8 @@ typedef struct {
 enum { PM_NEXT = 0, PM_DONE = 1, PM_DIFFERS = 2, PM_UNKNOWN = 3, PM_LEARNED = 4 };
 typedef struct {
     uint16_t kind; /* PM_NEXT, or how the job ended; or a refusal, PM_NO_HOST or PM_OTHER_FRAME */
-    uint16_t word; /* with PM_DIFFERS the word that was read, otherwise 0 */
+    uint16_t word; /* with PM_DIFFERS the word that was read; with PM_UNKNOWN what was wrong with the last answer, as
+                    * PM_F5_WRONG_PEC, 0 where no byte came or it was good and names no format; otherwise 0 */
 } pm_step;
 
 /* Ends and refusals share `kind`: look for a refusal first, before a table is asked by it. pm_host_run, at the end
@@ -168,6 +179,7 @@ uint16_t pm_host_version(void);
 /* Makes a host, whatever stood in the memory, for the device at this address, 08h to 77h, which has this
  * many outputs, 1 to 8; a job has at most this many passes or tries, 1 to 15. Nothing is known, and no output has
  * limits. PM_NO_ADDRESS, H1, H2, the first that applies. */
+PM_MUST_USE
 uint8_t pm_host_new(pm_host *host, uint8_t address, uint8_t outputs, uint8_t passes);
 
 /* Gives an output limits, or narrower ones than it has: a least and a most in microvolts. From then on every order for
@@ -176,6 +188,7 @@ uint8_t pm_host_new(pm_host *host, uint8_t address, uint8_t outputs, uint8_t pas
  * hold. Turning an output off is never refused by a limit. pm_host_restart keeps limits, pm_host_new drops them. A
  * word that was ordered before stays possible, and what the part or its store holds no host knows: check the
  * registers, and ask pm_host_within. PM_NO_HOST, H4, N5 beyond 10^15, L1, L6. */
+PM_MUST_USE
 uint8_t pm_host_narrow(pm_host *host, uint8_t output, int64_t least, int64_t most);
 
 /* The limits of an output. PM_NO_HOST, H4, PM_NO_LIMITS; then nothing is written. */
@@ -196,36 +209,43 @@ uint8_t pm_host_band(const pm_host *host, uint8_t output, pm_band *band);
 /* Begins an order: at most `passes` times the word is written once and read back once. It ends as
  * PM_DONE, PM_DIFFERS or PM_UNKNOWN. PM_NO_HOST, PM_NO_CELL, H3, H4, then by the output's limits L2, L3 or L4, then
  * H5, L5, H6. */
+PM_MUST_USE
 uint8_t pm_host_order(pm_host *host, uint8_t output, uint8_t code, uint16_t word);
 
 /* Begins an order of the word nearest to a number of microvolts, in the format that the last learn of the
  * output found. PM_NO_HOST, PM_NO_CELL, H3, H4, H5, H7, N5, N3 or N4, then L3 or L4 by the value of that word, H6. */
+PM_MUST_USE
 uint8_t pm_host_order_micro(pm_host *host, uint8_t output, uint8_t code, int64_t microvolts);
 
 /* Begins a check: the cell is read at most `passes` times. PM_DONE or PM_UNKNOWN. PM_NO_HOST, PM_NO_CELL,
  * H3, H4. */
+PM_MUST_USE
 uint8_t pm_host_check(pm_host *host, uint8_t output, uint8_t code);
 
 /* Begins a learn of the format of an output's voltages. PM_LEARNED or PM_UNKNOWN. PM_NO_HOST, H3, H4. */
+PM_MUST_USE
 uint8_t pm_host_learn(pm_host *host, uint8_t output);
 
 /* Begins to send CLEAR_FAULTS to an output until it is acknowledged, at most `passes` times. PM_DONE says
  * no more than that; or PM_UNKNOWN. PM_NO_HOST, H3, H4. */
+PM_MUST_USE
 uint8_t pm_host_clear(pm_host *host, uint8_t output);
 
 /* Begins to send STORE_USER_ALL, which stores the outputs' settings for a restart of the device to load, or
  * RESTORE_USER_ALL, which brings them back, until it is acknowledged, at most `passes` times. PM_DONE says
  * no more than that; or PM_UNKNOWN. From the start of a restore on no word of an output is confirmed and any
  * is possible, until its cell is read. PM_NO_HOST, H3. */
+PM_MUST_USE
 uint8_t pm_host_store(pm_host *host);
+PM_MUST_USE
 uint8_t pm_host_restore(pm_host *host);
 
 /* What is to be sent now. It stays the same until pm_host_finished, pm_host_got, pm_host_restart or
  * pm_host_new, and where it is PM_NOTHING until a job begins. PM_NO_HOST, and then PM_NOTHING. */
 uint8_t pm_host_sending(const pm_host *host, pm_sending *sending);
 
-/* A write was sent; `acked` isn't 0 where every byte was acknowledged. PM_NO_HOST, PM_OTHER_FRAME where no
- * write is to be sent. */
+/* A write was sent; `acked` isn't 0 where every byte was acknowledged. The status of many HALs is 0 then: ask it, and don't
+ * hand it on. PM_NO_HOST, PM_OTHER_FRAME where no write is to be sent. */
 pm_step pm_host_finished(pm_host *host, uint8_t acked);
 
 /* A request was sent, and these bytes came back, the read address first; 0 bytes where none came.
@@ -305,23 +325,33 @@ uint8_t pm_packet_read_answer(uint8_t address, const pm_packet *request, const u
 /* ---- The loop of a driver ---- */
 
 #if defined __cplusplus || (defined __STDC_VERSION__ && __STDC_VERSION__ >= 199901L)
-/* A bus of yours. `write` puts a packet on it, the address byte first, and answers not 0 where every byte was
- * acknowledged. `read` sends a request, then a repeated start and the read address, and writes what comes after that to
- * `answer`, whose `room` bytes are 0 before: it answers how many bytes came, 0 where none did. Neither may try again by
- * itself, nor hand over an older answer. */
+/* What a write answers. No other number is an acknowledgement, so that a HAL's own status, handed on, never counts as one. */
+enum {
+    PM_ACKED = 0xA5,     /* every byte was acknowledged */
+    PM_NOT_ACKED = 0x5A, /* some byte wasn't */
+    PM_UNHEARD = 0x3C    /* nobody acknowledged the address; it counts as not acknowledged */
+};
+
+/* A bus of yours. `write` puts a packet on it, the address byte first and the PEC last, and answers PM_ACKED, PM_NOT_ACKED
+ * or PM_UNHEARD. `read` sends a request, then a repeated start and the read address, and writes what comes after that to
+ * `answer`, whose `room` bytes are 0 before: it answers how many bytes came, 0 where none did or the transfer failed. A HAL
+ * that sends the address by itself is handed the bytes behind it. Neither call may try again by itself, nor hand over an
+ * older answer. */
 typedef uint8_t (*pm_write)(void *context, const uint8_t *bytes, uint64_t count);
 typedef uint64_t (*pm_read)(void *context, const uint8_t *request, uint64_t count, uint8_t *answer, uint64_t room);
 
 /* Carries the open job out, and says how it ended: PM_UNKNOWN where none was open, PM_NO_HOST where the memory holds no
- * host. It ends since a job has at most twice as many frames as passes, which is proved; this loop is C of the header,
- * was tried under every fault of a bus (examples/c/faults.c), and isn't proved. */
+ * host. A `read` that says that more bytes came than there was room for counts as one to which none came. It ends since a
+ * job has at most twice as many frames as passes, which is proved; this loop is C of the header, was tried under every
+ * fault of a bus (examples/c/faults.c and run_rows.c), and isn't proved. */
+PM_MUST_USE
 static inline pm_step pm_host_run(pm_host *host, pm_write write, pm_read read, void *context) {
     pm_step step = {PM_UNKNOWN, 0};
     pm_sending frame;
     uint8_t number = pm_host_sending(host, &frame);
     while (number == PM_OK && frame.kind != PM_NOTHING) {
         if (frame.kind == PM_WRITE) {
-            step = pm_host_finished(host, write(context, frame.bytes, frame.length));
+            step = pm_host_finished(host, write(context, frame.bytes, frame.length) == PM_ACKED);
         } else {
             uint8_t answer[8] = {0, 0, 0, 0, 0, 0, 0, 0};
             uint64_t room = (uint64_t)frame.answer - 1;

@@ -1,5 +1,9 @@
 //! Each call on its good path, and refusals; over the model part, whole and with faults.
 
+mod ends;
+#[cfg(target_os = "linux")]
+mod other_library;
+
 use pm_host::*;
 
 const COMMAND: Cell = Cell::Output(0, Register::VoutCommand);
@@ -11,7 +15,7 @@ fn part() -> Part {
 fn learned() -> (Host, Part) {
     let (mut host, mut part) = (Host::new(0x58, 2, 3).unwrap(), part());
     for output in 0..2 {
-        assert_eq!(host.carry_out(Job::Learn(output), &mut part), Ok(Step::Learned));
+        assert_eq!(host.carry_out(Job::Learn(output), &mut part), Ok(Done::Learned(Format::Ulinear16(-12))));
     }
     (host, part)
 }
@@ -20,18 +24,20 @@ fn learned() -> (Host, Part) {
 fn every_job_ends() {
     let (mut host, mut part) = learned();
     for (job, end) in [
-        (Job::Order(COMMAND, 0x3400), Step::Done),
-        (Job::OrderMicro(COMMAND, 3_300_000), Step::Done),
-        (Job::Check(Cell::WriteProtect), Step::Done),
-        (Job::Clear(1), Step::Done),
-        (Job::Store, Step::Done),
-        (Job::Restore, Step::Done),
+        (Job::Order(COMMAND, 0x3400), Done::Word(0x3400)),
+        (Job::OrderMicro(COMMAND, 3_300_000), Done::Word(0x34CD)),
+        (Job::Check(Cell::WriteProtect), Done::Word(0)),
+        (Job::Clear(1), Done::Acknowledged),
+        (Job::Store, Done::Acknowledged),
+        (Job::Restore, Done::Acknowledged),
     ] {
         assert_eq!(host.carry_out(job, &mut part), Ok(end), "{job:?}");
     }
     assert_eq!((part.word(COMMAND), part.commanded(0)), (Ok(0x34CD), Ok(3_300_048)));
     assert_eq!(host.possible(COMMAND).unwrap().words(), None);
-    assert_eq!(host.run(&mut part), Ok(Step::Unknown));
+    assert_eq!(host.run(&mut part), Err(NotDone::Refused(Refusal::OtherFrame)));
+    host.check(COMMAND).unwrap();
+    assert_eq!(host.run(&mut part), Ok(()));
     assert_eq!(host.sending(), Sending::Nothing);
     assert_eq!(host.format(1), Ok(Some(Format::Ulinear16(-12))));
 }
@@ -71,8 +77,9 @@ fn what_is_known_of_every_cell() {
     }
     assert!(!host.restart_seen());
     part.restart();
-    part.hear(&Packet::WriteWord { code: 0x21, word: 7 }.bytes(0x58).unwrap(), false).unwrap();
-    assert_eq!(host.carry_out(Job::Check(COMMAND), &mut part), Ok(Step::Done));
+    let write = Packet::WriteWord { code: 0x21, word: 7 }.bytes(0x58).unwrap();
+    assert_eq!(part.hear(&write, false), Ok(Heard::Taken));
+    assert_eq!(host.carry_out(Job::Check(COMMAND), &mut part), Ok(Done::Word(7)));
     assert!(host.restart_seen());
 }
 
@@ -89,6 +96,8 @@ fn a_refusal_has_its_letter_and_its_name() {
     let names: Vec<String> = (0..6).filter_map(|kind| end_name(kind).map(|name| name.to_string())).collect();
     assert_eq!(names, ["next", "done", "differs", "unknown", "learned"]);
     assert_eq!(Step::Differs(0x34CD).to_string(), "differs 34CD");
+    assert_eq!(Step::Unknown { fault: None }.to_string(), "unknown");
+    assert_eq!(Step::Unknown { fault: Some(Refusal::F2Short) }.to_string(), "unknown, the last answer: F2 Short");
     for (number, made) in [(0, Host::new(0x58, 0, 1)), (1, Host::new(0x58, 1, 16)), (2, Host::new(0x78, 1, 1))] {
         let wanted = [Refusal::H1OutputCount, Refusal::H2Passes, Refusal::NoAddress][number];
         assert_eq!(made.err(), Some(wanted));
@@ -101,7 +110,8 @@ fn a_frame_of_the_other_kind_is_refused() {
     assert_eq!(host.finished(true), Err(Refusal::OtherFrame));
     host.check(COMMAND).unwrap();
     assert_eq!((host.finished(true), host.order(COMMAND, 1)), (Err(Refusal::OtherFrame), Err(Refusal::H3Busy)));
-    assert_eq!((host.got(&[]), host.got(&[0xB1; 300])), (Ok(Step::Next), Ok(Step::Unknown)));
+    let too_long = Step::Unknown { fault: Some(Refusal::F3Long) };
+    assert_eq!((host.got(&[]), host.got(&[0xB1; 300])), (Ok(Step::Next), Ok(too_long)));
 }
 
 #[test]
@@ -165,9 +175,9 @@ fn a_part_has_a_page_and_a_store() {
     assert_eq!((part.register(0, Register::VoutCommand), part.register(1, Register::VoutCommand)), (Ok(0x1000), Ok(0x34CD)));
     part.restart();
     assert_eq!((part.page(), part.register(1, Register::VoutCommand)), (0, Ok(0x1000)));
-    part.hear(&CARRIED, false).unwrap();
+    assert_eq!(part.hear(&CARRIED, false), Ok(Heard::Taken));
     assert_eq!((part.word(COMMAND), part.stored(COMMAND)), (Ok(0x34CD), Ok(0x1000)));
-    part.hear(&STORE, false).unwrap();
+    assert_eq!(part.hear(&STORE, false), Ok(Heard::Taken));
     part.restart();
     assert_eq!((part.word(COMMAND), part.commanded(0), part.is_on(0)), (Ok(0x34CD), Ok(3_300_048), Ok(true)));
     assert_eq!(part.stored(Cell::WriteProtect), Err(Refusal::NoCell));
@@ -193,7 +203,7 @@ fn a_part_has_readings_and_status() {
         let Ok(Heard::Answered(answer)) = part.hear(&[0xB0, code], true) else { panic!("no answer") };
         assert_eq!(answer[..3], [0xB1, low, high]);
     }
-    part.hear(&PAGE_1, false).unwrap();
+    assert_eq!(part.hear(&PAGE_1, false), Ok(Heard::Taken));
     let Ok(Heard::Answered(answer)) = part.hear(&[0xB0, 0x8B], true) else { panic!("no answer") };
     assert_eq!((&answer[..3], answer[3]), (&[0xB1, 0xCD, 0x34][..], pec(&[0xB0, 0x8B, 0xB1, 0xCD, 0x34])));
 }
@@ -232,18 +242,13 @@ fn no_confirmed_word_is_wrong_under_every_fault() {
     for fates in 0..4096 {
         let mut host = Host::new(0x58, 2, 3).unwrap();
         let mut bus = Faulty { part: part(), fates };
-        let end = host.carry_out(Job::Order(COMMAND, 0x3400), &mut bus).unwrap();
+        let end = host.carry_out(Job::Order(COMMAND, 0x3400), &mut bus);
         let held = bus.part.word(COMMAND).unwrap();
-        match end {
-            Step::Done => assert_eq!(held, 0x3400),
-            Step::Differs(word) => assert_eq!((word, held), (0x34CD, 0x34CD)),
-            Step::Unknown => assert!(host.possible(COMMAND).unwrap().allows(held)),
-            other => panic!("{other:?}"),
-        }
         ends[match end {
-            Step::Done => 0,
-            Step::Differs(_) => 1,
-            _ => 2,
+            Ok(Done::Word(0x3400)) if held == 0x3400 => 0,
+            Err(NotDone::Differs { word: 0x34CD }) if held == 0x34CD => 1,
+            Err(NotDone::Unknown { .. }) if host.possible(COMMAND).unwrap().allows(held) => 2,
+            other => panic!("{fates}: {other:?}, while the part holds {held:04X}"),
         }] += 1;
         assert!(host.standing(COMMAND).unwrap().map_or(true, |word| word == held));
     }

@@ -1,0 +1,262 @@
+//! How jobs end over buses that fail, and which frames they send.
+
+use core::fmt;
+use std::error::Error;
+
+use super::{learned, part, COMMAND};
+use pm_host::*;
+
+/// A transaction that failed, by its number from 1.
+#[derive(Clone, Copy, Debug, PartialEq, Eq)]
+struct Broken(usize);
+
+impl fmt::Display for Broken {
+    fn fmt(&self, to: &mut fmt::Formatter<'_>) -> fmt::Result {
+        write!(to, "transaction {} is broken", self.0)
+    }
+}
+
+impl Error for Broken {}
+
+/// What a transaction does: it goes well with these bytes as the answer, zeros behind them; or it fails, and has left these
+/// bytes in the buffer.
+#[derive(Clone, Copy, Debug)]
+enum Does {
+    Answers(&'static [u8]),
+    Fails(&'static [u8]),
+}
+use Does::{Answers, Fails};
+
+/// A bus that keeps the frames that it is handed, and does as a script says, the last line of it for ever.
+struct Scripted {
+    script: &'static [Does],
+    frames: Vec<Vec<u8>>,
+}
+
+impl Scripted {
+    fn new(script: &'static [Does]) -> Scripted {
+        Scripted { script, frames: Vec::new() }
+    }
+}
+
+fn framed(address: u8, bytes: &[u8]) -> Vec<u8> {
+    [&[address << 1], bytes].concat()
+}
+
+impl Bus for Scripted {
+    type Error = Broken;
+
+    fn transaction(&mut self, address: u8, operations: &mut [Operation<'_>]) -> Result<(), Broken> {
+        let Some(Operation::Write(bytes)) = operations.first() else { panic!("a transaction begins with a write") };
+        self.frames.push(framed(address, bytes));
+        let does = self.script[(self.frames.len() - 1).min(self.script.len() - 1)];
+        let (Answers(left) | Fails(left)) = does;
+        if let Some(Operation::Read(to)) = operations.get_mut(1) {
+            assert!(to.iter().all(|byte| *byte == 0), "the room of an answer is zeros before");
+            let count = left.len().min(to.len());
+            to[..count].copy_from_slice(&left[..count]);
+        }
+        match does {
+            Answers(_) => Ok(()),
+            Fails(_) => Err(Broken(self.frames.len())),
+        }
+    }
+}
+
+/// A part whose frames are kept.
+struct Watched {
+    part: Part,
+    frames: Vec<Vec<u8>>,
+}
+
+impl Bus for Watched {
+    type Error = NoAnswer;
+
+    fn transaction(&mut self, address: u8, operations: &mut [Operation<'_>]) -> Result<(), NoAnswer> {
+        let Some(Operation::Write(bytes)) = operations.first() else { panic!("a transaction begins with a write") };
+        self.frames.push(framed(address, bytes));
+        self.part.transaction(address, operations)
+    }
+}
+
+fn host() -> Host {
+    Host::new(0x58, 2, 3).unwrap()
+}
+
+// VOUT_COMMAND 34CDh of output 0 as it is answered, without the address; and the same with another PEC.
+const ANSWER: &[u8] = &[0x02, 0xCD, 0x34, 0xB9];
+const DAMAGED: &[u8] = &[0x02, 0xCD, 0x34, 0xB8];
+
+#[test]
+fn a_refused_job_is_an_error_and_sends_nothing() {
+    let (mut host, _) = learned();
+    host.narrow(0, Limits { least: 3_200_000, most: 3_465_000 }).unwrap();
+    for (job, refusal) in [
+        (Job::OrderMicro(COMMAND, 12_000_000), Refusal::L4AboveLimit),
+        (Job::Order(COMMAND, 0xFFFF), Refusal::L4AboveLimit),
+        (Job::OrderMicro(COMMAND, 3_199_000), Refusal::L3BelowLimit),
+        (Job::Order(Cell::Output(0, Register::Operation), 0x80), Refusal::L5NotKnownWithin),
+        (Job::OrderMicro(Cell::WriteProtect, 1), Refusal::H5BadWord),
+        (Job::Check(Cell::Output(9, Register::VoutMax)), Refusal::H4UnknownOutput),
+        (Job::Learn(9), Refusal::H4UnknownOutput),
+        (Job::Clear(9), Refusal::H4UnknownOutput),
+    ] {
+        let mut bus = Scripted::new(&[Answers(ANSWER)]);
+        assert_eq!(host.carry_out(job, &mut bus), Err(NotDone::Refused(refusal)), "{job:?}");
+        assert_eq!(bus.frames, [[0; 0]; 0], "{job:?}");
+    }
+}
+
+#[test]
+fn no_command_is_done_over_a_dead_bus() {
+    for (job, frame) in [
+        (Job::Store, &[0xB0, 0x15, 0x24][..]),
+        (Job::Restore, &[0xB0, 0x16, 0x2D]),
+        (Job::Clear(1), &[0xB0, 0x05, 0x02, 0x01, 0x03, 0x45]),
+    ] {
+        let mut bus = Scripted::new(&[Fails(&[])]);
+        let end = host().carry_out(job, &mut bus);
+        assert_eq!(end, Err(NotDone::Unknown { error: Some(Broken(3)), fault: None }), "{job:?}");
+        assert_eq!(bus.frames, [frame; 3], "{job:?}");
+    }
+}
+
+#[test]
+fn what_a_failed_transaction_left_is_no_answer() {
+    let unknown = Err(NotDone::Unknown { error: Some(Broken(3)), fault: None });
+    let (mut host, mut bus) = (host(), Scripted::new(&[Fails(ANSWER)]));
+    assert_eq!(host.carry_out(Job::Check(COMMAND), &mut bus), unknown);
+    assert_eq!((bus.frames.len(), host.standing(COMMAND)), (3, Ok(None)));
+    let mut bus = Scripted::new(&[Fails(ANSWER)]);
+    let end = host.carry_out(Job::Order(COMMAND, 0x34CD), &mut bus);
+    assert_eq!(end, Err(NotDone::Unknown { error: Some(Broken(6)), fault: None }));
+    assert_eq!((bus.frames.len(), host.standing(COMMAND)), (6, Ok(None)));
+}
+
+#[test]
+fn unknown_says_what_the_bus_and_the_last_answer_had() {
+    // VOUT_MODE 60h is no format; its answer is good.
+    const NO_FORMAT: &[u8] = &[0x01, 0x60, 0x05];
+    let wrong_pec = Some(Refusal::F5WrongPec);
+    let (check, order, learn) = (Job::Check(COMMAND), Job::Order(COMMAND, 1), Job::Learn(0));
+    let rows: [(Job, &[Does], _); 6] = [
+        (check, &[Answers(DAMAGED)], (None, wrong_pec)),
+        (check, &[Answers(&[])], (None, Some(Refusal::F4WrongCount))),
+        (check, &[Fails(&[]), Answers(DAMAGED)], (Some(Broken(1)), wrong_pec)),
+        (check, &[Answers(DAMAGED), Fails(&[])], (Some(Broken(3)), None)),
+        (order, &[Fails(&[]), Answers(DAMAGED)], (Some(Broken(1)), wrong_pec)),
+        (learn, &[Answers(DAMAGED), Answers(NO_FORMAT)], (None, None)),
+    ];
+    for (job, script, (error, fault)) in rows {
+        let end = host().carry_out(job, &mut Scripted::new(script));
+        assert_eq!(end, Err(NotDone::Unknown { error, fault }), "{job:?} {script:?}");
+        let source = end.unwrap_err().source().map(ToString::to_string);
+        assert_eq!(source, error.map(|it| it.to_string()), "{job:?} {script:?}");
+    }
+}
+
+#[test]
+fn a_wrong_answer_before_a_good_one_is_no_error() {
+    let mut bus = Scripted::new(&[Answers(DAMAGED), Fails(&[]), Answers(ANSWER)]);
+    assert_eq!(host().carry_out(Job::Check(COMMAND), &mut bus), Ok(Done::Word(0x34CD)));
+    assert_eq!(bus.frames, [[0xB0, 0x06, 0x02, 0x00, 0x21]; 3]);
+}
+
+#[test]
+fn each_job_sends_its_own_frames() {
+    let of = |output, register| Cell::Output(output, register);
+    let rows: [(Job, Done, &[&[u8]]); 9] = [
+        (Job::Clear(0), Done::Acknowledged, &[&[0xB0, 0x05, 0x02, 0x00, 0x03, 0x50]]),
+        (Job::Clear(1), Done::Acknowledged, &[&[0xB0, 0x05, 0x02, 0x01, 0x03, 0x45]]),
+        (Job::Store, Done::Acknowledged, &[&[0xB0, 0x15, 0x24]]),
+        (Job::Restore, Done::Acknowledged, &[&[0xB0, 0x16, 0x2D]]),
+        (Job::Learn(1), Done::Learned(Format::Ulinear16(-12)), &[&[0xB0, 0x06, 0x02, 0x01, 0x20]]),
+        (Job::Check(of(1, Register::VoutMin)), Done::Word(0), &[&[0xB0, 0x06, 0x02, 0x01, 0x2B]]),
+        (
+            Job::Order(of(1, Register::VoutCommand), 0x34CD),
+            Done::Word(0x34CD),
+            &[&[0xB0, 0x05, 0x04, 0x01, 0x21, 0xCD, 0x34, 0x4C], &[0xB0, 0x06, 0x02, 0x01, 0x21]],
+        ),
+        (
+            Job::Order(of(1, Register::Operation), 0x80),
+            Done::Word(0x80),
+            &[&[0xB0, 0x05, 0x03, 0x01, 0x01, 0x80, 0x69], &[0xB0, 0x06, 0x02, 0x01, 0x01]],
+        ),
+        (Job::Order(Cell::WriteProtect, 0x80), Done::Word(0x80), &[&[0xB0, 0x10, 0x80, 0x34], &[0xB0, 0x10]]),
+    ];
+    for (job, done, frames) in rows {
+        let mut bus = Watched { part: part(), frames: Vec::new() };
+        assert_eq!(host().carry_out(job, &mut bus), Ok(done), "{job:?}");
+        assert_eq!(bus.frames, frames, "{job:?}");
+    }
+}
+
+#[test]
+fn a_protected_part_makes_an_order_an_error() {
+    let mut part = Part::protected(0x58, &[Output::default()], (1, 0, 3), 0x80).unwrap();
+    let mut host = Host::new(0x58, 1, 3).unwrap();
+    let mut order = || -> Result<Done, NotDone<NoAnswer>> {
+        host.carry_out(Job::Learn(0), &mut part)?;
+        host.carry_out(Job::OrderMicro(COMMAND, 3_300_000), &mut part)?;
+        host.carry_out(Job::Check(COMMAND), &mut part)
+    };
+    assert_eq!(order(), Err(NotDone::Differs { word: 0x1000 }));
+    assert_eq!(part.commanded(0), Ok(1_000_000));
+}
+
+// In steps of one microvolt round 33.554433 V, which is 2 to the 25th, and 1: no number of 32 floating bits.
+#[test]
+fn microvolts_are_exact() {
+    const EXACT: i64 = 33_554_433;
+    let direct = Format::Direct { m: 100, b: -3355, r: 4 };
+    assert_eq!((direct.nearest_word(EXACT), direct.microvolts(4433)), (Ok(4433), Ok(EXACT)));
+    let mut part = Part::new(0x58, &[Output { mode: 0x40, ..Output::default() }], (100, -3355, 4)).unwrap();
+    let mut host = Host::new(0x58, 1, 3).unwrap();
+    assert_eq!(host.carry_out(Job::Learn(0), &mut part), Ok(Done::Learned(direct)));
+    assert_eq!(host.carry_out(Job::OrderMicro(COMMAND, EXACT), &mut part), Ok(Done::Word(4433)));
+    assert_eq!(part.commanded(0), Ok(EXACT));
+    let limits = Limits { least: EXACT, most: EXACT };
+    host.narrow(0, limits).unwrap();
+    assert_eq!(host.limits(0), Ok(Some(limits)));
+    for (microvolts, wanted) in
+        [(EXACT, Ok(())), (EXACT - 1, Err(Refusal::L3BelowLimit)), (EXACT + 1, Err(Refusal::L4AboveLimit))]
+    {
+        assert_eq!(host.clone().order_micro(COMMAND, microvolts), wanted, "{microvolts}");
+    }
+}
+
+#[test]
+fn an_output_that_isnt_there_is_h4() {
+    let (host, cell) = (host(), Cell::Output(9, Register::VoutCommand));
+    let found = [
+        ("limits", host.limits(9).err()),
+        ("within", host.within(9).err()),
+        ("band", host.band(9).err()),
+        ("format", host.format(9).err()),
+        ("standing", host.standing(cell).err()),
+        ("possible", host.possible(cell).err()),
+        ("narrow", host.clone().narrow(9, Limits { least: 0, most: 1 }).err()),
+    ];
+    for (name, refusal) in found {
+        assert_eq!(refusal, Some(Refusal::H4UnknownOutput), "{name}");
+    }
+}
+
+#[test]
+fn an_error_is_one_line() {
+    let unknown = |error, fault| NotDone::Unknown { error, fault };
+    for (end, line) in [
+        (NotDone::Refused(Refusal::L4AboveLimit), "refused: L4 AboveLimit"),
+        (NotDone::Differs { word: 0x34C8 }, "the part holds 34C8: the order was lost, refused, limited or rounded"),
+        (unknown(None, None), "it isn't known what became of the job: no good answer or acknowledgement came"),
+        (
+            unknown(Some(Broken(2)), Some(Refusal::F5WrongPec)),
+            "it isn't known what became of the job: no good answer or acknowledgement came; the last answer: F5 WrongPec; \
+             a transfer failed",
+        ),
+    ] {
+        assert_eq!(end.to_string(), line);
+        let boxed: Box<dyn Error> = end.into();
+        assert_eq!(boxed.to_string(), line);
+    }
+}

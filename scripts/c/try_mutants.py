@@ -1,0 +1,202 @@
+#!/usr/bin/env python3
+"""Plants bugs in pm.h, in examples/c/i2c_dev.c and in rust/src, each in a copy, and asks whether the test notices that is named
+beside it.
+
+    scripts/c/try_mutants.py --built FOLDER [WORD ..]
+
+FOLDER has libpm_c.a and libpm_part.a. WORDs choose the mutants whose names have one of them; all if left out. It wants gcc, and
+cargo for those in Rust. A line for each mutant; the last line says how many were noticed and how many weren't.
+"""
+import os
+import re
+import shutil
+import subprocess
+import sys
+import tempfile
+
+sys.dont_write_bytecode = True
+ROOT = os.path.dirname(os.path.dirname(os.path.dirname(os.path.abspath(__file__))))
+HEADER, BUS = "crates/pm_c/include/pm.h", "examples/c/i2c_dev.c"
+HOST, NUMBER, PART, DONE = (f"rust/src/{name}.rs" for name in ("host", "number", "part", "done"))
+WRITE, COUNT = "write(context, frame.bytes, frame.length) == PM_ACKED", "came == 0 || came > room ? 0 : came + 1"
+FAILED_WRITE = "*error = Some(why);\n                self.finished(false)"
+FAILED_READ = "*error = Some(why);\n                self.got(&[])"
+
+# What is planted, the file, the text and what stands in its place.
+# Of pm.h: the row of examples/c/run_rows.c that differs then.
+ROWS = [
+    ("every write is believed", WRITE, "(write(context, frame.bytes, frame.length), 1)", "a write that answers 0"),
+    ("what isn't 0 is an acknowledgement", WRITE, WRITE.replace("== PM_ACKED", "!= 0"), "a write that answers 1"),
+    ("whatever but 5Ah is one", WRITE, WRITE.replace("== PM_ACKED", "!= PM_NOT_ACKED"), "a write that answers 0"),
+    ("3Ch is one", WRITE, WRITE.replace("== PM_ACKED", "* 2 % 16 >= 8"), "a write that answers 3Ch"),
+    ("one bit is looked at", WRITE, WRITE.replace("== PM_ACKED", "& 0x80"), "a write that answers A4h"),
+    ("PM_ACKED is 1", "PM_ACKED = 0xA5", "PM_ACKED = 1", "a write that answers 1"),
+    ("0 is an acknowledgement", WRITE, WRITE.replace("== PM_ACKED", "== PM_OK"), "a store"),
+    ("bytes beyond the room are told", COUNT, "came == 0 ? 0 : came + 1", "one byte more than the room"),
+    ("they are cut to the room", COUNT, "came == 0 ? 0 : came > room ? room + 1 : came + 1", "one byte more than the room"),
+    ("a whole answer is too long", COUNT, COUNT.replace(">", ">="), "a word is read"),
+    ("the buffer keeps the last answer", "            uint8_t answer[8] = {0", "            static uint8_t answer[8] = {0",
+     "an answer, and then nothing is put"),
+    ("the buffer isn't zero before", "{0, 0, 0, 0, 0, 0, 0, 0}", "{0, 1, 1, 1, 1, 1, 1, 1}", "a word is read"),
+    ("room for a byte too many", "(uint64_t)frame.answer - 1;", "(uint64_t)frame.answer;", "a word is read"),
+    ("a refusal isn't told", "    if (number != PM_OK)\n        step.kind = number;\n", "", "the memory holds no host"),
+    ("one byte where none came", COUNT, "came > room ? 0 : came + 1", "none came"),
+    ("the write address for the read address", "(frame.bytes[0] | 1)", "(frame.bytes[0])", "a word is read"),
+    ("at most four turns", "    while (number == PM_OK && frame.kind != PM_NOTHING) {",
+     "    for (int turns = 0; turns < 4 && number == PM_OK && frame.kind != PM_NOTHING; turns++) {", "fifteen passes"),
+    ("what the last answer had is lost", "        number = pm_host_sending(host, &frame);\n    }",
+     "        number = pm_host_sending(host, &frame);\n        step.word = 0;\n    }", "another PEC"),
+    ("done where no job is open", "pm_step step = {PM_UNKNOWN, 0};", "pm_step step = {PM_DONE, 0};", "no job is open"),
+]
+# Of pm.h: the calls whose answer must be asked, with their arguments.
+CALLS = ["new(&host, 0x58, 1, 3)", "narrow(&host, 0, 1, 2)", "order(&host, 0, PM_OPERATION, 0)", "order_micro(&host, 0, PM_VOUT_MAX, 1)",
+         "check(&host, 0, PM_OPERATION)", "learn(&host, 0)", "clear(&host, 0)", "store(&host)", "restore(&host)", "run(&host, 0, 0, 0)"]
+# Of i2c_dev.c: the mishaps of the transfers, and what it prints without the bug.
+BLOCK = "    sigprocmask(SIG_BLOCK, &ending, &before);\n"
+TRANSFERS = [
+    ("no signal is held off", BLOCK, "    sigprocmask(SIG_BLOCK, NULL, &before);\n", "ok int", "transfer 2 went on\n"),
+    *[(f"{name} isn't held off", f"    sigaddset(&ending, {name});\n", "", f"ok {name[3:].lower()}", "transfer 2 went on\n")
+      for name in ("SIGINT", "SIGTERM", "SIGQUIT")],
+    ("signals stay held off", "    sigprocmask(SIG_SETMASK, &before, NULL);\n", "", "ok int", "transfer 2 went on\n"),
+    ("a read that failed is told", "== 0 ? room : 0", "== 0 ? room : room", "deaf deaf deaf",
+     "i2c_dev: learn: 3 of 3 transfers failed, the last: No such device or address\n"),
+    ("one of two messages is a transfer", "if (went == count)", "if (went >= 1)", "short0 short0 short1",
+     "i2c_dev: learn: 3 of 3 transfers failed, the last: 1 of 2 messages went\n"),
+]
+# Of rust/src: the test that fails, or the item whose documentation has it.
+TESTS = [
+    ("an acknowledgement whatever the bus says", HOST, FAILED_WRITE, FAILED_WRITE.replace("false", "true"), "no_command_is_done_over_a_dead_bus"),
+    ("a failed read is told", HOST, FAILED_READ, FAILED_READ.replace("&[]", "{ came[0] = frame[0] | 1; &*came }"),
+     "what_a_failed_transaction_left_is_no_answer"),
+    ("ordered microvolts through f32", HOST, "output, code, microvolts)", "output, code, microvolts as f32 as i64)", "microvolts_are_exact"),
+    ("limits through f32", HOST, "output, limits.least,", "output, limits.least as f32 as i64,", "microvolts_are_exact"),
+    ("the nearest word through f32", NUMBER, "microvolts, &mut found)", "microvolts as f32 as i64, &mut found)", "microvolts_are_exact"),
+    ("a refusal is dropped", HOST, "self.begin(job)?;", "let _ = self.begin(job);", "a_refused_job_is_an_error_and_sends_nothing"),
+    ("the version isn't compared", HOST, "if found != wanted {", "if (found.1, found.2) != (wanted.1, wanted.2) {", "another_library_is_refused"),
+    ("the layout isn't compared", HOST, "if found != wanted {", "if (found.0, found.2) != (wanted.0, wanted.2) {", "another_library_is_refused"),
+    ("the size isn't compared", HOST, "if found != wanted {", "if (found.0, found.1) != (wanted.0, wanted.1) {", "another_library_is_refused"),
+    ("a part's size isn't compared", PART, "!= ffi::PART_SIZE as u64", "== 0", "another_library_is_refused"),
+    ("clear goes to output 0", HOST, "pm_host_clear(&mut self.image, output)", "pm_host_clear(&mut self.image, output & 0)",
+     "each_job_sends_its_own_frames"),
+    ("store restores", HOST, "pm_host_store(&mut self.image)", "pm_host_restore(&mut self.image)", "each_job_sends_its_own_frames"),
+    ("every order is of output 0", HOST, "Cell::Output(output, register) => (output,", "Cell::Output(_, register) => (0,",
+     "each_job_sends_its_own_frames"),
+    ("no output has no limits", HOST, "Err(Refusal::NoLimits) =>", "Err(Refusal::NoLimits | Refusal::H4UnknownOutput) =>",
+     "an_output_that_isnt_there_is_h4"),
+    ("another word is done", HOST, "return Err(NotDone::Differs { word }),", "return Ok(drop(word)),", "a_protected_part_makes_an_order_an_error"),
+    ("unknown is done", HOST, "return Err(NotDone::Unknown { error, fault }),", "return Ok(drop((error, fault))),",
+     "no_command_is_done_over_a_dead_bus"),
+    ("a write's error is lost", HOST, FAILED_WRITE, FAILED_WRITE.replace("Some(why)", "None.or(drop(why).into()).and(None)"),
+     "no_command_is_done_over_a_dead_bus"),
+    ("a read's error is lost", HOST, FAILED_READ, FAILED_READ.replace("Some(why)", "None.or(drop(why).into()).and(None)"),
+     "unknown_says_what_the_bus_and_the_last_answer_had"),
+    ("the first error, not the last", HOST, FAILED_READ, FAILED_READ.replace("*error = Some(why);", "error.get_or_insert(why);"),
+     "what_a_failed_transaction_left_is_no_answer"),
+    ("what the last answer had is lost", HOST, "fault: accepted(step.word.to_le_bytes()[0]).err()", "fault: None",
+     "unknown_says_what_the_bus_and_the_last_answer_had"),
+    ("the bus is no source", DONE, "Some(error), .. } => Some(error),", "Some(_), .. } => None,",
+     "unknown_says_what_the_bus_and_the_last_answer_had"),
+    ("the buffer isn't zero before", HOST, "let mut bytes = [0; 8];", "let mut bytes = [1; 8];", "a_wrong_answer_before_a_good_one_is_no_error"),
+    ("a step may be dropped", HOST, '#[must_use = "a job may have ended in another way than `Done`"]\n', "", "host::Step"),
+]
+
+
+class Copy:
+    """What is tried on: a copy of the files, with one text in the place of another."""
+
+    def __init__(self, folder, built):
+        self.folder, self.built = folder, built
+        for each in ("crates/pm_c/include", "crates/pm_part/include", "examples/c", "rust"):
+            shutil.copytree(os.path.join(ROOT, each), os.path.join(folder, each), ignore=shutil.ignore_patterns("target"))
+
+    def run(self, *words, **environment):
+        done = subprocess.run(words, cwd=self.folder, env={**os.environ, **environment}, stdin=subprocess.DEVNULL,
+                              stdout=subprocess.PIPE, stderr=subprocess.STDOUT, text=True)
+        return done.returncode, done.stdout
+
+    def planted(self, path, old, new, test, *given):
+        """Whether a test passes without the bug, and fails with it."""
+        path = os.path.join(self.folder, path)
+        with open(path, encoding="utf-8") as file:
+            text = file.read()
+        if text.count(old) != 1:
+            return f"its text stands {text.count(old)} times"
+        if not test(*given):
+            return "its test fails without it"
+        with open(path, "w", encoding="utf-8") as file:
+            file.write(text.replace(old, new))
+        try:
+            return test(*given) and "NOT NOTICED"
+        finally:
+            with open(path, "w", encoding="utf-8") as file:
+                file.write(text)
+
+    def program(self, name, *words):
+        found = self.run("gcc", "-O1", "-Icrates/pm_c/include", "-Icrates/pm_part/include", *words, os.path.join(self.built, "libpm_c.a"),
+                         os.path.join(self.built, "libpm_part.a"), "-o", name)
+        if found[0]:
+            sys.exit(found[1])
+
+    def row(self, name):
+        """Whether this row of run_rows.c is right."""
+        self.program("rows", "examples/c/run_rows.c")
+        return f"\n{name}: " not in "\n" + self.run("./rows")[1]
+
+    def warns(self, call):
+        """Whether gcc warns of this call alone on a line."""
+        with open(os.path.join(self.folder, "drops.c"), "w", encoding="utf-8") as file:
+            file.write(f'#include "pm.h"\nstatic pm_host host;\nint main(void) {{ pm_host_{call}; return 0; }}\n')
+        return self.run("gcc", "-Icrates/pm_c/include", "-Werror=unused-result", "-c", "drops.c")[0] != 0
+
+    def transfers(self, mishaps, wanted):
+        """Whether an order over the stand-in for the kernel prints this."""
+        self.program("bus", "-Wl,--wrap=open,--wrap=ioctl,--wrap=close", BUS, "examples/c/stand_in.c")
+        return self.run("./bus", "/dev/i2c-1", "58", "0", "3300000", MISHAPS=mishaps)[1] == wanted
+
+    def rust(self, test):
+        """Whether a test of the crate passes: one of tests/, or those in the documentation of an item."""
+        words = ["--doc" if "::" in test else "--test=calls", "--", test]
+        status, text = self.run("cargo", "test", "--offline", "--manifest-path", "rust/Cargo.toml", *words,
+                                PM_ARCHIVES=self.built, CARGO_TARGET_DIR=os.path.join(self.folder, "target"))
+        if "error: could not compile" in text or not re.search(r"ok\. [1-9]\d* passed|FAILED", text):
+            sys.exit(text)
+        return status == 0
+
+
+def mutants(copy):
+    """Each mutant's name, and the question that it answers."""
+    for name, old, new, row in ROWS:
+        yield f"pm.h: {name}", f"run_rows.c, {row}", lambda: copy.planted(HEADER, old, new, copy.row, row)
+    for call in CALLS:
+        kind = "static inline pm_step" if call.startswith("run") else "uint8_t"
+        begin = f"{kind} pm_host_{call.partition('(')[0]}("
+        yield (f"pm.h: {call.partition('(')[0]} may be dropped", "dropped answers",
+               lambda: copy.planted(HEADER, f"PM_MUST_USE\n{begin}", begin, copy.warns, call))
+    for name, old, new, mishaps, wanted in TRANSFERS:
+        yield f"i2c_dev.c: {name}", f"the row of {mishaps}", lambda: copy.planted(BUS, old, new, copy.transfers, mishaps, wanted)
+    for name, path, old, new, test in TESTS:
+        yield f"{path[5:]}: {name}", test, lambda: copy.planted(path, old, new, copy.rust, test)
+
+
+def main():
+    words = sys.argv[1:]
+    if "--help" in words or "-h" in words:
+        print(__doc__.strip())
+        return 0
+    if words[:1] != ["--built"] or len(words) < 2 or not os.path.isfile(os.path.join(words[1], "libpm_c.a")):
+        print("try_mutants.py: give --built FOLDER, one with libpm_c.a and libpm_part.a", file=sys.stderr)
+        return 2
+    noticed = missed = 0
+    with tempfile.TemporaryDirectory() as folder:
+        for name, test, ask in mutants(Copy(folder, os.path.abspath(words[1]))):
+            if words[2:] and not any(word in name for word in words[2:]):
+                continue
+            wrong = ask()
+            noticed, missed = noticed + (not wrong), missed + bool(wrong)
+            print(f"{name}: {wrong or f'noticed by {test}'}", flush=True)
+    print(f"{noticed} passed, {missed} failed")
+    return int(missed > 0)
+
+
+if __name__ == "__main__":
+    sys.exit(main())
