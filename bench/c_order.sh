@@ -17,7 +17,7 @@ else
     grep -o 'frame-bytes=[0-9]* stack-bytes=[0-9]*' "$folder/log"
     archive=crates/pm_c/out/libpm_c.a
 fi
-gcc -O2 -Icrates/pm_c/include bench/c_order.c "$archive" -o "$folder/bench"
+gcc -O2 -Wno-unused-result -Icrates/pm_c/include bench/c_order.c "$archive" -o "$folder/bench"
 "$folder/bench"
 # counted ORDERS: the instructions of a program that gives so many
 counted() { valgrind --tool=callgrind --callgrind-out-file=/dev/null "$folder/bench" loop linear "$1" 2>&1 | sed -n 's/.*Collected : //p'; }
@@ -28,5 +28,5 @@ else
 fi
 size "$archive" | awk 'NR == 2 {print "archive: " $1 " bytes of text, " $2 + $3 " of data"}'
 echo "symbols that it wants: $(nm -u "$archive" | grep -c ' U ' || true)"
-gcc -O2 -Icrates/pm_c/include -Wl,--gc-sections examples/c/order.c "$archive" -o "$folder/order"
+gcc -O2 -Wno-unused-result -Icrates/pm_c/include -Wl,--gc-sections examples/c/order.c "$archive" -o "$folder/order"
 size "$folder/order" | awk 'NR == 2 {print "a linked order: " $1 " bytes of text"}'
