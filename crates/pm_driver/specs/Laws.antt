@@ -11,14 +11,25 @@ use Rattle.pm_host.specs.Summary.{start}
 use Rattle.pm_host.specs.Transcript.{Job, last_job}
 use Rattle.pm_world.specs.declared.event.Event.{Event}
 use Rattle.pm_world.specs.Honest.{IsSpelled}
+use Rattle.pm_world.specs.Laws.{ConfirmedSettingsAreHeld, LearnedFormatsAreTrue, LivesAreFollowed, LivesAreOrders, PossibleWordsAreHeld}
 use Rattle.pm_world.specs.Life.{life, now}
+use Rattle.pm_world.specs.Lived.{IsLived}
 use Rattle.pm_world.specs.Limited.{StartsWithin}
+use Rattle.pm_world.specs.LimitLaws.{LivesStayLimited}
 use Rattle.pm_world.specs.Setup.{setup_of}
-use Rattle.pm_world.specs.Uncertainty.{AreLegal}
 use Rattle.pm_driver.specs.Acts.{Act, Call}
 use Rattle.pm_driver.specs.Driven.{HasLifeWithin, MayBegin}
 use Rattle.pm_driver.specs.Ends.{EndSays}
 use Rattle.pm_driver.specs.Lives.{Driven, Leads, newest_tells}
+
+-- the laws of lives that a driver keeps its promises by
+pub record LawsOfLives : Type 0 where
+  pub followed : LivesAreFollowed
+  pub orders : LivesAreOrders
+  pub formats : LearnedFormatsAreTrue
+  pub confirmed : ConfirmedSettingsAreHeld
+  pub possible : PossibleWordsAreHeld
+  pub limited : LivesStayLimited
 
 -- What leads on from where something led is one that leads from its beginning: calls compose.
 abbrev pub LeadsCompose : {B : Type 0} → (B → Call → B → Type 0) → (B → Held) → Type 0
@@ -28,7 +39,7 @@ LeadsCompose {B = B} gives held = (first second : List Act) (middle end : Option
 -- In every life whose newest event is one that the host was told of, the end of the last job says what it is worth.
 abbrev pub EndsAreTrue : Type 0
 EndsAreTrue = (config : Config) (passes : ℕ) (events : List Event) (job : Job) (end : JobEnd) →
-    IsSound config → IsSpelled config → IsSetup (setup_of config passes) → AreLegal config passes events →
+    IsSpelled config → IsLived config passes events →
     newest_tells events ≡ true → last_job (life config passes events).entries ≡ Some job →
     (now config passes events).end ≡ Some end →
     EndSays job (now config passes events).host (now config passes events).device end

@@ -12,11 +12,10 @@ ghost use Rattle.pm_driver.specs.Lives.{Leads};
 
 use crate::bus::Bus;
 use crate::frames::carry_out;
-use crate::laws::{ends_are_true, jobs_lead, leads_compose, renewals_lead};
+use crate::laws::{ends_are_true, jobs_lead, laws_of_lives, leads_compose, renewals_lead};
 use pm_host::{Command, Host, Job, JobEnd};
 use pm_limits::{Guard, LimitFault};
 use pm_table::Cell;
-use pm_world::legal_lives_are_followed;
 use std::marker::Model;
 
 /// A host with its limits, and the bus of its converter. Each call that asks for a job carries it out, and answers how
@@ -66,7 +65,7 @@ impl<B: Bus> Driver<B> {
             HasLifeWithin output bounds was (B.held bus) → HasLifeWithin output bounds guard.host (B.held bus) }
     {
         // Hands its law to the prover.
-        legal_lives_are_followed();
+        laws_of_lives();
         Driver { guard, bus }
     }
 
@@ -79,7 +78,7 @@ impl<B: Bus> Driver<B> {
         ends_are_true();
         jobs_lead::<B>();
         leads_compose::<B>();
-        legal_lives_are_followed();
+        laws_of_lives();
         self.guard.begin(job)?;
         match carry_out(&mut self.guard, &mut self.bus) {
             Some(end) => Ok(end),
@@ -150,7 +149,7 @@ impl<B: Bus> Driver<B> {
     {
         // These calls hand their laws to the prover.
         renewals_lead::<B>();
-        legal_lives_are_followed();
+        laws_of_lives();
         self.guard.restart();
     }
 
@@ -188,7 +187,7 @@ impl<B: Bus> Driver<B> {
     pub fn laws(&self)
         ensures { IsTrueOf self.now.guard.host (B.held self.now.bus) }
     {
-        legal_lives_are_followed();
+        laws_of_lives();
         // Opens the driver to the prover.
         let _ = &self.guard;
     }

@@ -1,12 +1,27 @@
 //! The laws of a driver: each is the contract of a function that does nothing when it runs.
 
-ghost use Rattle.pm_driver.specs.Laws.{EndsAreTrue, LeadsCompose, NewConvertersAreWithin, NewConvertersMayBegin};
+ghost use Rattle.pm_driver.specs.Laws.{EndsAreTrue, LawsOfLives, LeadsCompose, NewConvertersAreWithin, NewConvertersMayBegin};
 ghost use Rattle.pm_driver.specs.Steps.{FramesLead, JobsLead, RenewalsLead};
 
 use crate::bus::Bus;
 use pm_host::transcripts_are_followed;
 use pm_table::cells_are_told_apart;
-use pm_world::legal_lives_are_followed;
+use pm_world::{
+    confirmed_settings_are_held, learned_formats_are_true, lives_are_followed, lives_are_orders,
+    lives_stay_limited, possible_words_are_held,
+};
+
+/// What `pm_world` says of each life, which the laws below are had from.
+pub(crate) fn laws_of_lives()
+    ensures { LawsOfLives }
+{
+    lives_are_followed();
+    lives_are_orders();
+    learned_formats_are_true();
+    confirmed_settings_are_held();
+    possible_words_are_held();
+    lives_stay_limited();
+}
 
 /// What leads on from where something led is one that leads from its beginning: calls compose.
 pub fn leads_compose<B: Bus>()
@@ -21,40 +36,40 @@ pub fn ends_are_true()
 {
     cells_are_told_apart();
     transcripts_are_followed();
-    legal_lives_are_followed();
+    laws_of_lives();
 }
 
 /// A new host may begin beside a converter as it was made.
 pub fn new_converters_may_begin()
     ensures { NewConvertersMayBegin }
 {
-    legal_lives_are_followed();
+    laws_of_lives();
 }
 
 /// Where the start words of an output's voltages lie within limits, all words of a converter as it was made do.
 pub fn new_converters_are_within()
     ensures { NewConvertersAreWithin }
 {
-    legal_lives_are_followed();
+    laws_of_lives();
 }
 
 /// A call of the frame that the host was sending, whose answer the host is told, leads on.
 pub(crate) fn frames_lead<B: Bus>()
     ensures { FramesLead B.gives B.held }
 {
-    legal_lives_are_followed();
+    laws_of_lives();
 }
 
 /// A job that the host accepts leads on.
 pub(crate) fn jobs_lead<B: Bus>()
     ensures { JobsLead B.gives B.held }
 {
-    legal_lives_are_followed();
+    laws_of_lives();
 }
 
 /// A restart of the host leads on.
 pub(crate) fn renewals_lead<B: Bus>()
     ensures { RenewalsLead B.gives B.held }
 {
-    legal_lives_are_followed();
+    laws_of_lives();
 }

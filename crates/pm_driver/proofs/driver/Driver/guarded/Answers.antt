@@ -4,8 +4,8 @@ use Rattle.pm_driver.proofs.driver.Driver.guarded.Goals as goal
 
 pub invariant_of-result : goal.invariant_of-result
 invariant_of-result g c =
-    begins-lived c.legal_lives_are_followed.ensures c.args.guard.host (g.B.Bus.held c.args.bus) c.requires
+    begins-lived c.laws_of_lives.ensures c.args.guard.host (g.B.Bus.held c.args.bus) c.requires
 
 pub returns-clause-within : goal.returns-clause-within
 returns-clause-within g c = λ was output bounds same lived.
-    begins-within c.legal_lives_are_followed.ensures was c.args.guard.host (g.B.Bus.held c.args.bus) c.requires same output bounds lived
+    begins-within c.laws_of_lives.ensures was c.args.guard.host (g.B.Bus.held c.args.bus) c.requires same output bounds lived
