@@ -4,14 +4,10 @@ use Rattle.std.proofs.Common.{◌+◌, ap, arith, subst}
 use Rattle.std.specs.Option.{option_or}
 use Rattle.std.specs.Prelude.{IsSomeAnd}
 use Rattle.pm_device.specs.declared.config.Config.{Config}
-use Rattle.pm_num.specs.Ratio.{Ratio, is_above}
-use Rattle.pm_table.specs.declared.reg.Reg.TheVariants.{VoutMax, VoutMin}
-use Rattle.pm_table.specs.Cell.{is_voltage}
-use Rattle.pm_limits.specs.Lemmas.Selected.{each-selected}
-use Rattle.pm_model.specs.Commanded.{commanded, limited, selected_register}
+use Rattle.pm_model.specs.Commanded.{commanded}
 use Rattle.pm_model.specs.Settings.{word_at}
 use Rattle.pm_device.specs.Held.{Held, value_for}
-use Rattle.pm_device.specs.History.{start_of}
+use Rattle.pm_device.specs.History.{now as device_now, start_of}
 use Rattle.pm_device.specs.Start.{IsSound}
 use Rattle.pm_host.specs.declared.command.Command.TheVariants.{ClearFaults, StoreUserAll, RestoreUserAll}
 use Rattle.pm_host.specs.declared.job.Job.{Job}
@@ -27,7 +23,6 @@ use Rattle.pm_host.specs.Summary.{Summary, possible_at, standing_at, next as hos
 use Rattle.pm_host.specs.Transcript as host
 use Rattle.pm_world.specs.declared.event.Event.{Event}
 use Rattle.pm_world.specs.declared.event.Event.TheVariants.{Check, Clear, Learn, Order, RestartHost, Restore, Store}
-use Rattle.pm_world.specs.Laws.{LegalLivesAreFollowed}
 use Rattle.pm_world.specs.Life.{life, now, state_of}
 use Rattle.pm_world.specs.Retelling.{CommandsOwn, IsOwnWord}
 use Rattle.pm_world.specs.Setup.{setup_of, start}
@@ -38,7 +33,7 @@ use Rattle.pm_limits.specs.Bounds.{Bounds, IsWithin}
 use Rattle.pm_driver.specs.Driven.{HasLife, HasLifeWithin, HasNoRestartSince, IsTrueOf, MayBegin}
 use Rattle.pm_driver.specs.Bus.{restarts_in}
 use Rattle.pm_driver.specs.Ends.{EndSays}
-use Rattle.pm_driver.specs.Laws.{EndsAreTrue, LeadsCompose, NewConvertersMayBegin}
+use Rattle.pm_driver.specs.Laws.{EndsAreTrue, LawsOfLives, LeadsCompose, NewConvertersMayBegin}
 use Rattle.pm_driver.specs.Lives.{Driven, Goes, IsLife, Leads}
 use Rattle.pm_driver.specs.Steps.{JobsLead, RenewalsLead}
 use Rattle.pm_driver.proofs.Composed.{tells-append}
@@ -51,7 +46,7 @@ begun : {config : Config} {passes : ℕ} {before : List Event} {event : Event} {
 begun job is = record { is_life = is.is_life; told = is.told; ended = tt }
 
 -- there is an event for each
-pub job-goes : LegalLivesAreFollowed → {config : Config} {passes : ℕ} {before : List Event} {summary : Summary} {held : Held}
+pub job-goes : LawsOfLives → {config : Config} {passes : ℕ} {before : List Event} {summary : Summary} {held : Held}
     (job : host.Job) →
     job_fault summary job ≡ None → IsLife config passes before summary held →
     Goes config passes before (job_event job ∷ []) (Began job ∷ []) None (host_next summary (host.Accepted job)) held
@@ -87,7 +82,7 @@ none-more : (n : ℕ) → 0 + n ≡ n
 none-more n = omega arith
 
 -- so it leads on
-pub jobs-lead : LegalLivesAreFollowed → {B : Type 0} → (gives : B → Call → B → Type 0) → (held : B → Held) → (restarts : B → ℕ) → JobsLead gives held restarts
+pub jobs-lead : LawsOfLives → {B : Type 0} → (gives : B → Call → B → Type 0) → (held : B → Held) → (restarts : B → ℕ) → JobsLead gives held restarts
 jobs-lead laws gives held restarts summary bus job free = record {
   acts = Began job ∷ [];
   events = job_event job ∷ [];
@@ -102,7 +97,7 @@ jobs-lead laws gives held restarts summary bus job free = record {
 }
 
 -- a restart of the host leads on
-pub renewals-lead : LegalLivesAreFollowed → {B : Type 0} → (gives : B → Call → B → Type 0) → (held : B → Held) → (restarts : B → ℕ) → RenewalsLead gives held restarts
+pub renewals-lead : LawsOfLives → {B : Type 0} → (gives : B → Call → B → Type 0) → (held : B → Held) → (restarts : B → ℕ) → RenewalsLead gives held restarts
 renewals-lead laws gives held restarts summary bus = record {
   acts = Renewed ∷ [];
   events = RestartHost ∷ [];
@@ -130,7 +125,7 @@ unfolding host_next
 renewed-new summary = refl
 
 -- a driver begins with a life
-pub begins-lived : LegalLivesAreFollowed → (summary : Summary) (held : Held) → MayBegin summary held → HasLife summary held
+pub begins-lived : LawsOfLives → (summary : Summary) (held : Held) → MayBegin summary held → HasLife summary held
 begins-lived laws summary held may =
     let has = may.has in
     let one = grown laws RestartHost (tells host.Restarted) has.life refl tt refl in
@@ -145,21 +140,19 @@ begins-lived laws summary held may =
     }
 
 -- a converter as it was made has a life of no event
-pub new-lived : LegalLivesAreFollowed → (config : Config) (passes : ℕ) → IsSound config → IsSetup (setup_of config passes) →
+pub new-lived : LawsOfLives → (config : Config) (passes : ℕ) → IsSound config → IsSetup (setup_of config passes) →
     IsLife config passes [] (host_start (setup_of config passes)) (start_of config)
 unfolding start
 new-lived laws config passes sound made =
-    let none = laws.none config passes made in
+    let none = laws.followed.none config passes made in
     record {
-      sound = sound;
-      made = made;
-      legal = tt;
+      lived = record { sound = sound; made = made; legal = tt };
       host_is = ap (λ (s : State). s.host) none;
       held_is = ap (λ (s : State). s.device) none;
     }
 
 -- a driver may begin with a new host beside a converter as it was made
-pub new-begins : LegalLivesAreFollowed → NewConvertersMayBegin
+pub new-begins : LawsOfLives → NewConvertersMayBegin
 new-begins laws config passes sound spelled made = record {
   was = host_start (setup_of config passes);
   has = record {
@@ -172,34 +165,23 @@ new-begins laws config passes sound spelled made = record {
   made = refl;
 }
 
--- a voltage's register
-selected-voltage : (byte : ℕ) → is_voltage (selected_register byte) ≡ true
-selected-voltage byte = each-selected (λ r. is_voltage r ≡ true) refl refl refl byte
-
--- a value that is cut is one of the three
-one-of : (P : Ratio → Type 0) (s l g : Ratio) → P s → P l → P g → P (limited s l g)
-one-of P s l g ps pl pg = go (is_above s g) (is_above l s) (is_above l g) where
-  go : (over under crossed : Bool) → P (cond (over || under && crossed) g (cond under l s))
-  go true under crossed = pg
-  go false true true = pg
-  go false true false = pl
-  go false false crossed = ps
+-- the converter of a life has its configuration
+device-config : (config : Config) (passes : ℕ) (events : List Event) → (now config passes events).device.config ≡ config
+unfolding now state_of device_now
+device-config config passes events = refl
 
 -- an output whose words lie within limits commands a voltage within them
-limited-of : LegalLivesAreFollowed → (output : ℕ) (bounds : Bounds) (summary : Summary) (held : Held) →
+limited-of : LawsOfLives → (output : ℕ) (bounds : Bounds) (summary : Summary) (held : Held) →
     (lived : HasLifeWithin output bounds summary held) → output < lived.has.config.count →
     IsWithin bounds (commanded (value_for held.config output) held.words output)
 limited-of laws output bounds summary held lived there =
     let has = lived.has in
     let is = has.life in
-    let own = laws.commanded has.config has.passes has.events output is.sound is.made is.legal there in
-    let value = value_for has.config output in
+    let stays = laws.limited has.config has.passes has.events has.spelled is.lived in
     subst (λ (d : Held). IsWithin bounds (commanded (value_for d.config output) d.words output)) is.held_is
-    (subst (λ (v : Ratio). IsWithin bounds v) (sym own.cut)
-    (one-of (λ v. IsWithin bounds v) (value own.selected) (value own.least) (value own.most)
-    (lived.within (selected_register own.operation) own.selected (selected-voltage own.operation) own.own_selected)
-    (lived.within VoutMin own.least refl own.own_least)
-    (lived.within VoutMax own.most refl own.own_most)))
+    (subst (λ (c : Config). IsWithin bounds (commanded (value_for c output) (now has.config has.passes has.events).device.words output))
+    (sym (device-config has.config has.passes has.events))
+    (stays.limited output bounds [] has.events there refl lived.within))
 
 -- a cell of a host's outputs is one of the converter's
 there-of : {config : Config} {passes : ℕ} {events : List Event} {summary : Summary} {held : Held} (cell : Cell) →
@@ -207,18 +189,18 @@ there-of : {config : Config} {passes : ℕ} {events : List Event} {summary : Sum
 there-of cell is there = subst (λ (s : host.Setup). IsCell s.outputs cell) (life-setup is) there
 
 -- what the host calls confirmed of the cell is held
-since-stands : LegalLivesAreFollowed → (summary : Summary) (held : Held) (cell : Cell) (word : ℕ) →
+since-stands : LawsOfLives → (summary : Summary) (held : Held) (cell : Cell) (word : ℕ) →
     IsCell summary.setup.outputs cell → HasNoRestartSince cell summary held → standing_at summary cell ≡ Confirmed word →
     word_at held.words cell ≡ word
 since-stands laws summary held cell word there is says =
     let has = is.has in
     let lived = has.life in
     subst (λ (d : Held). word_at d.words cell ≡ word) lived.held_is
-    ((laws.confirmed has.config has.passes has.events lived.sound lived.made lived.legal).held cell word (there-of cell lived there)
+    ((laws.confirmed has.config has.passes has.events lived.lived).held cell word (there-of cell lived there)
     (subst (λ (h : Summary). standing_at h cell ≡ Confirmed word) (sym lived.host_is) says) is.since)
 
 -- and what is held of it is possible
-since-among : LegalLivesAreFollowed → (summary : Summary) (held : Held) (cell : Cell) →
+since-among : LawsOfLives → (summary : Summary) (held : Held) (cell : Cell) →
     IsCell summary.setup.outputs cell → HasNoRestartSince cell summary held →
     is_possible (word_at held.words cell) (possible_at summary cell) ≡ true
 since-among laws summary held cell there is =
@@ -227,23 +209,23 @@ since-among laws summary held cell there is =
     subst (λ (d : Held). is_possible (word_at d.words cell) (possible_at summary cell) ≡ true) lived.held_is
     (subst (λ (h : Summary). is_possible (word_at (now has.config has.passes has.events).device.words cell) (possible_at h cell) ≡ true)
     lived.host_is
-    ((laws.possible has.config has.passes has.events lived.sound lived.made lived.legal).held cell (there-of cell lived there) is.since))
+    ((laws.possible.held has.config has.passes has.events lived.lived).held cell (there-of cell lived there) is.since))
 
 -- what is true of a host and a converter to which a life led
-pub true-of : LegalLivesAreFollowed → (summary : Summary) (held : Held) → HasLife summary held → IsTrueOf summary held
+pub true-of : LawsOfLives → (summary : Summary) (held : Held) → HasLife summary held → IsTrueOf summary held
 true-of laws summary held has =
     let is = has.life in
     record {
       has = has;
-      confirmed = laws.confirmed has.config has.passes has.events is.sound is.made is.legal;
-      possible = laws.possible has.config has.passes has.events is.sound is.made is.legal;
-      seen = laws.seen has.config has.passes has.events is.sound is.made is.legal;
-      formats = laws.agree has.config has.passes has.events is.sound has.spelled is.made is.legal;
+      confirmed = laws.confirmed has.config has.passes has.events is.lived;
+      possible = laws.possible.held has.config has.passes has.events is.lived;
+      seen = laws.possible.seen has.config has.passes has.events is.lived;
+      formats = laws.formats.agree has.config has.passes has.events has.spelled is.lived;
       own = λ cell there. subst (λ (d : Held). IsOwnWord has.config has.passes has.events cell (word_at d.words cell)) is.held_is
-          (laws.own has.config has.passes has.events cell is.sound is.made is.legal there);
+          (laws.orders.own has.config has.passes has.events cell is.lived there);
       commanded = λ output there. subst (λ (d : Held). CommandsOwn has.config has.passes has.events output
           (commanded (value_for d.config output) d.words output)) is.held_is
-          (laws.commanded has.config has.passes has.events output is.sound is.made is.legal there);
+          (laws.orders.commanded has.config has.passes has.events output is.lived there);
       limited = λ output bounds lived there. limited-of laws output bounds summary held lived there;
       stands = since-stands laws summary held;
       among = since-among laws summary held;
@@ -282,7 +264,7 @@ leads-say law gives held restarts job end old new has leads =
     ∙ last-begun job [] leads.acts (life has.config has.passes has.events).entries leads.asks in
     subst (λ d. EndSays job new.host d end) is.held_is
     (subst (λ h. EndSays job h (now has.config has.passes events).device end) is.host_is
-    (law has.config has.passes events job end is.sound has.spelled is.made is.legal
+    (law has.config has.passes events job end has.spelled is.lived
     (tells-append leads.events has.events leads.newest) last goes.ended).says)
 
 -- a host began a job that it didn't refuse

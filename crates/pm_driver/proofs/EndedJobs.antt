@@ -28,12 +28,11 @@ use Rattle.pm_world.specs.declared.event.Event.{Event}
 use Rattle.pm_world.specs.declared.event.Event.TheVariants.{Exchange, Finish}
 use Rattle.pm_world.specs.Confirmed.{is_good_for, reads, reads_cell, restarted_since, restarts_converter}
 use Rattle.pm_world.specs.Honest.{IsSpelled}
-use Rattle.pm_world.specs.Laws.{LegalLivesAreFollowed}
 use Rattle.pm_world.specs.Life.{life, now, state_of}
 use Rattle.pm_world.specs.Setup.{setup_of}
 use Rattle.pm_world.specs.State.{State, event_cause, exchange_cause, exchanged, share_of}
 use Rattle.pm_driver.specs.Ends.{Stands}
-use Rattle.pm_driver.specs.Laws.{EndIsTrue, EndsAreTrue}
+use Rattle.pm_driver.specs.Laws.{EndIsTrue, EndsAreTrue, LawsOfLives}
 use Rattle.pm_driver.specs.Lives.{IsLife, newest_tells}
 use Rattle.pm_driver.proofs.Grown.{entries-more}
 use Rattle.pm_driver.proofs.ReadBack.{WasRead, check-read, check-wrote, learn-there, order-read, order-wrote, word_in_end}
@@ -82,7 +81,7 @@ record StandsRead (config : Config) (passes : ℕ) (events : List Event) (cell :
   fresh : restarted_since config passes cell events ≡ false
 
 -- the host calls a word that it just read confirmed, and the converter holds it
-stands : CellsAreToldApart → LegalLivesAreFollowed → (config : Config) (passes : ℕ) (before : List Event) (event : Event)
+stands : CellsAreToldApart → LawsOfLives → (config : Config) (passes : ℕ) (before : List Event) (event : Event)
     (bytes : List ℕ) (cell : Cell) (word : ℕ) (end : JobEnd) →
     (is : IsLife config passes (event ∷ before) (now config passes (event ∷ before)).host (now config passes (event ∷ before)).device) →
     (share_of (now config passes before) event).told ≡ Some (Got bytes) →
@@ -93,7 +92,7 @@ unfolding restarted_since
 stands apart laws config passes before event bytes cell word end is told was ended =
     let setup = setup_of config passes in
     let entries = (life config passes before).entries in
-    let true_of = laws.confirmed config passes (event ∷ before) is.sound is.made is.legal in
+    let true_of = laws.confirmed config passes (event ∷ before) is.lived in
     let all : (life config passes (event ∷ before)).entries ≡ Got bytes ∷ entries =
     entries-more config passes before event ∙ ap (λ o. option_to_list o ++ entries) told in
     let says : standing_at (now config passes (event ∷ before)).host cell ≡ Confirmed word =
@@ -109,7 +108,7 @@ stands apart laws config passes before event bytes cell word end is told was end
     record { stands = (says, true_of.held cell word was.there says fresh); fresh = fresh }
 
 -- an order that says which word was read stands with it
-order-says : CellsAreToldApart → TranscriptsAreFollowed → LegalLivesAreFollowed →
+order-says : CellsAreToldApart → TranscriptsAreFollowed → LawsOfLives →
     (config : Config) (passes : ℕ) (before : List Event) (event : Event) (cell : Cell) (word : ℕ) (end : JobEnd) (read : ℕ) →
     (is : IsLife config passes (event ∷ before) (now config passes (event ∷ before)).host (now config passes (event ∷ before)).device) →
     newest_tells (event ∷ before) ≡ true →
@@ -117,7 +116,7 @@ order-says : CellsAreToldApart → TranscriptsAreFollowed → LegalLivesAreFollo
     end_of (setup_of config passes) (life config passes (event ∷ before)).entries ≡ Some end → word_in_end word end ≡ Some read →
     StandsRead config passes (event ∷ before) cell read
 order-says apart host laws config passes before event cell word end read is tells last ended says =
-    go (told-by (now config passes before) event before tells is.legal.0.free) where
+    go (told-by (now config passes before) event before tells is.lived.legal.0.free) where
       setup : Setup
       setup = setup_of config passes
 
@@ -136,12 +135,12 @@ order-says apart host laws config passes before event cell word end read is tell
       go (came bytes told) =
           let over = subst (λ e. end_of setup e ≡ Some end) (all (Got bytes) told) ended in
           stands apart laws config passes before event bytes cell read end is told
-          (order-read host setup entries bytes cell word end read is.made
-          (subst (AreTold setup) (all (Got bytes) told) (laws.told config passes (event ∷ before) is.sound is.made is.legal))
+          (order-read host setup entries bytes cell word end read is.lived.made
+          (subst (AreTold setup) (all (Got bytes) told) (laws.followed.told config passes (event ∷ before) is.lived))
           (subst (λ e. last_job e ≡ Some (Order cell word)) (all (Got bytes) told) last) over says) over
 
 -- and a check that is done with some word
-check-says : CellsAreToldApart → TranscriptsAreFollowed → LegalLivesAreFollowed →
+check-says : CellsAreToldApart → TranscriptsAreFollowed → LawsOfLives →
     (config : Config) (passes : ℕ) (before : List Event) (event : Event) (cell : Cell) →
     (is : IsLife config passes (event ∷ before) (now config passes (event ∷ before)).host (now config passes (event ∷ before)).device) →
     newest_tells (event ∷ before) ≡ true →
@@ -149,7 +148,7 @@ check-says : CellsAreToldApart → TranscriptsAreFollowed → LegalLivesAreFollo
     end_of (setup_of config passes) (life config passes (event ∷ before)).entries ≡ Some Done →
     (word : ℕ) × StandsRead config passes (event ∷ before) cell word
 check-says apart host laws config passes before event cell is tells last ended =
-    go (told-by (now config passes before) event before tells is.legal.0.free) where
+    go (told-by (now config passes before) event before tells is.lived.legal.0.free) where
       setup : Setup
       setup = setup_of config passes
 
@@ -167,8 +166,8 @@ check-says apart host laws config passes before event cell is tells last ended =
           (subst (λ e. end_of setup e ≡ Some Done) (all (Finished acked) told) ended))
       go (came bytes told) =
           let over = subst (λ e. end_of setup e ≡ Some Done) (all (Got bytes) told) ended in
-          let found = check-read host setup entries bytes cell is.made
-          (subst (AreTold setup) (all (Got bytes) told) (laws.told config passes (event ∷ before) is.sound is.made is.legal))
+          let found = check-read host setup entries bytes cell is.lived.made
+          (subst (AreTold setup) (all (Got bytes) told) (laws.followed.told config passes (event ∷ before) is.lived))
           (subst (λ e. last_job e ≡ Some (Check cell)) (all (Got bytes) told) last) over in
           (found.0, stands apart laws config passes before event bytes cell found.0 Done is told found.1 over)
 
@@ -206,7 +205,7 @@ learned-format setup (Got bytes ∷ before) output shape last so =
     format-in setup before (Got bytes ∷ told_since before) output shape (last_job before) last so
 
 -- and the host holds the converter's
-learn-says : TranscriptsAreFollowed → LegalLivesAreFollowed →
+learn-says : TranscriptsAreFollowed → LawsOfLives →
     (config : Config) (passes : ℕ) (before : List Event) (event : Event) (output : ℕ) →
     (is : IsLife config passes (event ∷ before) (now config passes (event ∷ before)).host (now config passes (event ∷ before)).device) →
     IsSpelled config → newest_tells (event ∷ before) ≡ true →
@@ -217,12 +216,12 @@ unfolding end_of
 learn-says host laws config passes before event output is spelled tells last ended =
     let entries = (life config passes (event ∷ before)).entries in
     let setup = setup_of config passes in
-    let agree = laws.agree config passes (event ∷ before) is.sound spelled is.made is.legal in
+    let agree = laws.formats.agree config passes (event ∷ before) spelled is.lived in
     let so : learn_end setup output (told_since entries) ≡ Some Learned =
     ap (option_and_then (λ job. job_end setup job (told_since entries))) (sym last) ∙ ended in
     let shape = learned-so (found setup output (told_since entries)) so in
-    let told = laws.told config passes (event ∷ before) is.sound is.made is.legal in
-    let has = agree.learned output shape.0 (there told (told-by (now config passes before) event before tells is.legal.0.free))
+    let told = laws.followed.told config passes (event ∷ before) is.lived in
+    let has = agree.learned output shape.0 (there told (told-by (now config passes before) event before tells is.lived.legal.0.free))
     (learned-format setup entries output shape.0 last shape.1) in
     subst (λ o. IsSomeAnd o (λ s. s ≡ shape_for config output)) (sym has) (agree.held output shape.0 has) where
       all : (entry : Entry) → (share_of (now config passes before) event).told ≡ Some entry →
@@ -232,11 +231,11 @@ learn-says host laws config passes before event output is spelled tells last end
       there : AreTold (setup_of config passes) (life config passes (event ∷ before)).entries → Told (now config passes before) event →
           output < config.count
       there told (wrote acked said) =
-          learn-there host (setup_of config passes) (life config passes before).entries (Finished acked) output is.made
+          learn-there host (setup_of config passes) (life config passes before).entries (Finished acked) output is.lived.made
           (subst (AreTold (setup_of config passes)) (all (Finished acked) said) told)
           (subst (λ e. last_job e ≡ Some (Learn output)) (all (Finished acked) said) last) (inl (acked, refl))
       there told (came bytes said) =
-          learn-there host (setup_of config passes) (life config passes before).entries (Got bytes) output is.made
+          learn-there host (setup_of config passes) (life config passes before).entries (Got bytes) output is.lived.made
           (subst (AreTold (setup_of config passes)) (all (Got bytes) said) told)
           (subst (λ e. last_job e ≡ Some (Learn output)) (all (Got bytes) said) last) (inr (bytes, refl))
 
@@ -252,12 +251,12 @@ unfolding now state_of device_now
 now-config config passes events = refl
 
 -- what the end of a job is worth
-pub ends-are-true : CellsAreToldApart → TranscriptsAreFollowed → LegalLivesAreFollowed → EndsAreTrue
-ends-are-true apart host laws config passes [] job end sound spelled made legal tells last ended = cc
-ends-are-true apart host laws config passes (event ∷ before) job end sound spelled made legal tells last ended =
+pub ends-are-true : CellsAreToldApart → TranscriptsAreFollowed → LawsOfLives → EndsAreTrue
+ends-are-true apart host laws config passes [] job end spelled lived tells last ended = cc
+ends-are-true apart host laws config passes (event ∷ before) job end spelled lived tells last ended =
     go job end last (sym (now-end config passes (event ∷ before)) ∙ ended) where
       is : IsLife config passes (event ∷ before) (now config passes (event ∷ before)).host (now config passes (event ∷ before)).device
-      is = record { sound = sound; made = made; legal = legal; host_is = refl; held_is = refl }
+      is = record { lived = lived; host_is = refl; held_is = refl }
 
       go : (j : Job) (e : JobEnd) → last_job (life config passes (event ∷ before)).entries ≡ Some j →
           end_of (setup_of config passes) (life config passes (event ∷ before)).entries ≡ Some e →

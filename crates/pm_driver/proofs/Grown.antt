@@ -10,12 +10,12 @@ use Rattle.pm_host.specs.Summary.{Summary}
 use Rattle.pm_host.specs.Transcript.{Entry}
 use Rattle.pm_world.specs.declared.event.Event.{Event}
 use Rattle.pm_world.specs.declared.event.Event.TheVariants.{RestartDevice, Reading}
-use Rattle.pm_world.specs.Laws.{LegalLivesAreFollowed}
 use Rattle.pm_world.specs.Life.{life, now}
+use Rattle.pm_world.specs.Lived.{IsLived}
 use Rattle.pm_world.specs.State.{State, Share, HasWord, device_after, end_after, event_cause, hears, host_after, next, share_of}
-use Rattle.pm_world.specs.Uncertainty.{AreLegal}
 use Rattle.pm_driver.specs.Acts.{Act, told_all}
 use Rattle.pm_driver.specs.Bus.{AreAll, held_after, held_by, is_beside}
+use Rattle.pm_driver.specs.Laws.{LawsOfLives}
 use Rattle.pm_driver.specs.Lives.{EndsSo, Goes, IsLife}
 
 -- what one more event makes of a life, which tells the ends this
@@ -34,20 +34,22 @@ unfolding life now
 entries-more config passes before event = refl
 
 -- an event without a cause against it
-pub grown : LegalLivesAreFollowed → {config : Config} {passes : ℕ} {before : List Event} {host : Summary} {held : Held} →
+pub grown : LawsOfLives → {config : Config} {passes : ℕ} {before : List Event} {host : Summary} {held : Held} →
     (event : Event) (share : Share) → IsLife config passes before host held →
     event_cause (now config passes before) event ≡ None → HasWord (now config passes before) event →
     share_of (now config passes before) event ≡ share → IsGrown config passes before event share host held
 unfolding next
 grown laws {config = config} {passes = passes} {before = before} event share is free word tells =
-    let legal : AreLegal config passes (event ∷ before) = (record { free = free; word = word }, is.legal) in
-    let more = laws.more config passes before event is.sound is.made legal in
+    let lived : IsLived config passes (event ∷ before) = record {
+      sound = is.lived.sound;
+      made = is.lived.made;
+      legal = (record { free = free; word = word }, is.lived.legal);
+    } in
+    let more = laws.followed.more config passes before event lived in
     let s = now config passes before in
     record {
       is_life = record {
-        sound = is.sound;
-        made = is.made;
-        legal = legal;
+        lived = lived;
         host_is = ap (λ (t : State). t.host) more ∙ (ap (λ (w : Share). host_after s.host w.told) tells
             ∙ ap (λ h. host_after h share.told) is.host_is);
         held_is = ap (λ (t : State). t.device) more ∙ (ap (λ (w : Share). device_after s.device w.heard) tells
@@ -110,7 +112,7 @@ quiet {before = before} {held = held} frame may one (event ∷ earlier) (here, a
     goes-on so_far (one (earlier ++ before) event (held_after frame held earlier) so_far.is_life here)
 
 -- what happens beside the bus is such an event
-pub beside-one : LegalLivesAreFollowed → {config : Config} {passes : ℕ} {host : Summary} (frame : List ℕ) →
+pub beside-one : LawsOfLives → {config : Config} {passes : ℕ} {host : Summary} (frame : List ℕ) →
     (earlier : List Event) (event : Event) (then : Held) → IsLife config passes earlier host then → is_beside event ≡ true →
     Goes config passes earlier (event ∷ []) [] None host (held_by frame then event)
 beside-one laws frame earlier RestartDevice then is so = heard-one (grown laws RestartDevice (hears device.Restarted) is refl tt refl)

@@ -16,14 +16,13 @@ use Rattle.pm_host.specs.Transcript as host
 use Rattle.pm_world.specs.declared.event.Event.{Event}
 use Rattle.pm_world.specs.declared.event.Event.TheVariants.{RestartHost}
 use Rattle.pm_world.specs.Confirmed.{reads_cell, restarted_since, restarts_converter}
-use Rattle.pm_world.specs.Laws.{LegalLivesAreFollowed}
 use Rattle.pm_world.specs.Life.{life, now}
 use Rattle.pm_world.specs.State.{tells}
 use Rattle.pm_driver.specs.Acts.{Act, AreCalls, Began, Call, Called, Renewed}
 use Rattle.pm_driver.specs.Bus.{restarts_in}
 use Rattle.pm_driver.specs.Driven.{Driving, HasLife, HasNoRestartSince, MayBegin, Runs, driven}
 use Rattle.pm_driver.specs.Ends.{cell_read}
-use Rattle.pm_driver.specs.Laws.{EndsAreTrue, RestartsAreCounted, NewConvertersHaveNoRestart}
+use Rattle.pm_driver.specs.Laws.{EndsAreTrue, LawsOfLives, NewConvertersHaveNoRestart, RestartsAreCounted}
 use Rattle.pm_driver.specs.Lives.{Driven, IsLife, Leads}
 use Rattle.pm_driver.specs.Undisturbed.{AreWithoutRestart, JobsRestartNothing}
 use Rattle.pm_driver.proofs.BegunJobs.{last-begun, life-setup, new-lived, renewed-new}
@@ -92,7 +91,7 @@ leads-read law gives held restarts job end old new has leads =
     let last = ap host.last_job goes.told
     ∙ last-begun job [] leads.acts (life has.config has.passes has.events).entries leads.asks in
     go (record { config = has.config; passes = has.passes; events = events; spelled = has.spelled; life = is }) (cell_read job end)
-    (law has.config has.passes events job end is.sound has.spelled is.made is.legal
+    (law has.config has.passes events job end has.spelled is.lived
     (tells-append leads.events has.events leads.newest) last goes.ended).read
   where
     go : (all : HasLife new.host (held new.bus)) (o : Option Cell) →
@@ -102,7 +101,7 @@ leads-read law gives held restarts job end old new has leads =
     go all (Some cell) since = record { has = all; since = since }
 
 -- the same of a new host, which was told of no answer since
-pub begins-since : LegalLivesAreFollowed → (was summary : Summary) (held : Held) → MayBegin summary held → was.setup ≡ summary.setup →
+pub begins-since : LawsOfLives → (was summary : Summary) (held : Held) → MayBegin summary held → was.setup ≡ summary.setup →
     (cell : Cell) → HasNoRestartSince cell was held → HasNoRestartSince cell summary held
 begins-since laws was summary held may same cell is =
     let has = is.has in
@@ -127,7 +126,7 @@ unfolding restarted_since
 none-since config passes cell = refl
 
 -- a converter as it was made
-pub new-since : LegalLivesAreFollowed → NewConvertersHaveNoRestart
+pub new-since : LawsOfLives → NewConvertersHaveNoRestart
 new-since laws config passes cell sound spelled made = record {
   has = record {
     config = config;

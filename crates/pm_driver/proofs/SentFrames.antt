@@ -23,7 +23,6 @@ use Rattle.pm_world.specs.declared.back.Back.{Back}
 use Rattle.pm_world.specs.declared.cause.Cause.TheVariants.{WrongKind, NotBetrayed}
 use Rattle.pm_world.specs.declared.event.Event.{Event}
 use Rattle.pm_world.specs.declared.event.Event.TheVariants.{Deliver, Exchange, Finish, Reading, RestartDevice}
-use Rattle.pm_world.specs.Laws.{LegalLivesAreFollowed}
 use Rattle.pm_world.specs.Legal.{frame_of, heard_bytes, ending_of, is_legal_hearing, is_legal_return, is_heard_whole, answer_in, back_bytes}
 use Rattle.pm_world.specs.Job.{asked_by}
 use Rattle.pm_world.specs.Life.{now}
@@ -32,6 +31,7 @@ use Rattle.pm_world.specs.State.{hears, rule, share_of, tells}
 use Rattle.pm_driver.specs.Acts.{Call, Called, MayDo, Read, Wrote, told_of}
 use Rattle.pm_driver.specs.Bus.{AreAll, answer_of, restarts_in, held_by, is_beside, may_hear}
 use Rattle.pm_driver.specs.Lives.{EndsSo, EndsTold, Goes, IsLife, Leads, jobs_asked, newest_tells, with_job}
+use Rattle.pm_driver.specs.Laws.{LawsOfLives}
 use Rattle.pm_driver.specs.Steps.{CallsGo, FramesLead, IsCalled, StaysOpen}
 use Rattle.pm_driver.proofs.Grown.{beside-one, goes-on, grown, heard-one, of-life, quiet}
 use Rattle.pm_driver.proofs.OpenJobs.{stays-open}
@@ -111,7 +111,7 @@ deliver-tells s frame arrival sends =
     (write-frame sends.is)
 
 -- while a write is being sent
-hear-one : LegalLivesAreFollowed → {config : Config} {passes : ℕ} {host : Summary} (frame : List ℕ) → SendsWrite host frame →
+hear-one : LawsOfLives → {config : Config} {passes : ℕ} {host : Summary} (frame : List ℕ) → SendsWrite host frame →
     (earlier : List Event) (event : Event) (then : Held) → IsLife config passes earlier host then → may_hear frame event ≡ true →
     Goes config passes earlier (event ∷ []) [] None host (held_by frame then event)
 hear-one laws {config = config} {passes = passes} frame sends earlier (Deliver arrival) then is so =
@@ -139,7 +139,7 @@ finish-free : (s : State) (frame : List ℕ) (acked : Bool) → SendsWrite s.hos
 finish-free s frame acked sends = ap finish_cause sends.sending ∙ ap (λ b. rule b WrongKind) sends.is.writes
 
 -- a life goes on by the end of a write that was being sent: the host is told of it, and the converter stays as it was
-finished : LegalLivesAreFollowed → {config : Config} {passes : ℕ} {before : List Event} {host : Summary} {held : Held} →
+finished : LawsOfLives → {config : Config} {passes : ℕ} {before : List Event} {host : Summary} {held : Held} →
     (frame : List ℕ) (acked : Bool) → SendsWrite host frame → IsLife config passes before host held →
     Goes config passes before (Finish acked ∷ []) (Called (Wrote frame acked) ∷ []) (end_by (step_of host (Finished acked)))
     (host_next host (Finished acked)) held
@@ -192,7 +192,7 @@ record Comes (request : List ℕ) (needed : ℕ) (held : Held) (came : List ℕ)
   after : device_next held (device.Hearing (heard_bytes request arrival) (ending_of Restart arrival)) ≡ new
 
 -- a request came back
-answered : LegalLivesAreFollowed → {config : Config} {passes : ℕ} {before : List Event} {host : Summary} {held new : Held} →
+answered : LawsOfLives → {config : Config} {passes : ℕ} {before : List Event} {host : Summary} {held new : Held} →
     (request room came : List ℕ) (arrival : Arrival) (back : Back) → SendsRequest host request (length room) →
     IsLife config passes before host held → Comes request (length room) held came arrival back new →
     Goes config passes before (Exchange arrival back ∷ []) (Called (Read request room came) ∷ [])
@@ -248,7 +248,7 @@ pub record CallEvents (call : Call) (host : Summary) (old : Held) (was : ℕ) (n
       Goes config passes before events (Called call ∷ []) (end_by (step_of host (told_of call))) (host_next host (told_of call)) new
 
 -- there are such
-pub call-events : LegalLivesAreFollowed → (call : Call) (host : Summary) (old : Held) (was : ℕ) (new : Held) (count : ℕ) → MayDo host (Called call) →
+pub call-events : LawsOfLives → (call : Call) (host : Summary) (old : Held) (was : ℕ) (new : Held) (count : ℕ) → MayDo host (Called call) →
     IsCalled call old was new count →
     CallEvents call host old was new count
 call-events laws (Wrote frame acked) host old was new count may is =
@@ -277,7 +277,7 @@ call-events laws (Read request room came) host old was new count may is =
     }
 
 -- they are those that the call names
-pub calls-go : LegalLivesAreFollowed → CallsGo
+pub calls-go : LawsOfLives → CallsGo
 unfolding call-events
 calls-go laws (Wrote frame acked) host old was new is may called =
     (call-events laws (Wrote frame acked) host old was new is may called).goes
@@ -285,7 +285,7 @@ calls-go laws (Read request room came) host old was new is may called =
     (call-events laws (Read request room came) host old was new is may called).goes
 
 -- so it leads on
-pub frames-lead : LegalLivesAreFollowed → {B : Type 0} → (gives : B → Call → B → Type 0) → (held : B → Held) → (restarts : B → ℕ) → FramesLead gives held restarts
+pub frames-lead : LawsOfLives → {B : Type 0} → (gives : B → Call → B → Type 0) → (held : B → Held) → (restarts : B → ℕ) → FramesLead gives held restarts
 frames-lead laws gives held restarts call host old new may is so =
     let e = call-events laws call host (held old) (restarts old) (held new) (restarts new) may is in
     record {

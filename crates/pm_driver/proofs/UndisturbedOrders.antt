@@ -38,7 +38,6 @@ use Rattle.pm_world.specs.declared.back.Back.TheVariants as back
 use Rattle.pm_world.specs.declared.event.Event.{Event}
 use Rattle.pm_world.specs.declared.event.Event.TheVariants as event
 use Rattle.pm_world.specs.GoodBus.{GoodFramesEndJobs}
-use Rattle.pm_world.specs.Laws.{LegalLivesAreFollowed}
 use Rattle.pm_world.specs.Legal.{is_legal_hearing, is_legal_return}
 use Rattle.pm_world.specs.Life.{life, now}
 use Rattle.pm_world.specs.Setup.{setup_of}
@@ -47,6 +46,7 @@ use Rattle.pm_driver.specs.Acts.{Act, AreCalls, AreDone, Began, Call, Called, Ma
 use Rattle.pm_driver.specs.Bus.{IsAsked, IsSent, answer_of}
 use Rattle.pm_driver.specs.Driven.{Driving, HasLife, Runs, driven}
 use Rattle.pm_driver.specs.Lives.{IsLife, Leads}
+use Rattle.pm_driver.specs.Laws.{LawsOfLives}
 use Rattle.pm_driver.specs.Steps.{CallsGo}
 use Rattle.pm_driver.specs.Undisturbed.{AreUndisturbed, IsUndisturbed, UndisturbedOrdersAreDone, WholeFramesAreLegal, asked_whole, wrote_whole}
 use Rattle.pm_driver.proofs.BegunJobs.{job-goes, life-setup}
@@ -158,7 +158,7 @@ over-so host cell word answer good =
 
 -- the laws that say so
 record Laws : Type 0 where
-  legal : LegalLivesAreFollowed
+  lives : LawsOfLives
   good : GoodFramesEndJobs
   whole : WholeFramesAreUndisturbed
   calls : CallsGo
@@ -173,7 +173,7 @@ unfolding host_next sent-whole asked-so
 through laws host held cell word has free allowed frame request room writes reads =
     let config = has.config in
     let passes = has.passes in
-    let begun = job-goes laws.legal (Order cell word) free has.life in
+    let begun = job-goes laws.lives (Order cell word) free has.life in
     let before = event.Order cell word ∷ has.events in
     let h1 = host_next host (Accepted (Order cell word)) in
     let h2 = host_next h1 (Finished true) in
@@ -185,7 +185,7 @@ through laws host held cell word has free allowed frame request room writes read
     let two = laws.calls (Read request room answer) h2 held1 0 (asked_whole held1 request) 0 reads
     (asked-so held1 request (length room)) config passes middle one.is_life in
     let is = two.is_life in
-    let went = (laws.good.legal config passes after is.sound is.made is.legal).order [] before middle after
+    let went = (laws.good config passes after is.lived).order [] before middle after
     cell word 0 true refl (ap (λ (h : Summary). h.stage) begun.is_life.host_is)
     (subst (λ (d : Held). is_allowed (word_at d.words Protect) (cell_code cell) ≡ true) (sym begun.is_life.held_is) allowed)
     (laws.whole.written _ true before) (laws.whole.cell config passes cell middle) in
@@ -308,10 +308,10 @@ came-so host cell word gives held is_so all old so idle goes (Began job ∷ befo
 came-so host cell word gives held is_so all old so idle goes (Renewed ∷ before) new asks done calls = cc
 
 -- an order over a bus whose calls nothing disturbs is done, and its word is held
-pub undisturbed-orders : LegalLivesAreFollowed → GoodFramesEndJobs → WholeFramesAreUndisturbed → CallsGo → {B : Type 0} →
+pub undisturbed-orders : LawsOfLives → GoodFramesEndJobs → WholeFramesAreUndisturbed → CallsGo → {B : Type 0} →
     (gives : B → Call → B → Type 0) → (held : B → Held) → (restarts : B → ℕ) → UndisturbedOrdersAreDone gives held restarts
 unfolding end_of GoesThrough
-undisturbed-orders legal good whole calls gives held restarts is_so all cell word end old new has so allowed runs =
+undisturbed-orders lives good whole calls gives held restarts is_so all cell word end old new has so allowed runs =
     go (came-so host cell word gives held is_so all old.bus so (idle-so host cell word free) goes leads.acts new.bus leads.asks leads.may
     leads.calls)
   where
@@ -328,7 +328,7 @@ undisturbed-orders legal good whole calls gives held restarts is_so all cell wor
     setup = setup_of has.config has.passes
 
     goes : GoesThrough host (held old.bus) cell word entries setup
-    goes = through (record { legal = legal; good = good; whole = whole; calls = calls }) host (held old.bus) cell word has free allowed
+    goes = through (record { lives = lives; good = good; whole = whole; calls = calls }) host (held old.bus) cell word has free allowed
 
     leads : Leads gives held restarts (Began (Order cell word) ∷ []) (Some end) (driven old) (driven new)
     leads = runs.leads

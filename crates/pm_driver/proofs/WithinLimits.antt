@@ -30,15 +30,14 @@ use Rattle.pm_limits.specs.Lemmas.Order.{through}
 use Rattle.pm_world.specs.declared.event.Event.{Event}
 use Rattle.pm_world.specs.declared.event.Event.TheVariants.{RestartHost}
 use Rattle.pm_world.specs.Job.{asked_by}
-use Rattle.pm_world.specs.Laws.{LegalLivesAreFollowed}
 use Rattle.pm_world.specs.Life.{now}
-use Rattle.pm_world.specs.Limited.{OrdersWithin, OwnWithin, StartsWithin}
+use Rattle.pm_world.specs.Limited.{OrdersWithin, OwnWithin, StartsWithin, WordWithin}
 use Rattle.pm_world.specs.State.{asked, tells}
 use Rattle.pm_world.specs.Uncertainty.{job_event}
 use Rattle.pm_driver.specs.Acts.{Act, Began, Call, Called, Renewed, asked_in}
 use Rattle.pm_driver.specs.Driven.{AreAsNarrow, Driving, HasLife, HasLifeWithin, HasNoRestartSince, MayBegin, Runs, driven}
 use Rattle.pm_driver.specs.Ends.{EndSays, cell_read}
-use Rattle.pm_driver.specs.Laws.{EndsAreTrue, LeadsCompose, NewConvertersAreWithin}
+use Rattle.pm_driver.specs.Laws.{EndsAreTrue, LawsOfLives, LeadsCompose, NewConvertersAreWithin}
 use Rattle.pm_driver.specs.Lives.{Driven, IsLife, Leads, jobs_asked, jobs_begun, with_job}
 use Rattle.pm_driver.specs.Steps.{JobsLead}
 use Rattle.pm_driver.proofs.BegunJobs.{IsBegun, job-leads, leads-say, new-lived, renewed-new}
@@ -169,7 +168,7 @@ orders-within config passes output bounds before (event ∷ events) all =
     )
 
 -- the words stay within where a driver leads
-led-within : LegalLivesAreFollowed → {B : Type 0} (gives : B → Call → B → Type 0) (held : B → Held) (restarts : B → ℕ) (acts : List Act)
+led-within : LawsOfLives → {B : Type 0} (gives : B → Call → B → Type 0) (held : B → Held) (restarts : B → ℕ) (acts : List Act)
     (end : Option JobEnd) (old new : Driven B) (output : ℕ) (bounds : Bounds) (lived : HasLifeWithin output bounds old.host (held old.bus))
     →
     (leads : Leads gives held restarts acts end old new) → JobsWithin lived.has.config output bounds (jobs_asked leads.events) →
@@ -185,7 +184,7 @@ led-within laws gives held restarts acts end old new output bounds lived leads a
         spelled = has.spelled;
         life = life;
       };
-      within = (laws.limited has.config has.passes (leads.events ++ has.events) life.sound has.spelled life.made life.legal).kept
+      within = (laws.limited has.config has.passes (leads.events ++ has.events) has.spelled life.lived).kept
           output bounds leads.events has.events refl lived.within
           (orders-within has.config has.passes output bounds has.events leads.events all);
     }
@@ -214,7 +213,7 @@ begun-within config output bounds (host.Send StoreUserAll) within = (λ s regist
 begun-within config output bounds (host.Send RestoreUserAll) within = (λ s register other voltage is. cc, tt)
 
 -- so they stay within where it carries out a job that its guard let begin
-job-within : LegalLivesAreFollowed → {B : Type 0} (gives : B → Call → B → Type 0) (held : B → Held) (restarts : B → ℕ) (g : Guarded) (asked : Job)
+job-within : LawsOfLives → {B : Type 0} (gives : B → Call → B → Type 0) (held : B → Held) (restarts : B → ℕ) (g : Guarded) (asked : Job)
     (begun : host.Job) (end : JobEnd) (bus : B) (new : Driven B) → guard_fault g asked ≡ None →
     accepted_job g.host asked ≡ Some begun →
     (leads : Leads gives held restarts (Began begun ∷ []) (Some end) (record { host = g.host; bus = bus }) new) →
@@ -223,7 +222,7 @@ job-within : LegalLivesAreFollowed → {B : Type 0} (gives : B → Call → B �
 job-within laws gives held restarts g asked begun end bus new free is leads output bounds narrow lived =
     let has = lived.has in
     let life = has.life in
-    let agree = laws.agree has.config has.passes has.events life.sound has.spelled life.made life.legal in
+    let agree = laws.formats.agree has.config has.passes has.events has.spelled life.lived in
     let jobs = ap jobs_begun leads.asks in
     let all = begun-within has.config output bounds begun (λ register word voltage same.
     in-format (format_at g.host output) (shape_for has.config output) word bounds
@@ -236,7 +235,7 @@ job-within laws gives held restarts g asked begun end bus new free is leads outp
 -- ---- what a call does
 
 -- a job that is carried out
-pub runs-so : LegalLivesAreFollowed → EndsAreTrue → {B : Type 0} (gives : B → Call → B → Type 0) (held : B → Held) (restarts : B → ℕ) →
+pub runs-so : LawsOfLives → EndsAreTrue → {B : Type 0} (gives : B → Call → B → Type 0) (held : B → Held) (restarts : B → ℕ) →
     JobsLead gives held restarts → LeadsCompose gives held restarts → (asked : Job) (end : JobEnd) (old new : Driving B) (middle : Guarded) →
     HasLife old.guard.host (held old.bus) → LetsBegin old.guard asked (Ok tt) middle →
     Leads gives held restarts [] (Some end) (record { host = middle.host; bus = old.bus }) (driven new) → frames_left new.guard.host ≡ 0 →
@@ -278,7 +277,7 @@ runs-so laws law gives held restarts jobs compose asked end old new middle has b
           job-within laws gives held restarts old.guard asked begun end old.bus (driven new) (sym begins.fault) e is output bounds narrow lived
 
 -- a restart
-pub restart-within : LegalLivesAreFollowed → {B : Type 0} (gives : B → Call → B → Type 0) (held : B → Held) (restarts : B → ℕ) (old new : Driven B) →
+pub restart-within : LawsOfLives → {B : Type 0} (gives : B → Call → B → Type 0) (held : B → Held) (restarts : B → ℕ) (old new : Driven B) →
     Leads gives held restarts (Renewed ∷ []) None old new → (output : ℕ) (bounds : Bounds) →
     HasLifeWithin output bounds old.host (held old.bus) → HasLifeWithin output bounds new.host (held new.bus)
 restart-within laws gives held restarts old new leads output bounds lived =
@@ -289,7 +288,7 @@ restart-within laws gives held restarts old new leads output bounds lived =
 -- ---- the beginning
 
 -- a new host beside a converter whose words are within
-pub begins-within : LegalLivesAreFollowed → (was summary : Summary) (held : Held) → MayBegin summary held → was.setup ≡ summary.setup →
+pub begins-within : LawsOfLives → (was summary : Summary) (held : Held) → MayBegin summary held → was.setup ≡ summary.setup →
     (output : ℕ) (bounds : Bounds) → HasLifeWithin output bounds was held → HasLifeWithin output bounds summary held
 begins-within laws was summary held may same output bounds lived =
     let has = lived.has in
@@ -306,7 +305,7 @@ begins-within laws was summary held may same output bounds lived =
         spelled = has.spelled;
         life = life;
       };
-      within = (laws.limited has.config has.passes (RestartHost ∷ has.events) life.sound has.spelled life.made life.legal).kept
+      within = (laws.limited has.config has.passes (RestartHost ∷ has.events) has.spelled life.lived).kept
           output bounds (RestartHost ∷ []) has.events refl lived.within
           (orders-within has.config has.passes output bounds has.events (RestartHost ∷ []) tt);
     }
@@ -320,12 +319,12 @@ none-ordered (newer ∷ later) event before is = cc
 starts-own : (config : Config) (passes output : ℕ) (bounds : Bounds) → StartsWithin config output bounds →
     OwnWithin config passes [] output bounds
 starts-own config passes output bounds starts register word voltage (inl start) =
-    subst (λ (w : ℕ). IsWithin bounds (value_for config output w)) (sym start) (starts register voltage)
+    subst (λ (w : ℕ). WordWithin register bounds (value_for config output w)) (sym start) (starts register voltage)
 starts-own config passes output bounds starts register word voltage (inr was) =
     absurd (none-ordered was.later was.event was.before was.is)
 
 -- a converter as it was made
-pub new-within : LegalLivesAreFollowed → NewConvertersAreWithin
+pub new-within : LawsOfLives → NewConvertersAreWithin
 new-within laws config passes output bounds sound spelled made starts = record {
   has = record {
     config = config;

@@ -13,14 +13,25 @@ use Rattle.pm_world.specs.declared.event.Event.{Event}
 use Rattle.pm_table.specs.declared.cell.Cell.{Cell}
 use Rattle.pm_world.specs.Confirmed.{restarted_since}
 use Rattle.pm_world.specs.Honest.{IsSpelled}
+use Rattle.pm_world.specs.Laws.{ConfirmedSettingsAreHeld, LearnedFormatsAreTrue, LivesAreFollowed, LivesAreOrders, PossibleWordsAreHeld}
 use Rattle.pm_world.specs.Life.{life, now}
+use Rattle.pm_world.specs.Lived.{IsLived}
 use Rattle.pm_world.specs.Limited.{StartsWithin}
+use Rattle.pm_world.specs.LimitLaws.{LivesStayLimited}
 use Rattle.pm_world.specs.Setup.{setup_of}
-use Rattle.pm_world.specs.Uncertainty.{AreLegal}
 use Rattle.pm_driver.specs.Acts.{Act, Call}
 use Rattle.pm_driver.specs.Driven.{HasLifeWithin, HasNoRestartSince, MayBegin}
 use Rattle.pm_driver.specs.Ends.{EndSays, cell_read}
 use Rattle.pm_driver.specs.Lives.{Driven, Leads, newest_tells}
+
+-- the laws of lives that a driver keeps its promises by
+pub record LawsOfLives : Type 0 where
+  pub followed : LivesAreFollowed
+  pub orders : LivesAreOrders
+  pub formats : LearnedFormatsAreTrue
+  pub confirmed : ConfirmedSettingsAreHeld
+  pub possible : PossibleWordsAreHeld
+  pub limited : LivesStayLimited
 
 -- What leads on from where something led is one that leads from its beginning: calls compose.
 abbrev pub LeadsCompose : {B : Type 0} → (B → Call → B → Type 0) → (B → Held) → (B → ℕ) → Type 0
@@ -42,7 +53,7 @@ pub record EndIsTrue (config : Config) (passes : ℕ) (events : List Event) (job
 -- In every life whose newest event is one that the host was told of, the end of the last job says what it is worth.
 abbrev pub EndsAreTrue : Type 0
 EndsAreTrue = (config : Config) (passes : ℕ) (events : List Event) (job : Job) (end : JobEnd) →
-    IsSound config → IsSpelled config → IsSetup (setup_of config passes) → AreLegal config passes events →
+    IsSpelled config → IsLived config passes events →
     newest_tells events ≡ true → last_job (life config passes events).entries ≡ Some job →
     (now config passes events).end ≡ Some end →
     EndIsTrue config passes events job end

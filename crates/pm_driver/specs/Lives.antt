@@ -3,17 +3,16 @@
 use Rattle.std.specs.Prelude.{◌≡◌, ◌+◌, ℕ, Bool, true, false, List, [], ◌∷◌, ◌++◌, Option, Some, None}
 use Rattle.pm_device.specs.declared.config.Config.{Config}
 use Rattle.pm_device.specs.Held.{Held}
-use Rattle.pm_device.specs.Start.{IsSound}
 use Rattle.pm_host.specs.declared.job.Job.{Job}
 use Rattle.pm_host.specs.declared.job_end.JobEnd.{JobEnd}
-use Rattle.pm_host.specs.Refusals.{IsSetup}
 use Rattle.pm_host.specs.Summary.{Summary}
 use Rattle.pm_world.specs.declared.event.Event.{Event}
 use Rattle.pm_world.specs.declared.event.Event.TheVariants.{Finish, Exchange}
 use Rattle.pm_world.specs.Job.{asked_by}
 use Rattle.pm_world.specs.Life.{life, now}
 use Rattle.pm_world.specs.Setup.{setup_of}
-use Rattle.pm_world.specs.Uncertainty.{AreLegal, job_event}
+use Rattle.pm_world.specs.Lived.{IsLived}
+use Rattle.pm_world.specs.Uncertainty.{job_event}
 use Rattle.pm_driver.specs.Bus.{restarts_in}
 use Rattle.pm_driver.specs.Acts.{Act, Began, Call, AreCalls, AreDone, asked_in, host_by, told_all}
 
@@ -22,12 +21,9 @@ pub record Driven (B : Type 0) : Type 0 where
   pub host : Summary
   pub bus : B
 
--- These events, legal one after another in a new world, lead to this host and this converter. However many they
--- are: no world counts them.
+-- These events were lived through, and lead to this host and this converter.
 pub record IsLife (config : Config) (passes : ℕ) (events : List Event) (host : Summary) (held : Held) : Type 0 where
-  pub sound : IsSound config
-  pub made : IsSetup (setup_of config passes)
-  pub legal : AreLegal config passes events
+  pub lived : IsLived config passes events
   pub host_is : (now config passes events).host ≡ host
   pub held_is : (now config passes events).device ≡ held
 

@@ -13,11 +13,10 @@ ghost use Rattle.pm_driver.specs.Lives.{Leads};
 
 use crate::bus::Bus;
 use crate::frames::carry_out;
-use crate::laws::{ends_are_true, jobs_lead, leads_compose, renewals_lead};
+use crate::laws::{ends_are_true, jobs_lead, laws_of_lives, leads_compose, renewals_lead};
 use pm_host::{Command, Host, Job, JobEnd};
 use pm_limits::{Guard, LimitFault};
 use pm_table::Cell;
-use pm_world::legal_lives_are_followed;
 use std::marker::Model;
 
 /// A host with its limits, and the bus of its converter. Each call that asks for a job carries it out, and answers how
@@ -71,7 +70,7 @@ impl<B: Bus> Driver<B> {
             HasNoRestartSince cell was (B.held bus) → HasNoRestartSince cell guard.host (B.held bus) }
     {
         // Hands its law to the prover.
-        legal_lives_are_followed();
+        laws_of_lives();
         Driver { guard, bus }
     }
 
@@ -84,7 +83,7 @@ impl<B: Bus> Driver<B> {
         ends_are_true();
         jobs_lead::<B>();
         leads_compose::<B>();
-        legal_lives_are_followed();
+        laws_of_lives();
         self.guard.begin(job)?;
         match carry_out(&mut self.guard, &mut self.bus) {
             Some(end) => Ok(end),
@@ -158,7 +157,7 @@ impl<B: Bus> Driver<B> {
     {
         // These calls hand their laws to the prover.
         renewals_lead::<B>();
-        legal_lives_are_followed();
+        laws_of_lives();
         self.guard.restart();
     }
 
@@ -196,7 +195,7 @@ impl<B: Bus> Driver<B> {
     pub fn laws(&self)
         ensures { IsTrueOf self.now.guard.host (B.held self.now.bus) }
     {
-        legal_lives_are_followed();
+        laws_of_lives();
         // Opens the driver to the prover.
         let _ = &self.guard;
     }

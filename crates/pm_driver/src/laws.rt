@@ -1,14 +1,29 @@
 //! The laws of a driver: each is the contract of a function that does nothing when it runs.
 
 ghost use Rattle.pm_driver.specs.Laws.{EndsAreTrue, LeadsCompose, NewConvertersAreWithin, NewConvertersHaveNoRestart, NewConvertersMayBegin};
-ghost use Rattle.pm_driver.specs.Laws.{RestartsAreCounted};
+ghost use Rattle.pm_driver.specs.Laws.{LawsOfLives, RestartsAreCounted};
 ghost use Rattle.pm_driver.specs.Steps.{CallsGo, FramesLead, JobsLead, RenewalsLead};
 ghost use Rattle.pm_driver.specs.Undisturbed.{JobsRestartNothing, UndisturbedOrdersAreDone, WholeFramesAreLegal};
 
 use crate::bus::Bus;
 use pm_host::transcripts_are_followed;
 use pm_table::cells_are_told_apart;
-use pm_world::{good_frames_end_jobs, legal_lives_are_followed, whole_frames_are_undisturbed};
+use pm_world::{
+    confirmed_settings_are_held, good_frames_end_jobs, learned_formats_are_true, lives_are_followed,
+    lives_are_orders, lives_stay_limited, possible_words_are_held, whole_frames_are_undisturbed,
+};
+
+/// What `pm_world` says of each life, which the laws below are had from.
+pub(crate) fn laws_of_lives()
+    ensures { LawsOfLives }
+{
+    lives_are_followed();
+    lives_are_orders();
+    learned_formats_are_true();
+    confirmed_settings_are_held();
+    possible_words_are_held();
+    lives_stay_limited();
+}
 
 /// What leads on from where something led is one that leads from its beginning: calls compose.
 pub fn leads_compose<B: Bus>()
@@ -28,28 +43,28 @@ pub fn ends_are_true()
 {
     cells_are_told_apart();
     transcripts_are_followed();
-    legal_lives_are_followed();
+    laws_of_lives();
 }
 
 /// A new host may begin beside a converter as it was made.
 pub fn new_converters_may_begin()
     ensures { NewConvertersMayBegin }
 {
-    legal_lives_are_followed();
+    laws_of_lives();
 }
 
 /// Beside a new host a converter as it was made never restarted, so it didn't since any cell was read.
 pub fn new_converters_have_no_restart()
     ensures { NewConvertersHaveNoRestart }
 {
-    legal_lives_are_followed();
+    laws_of_lives();
 }
 
 /// Where the start words of an output's voltages lie within limits, all words of a converter as it was made do.
 pub fn new_converters_are_within()
     ensures { NewConvertersAreWithin }
 {
-    legal_lives_are_followed();
+    laws_of_lives();
 }
 
 /// Frames that come whole are legal: what a bus that disturbs nothing does meets its contract.
@@ -61,7 +76,7 @@ pub fn whole_frames_are_legal()
 pub fn undisturbed_orders_are_done<B: Bus>()
     ensures { UndisturbedOrdersAreDone B.gives B.held B.restarts }
 {
-    legal_lives_are_followed();
+    laws_of_lives();
     good_frames_end_jobs();
     whole_frames_are_undisturbed();
     calls_go();
@@ -76,26 +91,26 @@ pub fn jobs_restart_nothing<B: Bus>()
 pub(crate) fn calls_go()
     ensures { CallsGo }
 {
-    legal_lives_are_followed();
+    laws_of_lives();
 }
 
 /// A call of the frame that the host was sending, whose answer the host is told, leads on.
 pub(crate) fn frames_lead<B: Bus>()
     ensures { FramesLead B.gives B.held B.restarts }
 {
-    legal_lives_are_followed();
+    laws_of_lives();
 }
 
 /// A job that the host accepts leads on.
 pub(crate) fn jobs_lead<B: Bus>()
     ensures { JobsLead B.gives B.held B.restarts }
 {
-    legal_lives_are_followed();
+    laws_of_lives();
 }
 
 /// A restart of the host leads on.
 pub(crate) fn renewals_lead<B: Bus>()
     ensures { RenewalsLead B.gives B.held B.restarts }
 {
-    legal_lives_are_followed();
+    laws_of_lives();
 }

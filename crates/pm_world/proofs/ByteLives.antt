@@ -11,7 +11,6 @@ use Rattle.pm_num.specs.Ratio.{micros}
 use Rattle.pm_table.specs.declared.cell.Cell.{Cell}
 use Rattle.pm_table.specs.declared.cell.Cell.TheVariants.{Out, Protect}
 use Rattle.pm_table.specs.Cell.{IsCell, is_protection, output_of}
-use Rattle.pm_frame.specs.declared.message.Message.{Message}
 use Rattle.pm_frame.specs.Layout.{AreBytes}
 use Rattle.pm_model.specs.Settings.{word_at}
 use Rattle.pm_device.specs.declared.config.Config.{Config}
@@ -21,26 +20,26 @@ use Rattle.pm_device.specs.Held.{words_at}
 use Rattle.pm_device.specs.History.{now as device_now, readings_in}
 use Rattle.pm_device.specs.Laws.{RepliesFollowEndings}
 use Rattle.pm_host.specs.Refusals.{micro_word}
-use Rattle.pm_host.specs.Summary.{Summary, format_at, sending_in}
+use Rattle.pm_host.specs.Summary.{Summary, format_at}
 use Rattle.pm_host.specs.Transcript as host
 use Rattle.pm_world.specs.Below.{Below}
-use Rattle.pm_world.specs.declared.arrival.Arrival.{Arrival}
 use Rattle.pm_world.specs.declared.back.Back.{Back}
 use Rattle.pm_world.specs.declared.back.Back.TheVariants as back
 use Rattle.pm_world.specs.declared.event.Event.{Event}
-use Rattle.pm_world.specs.declared.event.Event.TheVariants.{Order, OrderMicro, Deliver, Exchange, Reading}
+use Rattle.pm_world.specs.declared.event.Event.TheVariants.{Order, OrderMicro}
 use Rattle.pm_world.specs.Bytes.{CarriesBytes, CarryBytes, ReturnsInBytes, StartsShort}
 use Rattle.pm_world.specs.Honest.{IsSpelled}
 use Rattle.pm_world.specs.Legal.{back_bytes, frame_of, heard_bytes, heard_ending}
 use Rattle.pm_world.specs.Life.{life, now, state_of}
 use Rattle.pm_world.specs.Retelling.{WasOrdered}
-use Rattle.pm_world.specs.State.{State, answer_to, asked, delivered, exchanged, share_beside, share_of, tells}
+use Rattle.pm_world.specs.State.{Share, State, answer_to, asked, share_of}
 use Rattle.pm_world.specs.Uncertainty.{AreOfBytes, since_restart}
 use Rattle.pm_world.proofs.AnswerBytes.{HoldsBytes, Replies, reply-bytes}
 use Rattle.pm_world.proofs.FirstWords.{first-bytes}
 use Rattle.pm_world.proofs.LimitedLives.{told-asked}
 use Rattle.pm_world.proofs.Lives.{IsLived, earlier, entries-more}
 use Rattle.pm_world.proofs.OwnWords.{life-own}
+use Rattle.pm_world.proofs.Shares.{IsShare, exchanges, measures, share-is}
 
 -- ---- the words of the cells
 
@@ -210,24 +209,10 @@ measured-more (Some (device.Reading output code word)) past is are = (is, are)
 
 -- a reading that an event tells the converter has two bytes, where the event carries bytes
 event-measured : (s : State) (event : Event) → CarriesBytes event → IsMeasured (share_of s event).heard
-event-measured s event carries = by_asked (asked s event) where
-  delivery : (arrival : Arrival) (sending : Option Message) → IsMeasured (delivered s arrival sending).heard
-  delivery arrival None = tt
-  delivery arrival (Some message) = tt
-
-  exchange : (arrival : Arrival) (returned : Back) (sending : Option Message) → IsMeasured (exchanged s arrival returned sending).heard
-  exchange arrival returned None = tt
-  exchange arrival returned (Some message) = tt
-
-  beside : (event : Event) → CarriesBytes event → IsMeasured (share_beside s event).heard
-  beside (Deliver arrival) carries = delivery arrival (sending_in s.host)
-  beside (Exchange arrival returned) carries = exchange arrival returned (sending_in s.host)
-  beside (Reading output code word) carries = carries
-  beside event carries = tt
-
-  by_asked : (job : Option host.Job) → IsMeasured (option_map_or (λ j. tells (host.Accepted j)) job (share_beside s event)).heard
-  by_asked None = beside event carries
-  by_asked (Some job) = tt
+event-measured s event carries = by (share-is s event) carries where
+  by : {event : Event} {share : Share} → IsShare s event share → CarriesBytes event → IsMeasured share.heard
+  by (measures output code word) carries = carries
+  by share carries = tt
 
 -- each reading in the converter's past of a life has two bytes, where the events carry bytes
 life-measured : (config : Config) (passes : ℕ) (events : List Event) → CarryBytes events → AreMeasured (life config passes events).past
@@ -292,26 +277,12 @@ returned-bytes answer (back.Bytes bytes) are carries = carries
 -- what comes back to the host by an event are bytes, where the converter holds a program's numbers and the event
 -- carries bytes
 event-tells : Replies → (s : State) (event : Event) → HoldsBytes s.device → CarriesBytes event → TellsBytes (share_of s event).told
-event-tells replies s event holds carries = by_asked (asked s event) where
-  delivery : (arrival : Arrival) (sending : Option Message) → TellsBytes (delivered s arrival sending).told
-  delivery arrival None = tt
-  delivery arrival (Some message) = tt
-
-  exchange : (arrival : Arrival) (returned : Back) (sending : Option Message) → ReturnsInBytes returned →
-      TellsBytes (exchanged s arrival returned sending).told
-  exchange arrival returned None carries = tt
-  exchange arrival returned (Some message) carries =
+event-tells replies s event holds carries = by (share-is s event) carries where
+  by : {event : Event} {share : Share} → IsShare s event share → CarriesBytes event → TellsBytes share.told
+  by (exchanges arrival returned message is) carries =
       returned-bytes (answer_to s.device s.host.setup.addr message arrival) returned
-      (reply-bytes replies s.device (heard_bytes (frame_of s.host.setup.addr message) arrival) (heard_ending message arrival) holds) carries
-
-  beside : (event : Event) → CarriesBytes event → TellsBytes (share_beside s event).told
-  beside (Deliver arrival) carries = delivery arrival (sending_in s.host)
-  beside (Exchange arrival returned) carries = exchange arrival returned (sending_in s.host) carries.1
-  beside event carries = tt
-
-  by_asked : (job : Option host.Job) → TellsBytes (option_map_or (λ j. tells (host.Accepted j)) job (share_beside s event)).told
-  by_asked None = beside event carries
-  by_asked (Some job) = tt
+      (reply-bytes replies s.device (heard_bytes (frame_of s.host.setup.addr message) arrival) (heard_ending message arrival) holds) carries.1
+  by share carries = tt
 
 -- over a life
 life-bytes : Below → Replies → (config : Config) (passes : ℕ) (events : List Event) → IsOfBytes config → IsLived config passes events →

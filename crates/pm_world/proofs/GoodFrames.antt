@@ -6,7 +6,7 @@ use Rattle.pm_world.specs.declared.event.Event.{Event}
 use Rattle.pm_world.specs.GoodBus.{GoodFrames}
 use Rattle.pm_world.proofs.GoodLearns.{coefficients-learned, mode-learned}
 use Rattle.pm_world.proofs.GoodPasses.{pass-done, send-done, three-done, written-lived}
-use Rattle.pm_world.proofs.GoodReads.{check-done, order-done, read-lived}
+use Rattle.pm_world.proofs.GoodReads.{check-done, order-done, order-last, read-lived}
 use Rattle.pm_world.proofs.Lives.{IsLived, lived-before}
 use Rattle.pm_world.proofs.Sweeps.{shows, swept}
 
@@ -35,6 +35,9 @@ frames-good laws {config = config} {passes = passes} {events = events} lived = r
       let half = read-lived all read in
       let one = written-lived half written in
       three-done laws (read-lived one again) one half all stage (differs, left) allowed again written read;
+  last = λ later before after cell word pass is stage differs end read.
+      let all = up-to later after lived is in
+      order-last laws (read-lived all read) all stage read differs end;
   send = λ later before after command tries is stage written. send-done laws (up-to later after lived is) stage written;
   mode = λ later before after output tries is spelled stage read.
       let all = up-to later after lived is in

@@ -20,7 +20,7 @@ use Rattle.pm_host.specs.declared.possible.Possible.TheVariants.{Any}
 use Rattle.pm_host.specs.declared.question.Question.TheVariants.{Word}
 use Rattle.pm_host.specs.declared.stage.Stage.TheVariants.{Asks, Reads, Writes}
 use Rattle.pm_host.specs.declared.standing.Standing.TheVariants.{Confirmed, Unknown}
-use Rattle.pm_host.specs.declared.job_end.JobEnd.TheVariants.{Done}
+use Rattle.pm_host.specs.declared.job_end.JobEnd.TheVariants.{Done, Differs}
 use Rattle.pm_host.specs.Answers.{good_payload, good_word, word_in}
 use Rattle.pm_host.specs.Cells.{table}
 use Rattle.pm_host.specs.Known.{Known, all_any, known_after, known_now, known_possible, known_standing}
@@ -362,6 +362,30 @@ order-again laws {config = config} {passes = passes} {before = before} {after = 
     ∙ (cond-false (eqb found word) _ _ (ne_eqb found word differs)
     ∙ cond-false (eqb (pass + 1) h.setup.passes) _ _ (ne_eqb (pass + 1) h.setup.passes more)) in
     (ap (λ (t : Summary). t.stage) a.summary ∙ ap (λ (t : Change). t.after.stage) turn, a)
+
+-- and in the last pass it differs
+pub order-last : Below → {config : Config} {passes : ℕ} {before after : List Event} {cell : Cell} {word pass : ℕ} →
+    IsLived config passes before → IsLived config passes after →
+    (now config passes before).host.stage ≡ Some (Reads cell word pass) → IsRead config passes (cell_read cell) before after →
+    held_after config passes before cell ≢ word → pass + 1 ≡ passes →
+    WasRead config passes cell before after
+    × ((now config passes after).end ≡ Some (Differs (held_after config passes before cell)))
+unfolding host_next step_of
+order-last laws {config = config} {passes = passes} {before = before} {after = after} {cell = cell} {word = word} {pass = pass} lived all
+    stage read differs last =
+    let h = (now config passes before).host in
+    let found = held_after config passes before cell in
+    let a = was-answered laws (cell_read cell) all (ap (option_map stage_message) stage) read in
+    let here = order-there laws lived stage in
+    let same : pass + 1 ≡ h.setup.passes = last ∙ sym (ap (λ (u : host.Setup). u.passes) (now-setup config passes before)) in
+    let good = ap (λ (u : host.Setup). good_word u.addr cell a.answer) (now-setup config passes before)
+    ∙ answered-word laws cell lived here a in
+    let turn = order-change h cell word found pass a.answer stage good
+    ∙ (cond-false (eqb found word) _ _ (ne_eqb found word differs)
+    ∙ cond-true (eqb (pass + 1) h.setup.passes) _ _ (eq-eqb (pass + 1) h.setup.passes same)) in (
+      was-read laws lived here a (ap (λ (t : Summary). t.known) a.summary ∙ ap (λ (t : Change). t.after.known) turn),
+      a.end ∙ ap (λ (t : Change). end_by t.step) turn,
+    )
 
 -- what came before a frame that nothing disturbs was lived through
 pub read-lived : {config : Config} {passes : ℕ} {request : Message} {before after : List Event} → IsLived config passes after →

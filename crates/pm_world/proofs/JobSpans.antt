@@ -1,14 +1,17 @@
 -- What the host is told while no other job begins, and how the last job stands.
 use Rattle.std.proofs.Common.{◌≡◌, ◌⊎◌, inl, inr, ℕ, Bool, true, false, cond, not, ◌||◌, List, [], ◌∷◌, ◌++◌, Option, Some, None}
 use Rattle.std.proofs.Common.{is_none, is_some, IsSome, option_map, refl, sym, ◌∙◌, ap, subst}
-use Rattle.std.specs.Prelude.{option_to_list}
+use Rattle.std.specs.Prelude.{option_and_then, option_to_list}
 use Rattle.std.specs.List.{list_any}
 use Rattle.std.specs.Option.{option_map_or}
 use Rattle.std.proofs.lemmas.Bool.{false≢true}
+use Rattle.std.proofs.lemmas.Option.{none-some}
 use Rattle.pm_frame.specs.declared.message.Message.{Message}
 use Rattle.pm_frame.specs.Layout.{is_read_message}
 use Rattle.pm_device.specs.declared.config.Config.{Config}
+use Rattle.pm_host.specs.declared.job.Job.{Job}
 use Rattle.pm_host.specs.declared.job_end.JobEnd.{JobEnd}
+use Rattle.pm_host.specs.Jobs.{accepted_job}
 use Rattle.pm_host.specs.declared.stage.Stage.{Stage}
 use Rattle.pm_host.specs.Ended.{job_in, stage_job, StepTells}
 use Rattle.pm_host.specs.Now.{now as host_now, AreTold}
@@ -17,17 +20,16 @@ use Rattle.pm_host.specs.Summary.{Summary, next as host_next, step_by, stage_mes
 use Rattle.pm_host.specs.Told.{is_of_frame}
 use Rattle.pm_host.specs.Transcript as host
 use Rattle.pm_world.specs.Below.{Below}
-use Rattle.pm_world.specs.declared.arrival.Arrival.{Arrival}
-use Rattle.pm_world.specs.declared.back.Back.{Back}
 use Rattle.pm_world.specs.declared.event.Event.{Event}
-use Rattle.pm_world.specs.declared.event.Event.TheVariants.{Deliver, Finish, Exchange, RestartDevice, RestartHost, Reading}
 use Rattle.pm_world.specs.Ended.{begins_other}
+use Rattle.pm_world.specs.Job.{asked_by}
 use Rattle.pm_world.specs.Life.{life, now, state_of}
 use Rattle.pm_world.specs.Possible.{restarts_host}
 use Rattle.pm_world.specs.Setup.{setup_of}
-use Rattle.pm_world.specs.State.{State, asked, share_of, share_beside, exchanged, delivered, tells}
+use Rattle.pm_world.specs.State.{Share, State, asked, share_of, tells}
 use Rattle.pm_world.proofs.Causes.{asked-next}
 use Rattle.pm_world.proofs.Lives.{IsLived, earlier, entries-more, life-told, now-next}
+use Rattle.pm_world.proofs.Shares.{IsShare, begins, exchanges, finishes, restarts_host as host_restarts, share-is}
 
 -- of two tests that both say no
 pub or-parts : (a b : Bool) → (a || b) ≡ false → (a ≡ false) × (b ≡ false)
@@ -48,35 +50,32 @@ abbrev pub TellsFrame : Option host.Entry → Type 0
 TellsFrame None = Unit {0}
 TellsFrame (Some entry) = is_of_frame entry ≡ true
 
--- by a delivery nothing
-deliver-tells : (s : State) (arrival : Arrival) (sending : Option Message) → TellsFrame (delivered s arrival sending).told
-deliver-tells s arrival None = tt
-deliver-tells s arrival (Some message) = tt
-
--- by an exchange what came back
-exchange-tells : (s : State) (arrival : Arrival) (back : Back) (sending : Option Message)
-    → TellsFrame (exchanged s arrival back sending).told
-exchange-tells s arrival back None = tt
-exchange-tells s arrival back (Some message) = refl
+-- an event that asks for a job begins another one
+asks-other : (s : State) (event : Event) (job : host.Job) → asked s event ≡ Some job → begins_other event ≡ false → ⊥
+asks-other s event job is alone = go (asked_by event) is (or-parts (is_some (asked_by event)) (restarts_host event) alone).0 where
+  go : (o : Option Job) → option_and_then (accepted_job s.host) o ≡ Some job → is_some o ≡ false → ⊥
+  go None e h = cc
+  go (Some one) e h = cc
 
 -- by an event that begins no other job
 pub beside-tells : (s : State) (event : Event) → begins_other event ≡ false → TellsFrame (share_of s event).told
-beside-tells s (Deliver arrival) alone = deliver-tells s arrival _
-beside-tells s (Finish acked) alone = refl
-beside-tells s (Exchange arrival back) alone = exchange-tells s arrival back _
-beside-tells s RestartDevice alone = tt
-beside-tells s (Reading output code word) alone = tt
-beside-tells s event alone = cc
+beside-tells s event alone = by (share-is s event) alone where
+  by : {event : Event} {share : Share} → IsShare s event share → begins_other event ≡ false → TellsFrame share.told
+  by (begins event job is) alone = absurd (asks-other s event job is alone)
+  by (finishes acked) alone = refl
+  by (exchanges arrival back message is) alone = refl
+  by host_restarts alone = cc
+  by share alone = tt
 
 -- by any event that asks the host for nothing, and doesn't restart it
 pub beside-frame : (s : State) (event : Event) → asked s event ≡ None → restarts_host event ≡ false → TellsFrame (share_of s event).told
-beside-frame s (Deliver arrival) none stays = deliver-tells s arrival _
-beside-frame s (Finish acked) none stays = refl
-beside-frame s (Exchange arrival back) none stays = exchange-tells s arrival back _
-beside-frame s RestartHost none stays = cc
-beside-frame s event none stays =
-    let alone = ap (λ o. (option_map_or (λ j. tells (host.Accepted j)) o (share_beside s event)).told) none in
-    subst TellsFrame (sym alone) tt
+beside-frame s event none stays = by (share-is s event) none stays where
+  by : {event : Event} {share : Share} → IsShare s event share → asked s event ≡ None → restarts_host event ≡ false → TellsFrame share.told
+  by (begins event job is) none stays = absurd (none-some job (sym none ∙ is))
+  by (finishes acked) none stays = refl
+  by (exchanges arrival back message is) none stays = refl
+  by host_restarts none stays = cc
+  by share none stays = tt
 
 -- a job's end is none while it is open
 pub open-end : (setup : host.Setup) (entries : List host.Entry) → IsSome (host.open_job setup entries) → host.end_of setup entries ≡ None

@@ -44,6 +44,7 @@ mod Retellings
 mod Retold
 mod Runs
 mod Seen
+mod Shares
 mod Sending
 mod ShortWitness
 mod SinceRestart

@@ -1,5 +1,5 @@
--- An output commands a voltage within limits where each of its own words lies within them.
-use Rattle.std.proofs.Common.{◌≡◌, ◌≢◌, inl, inr, ℕ, ◌<◌, ℤ, pos, Bool, true, false, cond, ◌&&◌, ◌||◌, List, [], ◌∷◌, ◌++◌, Option, Some}
+-- An output commands a voltage within limits that allow each of its own words.
+use Rattle.std.proofs.Common.{◌≡◌, ◌≢◌, ◌⊎◌, inl, inr, ℕ, ◌<◌, ℤ, pos, Bool, true, false, cond, ◌&&◌, ◌||◌, List, [], ◌∷◌, ◌++◌, Option, Some}
 use Rattle.std.proofs.Common.{None, Ok, Err, refl, sym, ◌∙◌, ap, subst, append_assoc}
 use Rattle.std.proofs.Common.{is_some, is_none, option_and_then}
 use Rattle.std.specs.Prelude.{slice_index_or, IsSomeAnd}
@@ -10,12 +10,12 @@ use Rattle.pm_num.specs.AnyFormat.{Shape, InUlinear16, InDirect, shape_value}
 use Rattle.pm_num.specs.declared.fault.NumFault.TheVariants.{ZeroSlope, ExponentRange}
 use Rattle.pm_num.specs.Lemmas.Slope.{direct-has_den}
 use Rattle.pm_num.specs.Lemmas.Unsigned.{lower-positive}
-use Rattle.pm_num.specs.Ratio.{Ratio, AtMost, is_above}
+use Rattle.pm_num.specs.Ratio.{Ratio, AtMost, is_above, micros}
 use Rattle.pm_table.specs.declared.cell.Cell.{Cell}
 use Rattle.pm_table.specs.declared.cell.Cell.TheVariants.{Out}
 use Rattle.pm_table.specs.declared.coefficients.Coefficients.{Coefficients}
 use Rattle.pm_table.specs.declared.reg.Reg.{Reg}
-use Rattle.pm_table.specs.declared.reg.Reg.TheVariants.{VoutMax, VoutMin}
+use Rattle.pm_table.specs.declared.reg.Reg.TheVariants.{Operation, VoutCommand, VoutMax, MarginHigh, MarginLow, VoutMin}
 use Rattle.pm_table.specs.declared.vout_mode.VoutMode.{VoutMode}
 use Rattle.pm_table.specs.declared.vout_mode.VoutMode.TheVariants.{Linear, Direct}
 use Rattle.pm_table.specs.Cell.{is_voltage}
@@ -27,7 +27,7 @@ use Rattle.pm_model.specs.declared.pending_job.PendingJob.TheVariants as pending
 use Rattle.pm_model.specs.OrderMachine.{Accept, End}
 use Rattle.pm_device.specs.declared.config.Config.{Config}
 use Rattle.pm_device.specs.Held.{mode_for, shape_for, value_for}
-use Rattle.pm_device.specs.Start.{IsSound}
+use Rattle.pm_device.specs.Start.{IsSound, start_word}
 use Rattle.pm_host.specs.declared.command.Command.TheVariants.{StoreUserAll, RestoreUserAll}
 use Rattle.pm_host.specs.declared.job.Job.{Job}
 use Rattle.pm_host.specs.Jobs.{accepted_job}
@@ -38,7 +38,7 @@ use Rattle.pm_limits.specs.Bounds.{Bounds, IsWithin}
 use Rattle.pm_limits.specs.Guard.{Guarded, guard_fault}
 use Rattle.pm_limits.specs.Lemmas.Cuts.{Cut, cut-greatest, cut-least}
 use Rattle.pm_limits.specs.Lemmas.Guarded.{guarded-voltage}
-use Rattle.pm_limits.specs.Lemmas.Order.{through}
+use Rattle.pm_limits.specs.Lemmas.Order.{above-at-most, through}
 use Rattle.pm_limits.specs.Lemmas.Selected.{each-selected}
 use Rattle.pm_world.specs.Below.{Below}
 use Rattle.pm_world.specs.declared.event.Event.{Event}
@@ -46,7 +46,7 @@ use Rattle.pm_world.specs.declared.event.Event.TheVariants.{Deliver, Exchange, F
 use Rattle.pm_world.specs.Honest.{IsSpelled}
 use Rattle.pm_world.specs.Job.{asked_by}
 use Rattle.pm_world.specs.Life.{now}
-use Rattle.pm_world.specs.Limited.{AreGuarded, MaxAtMost, MinAtLeast, OrdersWithin, OwnWithin, StartsWithin, StaysLimited, commands}
+use Rattle.pm_world.specs.Limited.{AreGuarded, MaxAtMost, MinAtLeast, OrdersWithin, OwnWithin, StartsWithin, StaysLimited, WordWithin, commands}
 use Rattle.pm_world.specs.Retelling.{CommandsOwn, IsOwnWord, accepts, open_pending, pending_of, taken_at, takes, told, told_beside}
 use Rattle.pm_world.specs.State.{asked}
 use Rattle.pm_world.proofs.LearnedLives.{formats-agree}
@@ -114,32 +114,9 @@ commands-own laws {config = config} {passes = passes} {events = events} output l
           (sym (now-config config passes before)) ∙ own.cut;
     }
 
--- a value that is cut is one of the three
-one-of : (P : Ratio → Type 0) (s l g : Ratio) → P s → P l → P g → P (limited s l g)
-one-of P s l g ps pl pg = go (is_above s g) (is_above l s) (is_above l g) where
-  go : (over under crossed : Bool) → P (cond (over || under && crossed) g (cond under l s))
-  go true under crossed = pg
-  go false true true = pg
-  go false true false = pl
-  go false false crossed = ps
-
 -- a voltage's register
 selected-voltage : (byte : ℕ) → is_voltage (selected_register byte) ≡ true
 selected-voltage byte = each-selected (λ r. is_voltage r ≡ true) refl refl refl byte
-
--- at each moment of a life, an output whose own words lie within limits commands a voltage within them
-stays-limited : Below → {config : Config} {passes : ℕ} {events : List Event} → IsLived config passes events →
-    (output : ℕ) (bounds : Bounds) (later before : List Event) → output < config.count →
-    events ≡ later ++ before → OwnWithin config passes events output bounds →
-    IsWithin bounds (commands config passes before output)
-stays-limited laws {config = config} lived output bounds later before here is within =
-    let own = commands-own laws output later before lived here is in
-    let value = value_for config output in
-    subst (λ (v : Ratio). IsWithin bounds v) (sym own.cut)
-    (one-of (λ v. IsWithin bounds v) (value own.selected) (value own.least) (value own.most)
-    (within (selected_register own.operation) own.selected (selected-voltage own.operation) own.own_selected)
-    (within VoutMin own.least refl own.own_least)
-    (within VoutMax own.most refl own.own_most))
 
 -- the value and the limits of what an output commands
 cut-of : (config : Config) (output : ℕ) → IsSound config → output < config.count → (selected least most : ℕ) → Cut
@@ -154,6 +131,61 @@ cut-of config output sound here selected least most =
       least_den = dens least;
       greatest_den = dens most;
     }
+
+-- what is cut is at most what the selected value and VOUT_MIN's are at most
+cut-upper : (c : Cut) (z : Ratio) → AtMost c.selected z → AtMost c.least z → AtMost (limited c.selected c.least c.greatest) z
+cut-upper c z s l =
+    go (is_above c.selected c.greatest) (is_above c.least c.selected) (is_above c.least c.greatest) refl refl
+  where
+    go : (over under crossed : Bool) → is_above c.selected c.greatest ≡ over → is_above c.least c.greatest ≡ crossed →
+        AtMost (cond (over || under && crossed) c.greatest (cond under c.least c.selected)) z
+    go true under crossed o x = through c.greatest c.selected z c.selected_den (above-at-most c.selected c.greatest o) s
+    go false true true o x = through c.greatest c.least z c.least_den (above-at-most c.least c.greatest x) l
+    go false true false o x = l
+    go false false crossed o x = s
+
+-- what is cut is at least what the selected value and VOUT_MAX's are at least
+cut-lower : (c : Cut) (z : Ratio) → AtMost z c.selected → AtMost z c.greatest → AtMost z (limited c.selected c.least c.greatest)
+cut-lower c z s g =
+    go (is_above c.selected c.greatest) (is_above c.least c.selected) (is_above c.least c.greatest) refl
+  where
+    go : (over under crossed : Bool) → is_above c.least c.selected ≡ under →
+        AtMost z (cond (over || under && crossed) c.greatest (cond under c.least c.selected))
+    go true under crossed u = g
+    go false true true u = g
+    go false true false u = through z c.selected c.least c.selected_den s (above-at-most c.least c.selected u)
+    go false false crossed u = s
+
+-- a selected register's word within limits has a value within them
+selected-within : (byte : ℕ) (bounds : Bounds) (value : Ratio) → WordWithin (selected_register byte) bounds value → IsWithin bounds value
+selected-within byte bounds value =
+    each-selected (λ r. WordWithin r bounds value → IsWithin bounds value) (λ w. w) (λ w. w) (λ w. w) byte
+
+-- a value within limits is one that they allow for any register
+word-within : (register : Reg) (bounds : Bounds) (value : Ratio) → IsWithin bounds value → WordWithin register bounds value
+word-within VoutMax bounds value within = within.from_least
+word-within VoutMin bounds value within = within.to_greatest
+word-within Operation bounds value within = within
+word-within VoutCommand bounds value within = within
+word-within MarginHigh bounds value within = within
+word-within MarginLow bounds value within = within
+
+-- at each moment of a life, an output whose own words limits allow commands a voltage within them
+stays-limited : Below → {config : Config} {passes : ℕ} {events : List Event} → IsLived config passes events →
+    (output : ℕ) (bounds : Bounds) (later before : List Event) → output < config.count →
+    events ≡ later ++ before → OwnWithin config passes events output bounds →
+    IsWithin bounds (commands config passes before output)
+unfolding cut-of
+stays-limited laws {config = config} lived output bounds later before here is within =
+    let own = commands-own laws output later before lived here is in
+    let value = value_for config output in
+    let cut = cut-of config output lived.sound here own.selected own.least own.most in
+    let selected = selected-within own.operation bounds (value own.selected)
+      (within (selected_register own.operation) own.selected (selected-voltage own.operation) own.own_selected) in
+    subst (λ (v : Ratio). IsWithin bounds v) (sym own.cut) (record {
+      from_least = cut-lower cut (micros bounds.least) selected.from_least (within VoutMax own.most refl own.own_most);
+      to_greatest = cut-upper cut (micros bounds.most) selected.to_greatest (within VoutMin own.least refl own.own_least);
+    })
 
 -- at each moment of a life, an output commands at most a voltage that none of its own words of VOUT_MAX lies above
 stays-below : Below → {config : Config} {passes : ℕ} {events : List Event} → IsLived config passes events →
@@ -219,7 +251,7 @@ accepts-order cell word (host.Send StoreUserAll) h = cc
 accepts-order cell word (host.Send RestoreUserAll) h = cc
 accepts-order cell word job h = cc
 
--- so an event that is told as an order asked for it
+-- an event that is told as an order asked for it
 pub told-asked : (config : Config) (passes : ℕ) (before : List Event) (event : Event) (cell : Cell) (word : ℕ) →
     told config passes before event ≡ Accept (pending.Order cell word) ∷ [] →
     asked (now config passes before) event ≡ Some (host.Order cell word)
@@ -231,25 +263,26 @@ told-asked config passes before event cell word is = go (asked (now config passe
   go (Some job) h = ap (λ (j : host.Job). Some j) (accepts-order cell word job h)
   go None h = absurd (not-beside config passes before cell word event h)
 
--- one more event, which orders no word beyond the limits
-one-more : (config : Config) (passes : ℕ) (event : Event) (before : List Event) (output : ℕ) (bounds : Bounds) →
-    OwnWithin config passes before output bounds →
+-- An own word after one more event is one of before, or lies within limits that each word which it orders lies within.
+one-newer : (config : Config) (passes : ℕ) (event : Event) (before : List Event) (output : ℕ) (bounds : Bounds) →
     ((register : Reg) (word : ℕ) → is_voltage register ≡ true →
     asked (now config passes before) event ≡ Some (host.Order (Out output register) word) →
     IsWithin bounds (value_for config output word)) →
-    OwnWithin config passes (event ∷ before) output bounds
-one-more config passes event before output bounds own newest register word voltage (inl start) = own register word voltage (inl start)
-one-more config passes event before output bounds own newest register word voltage (inr was) = go was.later was.is where
-  go : (later : List Event) → event ∷ before ≡ later ++ was.event ∷ was.before → IsWithin bounds (value_for config output word)
+    (register : Reg) (word : ℕ) → is_voltage register ≡ true → IsOwnWord config passes (event ∷ before) (Out output register) word →
+    IsOwnWord config passes before (Out output register) word ⊎ IsWithin bounds (value_for config output word)
+one-newer config passes event before output bounds newest register word voltage (inl start) = inl (inl start)
+one-newer config passes event before output bounds newest register word voltage (inr was) = go was.later was.is where
+  go : (later : List Event) → event ∷ before ≡ later ++ was.event ∷ was.before →
+      IsOwnWord config passes before (Out output register) word ⊎ IsWithin bounds (value_for config output word)
   go [] is =
       let same : was.event ≡ event = cc in
       let rest : was.before ≡ before = cc in
-      newest register word voltage (told-asked config passes before event (Out output register) word
+      inr (newest register word voltage (told-asked config passes before event (Out output register) word
       (subst (λ e. told config passes before e ≡ Accept (pending.Order (Out output register) word) ∷ []) same
-      (subst (λ b. told config passes b was.event ≡ Accept (pending.Order (Out output register) word) ∷ []) rest was.orders)))
+      (subst (λ b. told config passes b was.event ≡ Accept (pending.Order (Out output register) word) ∷ []) rest was.orders))))
   go (newer ∷ later) is =
       let rest : before ≡ later ++ was.event ∷ was.before = cc in
-      own register word voltage (inr (record {
+      inl (inr (record {
         later = later;
         event = was.event;
         before = was.before;
@@ -257,23 +290,40 @@ one-more config passes event before output bounds own newest register word volta
         orders = was.orders;
       }))
 
--- so of several
+-- the first of two, or what the second leads to
+or-then : {A B C : Type 0} → A ⊎ C → (A → B ⊎ C) → B ⊎ C
+or-then (inl a) more = more a
+or-then (inr c) more = inr c
+
+-- the same after several events
+stays-newer : (config : Config) (passes : ℕ) (output : ℕ) (bounds : Bounds) (later before : List Event) →
+    OrdersWithin config passes later before output bounds →
+    (register : Reg) (word : ℕ) → is_voltage register ≡ true → IsOwnWord config passes (later ++ before) (Out output register) word →
+    IsOwnWord config passes before (Out output register) word ⊎ IsWithin bounds (value_for config output word)
+stays-newer config passes output bounds [] before all register word voltage own = inl own
+stays-newer config passes output bounds (event ∷ later) before all register word voltage own =
+    or-then (one-newer config passes event (later ++ before) output bounds all.0 register word voltage own)
+    (stays-newer config passes output bounds later before all.1 register word voltage)
+
+-- own words that are all allowed stay so
 stays-kept : (config : Config) (passes : ℕ) (output : ℕ) (bounds : Bounds) (later before : List Event) →
     OwnWithin config passes before output bounds → OrdersWithin config passes later before output bounds →
     OwnWithin config passes (later ++ before) output bounds
-stays-kept config passes output bounds [] before own all = own
-stays-kept config passes output bounds (event ∷ later) before own all =
-    one-more config passes event (later ++ before) output bounds
-    (stays-kept config passes output bounds later before own all.1) all.0
+stays-kept config passes output bounds later before own all register word voltage is =
+    go (stays-newer config passes output bounds later before all register word voltage is) where
+      go : IsOwnWord config passes before (Out output register) word ⊎ IsWithin bounds (value_for config output word) →
+          WordWithin register bounds (value_for config output word)
+      go (inl old) = own register word voltage old
+      go (inr within) = word-within register bounds (value_for config output word) within
 
--- and was let through
+-- a guard lets each event of a guarded life through
 guarded-at : (config : Config) (passes : ℕ) (limits : List (Option Bounds)) (later : List Event) (event : Event) (before : List Event) →
     AreGuarded config passes limits (later ++ event ∷ before) →
     option_and_then (guard_fault (record { host = (now config passes before).host; limits = limits })) (asked_by event) ≡ None
 guarded-at config passes limits [] event before all = all.0
 guarded-at config passes limits (newer ∷ later) event before all = guarded-at config passes limits later event before all.1
 
--- So each word that a guard let be ordered lies within, in the converter's format.
+-- a word that a guard lets be ordered lies within its limits, in the format that the host knows
 ordered-within : (g : Guarded) (asked : Option Job) (output : ℕ) (register : Reg) (word : ℕ) (bounds : Bounds) →
     option_and_then (guard_fault g) asked ≡ None →
     option_and_then (accepted_job g.host) asked ≡ Some (host.Order (Out output register) word) →
@@ -291,14 +341,14 @@ in-format None own word bounds agree within = absurd within
 in-format (Some shape) own word bounds agree within =
     subst (λ (s : Shape). IsWithin bounds (shape_value s word)) (agree shape refl) within
 
--- an output's own words lie within limits where its start words do and each job went through a guard with them
-stays-guarded : Below → {config : Config} {passes : ℕ} {events : List Event} → IsLived config passes events → IsSpelled config →
+-- where each job went through a guard, an own word is the start word or lies within the guard's limits
+stays-ordered : Below → {config : Config} {passes : ℕ} {events : List Event} → IsLived config passes events → IsSpelled config →
     (output : ℕ) (bounds : Bounds) (limits : List (Option Bounds)) → output < config.count →
     slice_index_or limits output None ≡ Some bounds → AreGuarded config passes limits events →
-    StartsWithin config output bounds → OwnWithin config passes events output bounds
-stays-guarded laws {config = config} lived spelled output bounds limits here are all starts register word voltage (inl start) =
-    subst (λ (w : ℕ). IsWithin bounds (value_for config output w)) (sym start) (starts register voltage)
-stays-guarded laws {config = config} {passes = passes} {events = events} lived spelled output bounds limits here are all starts register
+    (register : Reg) (word : ℕ) → is_voltage register ≡ true → IsOwnWord config passes events (Out output register) word →
+    (word ≡ start_word config (Out output register)) ⊎ IsWithin bounds (value_for config output word)
+stays-ordered laws lived spelled output bounds limits here are all register word voltage (inl start) = inl start
+stays-ordered laws {config = config} {passes = passes} {events = events} lived spelled output bounds limits here are all register
     word voltage (inr was) =
     let s = (now config passes was.before).host in
     let past = subst (AreGuarded config passes limits) was.is all in
@@ -306,10 +356,22 @@ stays-guarded laws {config = config} {passes = passes} {events = events} lived s
     let newest = lived-before config passes was.later (was.event ∷ was.before) whole in
     let before = lived-before config passes (was.event ∷ []) was.before newest in
     let agree = formats-agree laws config passes was.before before spelled in
-    in-format (format_at s output) (shape_for config output) word bounds (agree.held output)
+    inr (in-format (format_at s output) (shape_for config output) word bounds (agree.held output)
     (ordered-within (record { host = s; limits = limits }) (asked_by was.event) output register word bounds
     (guarded-at config passes limits was.later was.event was.before past)
-    (told-asked config passes was.before was.event (Out output register) word was.orders) voltage are)
+    (told-asked config passes was.before was.event (Out output register) word was.orders) voltage are))
+
+-- limits allow an output's own words where they allow its start words and each job went through a guard with them
+stays-guarded : Below → {config : Config} {passes : ℕ} {events : List Event} → IsLived config passes events → IsSpelled config →
+    (output : ℕ) (bounds : Bounds) (limits : List (Option Bounds)) → output < config.count →
+    slice_index_or limits output None ≡ Some bounds → AreGuarded config passes limits events →
+    StartsWithin config output bounds → OwnWithin config passes events output bounds
+stays-guarded laws {config = config} lived spelled output bounds limits here are all starts register word voltage is =
+    go (stays-ordered laws lived spelled output bounds limits here are all register word voltage is) where
+      go : (word ≡ start_word config (Out output register)) ⊎ IsWithin bounds (value_for config output word) →
+          WordWithin register bounds (value_for config output word)
+      go (inl start) = subst (λ (w : ℕ). WordWithin register bounds (value_for config output w)) (sym start) (starts register voltage)
+      go (inr within) = word-within register bounds (value_for config output word) within
 
 -- Limits over a life.
 pub stays : Below → (config : Config) (passes : ℕ) (events : List Event) → IsLived config passes events → IsSpelled config →
@@ -319,6 +381,10 @@ stays laws config passes events lived spelled = record {
   most = stays-below laws lived;
   least = stays-above laws lived;
   guarded = stays-guarded laws lived spelled;
+  ordered = stays-ordered laws lived spelled;
+  newer = λ output bounds later before is all register word voltage own.
+      stays-newer config passes output bounds later before all register word voltage
+      (subst (λ es. IsOwnWord config passes es (Out output register) word) is own);
   kept = λ output bounds later before is own all. subst (λ es. OwnWithin config passes es output bounds) (sym is)
       (stays-kept config passes output bounds later before own all);
 }

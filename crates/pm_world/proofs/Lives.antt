@@ -27,13 +27,8 @@ use Rattle.pm_world.specs.State.{end_after, host_after, device_after, rule, even
 use Rattle.pm_world.proofs.Causes.{or-none, rule-none, not-false, taken-free, job-free}
 use Rattle.pm_world.proofs.Ends.{state}
 use Rattle.pm_world.specs.Uncertainty.{AreLegal}
+pub use Rattle.pm_world.specs.Lived.{IsLived}
 use Rattle.pm_world.specs.Life.{Life, state_of, lived, life, now, AreTaken, after_all, AreTakenFrom}
-
--- events that a world of this configuration lived through: nothing but their number may be against one
-pub record IsLived (config : Config) (passes : ℕ) (events : List Event) : Type 0 where
-  pub sound : IsSound config
-  pub made : IsSetup (setup_of config passes)
-  pub legal : AreLegal config passes events
 
 -- events that were taken are legal
 pub are-legal : (config : Config) (passes : ℕ) (events : List Event) → AreTaken config passes events → AreLegal config passes events
@@ -45,11 +40,6 @@ are-legal config passes (event ∷ before) (taken, all) =
 pub lived-by : (config : Config) (passes : ℕ) (events : List Event) → IsSound config → IsSetup (setup_of config passes) →
     AreTaken config passes events → IsLived config passes events
 lived-by config passes events sound made taken = record { sound = sound; made = made; legal = are-legal config passes events taken }
-
--- and so were legal events
-pub lived-legal : {config : Config} {passes : ℕ} {events : List Event} → IsSound config → IsSetup (setup_of config passes) →
-    AreLegal config passes events → IsLived config passes events
-lived-legal sound made legal = record { sound = sound; made = made; legal = legal }
 
 -- the events before the newest were lived through, and the newest has no cause
 pub earlier : {config : Config} {passes : ℕ} {before : List Event} {event : Event} → IsLived config passes (event ∷ before) →

@@ -15,6 +15,7 @@ use Rattle.pm_world.specs.OpenLists.{are_open, stays_open}
 use Rattle.pm_world.specs.Setup.{setup_of}
 use Rattle.pm_world.specs.State.{IsTaken, State, next}
 use Rattle.pm_world.specs.Uncertainty.{since_restart}
+use Rattle.pm_world.proofs.Lives.{lived-by}
 use Rattle.pm_world.proofs.Runs.{past}
 
 -- what is told since the host's last restart leaves it open
@@ -44,14 +45,14 @@ one-more : LivesAreFollowed → OpenListsAreFollowed
 one-more lives opens config passes events event world new left after sound made runs (taken, becomes) carries is =
     let all : AreTaken config passes (event ∷ events) = (subst (λ (s : State). IsTaken s event) runs.is_now taken, runs.all) in
     let same : new ≡ now config passes (event ∷ events) =
-    becomes ∙ (ap (λ (s : State). next s event) runs.is_now ∙ sym (lives.more config passes events event sound made all)) in
+    becomes ∙ (ap (λ (s : State). next s event) runs.is_now ∙ sym (lives.more config passes events event (lived-by config passes (event ∷ events) sound made all))) in
     record {
       is_now = same;
       all = all;
       bytes = (carries, runs.bytes);
       left = is ∙ (ap (λ b. stays_open b event (possible_at new.host Protect)) runs.left
           ∙ (ap (λ (s : State). stays_open (left_by config passes events) event (possible_at s.host Protect)) same
-          ∙ sym (opens.more config passes events event sound made all)));
+          ∙ sym (opens.more config passes events event (lived-by config passes (event ∷ events) sound made all))));
     }
 
 -- of the list

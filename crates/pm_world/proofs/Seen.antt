@@ -3,35 +3,30 @@ use Rattle.std.proofs.Common.{◌≡◌, ◌⊎◌, inl, inr, ℕ, Bool, true, f
 use Rattle.std.proofs.Common.{refl, sym, ◌∙◌, ap, subst}
 use Rattle.std.specs.Prelude.{option_to_list}
 use Rattle.std.specs.List.{list_any}
-use Rattle.std.specs.Option.{option_map_or}
 use Rattle.std.proofs.lemmas.Bool.{and_parts, cases_Bool, not-true, or_right, true≢false, false≢true}
-use Rattle.std.proofs.lemmas.Option.{none-some, same_Some}
+use Rattle.std.proofs.lemmas.Option.{same_Some}
 use Rattle.pm_table.specs.declared.cell.Cell.{Cell}
 use Rattle.pm_table.specs.Cell.{IsCell, same_cell}
-use Rattle.pm_frame.specs.declared.message.Message.{Message}
 use Rattle.pm_model.specs.Settings.{Words, word_at}
 use Rattle.pm_device.specs.declared.config.Config.{Config}
 use Rattle.pm_host.specs.Marks.{Mark, Good, read_by, puts, goods, marks}
 use Rattle.pm_host.specs.Possible.{is_possible, possible_of, restart_seen_of}
-use Rattle.pm_host.specs.Summary.{sending_in}
 use Rattle.pm_host.specs.Transcript as host
 use Rattle.pm_world.specs.Below.{Below}
-use Rattle.pm_world.specs.declared.arrival.Arrival.{Arrival}
-use Rattle.pm_world.specs.declared.back.Back.{Back}
 use Rattle.pm_world.specs.declared.event.Event.{Event}
-use Rattle.pm_world.specs.declared.event.Event.TheVariants.{Deliver, Exchange}
 use Rattle.pm_world.specs.Confirmed.{is_good_for, reads, reads_cell, restarts_converter, restarted_since}
 use Rattle.pm_world.specs.Life.{life, now, state_of}
 use Rattle.pm_world.specs.Possible.{restarts_host, has_read, is_surprise_for, surprises, surprises_by, restarted_between}
 use Rattle.pm_world.specs.Possible.{restarted_since_host, PossibleIsHeld, SeenIsTrue}
 use Rattle.pm_world.specs.Setup.{setup_of}
-use Rattle.pm_world.specs.State.{State, asked, share_of, share_beside, exchanged, tells, event_cause, exchange_cause}
+use Rattle.pm_world.specs.State.{Share, State, asked, share_of, event_cause, exchange_cause}
 use Rattle.pm_world.proofs.HeldWords.{Knows, knows, reads-true, life-known}
 use Rattle.pm_world.proofs.Lives.{IsLived, earlier, newest, entries-more, lived-before, now-config}
-use Rattle.pm_world.proofs.Sending.{eight, same_cell-itself, told-nothing}
+use Rattle.pm_world.proofs.Sending.{eight, same_cell-itself}
 use Rattle.pm_world.proofs.Standings.{ArePuts, no_put, one_put, one_restore, are-puts, AreGoods, no_good, one_good, are-goods, ReadsTrue}
 use Rattle.pm_world.proofs.Standings.{same-cells}
 use Rattle.pm_world.proofs.Unread.{listed-read, restart-told}
+use Rattle.pm_world.proofs.Shares.{IsShare, exchanges, share-is}
 
 -- one of two
 or-one : (a b : Bool) → (a || b) ≡ true → (a ≡ true) ⊎ (b ≡ true)
@@ -51,26 +46,13 @@ got_bytes _ = []
 -- what came back is true of the cell that is read, whichever event brought it
 got-true : Below → {s : State} {setup : host.Setup} {entries : List host.Entry} (event : Event) (bytes : List ℕ) → Knows s setup entries →
     event_cause s event ≡ None → (share_of s event).told ≡ Some (host.Got bytes) → ReadsTrue setup entries bytes s.device.words
-got-true laws {s = s} {setup = setup} {entries = entries} event bytes knows free told = by_asked (asked s event) told where
-  by_sending : (arrival : Arrival) (back : Back) (sending : Option Message) → sending_in s.host ≡ sending →
-      exchange_cause s arrival back sending ≡ None →
-      (exchanged s arrival back sending).told ≡ Some (host.Got bytes) → ReadsTrue setup entries bytes s.device.words
-  by_sending arrival back None e free told = λ read word asked good. cc
-  by_sending arrival back (Some message) e free told =
-      let is = same_Some _ (host.Got bytes) told in
-      subst (λ (entry : host.Entry). ReadsTrue setup entries (got_bytes entry) s.device.words) is
-      (reads-true laws arrival back message knows e free)
-
-  beside : (event : Event) → event_cause s event ≡ None → (share_beside s event).told ≡ Some (host.Got bytes) →
+got-true laws {s = s} {setup = setup} {entries = entries} event bytes knows free told = by (share-is s event) free told where
+  by : {event : Event} {share : Share} → IsShare s event share → event_cause s event ≡ None → share.told ≡ Some (host.Got bytes) →
       ReadsTrue setup entries bytes s.device.words
-  beside (Exchange arrival back) free told = by_sending arrival back (sending_in s.host) refl free told
-  beside (Deliver arrival) free told = absurd (none-some _ (sym (told-nothing s arrival (sending_in s.host)) ∙ told))
-  beside event free told = λ read word asked good. cc
-
-  by_asked : (o : Option host.Job) → (option_map_or (λ j. tells (host.Accepted j)) o (share_beside s event)).told ≡ Some (host.Got bytes) →
-      ReadsTrue setup entries bytes s.device.words
-  by_asked None told = beside event free told
-  by_asked (Some job) told = λ read word asked good. cc
+  by (exchanges arrival back message is) free told =
+      subst (λ (entry : host.Entry). ReadsTrue setup entries (got_bytes entry) s.device.words) (same_Some _ (host.Got bytes) told)
+      (reads-true laws arrival back message knows is (subst (λ o. exchange_cause s arrival back o ≡ None) is free))
+  by share free told = absurd (cc)
 
 -- a surprising answer: one for a cell that was asked for, with the cell's word, which wasn't possible
 record Surprise (s : State) (setup : host.Setup) (entries : List host.Entry) (cell : Cell) : Type 0 where

@@ -19,7 +19,7 @@ use Rattle.pm_host.specs.declared.job.Job.{Job}
 use Rattle.pm_host.specs.declared.stage.Stage.TheVariants.{Writes}
 use Rattle.pm_host.specs.Jobs.{accepted_job}
 use Rattle.pm_host.specs.Messages.{cell_write}
-use Rattle.pm_host.specs.Refusals.{IsSetup, micro_word, sends_read}
+use Rattle.pm_host.specs.Refusals.{IsSetup, micro_word}
 use Rattle.pm_host.specs.Summary.{Summary, begins, next as host_next, sending_in, stage_message}
 use Rattle.pm_host.specs.Transcript as host
 use Rattle.pm_world.specs.Below.{Below}
@@ -65,165 +65,166 @@ heard-of h addr cell word arrival at stage =
     ∙ (ap (λ b. not b && is_whole (frame_of h.setup.addr (cell_write cell word)) arrival) (write-kind cell word)
     ∙ ap (λ a. is_whole (frame_of a (cell_write cell word)) arrival) at)
 
--- of a life
-sent-heard : Below → (config : Config) (passes : ℕ) (events : List Event) (cell : Cell) (word : ℕ) (arrival : Arrival) →
-    IsLived config passes (Deliver arrival ∷ events) → (now config passes events).host.stage ≡ Some (Writes cell word 0) →
-    hears_whole (now config passes (Deliver arrival ∷ events)).host arrival ≡ is_whole (frame_of config.addr (cell_write cell word)) arrival
-sent-heard laws config passes events cell word arrival lived stage =
-    let s = now config passes events in
-    ap (λ (h : Summary). hears_whole h arrival)
-    (ap (λ (t : State). t.host) (now-next laws config passes events (Deliver arrival) lived) ∙ next-deliver-host s arrival)
-    ∙ heard-of s.host config.addr cell word arrival (ap (λ (u : host.Setup). u.addr) (now-setup config passes events)) stage
+module _ (laws : Below) (config : Config) (passes : ℕ) where
+  -- of a life
+  sent-heard : (events : List Event) (cell : Cell) (word : ℕ) (arrival : Arrival) →
+      IsLived config passes (Deliver arrival ∷ events) → (now config passes events).host.stage ≡ Some (Writes cell word 0) →
+      hears_whole (now config passes (Deliver arrival ∷ events)).host arrival ≡ is_whole (frame_of config.addr (cell_write cell word)) arrival
+  sent-heard events cell word arrival lived stage =
+      let s = now config passes events in
+      ap (λ (h : Summary). hears_whole h arrival)
+      (ap (λ (t : State). t.host) (now-next laws config passes events (Deliver arrival) lived) ∙ next-deliver-host s arrival)
+      ∙ heard-of s.host config.addr cell word arrival (ap (λ (u : host.Setup). u.addr) (now-setup config passes events)) stage
 
--- after a delivery
-delivered-form : Below → (config : Config) (passes : ℕ) (before : List Event) (arrival : Arrival) (way : Way) →
-    IsLived config passes (Deliver arrival ∷ before) → FormOf config passes before way →
-    FormOf config passes (Deliver arrival ∷ before)
-    (delivered_on (hears_whole (now config passes (Deliver arrival ∷ before)).host arrival) way)
-delivered-form laws config passes before arrival (Sent cell word whole) lived form =
-    let stage = subst (λ es. (now config passes es).host.stage ≡ Some (Writes cell word 0)) (sym form.is)
-    (sent-stage laws form.before form.order form.arrivals (subst (IsLived config passes) form.is (earlier lived)) form.asks) in
-    record {
-      order = form.order;
-      arrivals = arrival ∷ form.arrivals;
-      before = form.before;
-      is = ap (λ (es : List Event). Deliver arrival ∷ es) form.is;
-      asks = form.asks;
-      allowed = form.allowed;
-      heard = ap₂ (λ a b. a || b) (sym (sent-heard laws config passes before cell word arrival lived stage)) form.heard;
-    }
-delivered-form laws config passes before arrival way lived form = tt
+  -- after a delivery
+  delivered-form : (before : List Event) (arrival : Arrival) (way : Way) →
+      IsLived config passes (Deliver arrival ∷ before) → FormOf config passes before way →
+      FormOf config passes (Deliver arrival ∷ before)
+      (delivered_on (hears_whole (now config passes (Deliver arrival ∷ before)).host arrival) way)
+  delivered-form before arrival (Sent cell word whole) lived form =
+      let stage = subst (λ es. (now config passes es).host.stage ≡ Some (Writes cell word 0)) (sym form.is)
+      (sent-stage laws form.before form.order form.arrivals (subst (IsLived config passes) form.is (earlier lived)) form.asks) in
+      record {
+        order = form.order;
+        arrivals = arrival ∷ form.arrivals;
+        before = form.before;
+        is = ap (λ (es : List Event). Deliver arrival ∷ es) form.is;
+        asks = form.asks;
+        allowed = form.allowed;
+        heard = ap₂ (λ a b. a || b) (sym (sent-heard before cell word arrival lived stage)) form.heard;
+      }
+  delivered-form before arrival way lived form = tt
 
--- after the end of a write
-finished-form : (config : Config) (passes : ℕ) (before : List Event) (acked : Bool) (way : Way) → FormOf config passes before way →
-    FormOf config passes (Finish acked ∷ before) (finished_on way)
-finished-form config passes before acked (Sent cell word true) form = (acked, before, refl, form)
-finished-form config passes before acked way form = tt
+  -- after the end of a write
+  finished-form : (before : List Event) (acked : Bool) (way : Way) → FormOf config passes before way →
+      FormOf config passes (Finish acked ∷ before) (finished_on way)
+  finished-form before acked (Sent cell word true) form = (acked, before, refl, form)
+  finished-form before acked way form = tt
 
--- after an exchange
-exchanged-form : (config : Config) (passes : ℕ) (before : List Event) (arrival : Arrival) (returned : Back) (way : Way) →
-    FormOf config passes before way → FormOf config passes (Exchange arrival returned ∷ before) (exchanged_on arrival returned way)
-exchanged-form config passes before Whole back.Whole (Written cell word) (acked, rest, is, sent) = record {
-  order = sent.order;
-  arrivals = sent.arrivals;
-  acked = acked;
-  before = sent.before;
-  is = ap (λ (es : List Event). Exchange Whole back.Whole ∷ es) (is ∙ ap (λ (es : List Event). Finish acked ∷ es) sent.is);
-  asks = sent.asks;
-  allowed = sent.allowed;
-  heard = sent.heard;
-}
-exchanged-form config passes before arrival returned way form = tt
+  -- after an exchange
+  exchanged-form : (before : List Event) (arrival : Arrival) (returned : Back) (way : Way) →
+      FormOf config passes before way → FormOf config passes (Exchange arrival returned ∷ before) (exchanged_on arrival returned way)
+  exchanged-form before Whole back.Whole (Written cell word) (acked, rest, is, sent) = record {
+    order = sent.order;
+    arrivals = sent.arrivals;
+    acked = acked;
+    before = sent.before;
+    is = ap (λ (es : List Event). Exchange Whole back.Whole ∷ es) (is ∙ ap (λ (es : List Event). Finish acked ∷ es) sent.is);
+    asks = sent.asks;
+    allowed = sent.allowed;
+    heard = sent.heard;
+  }
+  exchanged-form before arrival returned way form = tt
 
--- an event that asks for a job, and has a word, asks for one that is accepted
-asked-some : (s : State) (event : Event) → is_some (asked_by event) ≡ true → HasWord s event → (job : host.Job) × (asked s event ≡ Some job)
-asked-some s (OrderMicro cell x) asks word = go (micro_word s.host cell x) word where
-  go : (o : Option ℕ) → IsSome o → (job : host.Job) × (option_map (λ w. host.Order cell w) o ≡ Some job)
-  go None some = cc
-  go (Some w) some = (host.Order cell w, refl)
-asked-some s event asks word = go (asked s event) refl where
-  go : (o : Option host.Job) → asked s event ≡ o → (job : host.Job) × (asked s event ≡ Some job)
-  go (Some job) e = (job, e)
-  go None e = cc
+  -- an event that asks for a job, and has a word, asks for one that is accepted
+  asked-some : (s : State) (event : Event) → is_some (asked_by event) ≡ true → HasWord s event → (job : host.Job) × (asked s event ≡ Some job)
+  asked-some s (OrderMicro cell x) asks word = go (micro_word s.host cell x) word where
+    go : (o : Option ℕ) → IsSome o → (job : host.Job) × (option_map (λ w. host.Order cell w) o ≡ Some job)
+    go None some = cc
+    go (Some w) some = (host.Order cell w, refl)
+  asked-some s event asks word = go (asked s event) refl where
+    go : (o : Option host.Job) → asked s event ≡ o → (job : host.Job) × (asked s event ≡ Some job)
+    go (Some job) e = (job, e)
+    go None e = cc
 
--- where the job stands then
-job-stage : (s : State) (event : Event) (job : host.Job) → asked s event ≡ Some job →
-    (next s event).host.stage ≡ (begins s.host job).after.stage
-unfolding host_next
-job-stage s event job asks = ap (λ (t : State). t.host.stage) (asked-next s event job asks)
+  -- where the job stands then
+  job-stage : (s : State) (event : Event) (job : host.Job) → asked s event ≡ Some job →
+      (next s event).host.stage ≡ (begins s.host job).after.stage
+  unfolding host_next
+  job-stage s event job asks = ap (λ (t : State). t.host.stage) (asked-next s event job asks)
 
--- after a job was accepted
-begun-form : Below → (config : Config) (passes : ℕ) (before : List Event) (event : Event) (job : host.Job) →
-    IsLived config passes (event ∷ before) → asked (now config passes before) event ≡ Some job →
-    FormOf config passes (event ∷ before) (begun (now config passes (event ∷ before)) (now config passes (event ∷ before)).host.stage)
-begun-form laws config passes before event job lived asks =
-    let s = now config passes before in
-    let t = now config passes (event ∷ before) in
-    let same = now-next laws config passes before event lived in
-    let stage = ap (λ (u : State). u.host.stage) same ∙ job-stage s event job asks in
-    subst (λ o. FormOf config passes (event ∷ before) (begun t o)) (sym stage) (of job asks same)
-  where
-    of : (job : host.Job) → asked (now config passes before) event ≡ Some job →
-        now config passes (event ∷ before) ≡ next (now config passes before) event →
-        FormOf config passes (event ∷ before)
-        (begun (now config passes (event ∷ before)) (begins (now config passes before).host job).after.stage)
-    of (host.Order cell word) asks same =
-        go (is_allowed (word_at (now config passes (event ∷ before)).device.words Protect) (cell_code cell)) refl
-      where
-        go : (b : Bool) → is_allowed (word_at (now config passes (event ∷ before)).device.words Protect) (cell_code cell) ≡ b →
-            FormOf config passes (event ∷ before) (cond b (Sent cell word false) Off)
-        go true allowed = record {
-          order = event;
-          arrivals = [];
-          before = before;
-          is = refl;
-          asks = asks;
-          allowed = sym (ap (λ (h : Held). is_allowed (word_at h.words Protect) (cell_code cell))
-              (ap (λ (u : State). u.device) same ∙ order-device (now config passes before) event cell word asks)) ∙ allowed;
-          heard = refl;
-        }
-        go false allowed = tt
-    of job asks same = tt
+  -- after a job was accepted
+  begun-form : (before : List Event) (event : Event) (job : host.Job) →
+      IsLived config passes (event ∷ before) → asked (now config passes before) event ≡ Some job →
+      FormOf config passes (event ∷ before) (begun (now config passes (event ∷ before)) (now config passes (event ∷ before)).host.stage)
+  begun-form before event job lived asks =
+      let s = now config passes before in
+      let t = now config passes (event ∷ before) in
+      let same = now-next laws config passes before event lived in
+      let stage = ap (λ (u : State). u.host.stage) same ∙ job-stage s event job asks in
+      subst (λ o. FormOf config passes (event ∷ before) (begun t o)) (sym stage) (of job asks same)
+    where
+      of : (job : host.Job) → asked (now config passes before) event ≡ Some job →
+          now config passes (event ∷ before) ≡ next (now config passes before) event →
+          FormOf config passes (event ∷ before)
+          (begun (now config passes (event ∷ before)) (begins (now config passes before).host job).after.stage)
+      of (host.Order cell word) asks same =
+          go (is_allowed (word_at (now config passes (event ∷ before)).device.words Protect) (cell_code cell)) refl
+        where
+          go : (b : Bool) → is_allowed (word_at (now config passes (event ∷ before)).device.words Protect) (cell_code cell) ≡ b →
+              FormOf config passes (event ∷ before) (cond b (Sent cell word false) Off)
+          go true allowed = record {
+            order = event;
+            arrivals = [];
+            before = before;
+            is = refl;
+            asks = asks;
+            allowed = sym (ap (λ (h : Held). is_allowed (word_at h.words Protect) (cell_code cell))
+                (ap (λ (u : State). u.device) same ∙ order-device (now config passes before) event cell word asks)) ∙ allowed;
+            heard = refl;
+          }
+          go false allowed = tt
+      of job asks same = tt
 
--- after one more event
-step-form : Below → (config : Config) (passes : ℕ) (before : List Event) (event : Event) (way : Way) →
-    IsLived config passes (event ∷ before) → FormOf config passes before way →
-    FormOf config passes (event ∷ before) (way_after (now config passes (event ∷ before)) event way)
-step-form laws config passes before (Deliver arrival) way lived form = delivered-form laws config passes before arrival way lived form
-step-form laws config passes before (Finish acked) way lived form = finished-form config passes before acked way form
-step-form laws config passes before (Exchange arrival returned) way lived form =
-    exchanged-form config passes before arrival returned way form
-step-form laws config passes before RestartDevice way lived form = tt
-step-form laws config passes before RestartHost way lived form = tt
-step-form laws config passes before (Reading output code word) way lived form = tt
-step-form laws config passes before event way lived form =
-    let found = asked-some (now config passes before) event refl lived.legal.0.word in
-    begun-form laws config passes before event found.0 lived found.1
+  -- after one more event
+  step-form : (before : List Event) (event : Event) (way : Way) →
+      IsLived config passes (event ∷ before) → FormOf config passes before way →
+      FormOf config passes (event ∷ before) (way_after (now config passes (event ∷ before)) event way)
+  step-form before (Deliver arrival) way lived form = delivered-form before arrival way lived form
+  step-form before (Finish acked) way lived form = finished-form before acked way form
+  step-form before (Exchange arrival returned) way lived form =
+      exchanged-form before arrival returned way form
+  step-form before RestartDevice way lived form = tt
+  step-form before RestartHost way lived form = tt
+  step-form before (Reading output code word) way lived form = tt
+  step-form before event way lived form =
+      let found = asked-some (now config passes before) event refl lived.legal.0.word in
+      begun-form before event found.0 lived found.1
 
--- so of each life
-formed : Below → (config : Config) (passes : ℕ) (events : List Event) → IsLived config passes events →
-    FormOf config passes events (way_of config passes events)
-unfolding way_of
-formed laws config passes [] lived = tt
-formed laws config passes (event ∷ before) lived =
-    step-form laws config passes before event (way_of config passes before) lived (formed laws config passes before (earlier lived))
+  -- so of each life
+  formed : (events : List Event) → IsLived config passes events →
+      FormOf config passes events (way_of config passes events)
+  unfolding way_of
+  formed [] lived = tt
+  formed (event ∷ before) lived =
+      step-form before event (way_of config passes before) lived (formed before (earlier lived))
 
--- an event with a job asks for one
-asks-one : (s : State) (event : Event) (job : host.Job) → asked s event ≡ Some job → is_some (asked_by event) ≡ true
-asks-one s event job asks = go (asked_by event) asks where
-  go : (o : Option Job) → option_and_then (accepted_job s.host) o ≡ Some job → is_some o ≡ true
-  go None e = cc
-  go (Some one) e = refl
+  -- an event with a job asks for one
+  asks-one : (s : State) (event : Event) (job : host.Job) → asked s event ≡ Some job → is_some (asked_by event) ≡ true
+  asks-one s event job asks = go (asked_by event) asks where
+    go : (o : Option Job) → option_and_then (accepted_job s.host) o ≡ Some job → is_some o ≡ true
+    go None e = cc
+    go (Some one) e = refl
 
--- an order and its deliveries are on their way
-way-sent : Below → (config : Config) (passes : ℕ) (before : List Event) (order : Event) (arrivals : List Arrival) (cell : Cell) (word : ℕ) →
-    IsLived config passes (sent_by order arrivals before) → asked (now config passes before) order ≡ Some (host.Order cell word) →
-    is_allowed (word_at (now config passes before).device.words Protect) (cell_code cell) ≡ true →
-    way_of config passes (sent_by order arrivals before)
-    ≡ Sent cell word (list_any (is_whole (frame_of config.addr (cell_write cell word))) arrivals)
-unfolding way_of
-way-sent laws config passes before order [] cell word lived asks allowed =
-    let s = now config passes before in
-    let t = now config passes (order ∷ before) in
-    let same = now-next laws config passes before order lived in
-    let stage = ap (λ (u : State). u.host.stage) same ∙ order-stage s order cell word asks in
-    ap (λ b. cond b (begun t t.host.stage) (goes_on t order (way_of config passes before))) (asks-one s order (host.Order cell word) asks)
-    ∙ (ap (begun t) stage
-    ∙ ap (λ b. cond b (Sent cell word false) Off)
-    (ap (λ (h : Held). is_allowed (word_at h.words Protect) (cell_code cell))
-    (ap (λ (u : State). u.device) same ∙ order-device s order cell word asks) ∙ allowed))
-way-sent laws config passes before order (arrival ∷ arrivals) cell word lived asks allowed =
-    let events = sent_by order arrivals before in
-    ap₂ (λ b way. delivered_on b way)
-    (sent-heard laws config passes events cell word arrival lived (sent-stage laws before order arrivals (earlier lived) asks))
-    (way-sent laws config passes before order arrivals cell word (earlier lived) asks allowed)
+  -- an order and its deliveries are on their way
+  way-sent : (before : List Event) (order : Event) (arrivals : List Arrival) (cell : Cell) (word : ℕ) →
+      IsLived config passes (sent_by order arrivals before) → asked (now config passes before) order ≡ Some (host.Order cell word) →
+      is_allowed (word_at (now config passes before).device.words Protect) (cell_code cell) ≡ true →
+      way_of config passes (sent_by order arrivals before)
+      ≡ Sent cell word (list_any (is_whole (frame_of config.addr (cell_write cell word))) arrivals)
+  unfolding way_of
+  way-sent before order [] cell word lived asks allowed =
+      let s = now config passes before in
+      let t = now config passes (order ∷ before) in
+      let same = now-next laws config passes before order lived in
+      let stage = ap (λ (u : State). u.host.stage) same ∙ order-stage s order cell word asks in
+      ap (λ b. cond b (begun t t.host.stage) (goes_on t order (way_of config passes before))) (asks-one s order (host.Order cell word) asks)
+      ∙ (ap (begun t) stage
+      ∙ ap (λ b. cond b (Sent cell word false) Off)
+      (ap (λ (h : Held). is_allowed (word_at h.words Protect) (cell_code cell))
+      (ap (λ (u : State). u.device) same ∙ order-device s order cell word asks) ∙ allowed))
+  way-sent before order (arrival ∷ arrivals) cell word lived asks allowed =
+      let events = sent_by order arrivals before in
+      ap₂ (λ b way. delivered_on b way)
+      (sent-heard events cell word arrival lived (sent-stage laws before order arrivals (earlier lived) asks))
+      (way-sent before order arrivals cell word (earlier lived) asks allowed)
 
--- and through after its end and its read
-way-through : (config : Config) (passes : ℕ) (events : List Event) (cell : Cell) (word : ℕ) (acked : Bool) →
-    way_of config passes events ≡ Sent cell word true →
-    way_of config passes (Exchange Whole back.Whole ∷ Finish acked ∷ events) ≡ Through cell word
-unfolding way_of
-way-through config passes events cell word acked sent = ap (λ way. read_on (finished_on way)) sent
+  -- and through after its end and its read
+  way-through : (events : List Event) (cell : Cell) (word : ℕ) (acked : Bool) →
+      way_of config passes events ≡ Sent cell word true →
+      way_of config passes (Exchange Whole back.Whole ∷ Finish acked ∷ events) ≡ Through cell word
+  unfolding way_of
+  way-through events cell word acked sent = ap (λ way. read_on (finished_on way)) sent
 
 -- on its way exactly where the events have that form
 pub sent-by : Below → {config : Config} {passes : ℕ} {events : List Event} {cell : Cell} {word : ℕ} {whole : Bool} →
@@ -248,7 +249,7 @@ pub through-by : Below → {config : Config} {passes : ℕ} {events : List Event
 through-by laws {config = config} {passes = passes} {events = events} {cell = cell} {word = word} lived = (
   λ is. subst (FormOf config passes events) is (formed laws config passes events lived),
   λ form. ap (way_of config passes) form.is
-      ∙ way-through config passes (sent_by form.order form.arrivals form.before) cell word form.acked
+      ∙ way-through laws config passes (sent_by form.order form.arrivals form.before) cell word form.acked
       (way-sent laws config passes form.before form.order form.arrivals cell word
       (earliest (subst (IsLived config passes) form.is lived)) form.asks form.allowed
       ∙ ap (λ b. Sent cell word b) form.heard),
@@ -281,7 +282,7 @@ ahead-by laws config passes events cell word acked sound made taken way room =
     (record { sound = sound; made = made; taken = subst (AreTaken config passes) form.is taken; room = omega arith }) form.asks) in
     let lived = lived-by config passes (Exchange Whole back.Whole ∷ Finish acked ∷ events) sound made all in (
       all,
-      gone-by laws lived ((through-by laws lived).0 (way-through config passes events cell word acked way)),
+      gone-by laws lived ((through-by laws lived).0 (way-through laws config passes events cell word acked way)),
     )
 
 -- the code's test of a write's frame is the definition's

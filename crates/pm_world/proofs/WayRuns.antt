@@ -12,6 +12,7 @@ use Rattle.pm_world.specs.Setup.{setup_of}
 use Rattle.pm_world.specs.State.{IsTaken, State, next}
 use Rattle.pm_world.specs.Way.{WaysAreFollowed, way_after, way_of}
 use Rattle.pm_world.proofs.OpenRuns.{past-more}
+use Rattle.pm_world.proofs.Lives.{lived-by}
 use Rattle.pm_world.proofs.Runs.{past}
 
 -- what holds of a run so far
@@ -29,7 +30,7 @@ one-more : LivesAreFollowed → WaysAreFollowed → (config : Config) (passes : 
 one-more lives ways config passes events event world new way after sound made runs (taken, becomes) carries is =
     let all : AreTaken config passes (event ∷ events) = (subst (λ (s : State). IsTaken s event) runs.is_now taken, runs.all) in
     let same : new ≡ now config passes (event ∷ events) =
-    becomes ∙ (ap (λ (s : State). next s event) runs.is_now ∙ sym (lives.more config passes events event sound made all)) in
+    becomes ∙ (ap (λ (s : State). next s event) runs.is_now ∙ sym (lives.more config passes events event (lived-by config passes (event ∷ events) sound made all))) in
     record {
       is_now = same;
       all = all;

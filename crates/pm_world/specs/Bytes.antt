@@ -3,8 +3,7 @@
 use Rattle.std.specs.Prelude.{◌<◌, ◌^◌, ℕ, List, [], ◌∷◌}
 use Rattle.pm_frame.specs.Layout.{AreBytes}
 use Rattle.pm_device.specs.declared.config.Config.{Config}
-use Rattle.pm_device.specs.Start.{IsSound, start_word}
-use Rattle.pm_host.specs.Refusals.{IsSetup}
+use Rattle.pm_device.specs.Start.{start_word}
 use Rattle.pm_world.specs.declared.arrival.Arrival.{Arrival}
 use Rattle.pm_world.specs.declared.arrival.Arrival.TheVariants as arrival
 use Rattle.pm_world.specs.declared.back.Back.{Back}
@@ -12,9 +11,9 @@ use Rattle.pm_world.specs.declared.back.Back.TheVariants as back
 use Rattle.pm_world.specs.declared.event.Event.{Event}
 use Rattle.pm_world.specs.declared.event.Event.TheVariants.{Order, Deliver, Exchange, Reading}
 use Rattle.pm_world.specs.Honest.{IsSpelled}
-use Rattle.pm_world.specs.Life.{AreTaken, life}
-use Rattle.pm_world.specs.Setup.{setup_of}
-use Rattle.pm_world.specs.Uncertainty.{AreLegal, AreOfBytes, AreWordsChosen, since_restart}
+use Rattle.pm_world.specs.Lived.{IsLived}
+use Rattle.pm_world.specs.Life.{life}
+use Rattle.pm_world.specs.Uncertainty.{AreOfBytes, AreWordsChosen, since_restart}
 
 -- each start word of an output has two bytes
 abbrev pub StartsShort : Config → Type 0
@@ -46,13 +45,8 @@ abbrev pub CarryBytes : List Event → Type 0
 CarryBytes [] = Unit {0}
 CarryBytes (event ∷ before) = CarriesBytes event × CarryBytes before
 
--- What came back since the host's last restart were bytes: of legal events, and so of those that a world took.
-pub record AnswersComeInBytes : Type 0 where
-  pub legal : (config : Config) (passes : ℕ) (events : List Event) →
-      IsSound config → IsSpelled config → StartsShort config → IsSetup (setup_of config passes) →
-      AreLegal config passes events → CarryBytes events →
-      AreOfBytes (since_restart (life config passes events).entries)
-  pub taken : (config : Config) (passes : ℕ) (events : List Event) →
-      IsSound config → IsSpelled config → StartsShort config → IsSetup (setup_of config passes) →
-      AreTaken config passes events → CarryBytes events →
-      AreOfBytes (since_restart (life config passes events).entries)
+-- What came back since the host's last restart were bytes.
+abbrev pub AnswersComeInBytes : Type 0
+AnswersComeInBytes = (config : Config) (passes : ℕ) (events : List Event) →
+    IsSpelled config → StartsShort config → IsLived config passes events → CarryBytes events →
+    AreOfBytes (since_restart (life config passes events).entries)

@@ -12,9 +12,8 @@ use Rattle.pm_frame.specs.declared.message.Message.{Message}
 use Rattle.pm_model.specs.Settings.{word_at}
 use Rattle.pm_device.specs.declared.config.Config.{Config}
 use Rattle.pm_device.specs.Held.{mode_for, shape_for}
-use Rattle.pm_device.specs.Start.{IsSound}
 use Rattle.pm_host.specs.declared.command.Command.{Command}
-use Rattle.pm_host.specs.declared.job_end.JobEnd.TheVariants.{Done, Learned}
+use Rattle.pm_host.specs.declared.job_end.JobEnd.TheVariants.{Done, Differs, Learned}
 use Rattle.pm_host.specs.declared.possible.Possible.TheVariants.{Any}
 use Rattle.pm_host.specs.declared.question.Question.TheVariants.{Word, Mode, Coefficients}
 use Rattle.pm_host.specs.declared.stage.Stage.{Stage}
@@ -23,7 +22,6 @@ use Rattle.pm_host.specs.declared.standing.Standing.TheVariants.{Confirmed}
 use Rattle.pm_host.specs.Answers.{good_word}
 use Rattle.pm_host.specs.Messages.{cell_read, cell_write, coefficients_read, command_message, mode_read}
 use Rattle.pm_host.specs.Possible.{is_possible, only}
-use Rattle.pm_host.specs.Refusals.{IsSetup}
 use Rattle.pm_host.specs.Summary.{format_at, possible_at, standing_at}
 use Rattle.pm_host.specs.Transcript.{Finished, Got}
 use Rattle.pm_world.specs.declared.arrival.Arrival.{Arrival}
@@ -32,10 +30,9 @@ use Rattle.pm_world.specs.declared.event.Event.{Event}
 use Rattle.pm_world.specs.declared.event.Event.TheVariants.{Check, Deliver, Exchange, Finish, Reading}
 use Rattle.pm_world.specs.Honest.{IsSpelled, is_whole}
 use Rattle.pm_world.specs.Legal.{back_bytes, frame_of, heard_bytes, heard_ending, is_heard_whole}
-use Rattle.pm_world.specs.Life.{AreTaken, life, now}
-use Rattle.pm_world.specs.Setup.{setup_of}
+use Rattle.pm_world.specs.Lived.{IsLived}
+use Rattle.pm_world.specs.Life.{life, now}
 use Rattle.pm_world.specs.State.{State, answer_to}
-use Rattle.pm_world.specs.Uncertainty.{AreLegal}
 
 -- a reading of the converter changes, which disturbs nothing; beside it what is sent may be delivered
 abbrev pub is_reading : Event → Bool
@@ -159,13 +156,13 @@ pub record GoodFrames (config : Config) (passes : ℕ) (events : List Event) : T
       is_allowed (held_after config passes before Protect) (cell_code cell) ≡ true →
       IsWritten (frame_of config.addr (cell_write cell word)) acked before middle →
       IsRead config passes (cell_read cell) middle after → WentInPass config passes cell word acked before after
-  -- one that is to be read back, and whose word the converter holds, is done by that read
+  -- an order that is to be read back, and whose word the converter holds, is done by that read
   pub read_back : (later before after : List Event) (cell : Cell) (word pass : ℕ) → events ≡ later ++ after →
       stage_after config passes before ≡ Some (Reads cell word pass) →
       held_after config passes before cell ≡ word →
       IsRead config passes (cell_read cell) before after → ReadDone config passes cell before after
-  -- and one whose word it doesn't hold is done by three frames where a pass is left: by that read, and by the
-  -- write and the read of the next pass
+  -- one whose word it doesn't hold is done by three frames where a pass is left: by that read, and by the write and the
+  -- read of the next pass
   pub three : (later before first middle after : List Event) (cell : Cell) (word pass : ℕ) (acked : Bool) →
       events ≡ later ++ after → stage_after config passes before ≡ Some (Reads cell word pass) →
       held_after config passes before cell ≢ word → pass + 1 < passes →
@@ -175,6 +172,13 @@ pub record GoodFrames (config : Config) (passes : ℕ) (events : List Event) : T
       IsRead config passes (cell_read cell) middle after →
       WentInPass config passes cell word acked first after
       × ((answer : List ℕ) × ((life config passes first).entries ≡ Got answer ∷ (life config passes before).entries))
+  -- in the last pass it differs by that read, with the word that the converter holds
+  pub last : (later before after : List Event) (cell : Cell) (word pass : ℕ) → events ≡ later ++ after →
+      stage_after config passes before ≡ Some (Reads cell word pass) →
+      held_after config passes before cell ≢ word → pass + 1 ≡ passes →
+      IsRead config passes (cell_read cell) before after →
+      WasRead config passes cell before after
+      × ((now config passes after).end ≡ Some (Differs (held_after config passes before cell)))
   -- a clear, a store or a restore is done by one write that is acknowledged
   pub send : (later before after : List Event) (command : Command) (tries : ℕ) → events ≡ later ++ after →
       stage_after config passes before ≡ Some (Sends command tries) →
@@ -202,11 +206,7 @@ pub record GoodFrames (config : Config) (passes : ℕ) (events : List Event) : T
       AreThere config.count cells → Sweeps config passes cells before after → is_among cell cells ≡ true →
       is_surprising config passes before cell ≡ true → (now config passes after).host.known.seen ≡ true
 
--- of legal events, and so of those that a world took
-pub record GoodFramesEndJobs : Type 0 where
-  pub legal : (config : Config) (passes : ℕ) (events : List Event) →
-      IsSound config → IsSetup (setup_of config passes) → AreLegal config passes events →
-      GoodFrames config passes events
-  pub taken : (config : Config) (passes : ℕ) (events : List Event) →
-      IsSound config → IsSetup (setup_of config passes) → AreTaken config passes events →
-      GoodFrames config passes events
+-- in each life
+abbrev pub GoodFramesEndJobs : Type 0
+GoodFramesEndJobs = (config : Config) (passes : ℕ) (events : List Event) →
+    IsLived config passes events → GoodFrames config passes events

@@ -33,7 +33,7 @@ use Rattle.pm_world.specs.Damage.{AreOthers, IsBetrayedDamage}
 use Rattle.pm_world.specs.Ended.{DiffersNeverTook}
 use Rattle.pm_world.specs.Honest.{AreFewFrames, FormatsAgree, IsSpelled, MicrosAreNearest, OrdersGoThrough, honest, sent_by}
 use Rattle.pm_world.specs.Legal.{answer_in, frame_of, is_legal_hearing, is_legal_return}
-use Rattle.pm_world.specs.Limited.{StaysLimited}
+use Rattle.pm_world.specs.Lived.{IsLived}
 use Rattle.pm_world.specs.Life.{AreTaken, AreTakenFrom, after_all, life, now}
 use Rattle.pm_world.specs.OpenLists.{are_open, stays_open}
 use Rattle.pm_world.specs.Possible.{PossibleIsHeld, SeenIsTrue, restarted_since_host}
@@ -61,10 +61,10 @@ pub record LivesAreFollowed : Type 0 where
   pub none : (config : Config) (passes : ℕ) → IsSetup (setup_of config passes) →
       now config passes [] ≡ start config passes
   pub more : (config : Config) (passes : ℕ) (events : List Event) (event : Event) →
-      IsSound config → IsSetup (setup_of config passes) → AreTaken config passes (event ∷ events) →
+      IsLived config passes (event ∷ events) →
       now config passes (event ∷ events) ≡ next (now config passes events) event
   pub told : (config : Config) (passes : ℕ) (events : List Event) →
-      IsSound config → IsSetup (setup_of config passes) → AreTaken config passes events →
+      IsLived config passes events →
       AreTold (setup_of config passes) (life config passes events).entries
   pub from_start : (config : Config) (passes : ℕ) (events : List Event) →
       IsSound config → IsSetup (setup_of config passes) → AreTakenFrom (start config passes) events →
@@ -75,19 +75,19 @@ pub record LivesAreFollowed : Type 0 where
 -- and each output commands a value of its own.
 pub record LivesAreOrders : Type 0 where
   pub orders : (config : Config) (passes : ℕ) (events : List Event) →
-      IsSound config → IsSetup (setup_of config passes) → AreTaken config passes events →
+      IsLived config passes events →
       IsOrderRun config passes events (now config passes events).device.words
       (now config passes events).device.store
   pub own : (config : Config) (passes : ℕ) (events : List Event) (cell : Cell) →
-      IsSound config → IsSetup (setup_of config passes) → AreTaken config passes events →
+      IsLived config passes events →
       IsCell config.count cell →
       IsOwnWord config passes events cell (word_at (now config passes events).device.words cell)
   pub stored : (config : Config) (passes : ℕ) (events : List Event) (cell : Cell) →
-      IsSound config → IsSetup (setup_of config passes) → AreTaken config passes events →
+      IsLived config passes events →
       IsCell config.count cell →
       IsOwnWord config passes events cell (word_at (now config passes events).device.store cell)
   pub commanded : (config : Config) (passes : ℕ) (events : List Event) (output : ℕ) →
-      IsSound config → IsSetup (setup_of config passes) → AreTaken config passes events →
+      IsLived config passes events →
       output < config.count → CommandsOwn config passes events output
       (commanded (value_for (now config passes events).device.config output)
       (now config passes events).device.words output)
@@ -95,7 +95,7 @@ pub record LivesAreOrders : Type 0 where
 -- after each of the events, the last job has sent at most twice as many frames as a job has passes
 abbrev pub FramesAreFew : Type 0
 FramesAreFew = (config : Config) (passes : ℕ) (events : List Event) →
-    IsSound config → IsSetup (setup_of config passes) → AreTaken config passes events →
+    IsLived config passes events →
     AreFewFrames config passes events
 
 -- An undisturbed order goes through. Once its deliveries were taken, so are the end of its write and its
@@ -109,32 +109,32 @@ pub record HonestOrdersGoThrough : Type 0 where
       length (sent_by order arrivals before) + 2 ≤ event_limit →
       AreTaken config passes (honest order arrivals acked before)
   pub through : (config : Config) (passes : ℕ) (events : List Event) →
-      IsSound config → IsSetup (setup_of config passes) → AreTaken config passes events →
+      IsLived config passes events →
       OrdersGoThrough config passes events
 
 -- A format that the host holds is the converter's, and an order in microvolts is that of the nearest word.
 pub record LearnedFormatsAreTrue : Type 0 where
   pub agree : (config : Config) (passes : ℕ) (events : List Event) →
-      IsSound config → IsSpelled config → IsSetup (setup_of config passes) → AreTaken config passes events →
+      IsSpelled config → IsLived config passes events →
       FormatsAgree config passes events
   pub nearest : (config : Config) (passes : ℕ) (events : List Event) →
-      IsSound config → IsSpelled config → IsSetup (setup_of config passes) → AreTaken config passes events →
+      IsSpelled config → IsLived config passes events →
       MicrosAreNearest config passes events
 
 -- A word that the host calls confirmed is the converter's, unless that restarted since the host read the cell.
 abbrev pub ConfirmedSettingsAreHeld : Type 0
 ConfirmedSettingsAreHeld = (config : Config) (passes : ℕ) (events : List Event) →
-    IsSound config → IsSetup (setup_of config passes) → AreTaken config passes events →
+    IsLived config passes events →
     ConfirmedIsHeld config passes events (now config passes events)
 
 -- Where the host lists the words that are possible for a cell, the converter's is among them, unless that
 -- restarted since the host's last good answer for the cell. A restart that the host saw happened.
 pub record PossibleWordsAreHeld : Type 0 where
   pub held : (config : Config) (passes : ℕ) (events : List Event) →
-      IsSound config → IsSetup (setup_of config passes) → AreTaken config passes events →
+      IsLived config passes events →
       PossibleIsHeld config passes events (now config passes events)
   pub seen : (config : Config) (passes : ℕ) (events : List Event) →
-      IsSound config → IsSetup (setup_of config passes) → AreTaken config passes events →
+      IsLived config passes events →
       SeenIsTrue config passes events (now config passes events)
 
 -- What the host calls possible is exact, for all cells of all outputs together. Let the converter not have
@@ -146,7 +146,7 @@ pub record PossibleWordsAreHeld : Type 0 where
 -- where there is room for them (`legal`).
 pub record PossibleWordsAreExact : Type 0 where
   pub witness : (config : Config) (passes : ℕ) (events : List Event) (chosen : Choice) →
-      IsSound config → IsSetup (setup_of config passes) → AreTaken config passes events →
+      IsLived config passes events →
       restarted_since_host events ≡ false →
       let entries = since_restart (life config passes events).entries in
       let told = marks (setup_of config passes) entries in AreOpen told →
@@ -154,7 +154,7 @@ pub record PossibleWordsAreExact : Type 0 where
       Leaves config passes entries chosen (witness_start config (due_before chosen told))
       (witness_events (setup_of config passes) chosen entries)
   pub only : (config : Config) (passes : ℕ) (events retold : List Event) (chosen : Choice) (other : Config) →
-      IsSound config → IsSetup (setup_of config passes) → AreTaken config passes events →
+      IsLived config passes events →
       Leaves config passes (since_restart (life config passes events).entries) chosen other retold →
       ArePossible config (now config passes events).host chosen
   pub words : (config : Config) (passes : ℕ) (events : List Event) (chosen : Choice) →
@@ -165,74 +165,6 @@ pub record PossibleWordsAreExact : Type 0 where
   pub legal : (config : Config) (passes : ℕ) (events : List Event) →
       IsSound config → IsSetup (setup_of config passes) → length events ≤ event_limit →
       AreLegal config passes events ↔ AreTaken config passes events
-
--- What a life comes to without the limit of a world: of legal events, as many as there may be, all that the
--- laws above say of those that are taken. A life of a caller's own loop is such a one.
-pub record LegalLivesAreFollowed : Type 0 where
-  pub none : (config : Config) (passes : ℕ) → IsSetup (setup_of config passes) →
-      now config passes [] ≡ start config passes
-  pub more : (config : Config) (passes : ℕ) (events : List Event) (event : Event) →
-      IsSound config → IsSetup (setup_of config passes) → AreLegal config passes (event ∷ events) →
-      now config passes (event ∷ events) ≡ next (now config passes events) event
-  pub told : (config : Config) (passes : ℕ) (events : List Event) →
-      IsSound config → IsSetup (setup_of config passes) → AreLegal config passes events →
-      AreTold (setup_of config passes) (life config passes events).entries
-  pub orders : (config : Config) (passes : ℕ) (events : List Event) →
-      IsSound config → IsSetup (setup_of config passes) → AreLegal config passes events →
-      IsOrderRun config passes events (now config passes events).device.words
-      (now config passes events).device.store
-  pub own : (config : Config) (passes : ℕ) (events : List Event) (cell : Cell) →
-      IsSound config → IsSetup (setup_of config passes) → AreLegal config passes events →
-      IsCell config.count cell →
-      IsOwnWord config passes events cell (word_at (now config passes events).device.words cell)
-  pub stored : (config : Config) (passes : ℕ) (events : List Event) (cell : Cell) →
-      IsSound config → IsSetup (setup_of config passes) → AreLegal config passes events →
-      IsCell config.count cell →
-      IsOwnWord config passes events cell (word_at (now config passes events).device.store cell)
-  pub commanded : (config : Config) (passes : ℕ) (events : List Event) (output : ℕ) →
-      IsSound config → IsSetup (setup_of config passes) → AreLegal config passes events →
-      output < config.count → CommandsOwn config passes events output
-      (commanded (value_for (now config passes events).device.config output)
-      (now config passes events).device.words output)
-  pub few : (config : Config) (passes : ℕ) (events : List Event) →
-      IsSound config → IsSetup (setup_of config passes) → AreLegal config passes events →
-      AreFewFrames config passes events
-  pub through : (config : Config) (passes : ℕ) (events : List Event) →
-      IsSound config → IsSetup (setup_of config passes) → AreLegal config passes events →
-      OrdersGoThrough config passes events
-  pub agree : (config : Config) (passes : ℕ) (events : List Event) →
-      IsSound config → IsSpelled config → IsSetup (setup_of config passes) →
-      AreLegal config passes events → FormatsAgree config passes events
-  pub nearest : (config : Config) (passes : ℕ) (events : List Event) →
-      IsSound config → IsSpelled config → IsSetup (setup_of config passes) →
-      AreLegal config passes events → MicrosAreNearest config passes events
-  pub limited : (config : Config) (passes : ℕ) (events : List Event) →
-      IsSound config → IsSpelled config → IsSetup (setup_of config passes) →
-      AreLegal config passes events → StaysLimited config passes events
-  pub confirmed : (config : Config) (passes : ℕ) (events : List Event) →
-      IsSound config → IsSetup (setup_of config passes) → AreLegal config passes events →
-      ConfirmedIsHeld config passes events (now config passes events)
-  pub possible : (config : Config) (passes : ℕ) (events : List Event) →
-      IsSound config → IsSetup (setup_of config passes) → AreLegal config passes events →
-      PossibleIsHeld config passes events (now config passes events)
-  pub seen : (config : Config) (passes : ℕ) (events : List Event) →
-      IsSound config → IsSetup (setup_of config passes) → AreLegal config passes events →
-      SeenIsTrue config passes events (now config passes events)
-  pub never : (config : Config) (passes : ℕ) (events : List Event) →
-      IsSound config → IsSetup (setup_of config passes) → AreLegal config passes events →
-      DiffersNeverTook config passes events
-  pub witness : (config : Config) (passes : ℕ) (events : List Event) (chosen : Choice) →
-      IsSound config → IsSetup (setup_of config passes) → AreLegal config passes events →
-      restarted_since_host events ≡ false →
-      let entries = since_restart (life config passes events).entries in
-      let told = marks (setup_of config passes) entries in AreOpen told →
-      ArePossible config (now config passes events).host chosen →
-      Leaves config passes entries chosen (witness_start config (due_before chosen told))
-      (witness_events (setup_of config passes) chosen entries)
-  pub only : (config : Config) (passes : ℕ) (events retold : List Event) (chosen : Choice) (other : Config) →
-      IsSound config → IsSetup (setup_of config passes) → AreLegal config passes events →
-      Leaves config passes (since_restart (life config passes events).entries) chosen other retold →
-      ArePossible config (now config passes events).host chosen
 
 -- Damage that the packet error code betrays is legal: of a write, of an answer, and of a request whose answer
 -- comes back whole.
@@ -252,7 +184,7 @@ pub record BetrayedDamageIsLegal : Type 0 where
 pub record BetrayedDamageIsTaken : Type 0 where
   pub delivered : (config : Config) (passes : ℕ) (events : List Event) (message : Message)
       (bytes : List ℕ) (ending : Ending) →
-      IsSound config → IsSetup (setup_of config passes) → AreTaken config passes events →
+      IsLived config passes events →
       (now config passes events).taken < event_limit →
       sending_in (now config passes events).host ≡ Some message →
       is_read_message message ≡ false → IsBetrayedDamage (frame_of config.addr message) bytes →
@@ -277,7 +209,7 @@ pub record BetrayedDamageIsTaken : Type 0 where
 -- An order differs only where it never took, or the converter restarted since it was accepted.
 abbrev pub DifferingOrdersNeverTook : Type 0
 DifferingOrdersNeverTook = (config : Config) (passes : ℕ) (events : List Event) →
-    IsSound config → IsSetup (setup_of config passes) → AreTaken config passes events →
+    IsLived config passes events →
     DiffersNeverTook config passes events
 
 -- What a list of events says by itself. Without a restart of the converter none is since any good answer (`since`),
@@ -296,12 +228,12 @@ pub record ListsSayEnough : Type 0 where
 -- there, or the coefficients are (`answered`), and so to each read of a cell (`cell`).
 pub record OwnRequestsAreAnswered : Type 0 where
   pub answered : (config : Config) (passes : ℕ) (events : List Event) (request : Message) →
-      IsSound config → IsSetup (setup_of config passes) → AreTaken config passes events →
+      IsLived config passes events →
       sending_in (now config passes events).host ≡ Some request → is_answered config request ≡ true →
       IsAnswer config.addr request (payload_for (now config passes events).device request)
       (answer_to (now config passes events).device config.addr request arrival.Whole)
   pub cell : (config : Config) (passes : ℕ) (events : List Event) (cell : Cell) →
-      IsSound config → IsSetup (setup_of config passes) → AreTaken config passes events →
+      IsLived config passes events →
       sending_in (now config passes events).host ≡ Some (cell_read cell) →
       IsAnswer config.addr (cell_read cell) (payload_for (now config passes events).device (cell_read cell))
       (answer_to (now config passes events).device config.addr (cell_read cell) arrival.Whole)
@@ -313,7 +245,7 @@ pub record OpenListsAreFollowed : Type 0 where
   pub none : (config : Config) (passes : ℕ) →
       are_open (marks (setup_of config passes) (since_restart (life config passes []).entries)) ≡ true
   pub more : (config : Config) (passes : ℕ) (events : List Event) (event : Event) →
-      IsSound config → IsSetup (setup_of config passes) → AreTaken config passes (event ∷ events) →
+      IsLived config passes (event ∷ events) →
       are_open (marks (setup_of config passes) (since_restart (life config passes (event ∷ events)).entries))
       ≡ stays_open (are_open (marks (setup_of config passes) (since_restart (life config passes events).entries)))
       event (possible_at (now config passes (event ∷ events)).host Protect)

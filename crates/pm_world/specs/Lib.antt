@@ -9,6 +9,7 @@ pub mod Confirmed
 pub mod Possible
 pub mod Ended
 pub mod Uncertainty
+pub mod Lived
 pub mod Bytes
 pub mod OpenLists
 pub mod Honest

@@ -1,16 +1,15 @@
 -- The laws of limits and bands over lives, each by a name that a crate above takes it by. Events are newest first.
 use Rattle.std.specs.Prelude.{◌≡◌, ◌<◌, ℕ, false, List, Some}
 use Rattle.pm_device.specs.declared.config.Config.{Config}
-use Rattle.pm_device.specs.Start.{IsSound}
 use Rattle.pm_host.specs.Marks.{marks}
-use Rattle.pm_host.specs.Refusals.{IsSetup}
 use Rattle.pm_limits.specs.declared.band.Band.{Band}
 use Rattle.pm_limits.specs.declared.side.Side.{Side}
 use Rattle.pm_limits.specs.Band.{InBand, band_at, side_end}
 use Rattle.pm_world.specs.declared.event.Event.{Event}
 use Rattle.pm_world.specs.Bands.{AreShort, BandStands, end_choices}
 use Rattle.pm_world.specs.Honest.{IsSpelled}
-use Rattle.pm_world.specs.Life.{AreTaken, life, now}
+use Rattle.pm_world.specs.Lived.{IsLived}
+use Rattle.pm_world.specs.Life.{life, now}
 use Rattle.pm_world.specs.Limited.{StaysLimited, commands}
 use Rattle.pm_world.specs.Possible.{restarted_since_host}
 use Rattle.pm_world.specs.Setup.{setup_of}
@@ -19,14 +18,14 @@ use Rattle.pm_world.specs.Uncertainty.{AreOpen, Leaves, due_before, since_restar
 -- what limits are worth
 abbrev pub LivesStayLimited : Type 0
 LivesStayLimited = (config : Config) (passes : ℕ) (events : List Event) →
-    IsSound config → IsSpelled config → IsSetup (setup_of config passes) → AreTaken config passes events →
+    IsSpelled config → IsLived config passes events →
     StaysLimited config passes events
 
 -- Where the host gives a band, what the converter commands lies in it, unless that restarted since the good answers
 -- that the band rests on.
 abbrev pub BandsAreHeld : Type 0
 BandsAreHeld = (config : Config) (passes : ℕ) (events : List Event) (output : ℕ) (band : Band) →
-    IsSound config → IsSpelled config → IsSetup (setup_of config passes) → AreTaken config passes events →
+    IsSpelled config → IsLived config passes events →
     output < config.count → AreShort (now config passes events).device.words output →
     BandStands config passes events (now config passes events).host output →
     band_at (now config passes events).host output ≡ Some band →
@@ -37,7 +36,7 @@ BandsAreHeld = (config : Config) (passes : ℕ) (events : List Event) (output : 
 -- side, as that very fraction, all at once.
 abbrev pub BandsAreExact : Type 0
 BandsAreExact = (config : Config) (passes : ℕ) (events : List Event) (sides : ℕ → Side) →
-    IsSound config → IsSpelled config → IsSetup (setup_of config passes) → AreTaken config passes events →
+    IsSpelled config → IsLived config passes events →
     restarted_since_host events ≡ false →
     let host = (now config passes events).host in
     let entries = since_restart (life config passes events).entries in

@@ -1,6 +1,6 @@
 -- What limits of an output are worth over a life: this project's own choice. Lists are newest first.
-use Rattle.std.specs.Prelude.{◌≡◌, ◌<◌, ℕ, true, None, Some, List, [], ◌∷◌, ◌++◌, Option, option_and_then, slice_index_or}
-use Rattle.pm_num.specs.Ratio.{Ratio, AtMost}
+use Rattle.std.specs.Prelude.{◌≡◌, ◌⊎◌, ◌<◌, ℕ, true, None, Some, List, [], ◌∷◌, ◌++◌, Option, option_and_then, slice_index_or}
+use Rattle.pm_num.specs.Ratio.{Ratio, AtMost, micros}
 use Rattle.pm_table.specs.declared.reg.Reg.{Reg}
 use Rattle.pm_table.specs.declared.reg.Reg.TheVariants.{VoutMax, VoutMin}
 use Rattle.pm_table.specs.declared.cell.Cell.TheVariants.{Out}
@@ -23,15 +23,23 @@ abbrev pub commands : Config → ℕ → List Event → ℕ → Ratio
 commands config passes events output =
     commanded (value_for config output) (now config passes events).device.words output
 
--- each start word of an output's voltages, and each that was ordered for one, has a value within these limits
+-- What limits ask of a word: of a register that a byte of OPERATION may select, that its value lies within them; of
+-- VOUT_MAX, that its value is at least the least of them; of VOUT_MIN, that it is at most the most. A value within the
+-- limits that is cut to such a VOUT_MIN and VOUT_MAX stays within them.
+abbrev pub WordWithin : Reg → Bounds → Ratio → Type 0
+WordWithin VoutMax bounds value = AtMost (micros bounds.least) value
+WordWithin VoutMin bounds value = AtMost value (micros bounds.most)
+WordWithin register bounds value = IsWithin bounds value
+
+-- Each start word of an output's voltages is one that the limits allow, and so is each that was ordered for one.
 abbrev pub OwnWithin : Config → ℕ → List Event → ℕ → Bounds → Type 0
 OwnWithin config passes events output bounds = (register : Reg) (word : ℕ) → is_voltage register ≡ true →
-    IsOwnWord config passes events (Out output register) word → IsWithin bounds (value_for config output word)
+    IsOwnWord config passes events (Out output register) word → WordWithin register bounds (value_for config output word)
 
 -- the start words alone
 abbrev pub StartsWithin : Config → ℕ → Bounds → Type 0
 StartsWithin config output bounds = (register : Reg) → is_voltage register ≡ true →
-    IsWithin bounds (value_for config output (start_word config (Out output register)))
+    WordWithin register bounds (value_for config output (start_word config (Out output register)))
 
 -- each order of an output's voltages that the later of these events ask for, as the host takes it, is of a word
 -- within these limits
@@ -68,8 +76,9 @@ AreGuarded config passes limits (event ∷ before) =
 -- At each moment of the events, whatever was lost, cut, damaged or repeated, and whichever end restarted: an output
 -- whose own words are all within limits commands a voltage within them (`limited`); it commands no more than the
 -- most of all words of its VOUT_MAX, whatever else was ordered (`most`), and no less than the least of VOUT_MIN's
--- (`least`). Where each job went through a guard and the start words are within its limits, so are all (`guarded`).
--- Words that are all within stay so while no other is ordered (`kept`).
+-- (`least`). Where each job went through a guard, each own word that isn't the start word lies within its limits
+-- (`ordered`), so where the limits allow the start words they allow all own words (`guarded`). An own word is one of
+-- before, or lies within limits that all later orders are within (`newer`), so words that are all allowed stay so (`kept`).
 pub record StaysLimited (config : Config) (passes : ℕ) (events : List Event) : Type 0 where
   pub limited : (output : ℕ) (bounds : Bounds) (later before : List Event) → output < config.count →
       events ≡ later ++ before → OwnWithin config passes events output bounds →
@@ -83,6 +92,16 @@ pub record StaysLimited (config : Config) (passes : ℕ) (events : List Event) :
   pub guarded : (output : ℕ) (bounds : Bounds) (limits : List (Option Bounds)) → output < config.count →
       slice_index_or limits output None ≡ Some bounds → AreGuarded config passes limits events →
       StartsWithin config output bounds → OwnWithin config passes events output bounds
+  pub ordered : (output : ℕ) (bounds : Bounds) (limits : List (Option Bounds)) → output < config.count →
+      slice_index_or limits output None ≡ Some bounds → AreGuarded config passes limits events →
+      (register : Reg) (word : ℕ) → is_voltage register ≡ true →
+      IsOwnWord config passes events (Out output register) word →
+      (word ≡ start_word config (Out output register)) ⊎ IsWithin bounds (value_for config output word)
+  pub newer : (output : ℕ) (bounds : Bounds) (later before : List Event) → events ≡ later ++ before →
+      OrdersWithin config passes later before output bounds →
+      (register : Reg) (word : ℕ) → is_voltage register ≡ true →
+      IsOwnWord config passes events (Out output register) word →
+      IsOwnWord config passes before (Out output register) word ⊎ IsWithin bounds (value_for config output word)
   pub kept : (output : ℕ) (bounds : Bounds) (later before : List Event) → events ≡ later ++ before →
       OwnWithin config passes before output bounds → OrdersWithin config passes later before output bounds →
       OwnWithin config passes events output bounds

@@ -11,17 +11,15 @@ use Rattle.pm_model.specs.declared.pending_job.PendingJob.TheVariants.{Order, St
 use Rattle.pm_model.specs.OrderMachine.{store_taken, words_taken}
 use Rattle.pm_model.specs.Settings.{Words, with_outputs, word_at}
 use Rattle.pm_device.specs.declared.config.Config.{Config}
-use Rattle.pm_device.specs.Start.{IsSound, start_word}
-use Rattle.pm_host.specs.Refusals.{IsSetup}
+use Rattle.pm_device.specs.Start.{start_word}
 use Rattle.pm_world.specs.declared.arrival.Arrival.{Arrival}
 use Rattle.pm_world.specs.declared.event.Event.{Event}
 use Rattle.pm_world.specs.declared.event.Event.TheVariants.{Deliver, RestartDevice}
 use Rattle.pm_world.specs.Honest.{is_whole}
 use Rattle.pm_world.specs.Legal.{frame_of}
-use Rattle.pm_world.specs.Life.{AreTaken, now}
+use Rattle.pm_world.specs.Lived.{IsLived}
+use Rattle.pm_world.specs.Life.{now}
 use Rattle.pm_world.specs.Retelling.{open_pending, pending_code, pending_message, taken_at}
-use Rattle.pm_world.specs.Setup.{setup_of}
-use Rattle.pm_world.specs.Uncertainty.{AreLegal}
 
 -- the words of the cells, and those in the store, after some events
 abbrev pub words_at : Config → ℕ → List Event → Words
@@ -93,11 +91,7 @@ pub record MovesByTheOpenJob (config : Config) (passes : ℕ) (events : List Eve
       ≡ store_taken (words_at config passes before) (store_at config passes before) (Some job))
   pub moment : (later before : List Event) → events ≡ later ++ before → StoreIsOfOneMoment config passes before
 
--- of legal events, and so of those that a world took
-pub record SettingsMoveByTheOpenJob : Type 0 where
-  pub legal : (config : Config) (passes : ℕ) (events : List Event) →
-      IsSound config → IsSetup (setup_of config passes) → AreLegal config passes events →
-      MovesByTheOpenJob config passes events
-  pub taken : (config : Config) (passes : ℕ) (events : List Event) →
-      IsSound config → IsSetup (setup_of config passes) → AreTaken config passes events →
-      MovesByTheOpenJob config passes events
+-- in each life
+abbrev pub SettingsMoveByTheOpenJob : Type 0
+SettingsMoveByTheOpenJob = (config : Config) (passes : ℕ) (events : List Event) →
+    IsLived config passes events → MovesByTheOpenJob config passes events

@@ -28,6 +28,7 @@ use Rattle.pm_world.specs.declared.way.Way.TheVariants.{Off, Sent, Written, Thro
 use Rattle.pm_world.specs.Honest.{WentThrough, honest, is_whole, sent_by}
 use Rattle.pm_world.specs.Job.{asked_by}
 use Rattle.pm_world.specs.Legal.{frame_of}
+use Rattle.pm_world.specs.Lived.{IsLived}
 use Rattle.pm_world.specs.Life.{AreTaken, now}
 use Rattle.pm_world.specs.Setup.{setup_of}
 use Rattle.pm_world.specs.State.{State, asked, event_limit}
@@ -116,13 +117,13 @@ pub record WaysAreFollowed : Type 0 where
       way_of config passes (event ∷ events)
       ≡ way_after (now config passes (event ∷ events)) event (way_of config passes events)
   pub sent : (config : Config) (passes : ℕ) (events : List Event) (cell : Cell) (word : ℕ) (whole : Bool) →
-      IsSound config → IsSetup (setup_of config passes) → AreTaken config passes events →
+      IsLived config passes events →
       (way_of config passes events ≡ Sent cell word whole) ↔ WasSent config passes cell word whole events
   pub through : (config : Config) (passes : ℕ) (events : List Event) (cell : Cell) (word : ℕ) →
-      IsSound config → IsSetup (setup_of config passes) → AreTaken config passes events →
+      IsLived config passes events →
       (way_of config passes events ≡ Through cell word) ↔ WasUndisturbed config passes cell word events
   pub went : (config : Config) (passes : ℕ) (events : List Event) (cell : Cell) (word : ℕ) →
-      IsSound config → IsSetup (setup_of config passes) → AreTaken config passes events →
+      IsLived config passes events →
       way_of config passes events ≡ Through cell word → HasGone config passes cell word events
   pub ahead : (config : Config) (passes : ℕ) (events : List Event) (cell : Cell) (word : ℕ) (acked : Bool) →
       IsSound config → IsSetup (setup_of config passes) → AreTaken config passes events →

@@ -6,8 +6,9 @@ ghost use Rattle.pm_table.specs.declared.reg.Reg.{Reg as AnyReg};
 ghost use Rattle.pm_world.specs.Below.{Below};
 ghost use Rattle.pm_world.specs.Bytes.{AnswersComeInBytes, StartsShort};
 ghost use Rattle.pm_world.specs.Honest.{IsSpelled};
-ghost use Rattle.pm_world.specs.Laws.{BetrayedDamageIsLegal, BetrayedDamageIsTaken, CausesDecide, ConfirmedSettingsAreHeld, DifferingOrdersNeverTook, FramesAreFew, HonestOrdersGoThrough, LearnedFormatsAreTrue, LegalLivesAreFollowed, ListsSayEnough, LivesAreFollowed, LivesAreOrders, OpenListsAreFollowed, OwnRequestsAreAnswered, PossibleWordsAreExact, PossibleWordsAreHeld};
+ghost use Rattle.pm_world.specs.Laws.{BetrayedDamageIsLegal, BetrayedDamageIsTaken, CausesDecide, ConfirmedSettingsAreHeld, DifferingOrdersNeverTook, FramesAreFew, HonestOrdersGoThrough, LearnedFormatsAreTrue, ListsSayEnough, LivesAreFollowed, LivesAreOrders, OpenListsAreFollowed, OwnRequestsAreAnswered, PossibleWordsAreExact, PossibleWordsAreHeld};
 ghost use Rattle.pm_world.specs.LimitLaws.{BandsAreExact, BandsAreHeld, LivesStayLimited};
+ghost use Rattle.pm_world.specs.Lived.{EventsAreLived};
 ghost use Rattle.pm_world.specs.GoodBus.{GoodFramesEndJobs};
 ghost use Rattle.pm_world.specs.Moves.{SettingsMoveByTheOpenJob};
 ghost use Rattle.pm_world.specs.Newest.{NewestEventsAreParts};
@@ -47,20 +48,12 @@ pub fn lives_are_followed()
     lower_laws();
 }
 
-/// A life whose events are legal, however many there are: what it comes to is what one event after another makes
-/// of its start (`none`, `more`), what the host was told is a transcript that might come (`told`), and all that is
-/// promised of a world's own life holds of it. The converter's words are those of a run of the order machine
-/// (`orders`), each cell's its own (`own`, `stored`), and each output commands the value of one of its own
-/// (`commanded`). No job sends more than twice as many frames as it has passes (`few`), and undisturbed orders go
-/// through (`through`). The formats that the host learned are the converter's (`agree`), and orders in microvolts those
-/// of the nearest word (`nearest`). Confirmed words are held (`confirmed`), what the host lists as possible has the
-/// converter's word (`possible`), no restart is seen that didn't happen (`seen`), and what is listed is exact
-/// (`witness`, `only`).
-pub fn legal_lives_are_followed()
-    ensures { LegalLivesAreFollowed }
-{
-    lower_laws();
-}
+/// What the other laws ask of events: that a world lived through them, however many there are. A world that can be made
+/// lived through no event (`none`), through one more that nothing is against (`more`), through what came before any of them
+/// (`earlier`), and through those that it took (`taken`). The events of a caller's own loop are had by the first two.
+pub fn events_are_lived()
+    ensures { EventsAreLived }
+{}
 
 /// However frames are delivered, lost, cut, damaged, repeated or falsely acknowledged, and whenever an
 /// end restarts: the converter's words, and those in its store, are those of a run of the order machine that
@@ -121,8 +114,7 @@ pub fn learned_formats_are_true()
 
 /// What came back to the host since its last restart were bytes, where the numbers of the configuration and those that the
 /// events carry are bytes, and words of two, as they are in a program: [`spell`] says so of the one, and
-/// [`World::run`](crate::World::run) and [`World::step`](crate::World::step) of the others. This holds of legal events
-/// (`legal`), and so of those that a world took (`taken`).
+/// [`World::run`](crate::World::run) and [`World::step`](crate::World::step) of the others.
 pub fn answers_come_in_bytes()
     ensures { AnswersComeInBytes }
 {
@@ -164,7 +156,7 @@ fn spell_byte(byte: u8)
     ensures { byte < 2 ^ 8 }
 {}
 
-/// After each of the events that were taken, the last job has sent at most twice as many frames as a
+/// After each of the events, the last job has sent at most twice as many frames as a
 /// job has passes.
 pub fn frames_are_few()
     ensures { FramesAreFew }
@@ -172,7 +164,7 @@ pub fn frames_are_few()
     lower_laws();
 }
 
-/// Among events that were taken, an order goes through where WRITE_PROTECT allows its code as it is
+/// An order goes through where WRITE_PROTECT allows its code as it is
 /// accepted, its write is delivered whole at least once, whatever else is delivered of it, is then
 /// over, acknowledged or not, and is read back undisturbed: it took one write and one read, it is
 /// done, the cell's word is confirmed, and the converter holds it (`through`). Once its deliveries
@@ -206,11 +198,13 @@ pub fn betrayed_damage_is_taken()
 }
 
 /// However frames are delivered, lost, cut, damaged, repeated or falsely acknowledged, and whenever an end
-/// restarts: where each start word of an output's voltages has a value within limits, and each word that was
-/// ordered for one, the output commands a voltage within them at each moment (`limited`). It commands no more than
-/// the most of all words of its VOUT_MAX, whatever else was ordered (`most`), and no less than the least of all
-/// words of its VOUT_MIN, where none of these is above one of VOUT_MAX (`least`). Orders that a guard lets through
-/// are such, where the start words are (`guarded`).
+/// restarts: an output commands a voltage within limits at each moment where its own words are within them
+/// (`limited`), which are its start words and those that were ordered for it. Of a word of VOUT_COMMAND or a margin that
+/// asks that its value lies within the limits, of VOUT_MAX that it is at least the least of them, and of VOUT_MIN that it
+/// is at most the most. The output commands no more than the most of all words of its VOUT_MAX, whatever else was ordered
+/// (`most`), and no less than the least of all words of its VOUT_MIN, where none of these is above one of VOUT_MAX
+/// (`least`). Each word that a guard lets be ordered lies within its limits (`ordered`), so where the start words are
+/// within, all own words are (`guarded`), and they stay so while no other is ordered (`kept`, `newer`).
 pub fn lives_stay_limited()
     ensures { LivesStayLimited }
 {
@@ -237,8 +231,7 @@ pub fn bands_are_exact()
 }
 
 /// Where an order differs, and the converter didn't restart since it was accepted, it never took: its cell had the
-/// word that was read at each moment since then, and that isn't the ordered one. Of any legal events, those that a
-/// world took among them ([`possible_words_are_exact`] `legal`).
+/// word that was read at each moment since then, and that isn't the ordered one.
 pub fn differing_orders_never_took()
     ensures { DifferingOrdersNeverTook }
 {
@@ -251,8 +244,7 @@ pub fn differing_orders_never_took()
 /// word for this very cell, or a restore, and the word is the stored one (`moves`). The store is another one only where a
 /// delivery let an open store take, which copies all outputs' words at once (`stores`). So it has the words of one
 /// earlier moment, or of the start, never a mixture, and of WRITE_PROTECT the start word (`moment`). And each delivery
-/// that hears the open job's frame whole, while its code is allowed, leaves what that job makes of them (`takes`). This
-/// holds of legal events, as many as there may be (`legal`), and so of those that a world took (`taken`).
+/// that hears the open job's frame whole, while its code is allowed, leaves what that job makes of them (`takes`).
 pub fn settings_move_by_the_open_job()
     ensures { SettingsMoveByTheOpenJob }
 {
@@ -282,8 +274,7 @@ pub fn own_requests_are_answered()
 /// before, the host says from then on that it saw a restart (`check`). The write and the read of one pass end an order
 /// that WRITE_PROTECT allows Done, whichever pass it is (`order`); where it is to be read back first, that read does, or
 /// that and the next pass (`read_back`, `three`). A clear, a store or a restore ends Done by one write that is
-/// acknowledged (`send`), a learn ends Learned by one read or by two (`mode`, `coefficients`). This holds of legal events
-/// (`legal`), and so of those that a world took (`taken`).
+/// acknowledged (`send`), a learn ends Learned by one read or by two (`mode`, `coefficients`).
 pub fn good_frames_end_jobs()
     ensures { GoodFramesEndJobs }
 {

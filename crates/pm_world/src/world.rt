@@ -28,7 +28,7 @@ use crate::laws::{
     answers_come_in_bytes, confirmed_settings_are_held, differing_orders_never_took,
     frames_are_few, good_frames_end_jobs, honest_orders_go_through, learned_formats_are_true,
     lives_are_followed, lives_are_orders, lives_stay_limited, possible_words_are_held,
-    settings_move_by_the_open_job, spell,
+    settings_move_by_the_open_job, spell, events_are_lived,
 };
 use crate::stop::Stop;
 use pm_device::{Config, Converter};
@@ -183,6 +183,7 @@ impl World {
             AreOfBytes (since_restart (life c passes (taken_events events.now run.1)).entries)) }
     {
         // These calls hand their laws to the prover, and do nothing else.
+        events_are_lived();
         lives_are_orders();
         settings_move_by_the_open_job();
         lives_stay_limited();

@@ -2,4 +2,4 @@ use Rattle.pm_driver.proofs.NoRestarts.{new-since}
 use Rattle.pm_driver.proofs.laws.new_converters_have_no_restart.Goals as goal
 
 pub returns : goal.returns
-returns c = new-since c.legal_lives_are_followed.ensures
+returns c = new-since c.laws_of_lives.ensures

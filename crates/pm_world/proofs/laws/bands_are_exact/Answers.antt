@@ -5,13 +5,11 @@ use Rattle.pm_world.specs.Setup.{setup_of}
 use Rattle.pm_world.specs.Uncertainty.{due_before, since_restart, witness_events, witness_start}
 use Rattle.pm_world.proofs.BandLives.{end-left, ends-possible}
 use Rattle.pm_world.proofs.Exact.{witness-leaves}
-use Rattle.pm_world.proofs.Lives.{lived-by}
 use Rattle.pm_world.proofs.laws.bands_are_exact.Goals as goal
 
 pub returns : goal.returns
-returns c = λ config passes events sides sound spelled made taken fresh open'.
+returns c = λ config passes events sides spelled lived fresh open'.
     let laws = c.lower_laws.ensures in
-    let lived = lived-by config passes events sound made taken in
     let entries = since_restart (life config passes events).entries in
     let chosen = end_choices config (now config passes events).host sides in
     let leaves = witness-leaves laws chosen lived fresh open' (ends-possible laws sides lived) in (

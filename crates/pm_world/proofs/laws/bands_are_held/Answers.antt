@@ -1,7 +1,6 @@
 use Rattle.pm_world.proofs.BandLives.{in-band}
-use Rattle.pm_world.proofs.Lives.{lived-by}
 use Rattle.pm_world.proofs.laws.bands_are_held.Goals as goal
 
 pub returns : goal.returns
-returns c = λ config passes events output band sound spelled made taken here short stands is.
-    in-band c.lower_laws.ensures output band (lived-by config passes events sound made taken) spelled here short stands is
+returns c = λ config passes events output band spelled lived here short stands is.
+    in-band c.lower_laws.ensures output band lived spelled here short stands is

@@ -6,16 +6,15 @@ use Rattle.pm_world.specs.Uncertainty.{due_before, since_restart}
 use Rattle.pm_world.proofs.Exact.{witness-leaves}
 use Rattle.pm_world.proofs.FirstWords.{first-small}
 use Rattle.pm_world.proofs.LeftWords.{left-possible, legal-taken}
-use Rattle.pm_world.proofs.Lives.{are-legal, lived-by}
+use Rattle.pm_world.proofs.Lives.{are-legal}
 use Rattle.pm_world.proofs.Starts.{witness-word}
 use Rattle.pm_world.proofs.laws.possible_words_are_exact.Goals as goal
 
 pub returns : goal.returns
 returns c = record {
-  witness = λ config passes events chosen sound made taken fresh open' possible.
-      witness-leaves c.lower_laws.ensures chosen (lived-by config passes events sound made taken) fresh open' possible;
-  only = λ config passes events retold chosen other sound made taken leaves.
-      left-possible c.lower_laws.ensures (lived-by config passes events sound made taken) leaves;
+  witness = λ config passes events chosen lived fresh open' possible.
+      witness-leaves c.lower_laws.ensures chosen lived fresh open' possible;
+  only = λ config passes events retold chosen other lived leaves. left-possible c.lower_laws.ensures lived leaves;
   words = λ config passes events chosen sound bytes words output register below.
       let entries = since_restart (life config passes events).entries in
       subst (λ n. n < 2 ^ 16)

@@ -1,6 +1,5 @@
 use Rattle.std.proofs.Common.{refl}
 use Rattle.pm_world.specs.Way.{way_of}
-use Rattle.pm_world.proofs.Lives.{lived-by}
 use Rattle.pm_world.proofs.WayForms.{ahead-by, gone-by, sent-by, through-by}
 use Rattle.pm_world.proofs.laws.ways_are_followed.Goals as goal
 
@@ -11,9 +10,8 @@ returns c =
     record {
       none = λ config passes. refl;
       more = λ config passes events event. refl;
-      sent = λ config passes events cell word whole sound made taken. sent-by laws (lived-by config passes events sound made taken);
-      through = λ config passes events cell word sound made taken. through-by laws (lived-by config passes events sound made taken);
-      went = λ config passes events cell word sound made taken is.
-          let lived = lived-by config passes events sound made taken in gone-by laws lived ((through-by laws lived).0 is);
+      sent = λ config passes events cell word whole lived. sent-by laws lived;
+      through = λ config passes events cell word lived. through-by laws lived;
+      went = λ config passes events cell word lived is. gone-by laws lived ((through-by laws lived).0 is);
       ahead = ahead-by laws;
     }

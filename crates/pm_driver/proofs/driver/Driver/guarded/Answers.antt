@@ -5,12 +5,12 @@ use Rattle.pm_driver.proofs.driver.Driver.guarded.Goals as goal
 
 pub invariant_of-result : goal.invariant_of-result
 invariant_of-result g c =
-    begins-lived c.legal_lives_are_followed.ensures c.args.guard.host (g.B.Bus.held c.args.bus) c.requires
+    begins-lived c.laws_of_lives.ensures c.args.guard.host (g.B.Bus.held c.args.bus) c.requires
 
 pub returns-clause-within : goal.returns-clause-within
 returns-clause-within g c = λ was output bounds same lived.
-    begins-within c.legal_lives_are_followed.ensures was c.args.guard.host (g.B.Bus.held c.args.bus) c.requires same output bounds lived
+    begins-within c.laws_of_lives.ensures was c.args.guard.host (g.B.Bus.held c.args.bus) c.requires same output bounds lived
 
 pub returns-clause-since : goal.returns-clause-since
 returns-clause-since g c = λ was cell same is.
-    begins-since c.legal_lives_are_followed.ensures was c.args.guard.host (g.B.Bus.held c.args.bus) c.requires same cell is
+    begins-since c.laws_of_lives.ensures was c.args.guard.host (g.B.Bus.held c.args.bus) c.requires same cell is

@@ -6,4 +6,4 @@ use Rattle.pm_driver.proofs.driver.Driver.laws.Goals as goal
 pub returns : goal.returns
 returns g c =
     subst (λ d. IsTrueOf d.guard.host (g.B.Bus.held d.bus)) c.self.view_is
-    (true-of c.legal_lives_are_followed.ensures c.self.inside.guard.host (g.B.Bus.held c.self.inside.bus) c.self.invariant)
+    (true-of c.laws_of_lives.ensures c.self.inside.guard.host (g.B.Bus.held c.self.inside.bus) c.self.invariant)
