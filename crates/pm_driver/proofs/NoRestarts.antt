@@ -153,9 +153,10 @@ calls-none gives restarts is_so all old so (Renewed ∷ acts) new calls = calls-
 
 -- so a job restarts nothing
 pub jobs-none : {B : Type 0} (gives : B → Call → B → Type 0) (held : B → Held) (restarts : B → ℕ) → JobsRestartNothing gives held restarts
-jobs-none gives held restarts is_so all job old new (Err fault) runs so =
-    (subst (λ (d : Driving _). is_so d.bus ≡ true) (sym runs.err) so,
-      λ cell is. subst (λ (d : Driving _). HasNoRestartSince cell d.guard.host (held d.bus)) (sym runs.err) is)
+jobs-none gives held restarts is_so all job old new (Err fault) runs so = (
+  subst (λ (d : Driving _). is_so d.bus ≡ true) (sym runs.err) so,
+  λ cell is. subst (λ (d : Driving _). HasNoRestartSince cell d.guard.host (held d.bus)) (sym runs.err) is,
+)
 jobs-none gives held restarts is_so all job old new (Ok end) runs so = go (accepted_job old.guard.host job) runs.leads where
   go : (o : Option host.Job) → IsSomeAnd o (λ begun. Leads gives held restarts (Began begun ∷ []) (Some end) (driven old) (driven new)) →
       (is_so new.bus ≡ true) × ((cell : Cell) → HasNoRestartSince cell old.guard.host (held old.bus) →

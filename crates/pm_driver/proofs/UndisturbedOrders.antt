@@ -31,7 +31,7 @@ use Rattle.pm_host.specs.Answers.{good_payload, good_word, word_in}
 use Rattle.pm_host.specs.Marks.{Good}
 use Rattle.pm_host.specs.Messages.{cell_read, cell_write}
 use Rattle.pm_host.specs.Refusals.{cell_fault, is_busy, job_fault, order_fault}
-use Rattle.pm_host.specs.Summary.{Summary, ends, idle, marked, next as host_next, read_back, sending_in, writes}
+use Rattle.pm_host.specs.Summary.{Summary, ends, idle, marked, next as host_next, read_back, sending_in, writes as writes_again}
 use Rattle.pm_host.specs.Transcript.{Accepted, Entry, Finished, Got, Job, Order, Setup, end_of}
 use Rattle.pm_world.specs.declared.arrival.Arrival.TheVariants.{Whole}
 use Rattle.pm_world.specs.declared.back.Back.TheVariants as back
@@ -153,7 +153,7 @@ over-so host cell word answer good =
     cell word 0 read).after.stage) good
     ∙ ap (λ b. is_some (cond b (ends (marked (idle (host_next (host_next host (Accepted (Order cell word))) (Finished true))) (Good cell word)) Done)
     (cond (eqb 1 host.setup.passes) (ends (marked (idle (host_next (host_next host (Accepted (Order cell word))) (Finished true))) (Good cell word)) (Differs word))
-    (writes (marked (idle (host_next (host_next host (Accepted (Order cell word))) (Finished true))) (Good cell word)) cell word 1))).after.stage)
+    (writes_again (marked (idle (host_next (host_next host (Accepted (Order cell word))) (Finished true))) (Good cell word)) cell word 1))).after.stage)
     (eq-eqb word word refl)
 
 -- the laws that say so
@@ -190,10 +190,10 @@ through laws host held cell word has free allowed frame request room writes read
     (subst (λ (d : Held). is_allowed (word_at d.words Protect) (cell_code cell) ≡ true) (sym begun.is_life.held_is) allowed)
     (laws.whole.written _ true before) (laws.whole.cell config passes cell middle) in
     let told : (life config passes after).entries
-        ≡ Got answer ∷ Finished true ∷ Accepted (Order cell word) ∷ (life config passes has.events).entries =
+    ≡ Got answer ∷ Finished true ∷ Accepted (Order cell word) ∷ (life config passes has.events).entries =
     two.told ∙ ap (λ l. Got answer ∷ l) (one.told ∙ ap (λ l. Finished true ∷ l) begun.told) in
     let both : Got went.answer ∷ Finished true ∷ (life config passes before).entries
-        ≡ Got answer ∷ Finished true ∷ Accepted (Order cell word) ∷ (life config passes has.events).entries =
+    ≡ Got answer ∷ Finished true ∷ Accepted (Order cell word) ∷ (life config passes has.events).entries =
     sym went.two_frames ∙ told in
     let same : went.answer ≡ answer = cc in
     let good : good_word config.addr cell answer ≡ Some word = subst (λ b. good_word config.addr cell b ≡ Some word) same went.good in
@@ -259,23 +259,23 @@ GoesThrough host held cell word entries setup = (frame request room : List ℕ) 
     (asked_whole (wrote_whole held frame) request)
 
 -- one call more
-step : (host : Summary) (held : Held) (cell : Cell) (word : ℕ) {entries : List Entry} {setup : Setup} →
+step : (host : Summary) (held : Held) (cell : Cell) (word : ℕ) (entries : List Entry) (setup : Setup) →
     GoesThrough host held cell word entries setup → (acts : List Act) (middle new : Held) (call : Call) →
     Came host held cell word acts middle → MayDo (host_by host acts) (Called call) → IsUndisturbed call middle new →
     Came host held cell word (Called call ∷ acts) new
 unfolding host_next GoesThrough
-step host held cell word goes acts middle new (Wrote frame acked) (begun is at) may so =
+step host held cell word entries setup goes acts middle new (Wrote frame acked) (begun is at) may so =
     let writes = subst (λ (l : List Act). MayDo (host_by host l) (Called (Wrote frame acked))) is may in
     wrote frame (ap₂ (λ a l. Called (Wrote frame a) ∷ l) so.0 is) (ap (λ h. wrote_whole h frame) at ∙ so.1) writes
-step host held cell word goes acts middle new (Read request room came) (begun is at) may so =
+step host held cell word entries setup goes acts middle new (Read request room came) (begun is at) may so =
     let shown = subst (λ (l : List Act). MayDo (host_by host l) (Called (Read request room came))) is may in
     let reads = shown.0.reads in
     let no = writes-so cell word in cc
-step host held cell word goes acts middle new (Wrote other acked) (wrote frame is at writes) may so =
+step host held cell word entries setup goes acts middle new (Wrote other acked) (wrote frame is at writes) may so =
     let shown = subst (λ (l : List Act). MayDo (host_by host l) (Called (Wrote other acked))) is may in
     let no = shown.writes in
     let reads = reads-so cell in cc
-step host held cell word goes acts middle new (Read request room came) (wrote frame is at writes) may so =
+step host held cell word entries setup goes acts middle new (Read request room came) (wrote frame is at writes) may so =
     let reads = subst (λ (l : List Act). MayDo (host_by host l) (Called (Read request room came))) is may in
     let two = goes frame request room writes reads in
     let whole : length (answer_of middle request Whole) ≡ whole_answer (cell_read cell) =
@@ -285,34 +285,35 @@ step host held cell word goes acts middle new (Read request room came) (wrote fr
     read frame request room
     (ap₂ (λ b l. Called (Read request room b) ∷ l) (sym back.0 ∙ ap (λ h. answer_of h request Whole) (sym at)) is)
     (ap (λ h. asked_whole h request) at ∙ back.1) writes reads
-step host held cell word goes acts middle new call (read frame request room is at writes reads) may so =
+step host held cell word entries setup goes acts middle new call (read frame request room is at writes reads) may so =
     absurd (not-idle (host_by host acts) call
     (subst (λ (l : List Act). is_busy (host_by host l) ≡ false) (sym is) (goes frame request room writes reads).over) may)
 
 -- and all of them
-came-so : (host : Summary) (cell : Cell) (word : ℕ) {entries : List Entry} {setup : Setup} {B : Type 0}
+came-so : (host : Summary) (cell : Cell) (word : ℕ) (entries : List Entry) (setup : Setup) {B : Type 0}
     (gives : B → Call → B → Type 0) (held : B → Held) (is_so : B → Bool) → AreUndisturbed gives held is_so → (old : B) →
     is_so old ≡ true → is_busy host ≡ false → GoesThrough host (held old) cell word entries setup → (acts : List Act) (new : B) →
     asked_in acts ≡ Began (Order cell word) ∷ [] → AreDone host acts → AreCalls gives old acts new →
     Came host (held old) cell word acts (held new) × (is_so new ≡ true)
-came-so host cell word gives held is_so all old so idle goes [] new asks done calls = cc
-came-so host cell word gives held is_so all old so idle goes (Called call ∷ before) new asks done calls =
-    let earlier = came-so host cell word gives held is_so all old so idle goes before calls.0 asks done.1 calls.1 in
+came-so host cell word entries setup gives held is_so all old so quiet goes [] new asks done calls = cc
+came-so host cell word entries setup gives held is_so all old so quiet goes (Called call ∷ before) new asks done calls =
+    let earlier = came-so host cell word entries setup gives held is_so all old so quiet goes before calls.0 asks done.1 calls.1 in
     let one = all call calls.0 new earlier.1 calls.2 in
-    (step host (held old) cell word goes before (held calls.0) (held new) call earlier.0 done.0 one.0, one.1)
-came-so host cell word gives held is_so all old so idle goes (Began job ∷ before) new asks done calls =
-    let none : before ≡ [] = idle-acts host idle before cc done.1 in
+    (step host (held old) cell word entries setup goes before (held calls.0) (held new) call earlier.0 done.0 one.0, one.1)
+came-so host cell word entries setup gives held is_so all old so quiet goes (Began job ∷ before) new asks done calls =
+    let nothing : asked_in before ≡ [] = cc in
+    let none : before ≡ [] = idle-acts host quiet before nothing done.1 in
     let same : job ≡ Order cell word = cc in
     let at : old ≡ new = subst (λ (l : List Act). AreCalls gives old l new) none calls in
     (begun (ap₂ (λ j l. Began j ∷ l) same none) (ap held at), subst (λ b. is_so b ≡ true) at so)
-came-so host cell word gives held is_so all old so idle goes (Renewed ∷ before) new asks done calls = cc
+came-so host cell word entries setup gives held is_so all old so quiet goes (Renewed ∷ before) new asks done calls = cc
 
 -- an order over a bus whose calls nothing disturbs is done, and its word is held
 pub undisturbed-orders : LawsOfLives → GoodFramesEndJobs → WholeFramesAreUndisturbed → CallsGo → {B : Type 0} →
     (gives : B → Call → B → Type 0) → (held : B → Held) → (restarts : B → ℕ) → UndisturbedOrdersAreDone gives held restarts
 unfolding end_of GoesThrough
 undisturbed-orders lives good whole calls gives held restarts is_so all cell word end old new has so allowed runs =
-    go (came-so host cell word gives held is_so all old.bus so (idle-so host cell word free) goes leads.acts new.bus leads.asks leads.may
+    go (came-so host cell word entries setup gives held is_so all old.bus so (idle-so host cell word free) goes leads.acts new.bus leads.asks leads.may
     leads.calls)
   where
     host : Summary

@@ -9,8 +9,9 @@ use crate::bus::Bus;
 use pm_host::transcripts_are_followed;
 use pm_table::cells_are_told_apart;
 use pm_world::{
-    confirmed_settings_are_held, good_frames_end_jobs, learned_formats_are_true, lives_are_followed,
-    lives_are_orders, lives_stay_limited, possible_words_are_held, whole_frames_are_undisturbed,
+    confirmed_settings_are_held, good_frames_end_jobs, learned_formats_are_true,
+    lives_are_followed, lives_are_orders, lives_stay_limited, possible_words_are_held,
+    whole_frames_are_undisturbed,
 };
 
 /// What `pm_world` says of each life, which the laws below are had from.

@@ -1,4 +1,4 @@
-use Rattle.std.proofs.Common.{◌≡◌, ℕ, List, length, replicate, take, sym, subst}
+use Rattle.std.proofs.Common.{◌≡◌, ℕ, List, [], replicate, take, sym, subst}
 use Rattle.std.proofs.lemmas.List.{take-replicate}
 use Rattle.std.specs.Prelude.{IsSomeAnd}
 use Rattle.pm_frame.specs.Fault.{whole_answer}
@@ -44,7 +44,7 @@ returns-in-Request-clause-leads g c =
 
 pub returns-in-Request-clause-open : goal.returns-in-Request-clause-open
 returns-in-Request-clause-open g c =
-    told-open (Read c.as_slice-in-Request.result.now [] []) c.args.guard.now.host c.told-step-in-Request.new.self.host
+    told-open (Read c.as_slice-in-Request.result.now [] _) c.args.guard.now.host c.told-step-in-Request.new.self.host
     c.told-step-in-Request.result
     (busy-host (λ message. IsRequest c.args.guard.now.host.setup.addr message c.in-Request.frame.now.items) c.args.guard.now.host
     c.in-Request.ensures.1)
