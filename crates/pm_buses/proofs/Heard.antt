@@ -1,5 +1,5 @@
 -- What a converter hears of a frame, and what comes back.
-use Rattle.std.proofs.Common.{◌≡◌, ◌+◌, arith, ◌≤◌, ℕ, Bool, true, false, ◌||◌, ◌&&◌, List, [], ◌∷◌, ◌++◌, length, take, refl, sym, ◌∙◌, ap, ap₂}
+use Rattle.std.proofs.Common.{◌≡◌, arith, ◌≤◌, ℕ, Bool, true, false, ◌||◌, ◌&&◌, List, [], ◌∷◌, ◌++◌, length, take, refl, sym, ◌∙◌, ap, ap₂}
 use Rattle.std.specs.Prelude.{bytes_eq, nat_lt}
 use Rattle.std.proofs.lemmas.Bool.{lt-ltb, or_right}
 use Rattle.pm_frame.specs.Betrayal.{is_betrayed}

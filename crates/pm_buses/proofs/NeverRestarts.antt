@@ -1,14 +1,12 @@
 -- Plans by which the converter never restarts.
-use Rattle.std.proofs.Common.{◌≡◌, ◌+◌, arith, cond, eqb, true, false, Bool, ℕ, zero, suc, List, [], ◌∷◌, take, inl, inr, refl, sym, ◌∙◌, ap, subst}
+use Rattle.std.proofs.Common.{◌≡◌, arith, eqb, true, Bool, ℕ, zero, suc, List, [], ◌∷◌, take, inl, inr, refl, sym, ◌∙◌, ap}
 use Rattle.std.proofs.lemmas.Bool.{eq-eqb}
-use Rattle.pm_host.specs.declared.job.Job.{Job}
-use Rattle.pm_driver.specs.Acts.{Call, Read, Wrote}
+use Rattle.pm_driver.specs.Acts.{Read, Wrote}
 use Rattle.pm_driver.specs.Undisturbed.{AreWithoutRestart, JobsRestartNothing}
-use Rattle.pm_buses.specs.NeverRestarts.{NeverRestarts, NeverRestartsStays, patient_device, patient_gives, patient_restarts}
+use Rattle.pm_buses.specs.NeverRestarts.{NeverRestartsStays, patient_device, patient_gives, patient_restarts}
 use Rattle.pm_buses.specs.Patience.{asks_patiently, sends_patiently}
 use Rattle.pm_buses.specs.Plan.{GivesPlanned, TriesPlanned, TurnsTo, device_in, restarts_of, restarts_so}
 use Rattle.pm_buses.specs.declared.fault.Fault.{Fault}
-use Rattle.pm_buses.specs.declared.patient.Patient.{Patient}
 use Rattle.pm_buses.specs.declared.simulated_bus.SimulatedBus.{SimulatedBus}
 
 -- a plan has no restart
@@ -34,9 +32,10 @@ none-part (fault ∷ plan) (suc n) none =
 count-stays : (old new : SimulatedBus) → TurnsTo old new → none_in old.plan.now ≡ true →
     (restarts_so new ≡ restarts_so old) × (none_in new.plan.now ≡ true)
 count-stays old new turn none =
-    let old_none = none-so old.plan.now none in
-    (none-part new.plan.now new.next (ap restarts_of turn.plan ∙ old_none) ∙ sym (none-part old.plan.now old.next old_none),
-      ap none_in turn.plan ∙ none)
+    let old_none = none-so old.plan.now none in (
+      none-part new.plan.now new.next (ap restarts_of turn.plan ∙ old_none) ∙ sym (none-part old.plan.now old.next old_none),
+      ap none_in turn.plan ∙ none,
+    )
 
 -- and with all tries of a patient bus
 sends-stays : (tries : ℕ) (frame : List ℕ) (acked : Bool) (old new : SimulatedBus) → sends_patiently TriesPlanned tries frame old acked new →

@@ -1,16 +1,15 @@
 -- What happens to a converter, in parts.
-use Rattle.std.proofs.Common.{◌≡◌, ◌+◌, ◌≤◌, arith, cond, ℕ, Bool, true, List, [], ◌∷◌, ◌++◌, refl, sym, ◌∙◌, ap, subst}
+use Rattle.std.proofs.Common.{◌≡◌, ◌+◌, arith, ℕ, Bool, true, List, [], ◌∷◌, ◌++◌, refl, sym, ◌∙◌, ap, subst}
 use Rattle.pm_device.specs.declared.ending.Ending.TheVariants.{Restart}
 use Rattle.pm_device.specs.Effect as device
 use Rattle.pm_device.specs.Held.{Held}
 use Rattle.pm_device.specs.History.{next as device_next}
 use Rattle.pm_world.specs.declared.event.Event.{Event}
 use Rattle.pm_world.specs.declared.event.Event.TheVariants.{Reading, RestartDevice}
-use Rattle.pm_world.specs.Confirmed.{restarts_converter}
 use Rattle.pm_world.specs.Legal.{back_bytes, ending_of, heard_bytes, is_heard_whole, is_legal_return}
 use Rattle.pm_driver.specs.Adapter.{IsUnheard}
 use Rattle.pm_driver.specs.Bus.{AreAll, IsAsked, IsSent, answer_of, held_after, held_by, is_beside, may_hear, restarts_in}
-use Rattle.pm_buses.specs.Disturbed.{PartsCompose, RequestsMayBeLost}
+use Rattle.pm_buses.specs.Disturbed.{IsSentPart, PartsCompose, RequestsMayBeLost}
 
 -- events and more of them
 pub held-append : (frame : List ℕ) (held : Held) (second first : List Event) →
@@ -104,3 +103,9 @@ parts-compose lost = record {
   lost_read = λ request needed first a second b some is.
       before-read request needed [] first a second b second b is (lost request needed second b some);
 }
+
+-- a time in which nothing was heard, and two parts of a write
+pub sent-so : PartsCompose → (frame : List ℕ) (first : Held) (a : ℕ) (second : Held) (b : ℕ) (third fourth : Held) →
+    IsUnheard first a second b → IsSentPart frame second third → IsSentPart frame third fourth → IsSent frame first a fourth b
+sent-so parts frame first a second b third fourth before one two =
+    parts.before_write frame first a second b fourth b before (parts.sent frame second b third b fourth b (one b) (two b))

@@ -1,5 +1,5 @@
 -- The restarts of a plan, counted.
-use Rattle.std.proofs.Common.{◌≡◌, ◌+◌, ◌<◌, arith, cond, ℕ, zero, suc, List, [], ◌∷◌, Option, Some, None, length, take, refl, sym, ◌∙◌, ap, subst}
+use Rattle.std.proofs.Common.{◌≡◌, ◌+◌, ◌<◌, arith, cond, ℕ, zero, suc, List, [], ◌∷◌, Some, length, take, sym, ◌∙◌, ap, subst}
 use Rattle.std.specs.Prelude.{get_or, slice_get}
 use Rattle.pm_device.specs.Held.{Held}
 use Rattle.pm_driver.specs.Adapter.{IsUnheard}

@@ -1,5 +1,5 @@
 -- Calls of a simulated bus whose plan is at its end.
-use Rattle.std.proofs.Common.{◌≡◌, ◌≤◌, ◌+◌, ◌<◌, ◌||◌, ◌&&◌, arith, cond, not, ℕ, zero, suc, Bool, true, false, List, [], ◌∷◌, Option, Some, None, is_none, is_some, length, inl, inr, refl, sym, ◌∙◌, ap, ap₂, subst}
+use Rattle.std.proofs.Common.{◌≡◌, ◌≤◌, ◌+◌, ◌||◌, ◌&&◌, arith, cond, not, ℕ, zero, suc, Bool, true, false, List, [], Option, Some, None, is_none, is_some, length, inl, inr, refl, sym, ◌∙◌, ap, ap₂, subst}
 use Rattle.std.specs.Prelude.{bytes_eq, nat_lt, replicate, slice_get}
 use Rattle.std.proofs.lemmas.List.{length-replicate}
 use Rattle.std.proofs.lemmas.Bool.{lt-ltb}
@@ -11,13 +11,13 @@ use Rattle.pm_world.specs.Legal.{is_legal_return}
 use Rattle.pm_driver.specs.declared.adapter.WriteEnd.TheVariants as write
 use Rattle.pm_driver.specs.declared.adapter.ReadEnd.TheVariants as read
 use Rattle.pm_driver.specs.Acts.{Call, Read, Wrote}
-use Rattle.pm_driver.specs.Adapter.{Asks, Sends, Try}
+use Rattle.pm_driver.specs.Adapter.{Asks, Sends}
 use Rattle.pm_driver.specs.Bus.{answer_of}
 use Rattle.pm_driver.specs.Undisturbed.{AreUndisturbed, IsUndisturbed, UndisturbedOrdersAreDone, WholeFramesAreLegal, asked_whole, wrote_whole}
 use Rattle.pm_device.specs.Held.{Held}
 use Rattle.pm_buses.specs.NeverRestarts.{patient_device, patient_gives, patient_restarts}
 use Rattle.pm_buses.specs.Patience.{asks_patiently, sends_patiently}
-use Rattle.pm_buses.specs.Plan.{GivesPlanned, TriesPlanned, TurnsTo, asked, came_by, delivered, device_in, fault_next, gives_by, restarts_so, returned, tries_by}
+use Rattle.pm_buses.specs.Plan.{GivesPlanned, TriesPlanned, TurnsTo, asked, came_by, delivered, device_in, fault_next, gives_by, restarts_so, tries_by}
 use Rattle.pm_buses.specs.PlanEnds.{OrdersGoThrough, is_at_end}
 use Rattle.pm_buses.specs.declared.fault.Fault.{Fault}
 use Rattle.pm_buses.specs.declared.patient.Patient.{Patient}
@@ -67,9 +67,10 @@ simulated-so legal (Wrote frame acked) old new so gave =
     let by = subst (λ o. gives_by o old.device (Wrote frame acked) new.device) (none-next old so) gave.gives in
     ((by.0, delivered-so legal frame old.device new.device by.1), end-stays old new so gave.turn)
 simulated-so legal (Read request room came) old new so gave =
-    let by = subst (λ o. gives_by o old.device (Read request room came) new.device) (none-next old so) gave.gives in
-    (λ fits. (came-so legal request (length room) old.device came by.0 fits, asked-so legal request old.device new.device by.1),
-      end-stays old new so gave.turn)
+    let by = subst (λ o. gives_by o old.device (Read request room came) new.device) (none-next old so) gave.gives in (
+      λ fits. (came-so legal request (length room) old.device came by.0 fits, asked-so legal request old.device new.device by.1),
+      end-stays old new so gave.turn,
+    )
 
 -- nor the first try of a patient bus, which is its last
 sends-so : WholeFramesAreLegal → (left : ℕ) (frame : List ℕ) (acked : Bool) (old new : SimulatedBus) → is_at_end old ≡ true →
@@ -91,15 +92,17 @@ asks-so : WholeFramesAreLegal → (left : ℕ) (request room came : List ℕ) (o
     (answer_of old.device request Whole ≡ came) × (asked_whole old.device request ≡ new.device)) × (is_at_end new ≡ true)
 asks-so legal left request room came old new so (inl (middle, tried, rest)) =
     let by = subst (λ o. tries_by o old.device (Asks request room read.Unheard []) middle.device) (none-next old so) tried.tries in
-    let no = by.1.0 in cc
+    let no = by.1 in cc
 asks-so legal left request room came old new so (inr (inl (tried, is))) =
-    let by = subst (λ o. tries_by o old.device (Asks request room read.Failed []) new.device) (none-next old so) tried.tries in
-    (λ fits. (came-so legal request (length room) old.device [] by.0 fits ∙ sym is, asked-so legal request old.device new.device by.1.1),
-      end-stays old new so tried.turn)
+    let by = subst (λ o. tries_by o old.device (Asks request room read.Failed []) new.device) (none-next old so) tried.tries in (
+      λ fits. (came-so legal request (length room) old.device [] by.0 fits ∙ sym is, asked-so legal request old.device new.device by.2),
+      end-stays old new so tried.turn,
+    )
 asks-so legal left request room came old new so (inr (inr (count, tried))) =
-    let by = subst (λ o. tries_by o old.device (Asks request room (read.Came count) came) new.device) (none-next old so) tried.tries in
-    (λ fits. (came-so legal request (length room) old.device came by.0 fits, asked-so legal request old.device new.device by.1.1),
-      end-stays old new so tried.turn)
+    let by = subst (λ o. tries_by o old.device (Asks request room (read.Came count) came) new.device) (none-next old so) tried.tries in (
+      λ fits. (came-so legal request (length room) old.device came by.0 fits, asked-so legal request old.device new.device by.2),
+      end-stays old new so tried.turn,
+    )
 
 -- a patient bus that has a try, over a plan at its end
 is_ready : Patient SimulatedBus → Bool
@@ -124,7 +127,6 @@ patient-so legal call old new ready gave = go call gave where
   more = tries-so old.tries both.0
 
   still : old.tries ≡ new.tries → is_at_end new.adapter ≡ true → is_ready new ≡ true
-  unfolding is_ready
   still same end = ap₂ (λ a b. a && b) (ap (nat_lt 0) (sym same) ∙ both.0) end
 
   go : (call : Call) → patient_gives old call new → IsUndisturbed call old.adapter.device new.adapter.device × (is_ready new ≡ true)
@@ -134,9 +136,10 @@ patient-so legal call old new ready gave = go call gave where
       (one.0, still gave.0 one.1)
   go (Read request room came) gave =
       let one = asks-so legal more.0 request (replicate (length room) 0) came old.adapter new.adapter both.1
-      (subst (λ n. asks_patiently TriesPlanned n request (replicate (length room) 0) old.adapter came new.adapter) more.1 gave.1) in
-      (λ fits. one.0 (subst (λ n. length (answer_of old.adapter.device request Whole) ≤ n) (sym (length-replicate (length room) 0)) fits),
-        still gave.0 one.1)
+      (subst (λ n. asks_patiently TriesPlanned n request (replicate (length room) 0) old.adapter came new.adapter) more.1 gave.1) in (
+        λ fits. one.0 (subst (λ n. length (answer_of old.adapter.device request Whole) ≤ n) (sym (length-replicate (length room) 0)) fits),
+        still gave.0 one.1,
+      )
 
 -- so orders go through
 pub go-through : WholeFramesAreLegal → UndisturbedOrdersAreDone GivesPlanned device_in restarts_so →

@@ -1,5 +1,5 @@
 -- What a simulated bus does, frame by frame, by its plan of faults: this project's own choice.
-use Rattle.std.specs.Prelude.{◌≡◌, ◌+◌, ℕ, Bool, true, false, not, ◌||◌, ◌==◌, nat_lt, cond, if◌then◌else◌, is_some, is_none, slice_get, take, length, List, [], ◌∷◌, Option, Some, None}
+use Rattle.std.specs.Prelude.{◌≡◌, ◌+◌, ℕ, Bool, true, false, not, ◌||◌, ◌==◌, nat_lt, cond, if◌then◌else◌, is_some, slice_get, take, length, List, [], ◌∷◌, Option, Some, None}
 use Rattle.pm_device.specs.declared.ending.Ending.TheVariants.{Stop, Restart}
 use Rattle.pm_device.specs.Effect as device
 use Rattle.pm_device.specs.Held.{Held}
@@ -51,7 +51,7 @@ returned request needed held way so =
     let bytes = back_bytes answer so in
     if not (is_legal_hearing request (heard_bytes request way) (ending_of Restart way)) then []
     else if nat_lt needed (length bytes)
-        || not (is_legal_return request needed (is_heard_whole request (heard_bytes request way) (ending_of Restart way)) answer bytes)
+    || not (is_legal_return request needed (is_heard_whole request (heard_bytes request way) (ending_of Restart way)) answer bytes)
     then [] else bytes
 
 -- the converter at the turn of the fault that the plan has for a frame: none where the plan is at its end

@@ -11,8 +11,10 @@ use crate::converter_end::{ask, deliver, deliver_some, disturb};
 use crate::fault::Fault;
 use crate::laws::parts_compose;
 use pm_device::{Config, Converter};
-use pm_driver::{Adapter, Bus, Driver, ReadEnd, WriteEnd};
-use pm_driver::{new_converters_have_no_restart, new_converters_may_begin};
+use pm_driver::{
+    Adapter, Bus, Driver, ReadEnd, WriteEnd, new_converters_have_no_restart,
+    new_converters_may_begin,
+};
 use pm_host::Host;
 use pm_world::{Arrival, Back, spell};
 
@@ -146,7 +148,8 @@ pub fn driver_over<'a>(c: Config, passes: u8, plan: &'a [Fault]) -> Option<Drive
     ensures device { IfSome result (λ driver. driver.bus.device ≡ start_of c) }
     ensures plan { IfSome result (λ driver. driver.bus.plan.now ≡ plan.now) }
     ensures next { IfSome result (λ driver. driver.bus.next ≡ 0) }
-    ensures never { restarts_of plan.now ≡ 0 → IfSome result (λ driver. NeverRestarts driver) }
+    ensures never { restarts_of plan.now ≡ 0 → IfSome result (λ driver.
+        NeverRestarts plan.now driver.guard.host driver.bus.device) }
 {
     // These calls hand their laws to the prover.
     spell(c);
@@ -160,5 +163,12 @@ pub fn driver_over<'a>(c: Config, passes: u8, plan: &'a [Fault]) -> Option<Drive
         Ok(host) => host,
         Err(_) => return None,
     };
-    Some(Driver::new(host, SimulatedBus { device, plan, next: 0 }))
+    Some(Driver::new(
+        host,
+        SimulatedBus {
+            device,
+            plan,
+            next: 0,
+        },
+    ))
 }
