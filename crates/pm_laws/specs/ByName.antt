@@ -31,6 +31,7 @@ use Rattle.pm_world.specs.GoodBus.{GoodFrames, IsRead, IsWritten, ReadDone, Went
 use Rattle.pm_world.specs.Honest.{IsSpelled, honest, sent_by}
 use Rattle.pm_world.specs.Legal.{frame_of}
 use Rattle.pm_world.specs.Life.{AreTaken, life, now}
+use Rattle.pm_world.specs.Lived.{IsLived}
 use Rattle.pm_world.specs.Limited.{commands}
 use Rattle.pm_world.specs.Possible.{restarted_since_host}
 use Rattle.pm_world.specs.Setup.{setup_of}
@@ -90,7 +91,7 @@ unfoldable pub CommandEnds : Config → ℕ → Command → ℕ → List Event �
 CommandEnds config passes command tries before after = (now config passes after).end ≡ Some Done
 
 -- `ahead` is what `honest_orders_go_through` says by its `taken`, `through` what `ways_are_followed` says by its `ahead`,
--- `reached` what `bands_are_exact` says, `came` what `answers_come_in_bytes` says by its `taken`, and `words` what
+-- `reached` what `bands_are_exact` says, `came` what `answers_come_in_bytes` says, and `words` what
 -- `possible_words_are_exact` says by its `words`. The others are those of `newest_events_are_parts`.
 pub record LawsByName : Type 0 where
   pub ahead : (config : Config) (passes : ℕ) (order : Event) (cell : Cell) (word : ℕ) (arrivals : List Arrival)
@@ -105,13 +106,12 @@ pub record LawsByName : Type 0 where
       way_of config passes events ≡ Sent cell word true → (now config passes events).taken + 2 ≤ event_limit →
       GoesThrough config passes cell word acked events
   pub reached : (config : Config) (passes : ℕ) (events : List Event) (sides : ℕ → Side) →
-      IsSound config → IsSpelled config → IsSetup (setup_of config passes) → AreTaken config passes events →
+      IsSpelled config → IsLived config passes events →
       restarted_since_host events ≡ false →
       AreOpen (marks (setup_of config passes) (since_restart (life config passes events).entries)) →
       IsReached config passes events sides
   pub came : (config : Config) (passes : ℕ) (events : List Event) →
-      IsSound config → IsSpelled config → StartsShort config → IsSetup (setup_of config passes) →
-      AreTaken config passes events → CarryBytes events → CameInBytes config passes events
+      IsSpelled config → StartsShort config → IsLived config passes events → CarryBytes events → CameInBytes config passes events
   pub words : (config : Config) (passes : ℕ) (events : List Event) (chosen : Choice) → IsSound config →
       CameInBytes config passes events → IsShort config chosen → BeginsShort config passes events chosen
   pub check : (config : Config) (passes : ℕ) (cell : Cell) (tries : ℕ) (before after : List Event) →

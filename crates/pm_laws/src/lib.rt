@@ -14,8 +14,7 @@ use pm_world::{
 };
 
 /// What these laws say: [`honest_orders_go_through`] of the events that are taken (`ahead`), [`ways_are_followed`] of an
-/// order on its way (`through`), [`bands_are_exact`] (`reached`), [`answers_come_in_bytes`] of the events that are taken
-/// (`came`), [`possible_words_are_exact`] of the words that its life begins with (`words`), and
+/// order on its way (`through`), [`bands_are_exact`] (`reached`), [`answers_come_in_bytes`] (`came`), [`possible_words_are_exact`] of the words that its life begins with (`words`), and
 /// [`newest_events_are_parts`] of undisturbed frames (`check`, `order`, `read_back`, `send`).
 pub fn laws_by_name()
     ensures { LawsByName }

@@ -9,7 +9,7 @@ returns c = record {
       c.honest_orders_go_through.ensures.taken config passes before order cell word arrivals acked sound made taken asks room;
   through = λ config passes cell word acked events. c.ways_are_followed.ensures.ahead config passes events cell word acked;
   reached = c.bands_are_exact.ensures;
-  came = c.answers_come_in_bytes.ensures.taken;
+  came = c.answers_come_in_bytes.ensures;
   words = c.possible_words_are_exact.ensures.words;
   check = λ config passes cell tries before after. c.newest_events_are_parts.ensures.check config passes before after cell tries;
   order = λ config passes cell word pass acked before middle after.
