@@ -1,5 +1,5 @@
 -- What leads on from where something led; and the acts that are no calls.
-use Rattle.std.proofs.Common.{◌≡◌, ◌+◌, ℕ, cond, arith, List, [], ◌∷◌, ◌++◌, Option, Some, None, refl, sym, ◌∙◌, ap, ap₂, subst, true}
+use Rattle.std.proofs.Common.{◌≡◌, ◌+◌, ℕ, arith, List, [], ◌∷◌, ◌++◌, Option, Some, None, refl, sym, ◌∙◌, ap, ap₂, subst, true}
 use Rattle.pm_device.specs.Held.{Held}
 use Rattle.pm_host.specs.declared.job_end.JobEnd.{JobEnd}
 use Rattle.pm_host.specs.Summary.{Summary, next as host_next}

@@ -1,31 +1,26 @@
 -- The converter doesn't restart since a cell was read while the bus counts no restart.
-use Rattle.std.proofs.Common.{◌≡◌, ◌+◌, ◌||◌, ℕ, Bool, true, false, cond, arith, List, [], ◌∷◌, ◌++◌, Option, Some, None, Result, Ok, Err, refl, sym, ◌∙◌, ap, ap₂, subst}
+use Rattle.std.proofs.Common.{◌≡◌, ◌+◌, ◌||◌, ℕ, Bool, true, false, cond, arith, List, [], ◌∷◌, ◌++◌, Option, Some, None, Ok, Err, refl, sym, ◌∙◌, ap, ap₂, subst}
 use Rattle.std.specs.Prelude.{IfSome, IsSomeAnd}
 use Rattle.pm_table.specs.declared.cell.Cell.{Cell}
-use Rattle.pm_table.specs.Cell.{IsCell}
-use Rattle.pm_model.specs.Settings.{word_at}
 use Rattle.pm_device.specs.declared.config.Config.{Config}
 use Rattle.pm_device.specs.Held.{Held}
 use Rattle.pm_host.specs.declared.job_end.JobEnd.{JobEnd}
-use Rattle.pm_host.specs.declared.job.Job.{Job}
-use Rattle.pm_host.specs.declared.standing.Standing.TheVariants.{Confirmed}
 use Rattle.pm_host.specs.Jobs.{accepted_job}
-use Rattle.pm_host.specs.Possible.{is_possible}
-use Rattle.pm_host.specs.Summary.{Summary, possible_at, standing_at, next as host_next, start as host_start}
+use Rattle.pm_host.specs.Summary.{Summary, next as host_next, start as host_start}
 use Rattle.pm_host.specs.Transcript as host
 use Rattle.pm_world.specs.declared.event.Event.{Event}
 use Rattle.pm_world.specs.declared.event.Event.TheVariants.{RestartHost}
 use Rattle.pm_world.specs.Confirmed.{reads_cell, restarted_since, restarts_converter}
-use Rattle.pm_world.specs.Life.{life, now}
+use Rattle.pm_world.specs.Life.{life}
 use Rattle.pm_world.specs.State.{tells}
 use Rattle.pm_driver.specs.Acts.{Act, AreCalls, Began, Call, Called, Renewed}
 use Rattle.pm_driver.specs.Bus.{restarts_in}
-use Rattle.pm_driver.specs.Driven.{Driving, HasLife, HasNoRestartSince, MayBegin, Runs, driven}
+use Rattle.pm_driver.specs.Driven.{Driving, HasLife, HasNoRestartSince, MayBegin, driven}
 use Rattle.pm_driver.specs.Ends.{cell_read}
 use Rattle.pm_driver.specs.Laws.{EndsAreTrue, LawsOfLives, NewConvertersHaveNoRestart, RestartsAreCounted}
 use Rattle.pm_driver.specs.Lives.{Driven, IsLife, Leads}
 use Rattle.pm_driver.specs.Undisturbed.{AreWithoutRestart, JobsRestartNothing}
-use Rattle.pm_driver.proofs.BegunJobs.{last-begun, life-setup, new-lived, renewed-new}
+use Rattle.pm_driver.proofs.BegunJobs.{last-begun, new-lived, renewed-new}
 use Rattle.pm_driver.proofs.Composed.{tells-append}
 use Rattle.pm_driver.proofs.Grown.{grown}
 

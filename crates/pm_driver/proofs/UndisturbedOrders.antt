@@ -1,7 +1,7 @@
 -- An order over a bus whose calls nothing disturbs.
-use Rattle.std.proofs.Common.{◌≡◌, ◌≤◌, ◌+◌, ◌||◌, ◌&&◌, arith, cond, eqb, ℕ, Bool, true, false, List, [], ◌∷◌, ◌++◌, Option, Some, None, Ok, length}
+use Rattle.std.proofs.Common.{◌≡◌, ◌||◌, ◌&&◌, arith, cond, eqb, ℕ, Bool, true, false, List, [], ◌∷◌, ◌++◌, Option, Some, None, length}
 use Rattle.std.proofs.Common.{is_none, is_some, refl, sym, ◌∙◌, ap, ap₂, subst}
-use Rattle.std.specs.Prelude.{IsSomeAnd, bytes_eq, nat_eq, nat_lt, replicate}
+use Rattle.std.specs.Prelude.{bytes_eq, nat_eq, nat_lt}
 use Rattle.std.specs.List.{starts_with}
 use Rattle.std.specs.Prelude.{option_map}
 use Rattle.std.proofs.lemmas.Bool.Decides.{nat_tests}
@@ -15,37 +15,33 @@ use Rattle.pm_table.specs.declared.cell.Cell.{Cell}
 use Rattle.pm_table.specs.declared.cell.Cell.TheVariants.{Out, Protect}
 use Rattle.pm_table.specs.Cell.{cell_code}
 use Rattle.pm_table.specs.Protection.{is_allowed}
-use Rattle.pm_frame.specs.declared.message.Message.{Message}
 use Rattle.pm_frame.specs.Betrayal.{is_betrayed}
 use Rattle.pm_frame.specs.Fault.{address_fault, answer_fault, length_fault, whole_answer}
 use Rattle.pm_frame.specs.Layout.{IsRequest, IsWrite, is_read_message, read_address}
 use Rattle.pm_model.specs.Settings.{word_at}
-use Rattle.pm_device.specs.declared.config.Config.{Config}
 use Rattle.pm_device.specs.declared.ending.Ending.TheVariants.{Stop, Restart}
 use Rattle.pm_device.specs.Held.{Held}
 use Rattle.pm_host.specs.declared.job.Job.TheVariants as asked
-use Rattle.pm_host.specs.declared.job_end.JobEnd.{JobEnd}
 use Rattle.pm_host.specs.declared.job_end.JobEnd.TheVariants.{Done, Differs}
-use Rattle.pm_host.specs.declared.stage.Stage.TheVariants.{Writes}
 use Rattle.pm_host.specs.Answers.{good_payload, good_word, word_in}
 use Rattle.pm_host.specs.Marks.{Good}
 use Rattle.pm_host.specs.Messages.{cell_read, cell_write}
 use Rattle.pm_host.specs.Refusals.{cell_fault, is_busy, job_fault, order_fault}
-use Rattle.pm_host.specs.Summary.{Summary, ends, idle, marked, next as host_next, read_back, sending_in, writes as writes_again}
-use Rattle.pm_host.specs.Transcript.{Accepted, Entry, Finished, Got, Job, Order, Setup, end_of}
+use Rattle.pm_host.specs.Summary.{Summary, ends, idle, marked, next as host_next, read_back, writes as writes_again}
+use Rattle.pm_host.specs.Transcript.{Accepted, Entry, Finished, Got, Order, Setup, end_of}
 use Rattle.pm_world.specs.declared.arrival.Arrival.TheVariants.{Whole}
 use Rattle.pm_world.specs.declared.back.Back.TheVariants as back
 use Rattle.pm_world.specs.declared.event.Event.{Event}
 use Rattle.pm_world.specs.declared.event.Event.TheVariants as event
 use Rattle.pm_world.specs.GoodBus.{GoodFramesEndJobs}
 use Rattle.pm_world.specs.Legal.{is_legal_hearing, is_legal_return}
-use Rattle.pm_world.specs.Life.{life, now}
+use Rattle.pm_world.specs.Life.{life}
 use Rattle.pm_world.specs.Setup.{setup_of}
 use Rattle.pm_world.specs.WholeFrames.{WholeFramesAreUndisturbed}
 use Rattle.pm_driver.specs.Acts.{Act, AreCalls, AreDone, Began, Call, Called, MayDo, Read, Renewed, Wrote, asked_in, host_by, told_all}
 use Rattle.pm_driver.specs.Bus.{IsAsked, IsSent, answer_of}
-use Rattle.pm_driver.specs.Driven.{Driving, HasLife, Runs, driven}
-use Rattle.pm_driver.specs.Lives.{IsLife, Leads}
+use Rattle.pm_driver.specs.Driven.{HasLife, driven}
+use Rattle.pm_driver.specs.Lives.{Leads}
 use Rattle.pm_driver.specs.Laws.{LawsOfLives}
 use Rattle.pm_driver.specs.Steps.{CallsGo}
 use Rattle.pm_driver.specs.Undisturbed.{AreUndisturbed, IsUndisturbed, UndisturbedOrdersAreDone, WholeFramesAreLegal, asked_whole, wrote_whole}

@@ -1,5 +1,5 @@
 -- What an adapter may do to the converter at its other end: this project's own premise. Lists are newest first.
-use Rattle.std.specs.Prelude.{◌≡◌, ◌+◌, ℕ, List, [], take}
+use Rattle.std.specs.Prelude.{◌≡◌, ◌+◌, ℕ, List, take}
 use Rattle.pm_device.specs.Held.{Held}
 use Rattle.pm_world.specs.declared.event.Event.{Event}
 use Rattle.pm_driver.specs.Bus.{AreAll, IsAsked, IsSent, held_after, is_beside, restarts_in}

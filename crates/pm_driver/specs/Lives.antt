@@ -10,7 +10,6 @@ use Rattle.pm_world.specs.declared.event.Event.{Event}
 use Rattle.pm_world.specs.declared.event.Event.TheVariants.{Finish, Exchange}
 use Rattle.pm_world.specs.Job.{asked_by}
 use Rattle.pm_world.specs.Life.{life, now}
-use Rattle.pm_world.specs.Setup.{setup_of}
 use Rattle.pm_world.specs.Lived.{IsLived}
 use Rattle.pm_world.specs.Uncertainty.{job_event}
 use Rattle.pm_driver.specs.Bus.{restarts_in}

@@ -1,7 +1,6 @@
 use Rattle.std.proofs.Common.{◌≡◌, ℕ, List, [], replicate, take, sym, subst}
 use Rattle.std.proofs.lemmas.List.{take-replicate}
 use Rattle.std.specs.Prelude.{IsSomeAnd}
-use Rattle.pm_frame.specs.Fault.{whole_answer}
 use Rattle.pm_frame.specs.Layout.{IsRequest, IsWrite}
 use Rattle.pm_host.specs.Summary.{sending_in}
 use Rattle.pm_driver.specs.Acts.{Read, Wrote}
