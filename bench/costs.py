@@ -1,8 +1,8 @@
 #!/usr/bin/env python3
 """Counts by valgrind's callgrind, and judges each by a bound of this project: an order by pm_driver beside one by the same
-loop written out over a host; an order through a guard within limits beside one through its host, by that loop over either;
-by pm_driver, an order within limits beside one without; and a band for each word that the output's registers list. Limits
-and bands are counted over the C library as well.
+loop written out over a host; by pm_driver, an order over a patient bus beside one over its adapter; an order through a guard
+within limits beside one through its host, by that loop over either; by pm_driver, an order within limits beside one without;
+and a band for each word that the output's registers list. Limits and bands are counted over the C library as well.
 
     bench/costs.py [--driver FILE] [--bands FILE] [--archive FILE]
 
@@ -20,7 +20,7 @@ import tempfile
 import measured
 import program
 
-BY_DRIVER, WITHIN_LIMITS, A_WORD = 1.1, 1.2, 100
+BY_DRIVER, BY_PATIENT, WITHIN_LIMITS, A_WORD = 1.1, 1.05, 1.2, 100
 FORMATS = ("linear", "direct")
 
 
@@ -38,9 +38,11 @@ def a_word(name, taken):
 
 def over_driver(driver, bands, folder):
     for kind in FORMATS:
-        bus, *taken = (measured.for_one([driver, way, kind], folder) for way in ("bus", "driver", "guard", "loop", "guarded"))
-        driven, limited, loop, guarded = (one - bus for one in taken)
+        ways = ("bus", "driver", "patient", "guard", "loop", "guarded")
+        bus, *taken = (measured.for_one([driver, way, kind], folder) for way in ways)
+        driven, patient, limited, loop, guarded = (one - bus for one in taken)
         yield beside(f"an order by pm_driver, {kind}", driven, loop, BY_DRIVER)
+        yield beside(f"an order over a patient bus beside one over its adapter, {kind}", patient, driven, BY_PATIENT)
         yield beside(f"an order through a guard beside a host's, the same loop written out, {kind}", guarded, loop, WITHIN_LIMITS)
         yield beside(f"an order within limits beside one without, {kind}", limited, driven, WITHIN_LIMITS)
         yield a_word(f"a band, a word, {kind}", measured.for_one([bands, kind], folder))

@@ -1,5 +1,5 @@
 -- What a converter hears of a frame, and what comes back.
-use Rattle.std.proofs.Common.{◌≡◌, ◌≤◌, ℕ, Bool, true, ◌||◌, ◌&&◌, List, [], ◌∷◌, ◌++◌, length, take, refl, sym, ◌∙◌, ap, ap₂}
+use Rattle.std.proofs.Common.{◌≡◌, arith, ◌≤◌, ℕ, Bool, true, false, ◌||◌, ◌&&◌, List, [], ◌∷◌, ◌++◌, length, take, refl, sym, ◌∙◌, ap, ap₂}
 use Rattle.std.specs.Prelude.{bytes_eq, nat_lt}
 use Rattle.std.proofs.lemmas.Bool.{lt-ltb, or_right}
 use Rattle.pm_frame.specs.Betrayal.{is_betrayed}
@@ -15,26 +15,31 @@ use Rattle.pm_world.specs.declared.back.Back.{Back}
 use Rattle.pm_world.specs.declared.back.Back.TheVariants as back
 use Rattle.pm_world.specs.declared.event.Event.TheVariants.{Deliver, RestartDevice}
 use Rattle.pm_world.specs.Legal.{answer_in, back_bytes, ending_of, heard_bytes, is_heard_whole, is_legal_hearing, is_legal_return}
-use Rattle.pm_driver.specs.Bus.{IsAsked, IsSent, answer_of}
-use Rattle.pm_buses.specs.Disturbed.{IsDisturbed}
+use Rattle.pm_driver.specs.Bus.{answer_of}
+use Rattle.pm_buses.specs.Disturbed.{IsAskedPart, IsDisturbed, IsSentPart}
 
 -- a restart
-pub restarted : (old new : Held) → new ≡ device_next old device.Restarted → IsDisturbed old new
-restarted old new is = record { events = RestartDevice ∷ []; beside = (refl, tt); after = λ frame. sym is }
+pub restarted : (old new : Held) → new ≡ device_next old device.Restarted → IsDisturbed old true new
+restarted old new is = λ n. record { events = RestartDevice ∷ []; beside = (refl, tt); after = λ frame. sym is; count = omega arith }
+
+-- or nothing
+pub undisturbed : (held : Held) → IsDisturbed held false held
+undisturbed held = λ n. record { events = []; beside = tt; after = λ frame. refl; count = omega arith }
 
 -- a packet is heard, legally
 pub delivered : (packet bytes : List ℕ) (ending : Ending) (way : Arrival) (old new : Held) → bytes ≡ heard_bytes packet way →
     ending ≡ ending_of Stop way → is_legal_hearing packet bytes ending ≡ true → new ≡ device_next old (device.Hearing bytes ending) →
-    IsSent packet old new
-delivered packet bytes ending way old new bytes_are ending_is legal after = record {
+    IsSentPart packet old new
+delivered packet bytes ending way old new bytes_are ending_is legal after = λ n. record {
+  count = omega arith;
   events = Deliver way ∷ [];
   may = (sym (ap₂ (λ b e. is_legal_hearing packet b e) bytes_are ending_is) ∙ legal, tt);
   after = sym (after ∙ ap₂ (λ b e. device_next old (device.Hearing b e)) bytes_are ending_is);
 }
 
 -- or is lost
-pub lost : (packet : List ℕ) (held : Held) → IsSent packet held held
-lost packet held = record { events = []; may = tt; after = refl }
+pub lost : (packet : List ℕ) (held : Held) → IsSentPart packet held held
+lost packet held = λ n. record { events = []; may = tt; after = refl; count = omega arith }
 
 -- no bytes are heard legally, and come back legally
 none-heard : (request : List ℕ) → is_legal_hearing request [] Stop ≡ true
@@ -51,8 +56,9 @@ none-back request answer needed whole some =
 
 -- a request is lost
 pub lost-asked : (request : List ℕ) (needed : ℕ) (old new : Held) → 1 ≤ needed → new ≡ device_next old (device.Hearing [] Stop) →
-    IsAsked request needed old [] new
-lost-asked request needed old new some after = record {
+    IsAskedPart request needed old [] new
+lost-asked request needed old new some after = λ n. record {
+  count = omega arith;
   before = [];
   arrival = arrival.Cut 0;
   back = back.Cut 0;
@@ -91,8 +97,9 @@ hears-after {old = old} h = sym (h.after ∙ ap₂ (λ b e. device_next old (dev
 
 -- its answer is lost
 pub lost-back : (request bytes given : List ℕ) (ending : Ending) (way : Arrival) (needed : ℕ) (old new : Held) → 1 ≤ needed →
-    Hears request bytes given ending way old new → IsAsked request needed old [] new
-lost-back request bytes given ending way needed old new some h = record {
+    Hears request bytes given ending way old new → IsAskedPart request needed old [] new
+lost-back request bytes given ending way needed old new some h = λ n. record {
+  count = omega arith;
   before = [];
   arrival = way;
   back = back.Cut 0;
@@ -108,12 +115,13 @@ lost-back request bytes given ending way needed old new some h = record {
 pub came-back : (request bytes given came : List ℕ) (ending : Ending) (way : Arrival) (so : Back) (whole : Bool) (needed : ℕ)
     (old new : Held) →
     Hears request bytes given ending way old new → came ≡ back_bytes given so → whole ≡ is_heard_whole request bytes ending →
-    is_legal_return request needed whole given came ≡ true → IsAsked request needed old came new
+    is_legal_return request needed whole given came ≡ true → IsAskedPart request needed old came new
 came-back request bytes given came ending way so whole needed old new h came_so whole_is legal =
     let came_is : back_bytes (answer_of old request way) so ≡ came = sym (came_so ∙ ap (λ g. back_bytes g so) (hears-given h)) in
     let whole_so : whole ≡ is_heard_whole request (heard_bytes request way) (ending_of Restart way) =
     whole_is ∙ ap₂ (λ b e. is_heard_whole request b e) h.bytes_are h.ending_is in
-    record {
+    λ n. record {
+      count = omega arith;
       before = [];
       arrival = way;
       back = so;

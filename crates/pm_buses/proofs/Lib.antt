@@ -1,2 +1,6 @@
 mod Heard
 mod Parts
+mod Patience
+mod Plan
+mod NeverRestarts
+mod PlanEnds

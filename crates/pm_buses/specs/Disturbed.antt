@@ -1,24 +1,39 @@
 -- What happens to a converter before and while a frame is being sent, in parts that are put together.
-use Rattle.std.specs.Prelude.{◌≡◌, ℕ, ◌≤◌, List, []}
+use Rattle.std.specs.Prelude.{ℕ, ◌+◌, ◌≤◌, Bool, cond, List, []}
 use Rattle.pm_device.specs.Held.{Held}
-use Rattle.pm_world.specs.declared.event.Event.{Event}
-use Rattle.pm_driver.specs.Bus.{AreAll, IsAsked, IsSent, held_after, is_beside}
+use Rattle.pm_driver.specs.Adapter.{IsUnheard}
+use Rattle.pm_driver.specs.Bus.{IsAsked, IsSent}
 
--- what happened beside the bus
-pub record IsDisturbed (old new : Held) : Type 0 where
-  pub events : List Event
-  pub beside : AreAll is_beside events
-  pub after : (frame : List ℕ) → held_after frame old events ≡ new
+-- a restart of which nothing is heard, or none
+abbrev pub IsDisturbed : Held → Bool → Held → Type 0
+IsDisturbed old restarts new = (n : ℕ) → IsUnheard old n new (cond restarts 1 0 + n)
 
--- A write of which the converter was sent a part is one with what comes after it. What happens beside the bus may
--- come before a write, and before a request.
+-- a part of a write, and of a read, in which nothing restarts
+abbrev pub IsSentPart : List ℕ → Held → Held → Type 0
+IsSentPart frame old new = (n : ℕ) → IsSent frame old n new n
+
+abbrev pub IsAskedPart : List ℕ → ℕ → Held → List ℕ → Held → Type 0
+IsAskedPart request needed old came new = (n : ℕ) → IsAsked request needed old n came new n
+
+-- A write of which the converter was sent a part is one with what comes after it. Where it heard nothing, that may come
+-- before more of the same, before a write and before a request, and is itself a write that is lost, and a request of
+-- which nothing comes back. The counts of restarts add up.
 pub record PartsCompose : Type 0 where
-  pub sent : (frame : List ℕ) (first second third : Held) →
-      IsSent frame first second → IsSent frame second third → IsSent frame first third
-  pub disturbed : (frame : List ℕ) (first second : Held) → IsDisturbed first second → IsSent frame first second
-  pub asked : (request : List ℕ) (needed : ℕ) (came : List ℕ) (first second third : Held) →
-      IsDisturbed first second → IsAsked request needed second came third → IsAsked request needed first came third
+  pub sent : (frame : List ℕ) (first : Held) (a : ℕ) (second : Held) (b : ℕ) (third : Held) (c : ℕ) →
+      IsSent frame first a second b → IsSent frame second b third c → IsSent frame first a third c
+  pub unheard : (first : Held) (a : ℕ) (second : Held) (b : ℕ) (third : Held) (c : ℕ) →
+      IsUnheard first a second b → IsUnheard second b third c → IsUnheard first a third c
+  pub before_write : (frame : List ℕ) (first : Held) (a : ℕ) (second : Held) (b : ℕ) (third : Held) (c : ℕ) →
+      IsUnheard first a second b → IsSent frame second b third c → IsSent frame first a third c
+  pub before_read : (request : List ℕ) (needed : ℕ) (came : List ℕ) (first : Held) (a : ℕ) (second : Held) (b : ℕ)
+      (third : Held) (c : ℕ) → IsUnheard first a second b → IsAsked request needed second b came third c →
+      IsAsked request needed first a came third c
+  pub lost_write : (frame : List ℕ) (first : Held) (a : ℕ) (second : Held) (b : ℕ) →
+      IsUnheard first a second b → IsSent frame first a second b
+  pub lost_read : (request : List ℕ) (needed : ℕ) (first : Held) (a : ℕ) (second : Held) (b : ℕ) → 1 ≤ needed →
+      IsUnheard first a second b → IsAsked request needed first a [] second b
 
 -- A request that is never sent: no byte of it is heard, none comes back, and the converter is as it was.
 abbrev pub RequestsMayBeLost : Type 0
-RequestsMayBeLost = (request : List ℕ) (needed : ℕ) (held : Held) → 1 ≤ needed → IsAsked request needed held [] held
+RequestsMayBeLost = (request : List ℕ) (needed : ℕ) (held : Held) (n : ℕ) → 1 ≤ needed →
+    IsAsked request needed held n [] held n

@@ -7,4 +7,4 @@ use Rattle.pm_driver.specs.Acts.{Call, Wrote, Read}
 abbrev pub tries_give : {B : Type 0} → (B → Call → B → Type 0) → B → Call → B → Type 0
 tries_give {B = B} gives old (Wrote frame acked) new = gives old (Wrote frame acked) new
     ⊎ ((bus : B) × gives old (Wrote frame false) bus × gives bus (Wrote frame acked) new)
-tries_give gives old (Read request needed came) new = gives old (Read request needed came) new
+tries_give gives old (Read request room came) new = gives old (Read request room came) new

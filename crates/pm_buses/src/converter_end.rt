@@ -1,8 +1,11 @@
 //! The converter's end of a bus: what it hears of a frame, and what comes back of its answer.
 
-ghost use Rattle.std.specs.Prelude.{◌≡◌, ◌≤◌, length, take};
-ghost use Rattle.pm_driver.specs.Bus.{IsAsked, IsSent};
-ghost use Rattle.pm_buses.specs.Disturbed.{IsDisturbed};
+ghost use Rattle.std.specs.Prelude.{◌≡◌, ◌≤◌, [], length, take};
+ghost use Rattle.pm_device.specs.declared.ending.Ending.TheVariants.{Stop};
+ghost use Rattle.pm_device.specs.Effect as effect;
+ghost use Rattle.pm_device.specs.History.{next as device_next};
+ghost use Rattle.pm_buses.specs.Plan.{asked, delivered, delivered_some, disturbed, returned};
+ghost use Rattle.pm_buses.specs.Disturbed.{IsAskedPart, IsDisturbed, IsSentPart};
 
 use pm_device::{Converter, Ending};
 use pm_world::{
@@ -12,7 +15,8 @@ use pm_world::{
 
 /// The converter restarts, or not.
 pub(crate) fn disturb(device: &mut Converter, restarts: bool)
-    ensures { IsDisturbed device.old device.new }
+    ensures is { IsDisturbed device.old restarts device.new }
+    ensures after { device.new ≡ disturbed device.old restarts }
 {
     if restarts {
         device.restart();
@@ -21,7 +25,8 @@ pub(crate) fn disturb(device: &mut Converter, restarts: bool)
 
 /// The converter hears a packet as it arrives, where that is legal; otherwise the packet is lost.
 pub(crate) fn deliver(device: &mut Converter, packet: &[u8], arrival: &Arrival)
-    ensures { IsSent packet.now device.old device.new }
+    ensures is { IsSentPart packet.now device.old device.new }
+    ensures after { device.new ≡ delivered packet.now device.old arrival.now }
 {
     let bytes = heard_bytes(packet, arrival);
     let ending = heard_ending(Ending::Stop, arrival);
@@ -32,7 +37,8 @@ pub(crate) fn deliver(device: &mut Converter, packet: &[u8], arrival: &Arrival)
 
 /// The same of a packet that may be lost.
 pub(crate) fn deliver_some(device: &mut Converter, packet: &[u8], arrival: &Option<Arrival>)
-    ensures { IsSent packet.now device.old device.new }
+    ensures is { IsSentPart packet.now device.old device.new }
+    ensures after { device.new ≡ delivered_some packet.now device.old arrival.now }
 {
     match arrival {
         Some(arrival) => deliver(device, packet, arrival),
@@ -43,8 +49,10 @@ pub(crate) fn deliver_some(device: &mut Converter, packet: &[u8], arrival: &Opti
 /// A request is lost: nothing of it arrives, and nothing comes back.
 pub(crate) fn lose_request(device: &mut Converter, request: &[u8], answer: &mut [u8]) -> usize
     requires { 1 ≤ length answer.old }
+    ensures none { result ≡ 0 }
+    ensures after { device.new ≡ device_next device.old (effect.Hearing [] Stop) }
     ensures fits { result ≤ length answer.new }
-    ensures asked { IsAsked request.now (length answer.old) device.old (take result answer.new) device.new }
+    ensures asked { IsAskedPart request.now (length answer.old) device.old (take result answer.new) device.new }
 {
     let _ = device.hear(&[], Ending::Stop);
     0
@@ -60,8 +68,10 @@ pub(crate) fn ask(
     answer: &mut [u8],
 ) -> usize
     requires { 1 ≤ length answer.old }
+    ensures after { device.new ≡ asked request.now device.old arrival.now }
+    ensures came { take result answer.new ≡ returned request.now (length answer.old) device.old arrival.now back.now }
     ensures fits { result ≤ length answer.new }
-    ensures asked { IsAsked request.now (length answer.old) device.old (take result answer.new) device.new }
+    ensures asked { IsAskedPart request.now (length answer.old) device.old (take result answer.new) device.new }
 {
     let bytes = heard_bytes(request, arrival);
     let ending = heard_ending(Ending::Restart, arrival);

@@ -1,3 +1,5 @@
+ghost use Rattle.pm_buses.specs.DeadLine.{gives_nothing};
+
 use crate::converter_end::lose_request;
 use pm_device::Converter;
 use pm_driver::Bus;
@@ -12,7 +14,9 @@ pub struct DeadBus {
 impl Bus for DeadBus {
     ghost held = { λ bus. bus.device };
 
-    ghost gives = { λ old call new. Unit {0} };
+    ghost restarts = { λ bus. 0 };
+
+    ghost gives = { λ old call new. gives_nothing call };
 
     fn write(&mut self, _packet: &[u8]) -> bool {
         false

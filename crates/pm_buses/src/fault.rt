@@ -5,6 +5,9 @@ use pm_world::{Arrival, Back};
 pub struct Fault {
     /// The converter restarts before the frame is sent.
     pub restarts: bool,
+    /// The converter hears nothing of the frame, nothing comes back, and an adapter says so. The members below count for
+    /// nothing then.
+    pub unheard: bool,
     /// How a write is heard; `None` where it is lost.
     pub heard: Option<Arrival>,
     /// How it is heard once more.

@@ -16,11 +16,13 @@ mod converter_end;
 mod dead_bus;
 mod fault;
 mod laws;
+mod patient;
 mod retrying;
 mod simulated_bus;
 
 pub use dead_bus::DeadBus;
 pub use fault::Fault;
-pub use laws::{parts_compose, requests_may_be_lost};
+pub use laws::{never_restarts_stays, orders_go_through, parts_compose, requests_may_be_lost};
+pub use patient::Patient;
 pub use retrying::Retrying;
 pub use simulated_bus::{SimulatedBus, driver_over};

@@ -14,6 +14,8 @@ pub struct Retrying<B: Bus> {
 impl<B: Bus> Bus for Retrying<B> {
     ghost held = { λ retrying. B.held retrying.bus };
 
+    ghost restarts = { λ retrying. B.restarts retrying.bus };
+
     ghost gives = { λ old call new. tries_give B.gives old.bus call new.bus };
 
     fn write(&mut self, packet: &[u8]) -> bool {

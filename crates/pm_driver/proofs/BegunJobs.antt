@@ -1,6 +1,6 @@
 -- A job that begins, a host that restarts, and what a driver begins with.
 use Rattle.std.proofs.Common.{◌≡◌, ◌<◌, ℕ, true, List, [], ◌∷◌, ◌++◌, Option, Some, None, refl, sym, ◌∙◌}
-use Rattle.std.proofs.Common.{ap, subst}
+use Rattle.std.proofs.Common.{◌+◌, ap, arith, subst}
 use Rattle.std.specs.Option.{option_or}
 use Rattle.std.specs.Prelude.{IsSomeAnd}
 use Rattle.pm_device.specs.declared.config.Config.{Config}
@@ -15,7 +15,11 @@ use Rattle.pm_host.specs.declared.job_end.JobEnd.{JobEnd}
 use Rattle.pm_host.specs.Jobs.{accepted_job}
 use Rattle.pm_host.specs.Now.{now as host_now}
 use Rattle.pm_host.specs.Refusals.{IsSetup, is_busy, job_fault}
-use Rattle.pm_host.specs.Summary.{Summary, next as host_next, start as host_start}
+use Rattle.pm_table.specs.declared.cell.Cell.{Cell}
+use Rattle.pm_table.specs.Cell.{IsCell}
+use Rattle.pm_host.specs.declared.standing.Standing.TheVariants.{Confirmed}
+use Rattle.pm_host.specs.Possible.{is_possible}
+use Rattle.pm_host.specs.Summary.{Summary, possible_at, standing_at, next as host_next, start as host_start}
 use Rattle.pm_host.specs.Transcript as host
 use Rattle.pm_world.specs.declared.event.Event.{Event}
 use Rattle.pm_world.specs.declared.event.Event.TheVariants.{Check, Clear, Learn, Order, RestartHost, Restore, Store}
@@ -26,7 +30,8 @@ use Rattle.pm_world.specs.State.{State, refused, tells}
 use Rattle.pm_world.specs.Uncertainty.{job_event}
 use Rattle.pm_driver.specs.Acts.{Act, Began, Call, Called, Read, Renewed, Wrote, asked_in, told_all}
 use Rattle.pm_limits.specs.Bounds.{Bounds, IsWithin}
-use Rattle.pm_driver.specs.Driven.{HasLife, HasLifeWithin, IsTrueOf, MayBegin}
+use Rattle.pm_driver.specs.Driven.{HasLife, HasLifeWithin, HasNoRestartSince, IsTrueOf, MayBegin}
+use Rattle.pm_driver.specs.Bus.{restarts_in}
 use Rattle.pm_driver.specs.Ends.{EndSays}
 use Rattle.pm_driver.specs.Laws.{EndsAreTrue, LawsOfLives, LeadsCompose, NewConvertersMayBegin}
 use Rattle.pm_driver.specs.Lives.{Driven, Goes, IsLife, Leads}
@@ -41,7 +46,7 @@ begun : {config : Config} {passes : ℕ} {before : List Event} {event : Event} {
 begun job is = record { is_life = is.is_life; told = is.told; ended = tt }
 
 -- there is an event for each
-job-goes : LawsOfLives → {config : Config} {passes : ℕ} {before : List Event} {summary : Summary} {held : Held}
+pub job-goes : LawsOfLives → {config : Config} {passes : ℕ} {before : List Event} {summary : Summary} {held : Held}
     (job : host.Job) →
     job_fault summary job ≡ None → IsLife config passes before summary held →
     Goes config passes before (job_event job ∷ []) (Began job ∷ []) None (host_next summary (host.Accepted job)) held
@@ -64,9 +69,21 @@ job-goes laws (host.Send RestoreUserAll) free is = begun (host.Send RestoreUserA
     (grown laws Restore (tells (host.Accepted (host.Send RestoreUserAll))) is
     (ap (λ f. option_or (refused f) None) (of-life (λ h. job_fault h (host.Send RestoreUserAll) ≡ None) is free)) tt refl)
 
+-- by which the converter doesn't restart
+job-quiet : (job : host.Job) → restarts_in (job_event job ∷ []) ≡ 0
+job-quiet (host.Order cell word) = refl
+job-quiet (host.Check cell) = refl
+job-quiet (host.Learn output) = refl
+job-quiet (host.Send (ClearFaults output)) = refl
+job-quiet (host.Send StoreUserAll) = refl
+job-quiet (host.Send RestoreUserAll) = refl
+
+none-more : (n : ℕ) → 0 + n ≡ n
+none-more n = omega arith
+
 -- so it leads on
-pub jobs-lead : LawsOfLives → {B : Type 0} → (gives : B → Call → B → Type 0) → (held : B → Held) → JobsLead gives held
-jobs-lead laws gives held summary bus job free = record {
+pub jobs-lead : LawsOfLives → {B : Type 0} → (gives : B → Call → B → Type 0) → (held : B → Held) → (restarts : B → ℕ) → JobsLead gives held restarts
+jobs-lead laws gives held restarts summary bus job free = record {
   acts = Began job ∷ [];
   events = job_event job ∷ [];
   asks = refl;
@@ -74,13 +91,14 @@ jobs-lead laws gives held summary bus job free = record {
   may = (free, tt);
   host = refl;
   newest = tt;
+  count = ap (λ n. n + restarts bus) (job-quiet job) ∙ none-more (restarts bus);
   orders = refl;
   lives = λ config passes before life. job-goes laws job free life;
 }
 
 -- a restart of the host leads on
-pub renewals-lead : LawsOfLives → {B : Type 0} → (gives : B → Call → B → Type 0) → (held : B → Held) → RenewalsLead gives held
-renewals-lead laws gives held summary bus = record {
+pub renewals-lead : LawsOfLives → {B : Type 0} → (gives : B → Call → B → Type 0) → (held : B → Held) → (restarts : B → ℕ) → RenewalsLead gives held restarts
+renewals-lead laws gives held restarts summary bus = record {
   acts = Renewed ∷ [];
   events = RestartHost ∷ [];
   asks = refl;
@@ -88,6 +106,7 @@ renewals-lead laws gives held summary bus = record {
   may = (tt, tt);
   host = refl;
   newest = tt;
+  count = none-more (restarts bus);
   orders = refl;
   lives = λ config passes before life.
       let one = grown laws RestartHost (tells host.Restarted) life refl tt refl in
@@ -164,6 +183,34 @@ limited-of laws output bounds summary held lived there =
     (sym (device-config has.config has.passes has.events))
     (stays.limited output bounds [] has.events there refl lived.within))
 
+-- a cell of a host's outputs is one of the converter's
+there-of : {config : Config} {passes : ℕ} {events : List Event} {summary : Summary} {held : Held} (cell : Cell) →
+    IsLife config passes events summary held → IsCell summary.setup.outputs cell → IsCell config.count cell
+there-of cell is there = subst (λ (s : host.Setup). IsCell s.outputs cell) (life-setup is) there
+
+-- what the host calls confirmed of the cell is held
+since-stands : LawsOfLives → (summary : Summary) (held : Held) (cell : Cell) (word : ℕ) →
+    IsCell summary.setup.outputs cell → HasNoRestartSince cell summary held → standing_at summary cell ≡ Confirmed word →
+    word_at held.words cell ≡ word
+since-stands laws summary held cell word there is says =
+    let has = is.has in
+    let lived = has.life in
+    subst (λ (d : Held). word_at d.words cell ≡ word) lived.held_is
+    ((laws.confirmed has.config has.passes has.events lived.lived).held cell word (there-of cell lived there)
+    (subst (λ (h : Summary). standing_at h cell ≡ Confirmed word) (sym lived.host_is) says) is.since)
+
+-- and what is held of it is possible
+since-among : LawsOfLives → (summary : Summary) (held : Held) (cell : Cell) →
+    IsCell summary.setup.outputs cell → HasNoRestartSince cell summary held →
+    is_possible (word_at held.words cell) (possible_at summary cell) ≡ true
+since-among laws summary held cell there is =
+    let has = is.has in
+    let lived = has.life in
+    subst (λ (d : Held). is_possible (word_at d.words cell) (possible_at summary cell) ≡ true) lived.held_is
+    (subst (λ (h : Summary). is_possible (word_at (now has.config has.passes has.events).device.words cell) (possible_at h cell) ≡ true)
+    lived.host_is
+    ((laws.possible.held has.config has.passes has.events lived.lived).held cell (there-of cell lived there) is.since))
+
 -- what is true of a host and a converter to which a life led
 pub true-of : LawsOfLives → (summary : Summary) (held : Held) → HasLife summary held → IsTrueOf summary held
 true-of laws summary held has =
@@ -180,13 +227,14 @@ true-of laws summary held has =
           (commanded (value_for d.config output) d.words output)) is.held_is
           (laws.orders.commanded has.config has.passes has.events output is.lived there);
       limited = λ output bounds lived there. limited-of laws output bounds summary held lived there;
+      stands = since-stands laws summary held;
+      among = since-among laws summary held;
     }
 
 -- where a driver leads there is a life
-pub leads-lived : {B : Type 0} (gives : B → Call → B → Type 0) (held : B →
-    Held) (asked : List Act) (end : Option JobEnd) (old new : Driven B) →
-    HasLife old.host (held old.bus) → Leads gives held asked end old new → HasLife new.host (held new.bus)
-leads-lived gives held asked end old new has leads = record {
+pub leads-lived : {B : Type 0} (gives : B → Call → B → Type 0) (held : B → Held) (restarts : B → ℕ) (asked : List Act) (end : Option JobEnd) (old new : Driven B) →
+    HasLife old.host (held old.bus) → Leads gives held restarts asked end old new → HasLife new.host (held new.bus)
+leads-lived gives held restarts asked end old new has leads = record {
   config = has.config;
   passes = has.passes;
   events = leads.events ++ has.events;
@@ -195,21 +243,20 @@ leads-lived gives held asked end old new has leads = record {
 }
 
 -- the last job of acts that asked for one alone
-last-begun : (job : host.Job) (earlier acts : List Act) (rest : List host.Entry) → asked_in acts ≡ Began job ∷ earlier →
+pub last-begun : (job : host.Job) (earlier acts : List Act) (rest : List host.Entry) → asked_in acts ≡ Began job ∷ earlier →
     host.last_job (told_all acts ++ rest) ≡ Some job
 last-begun job earlier [] rest h = cc
 last-begun job earlier (Called (Wrote frame acked) ∷ acts) rest h = last-begun job earlier acts rest h
-last-begun job earlier (Called (Read request needed came) ∷ acts) rest h = last-begun job earlier acts rest h
+last-begun job earlier (Called (Read request room came) ∷ acts) rest h = last-begun job earlier acts rest h
 last-begun job earlier (Began other ∷ acts) rest h =
     let same : Began other ≡ Began job = cc in
     let jobs : other ≡ job = cc in ap (λ j. Some j) jobs
 last-begun job earlier (Renewed ∷ acts) rest h = cc
 
 -- so the end of the job that a driver carried out says what it is worth
-pub leads-say : EndsAreTrue → {B : Type 0} (gives : B → Call → B → Type 0) (held : B →
-    Held) (job : host.Job) (end : JobEnd) (old new : Driven B) →
-    HasLife old.host (held old.bus) → Leads gives held (Began job ∷ []) (Some end) old new → EndSays job new.host (held new.bus) end
-leads-say law gives held job end old new has leads =
+pub leads-say : EndsAreTrue → {B : Type 0} (gives : B → Call → B → Type 0) (held : B → Held) (restarts : B → ℕ) (job : host.Job) (end : JobEnd) (old new : Driven B) →
+    HasLife old.host (held old.bus) → Leads gives held restarts (Began job ∷ []) (Some end) old new → EndSays job new.host (held new.bus) end
+leads-say law gives held restarts job end old new has leads =
     let goes = leads.lives has.config has.passes has.events has.life in
     let is = goes.is_life in
     let events = leads.events ++ has.events in
@@ -218,7 +265,7 @@ leads-say law gives held job end old new has leads =
     subst (λ d. EndSays job new.host d end) is.held_is
     (subst (λ h. EndSays job h (now has.config has.passes events).device end) is.host_is
     (law has.config has.passes events job end has.spelled is.lived
-    (tells-append leads.events has.events leads.newest) last goes.ended))
+    (tells-append leads.events has.events leads.newest) last goes.ended).says)
 
 -- a host began a job that it didn't refuse
 pub record IsBegun (old : Summary) (asked : Job) (middle : Summary) : Type 0 where
@@ -226,32 +273,32 @@ pub record IsBegun (old : Summary) (asked : Job) (middle : Summary) : Type 0 whe
   pub ok : IsSomeAnd (accepted_job old asked) (λ begun. middle ≡ host_next old (host.Accepted begun))
 
 -- where a driver leads that carries a job out which its host began
-pub job-leads : {B : Type 0} (gives : B → Call → B → Type 0) (held : B → Held) → JobsLead gives held → LeadsCompose gives held →
+pub job-leads : {B : Type 0} (gives : B → Call → B → Type 0) (held : B → Held) (restarts : B → ℕ) → JobsLead gives held restarts → LeadsCompose gives held restarts →
     (asked : Job) (end : JobEnd) (old new : Driven B) (middle : Summary) → IsBegun old.host asked middle →
-    Leads gives held [] (Some end) (record { host = middle; bus = old.bus }) new →
-    IsSomeAnd (accepted_job old.host asked) (λ begun. Leads gives held (Began begun ∷ []) (Some end) old new)
-job-leads gives held jobs compose asked end old new middle begins leads = go (accepted_job old.host asked) refl begins.ok where
+    Leads gives held restarts [] (Some end) (record { host = middle; bus = old.bus }) new →
+    IsSomeAnd (accepted_job old.host asked) (λ begun. Leads gives held restarts (Began begun ∷ []) (Some end) old new)
+job-leads gives held restarts jobs compose asked end old new middle begins leads = go (accepted_job old.host asked) refl begins.ok where
   go : (o : Option host.Job) → accepted_job old.host asked ≡ o →
       IsSomeAnd o (λ begun. middle ≡ host_next old.host (host.Accepted begun)) →
-      IsSomeAnd o (λ begun. Leads gives held (Began begun ∷ []) (Some end) old new)
+      IsSomeAnd o (λ begun. Leads gives held restarts (Began begun ∷ []) (Some end) old new)
   go None is ok = absurd ok
   go (Some begun) is ok =
       let first = jobs old.host old.bus begun (begins.free begun is) in
-      let second = subst (λ h. Leads gives held [] (Some end) (record { host = h; bus = old.bus }) new) ok leads in
+      let second = subst (λ h. Leads gives held restarts [] (Some end) (record { host = h; bus = old.bus }) new) ok leads in
       compose (Began begun ∷ []) [] None (Some end) old (record { host = host_next old.host (host.Accepted begun); bus = old.bus }) new
       first second
 
 -- so there is a life
-pub job-lived : {B : Type 0} (gives : B → Call → B → Type 0) (held : B → Held) → JobsLead gives held → LeadsCompose gives held →
+pub job-lived : {B : Type 0} (gives : B → Call → B → Type 0) (held : B → Held) (restarts : B → ℕ) → JobsLead gives held restarts → LeadsCompose gives held restarts →
     (asked : Job) (end : JobEnd) (old new : Driven B) (middle : Summary) → HasLife old.host (held old.bus) →
     IsBegun old.host asked middle →
-    Leads gives held [] (Some end) (record { host = middle; bus = old.bus }) new → HasLife new.host (held new.bus)
-job-lived gives held jobs compose asked end old new middle has begins leads =
-    go (accepted_job old.host asked) (job-leads gives held jobs compose asked end old new middle begins leads) where
-      go : (o : Option host.Job) → IsSomeAnd o (λ begun. Leads gives held (Began begun ∷ []) (Some end) old new) →
+    Leads gives held restarts [] (Some end) (record { host = middle; bus = old.bus }) new → HasLife new.host (held new.bus)
+job-lived gives held restarts jobs compose asked end old new middle has begins leads =
+    go (accepted_job old.host asked) (job-leads gives held restarts jobs compose asked end old new middle begins leads) where
+      go : (o : Option host.Job) → IsSomeAnd o (λ begun. Leads gives held restarts (Began begun ∷ []) (Some end) old new) →
           HasLife new.host (held new.bus)
       go None is = absurd is
-      go (Some begun) is = leads-lived gives held (Began begun ∷ []) (Some end) old new has is
+      go (Some begun) is = leads-lived gives held restarts (Began begun ∷ []) (Some end) old new has is
 
 -- a job that began is open
 pub begun-busy : (s after : Summary) (asked : Job) → IsSomeAnd (accepted_job s asked) (λ begun. after ≡ host_next s (host.Accepted begun)) →

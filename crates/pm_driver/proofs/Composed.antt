@@ -1,5 +1,5 @@
 -- What leads on from where something led; and the acts that are no calls.
-use Rattle.std.proofs.Common.{◌≡◌, List, [], ◌∷◌, ◌++◌, Option, Some, None, refl, sym, ◌∙◌, ap, ap₂, subst, true}
+use Rattle.std.proofs.Common.{◌≡◌, ◌+◌, ℕ, arith, List, [], ◌∷◌, ◌++◌, Option, Some, None, refl, sym, ◌∙◌, ap, ap₂, subst, true}
 use Rattle.pm_device.specs.Held.{Held}
 use Rattle.pm_host.specs.declared.job_end.JobEnd.{JobEnd}
 use Rattle.pm_host.specs.Summary.{Summary, next as host_next}
@@ -8,6 +8,7 @@ use Rattle.pm_world.specs.declared.event.Event.TheVariants.{Exchange, Finish}
 use Rattle.pm_world.specs.Job.{asked_by}
 use Rattle.pm_world.specs.Uncertainty.{job_event}
 use Rattle.pm_host.specs.declared.job.Job.{Job as Asked}
+use Rattle.pm_driver.specs.Bus.{restarts_in}
 use Rattle.pm_driver.specs.Acts.{Act, AreCalls, AreDone, Began, Call, Called, MayDo, Renewed, asked_in, host_by, told_by}
 use Rattle.pm_driver.specs.Laws.{LeadsCompose}
 use Rattle.pm_driver.specs.Lives.{Driven, EndsTold, Leads, jobs_asked, jobs_begun, newest_tells, with_job}
@@ -73,9 +74,23 @@ begun-append (Began job ∷ second) first =
     ∙ with-append (asked_by (job_event job)) (jobs_begun second) (jobs_begun first)
 begun-append (Renewed ∷ second) first = begun-append second first
 
+-- the restarts among events are those of the later events and those of the earlier ones
+pub restarts-append : (second first : List Event) → restarts_in (second ++ first) ≡ restarts_in second + restarts_in first
+restarts-append [] first = omega arith
+restarts-append (event ∷ second) first =
+    let earlier = restarts-append second first in
+    omega arith
+
+-- a count that rose and rose again
+restarts-on : (second first : List Event) (a b c : ℕ) → restarts_in first + a ≡ b → restarts_in second + b ≡ c →
+    restarts_in (second ++ first) + a ≡ c
+restarts-on second first a b c one two =
+    let all = restarts-append second first in
+    omega arith
+
 -- calls compose
-pub leads-compose : {B : Type 0} (gives : B → Call → B → Type 0) (held : B → Held) → LeadsCompose gives held
-leads-compose gives held first second middle end a b c one two = record {
+pub leads-compose : {B : Type 0} (gives : B → Call → B → Type 0) (held : B → Held) (restarts : B → ℕ) → LeadsCompose gives held restarts
+leads-compose gives held restarts first second middle end a b c one two = record {
   acts = two.acts ++ one.acts;
   events = two.events ++ one.events;
   asks = asked-append two.acts one.acts ∙ ap₂ (λ x y. x ++ y) two.asks one.asks;
@@ -83,6 +98,7 @@ leads-compose gives held first second middle end a b c one two = record {
   may = done-append a.host two.acts one.acts one.may (subst (λ h. AreDone h two.acts) (sym one.host) two.may);
   host = host-append a.host two.acts one.acts ∙ (ap (λ h. host_by h two.acts) one.host ∙ two.host);
   newest = newest-append end two.events one.events two.newest;
+  count = restarts-on two.events one.events (restarts a.bus) (restarts b.bus) (restarts c.bus) one.count two.count;
   orders = jobs-append two.events one.events
       ∙ (ap₂ (λ x y. x ++ y) two.orders one.orders ∙ sym (begun-append two.acts one.acts));
   lives = λ config passes before life.
@@ -91,8 +107,8 @@ leads-compose gives held first second middle end a b c one two = record {
 }
 
 -- nothing done leads nowhere
-pub leads-nothing : {B : Type 0} (gives : B → Call → B → Type 0) (held : B → Held) (d : Driven B) → Leads gives held [] None d d
-leads-nothing gives held d = record {
+pub leads-nothing : {B : Type 0} (gives : B → Call → B → Type 0) (held : B → Held) (restarts : B → ℕ) (d : Driven B) → Leads gives held restarts [] None d d
+leads-nothing gives held restarts d = record {
   acts = [];
   events = [];
   asks = refl;
@@ -100,6 +116,7 @@ leads-nothing gives held d = record {
   may = tt;
   host = refl;
   newest = tt;
+  count = omega arith;
   orders = refl;
   lives = λ config passes before life. stays life;
 }

@@ -31,8 +31,8 @@ use Rattle.pm_world.specs.Honest.{IsSpelled}
 use Rattle.pm_world.specs.Life.{life, now, state_of}
 use Rattle.pm_world.specs.Setup.{setup_of}
 use Rattle.pm_world.specs.State.{State, event_cause, exchange_cause, exchanged, share_of}
-use Rattle.pm_driver.specs.Ends.{EndSays, Stands}
-use Rattle.pm_driver.specs.Laws.{EndsAreTrue, LawsOfLives}
+use Rattle.pm_driver.specs.Ends.{Stands}
+use Rattle.pm_driver.specs.Laws.{EndIsTrue, EndsAreTrue, LawsOfLives}
 use Rattle.pm_driver.specs.Lives.{IsLife, newest_tells}
 use Rattle.pm_driver.proofs.Grown.{entries-more}
 use Rattle.pm_driver.proofs.ReadBack.{WasRead, check-read, check-wrote, learn-there, order-read, order-wrote, word_in_end}
@@ -75,6 +75,11 @@ marks-so setup before bytes cell word end was ended =
     (ap (λ e. put_by (cond (is_none e) (last_job before) None) (told_since (Got bytes ∷ before))) ended)
     (goods-so setup before bytes cell word was)
 
+-- a word stands that was read, and the converter didn't restart since
+record StandsRead (config : Config) (passes : ℕ) (events : List Event) (cell : Cell) (word : ℕ) : Type 0 where
+  stands : Stands (now config passes events).host (now config passes events).device cell word
+  fresh : restarted_since config passes cell events ≡ false
+
 -- the host calls a word that it just read confirmed, and the converter holds it
 stands : CellsAreToldApart → LawsOfLives → (config : Config) (passes : ℕ) (before : List Event) (event : Event)
     (bytes : List ℕ) (cell : Cell) (word : ℕ) (end : JobEnd) →
@@ -82,7 +87,7 @@ stands : CellsAreToldApart → LawsOfLives → (config : Config) (passes : ℕ) 
     (share_of (now config passes before) event).told ≡ Some (Got bytes) →
     WasRead (setup_of config passes) (life config passes before).entries bytes cell word →
     end_of (setup_of config passes) (Got bytes ∷ (life config passes before).entries) ≡ Some end →
-    Stands (now config passes (event ∷ before)).host (now config passes (event ∷ before)).device cell word
+    StandsRead config passes (event ∷ before) cell word
 unfolding restarted_since
 stands apart laws config passes before event bytes cell word end is told was ended =
     let setup = setup_of config passes in
@@ -100,7 +105,7 @@ stands apart laws config passes before event bytes cell word end is told was end
     ∙ ap (λ b. b || false) (same-self apart cell)) in
     let fresh : restarted_since config passes cell (event ∷ before) ≡ false =
     ap (λ b. cond b false (restarts_converter event || restarted_since config passes cell before)) read in
-    (says, true_of.held cell word was.there says fresh)
+    record { stands = (says, true_of.held cell word was.there says fresh); fresh = fresh }
 
 -- an order that says which word was read stands with it
 order-says : CellsAreToldApart → TranscriptsAreFollowed → LawsOfLives →
@@ -109,7 +114,7 @@ order-says : CellsAreToldApart → TranscriptsAreFollowed → LawsOfLives →
     newest_tells (event ∷ before) ≡ true →
     last_job (life config passes (event ∷ before)).entries ≡ Some (Order cell word) →
     end_of (setup_of config passes) (life config passes (event ∷ before)).entries ≡ Some end → word_in_end word end ≡ Some read →
-    Stands (now config passes (event ∷ before)).host (now config passes (event ∷ before)).device cell read
+    StandsRead config passes (event ∷ before) cell read
 order-says apart host laws config passes before event cell word end read is tells last ended says =
     go (told-by (now config passes before) event before tells is.lived.legal.0.free) where
       setup : Setup
@@ -123,7 +128,7 @@ order-says apart host laws config passes before event cell word end read is tell
       all entry told = entries-more config passes before event ∙ ap (λ o. option_to_list o ++ entries) told
 
       go : Told (now config passes before) event →
-          Stands (now config passes (event ∷ before)).host (now config passes (event ∷ before)).device cell read
+          StandsRead config passes (event ∷ before) cell read
       go (wrote acked told) = absurd (order-wrote setup entries acked cell word end read
           (subst (λ e. last_job e ≡ Some (Order cell word)) (all (Finished acked) told) last)
           (subst (λ e. end_of setup e ≡ Some end) (all (Finished acked) told) ended) says)
@@ -141,7 +146,7 @@ check-says : CellsAreToldApart → TranscriptsAreFollowed → LawsOfLives →
     newest_tells (event ∷ before) ≡ true →
     last_job (life config passes (event ∷ before)).entries ≡ Some (Check cell) →
     end_of (setup_of config passes) (life config passes (event ∷ before)).entries ≡ Some Done →
-    (word : ℕ) × Stands (now config passes (event ∷ before)).host (now config passes (event ∷ before)).device cell word
+    (word : ℕ) × StandsRead config passes (event ∷ before) cell word
 check-says apart host laws config passes before event cell is tells last ended =
     go (told-by (now config passes before) event before tells is.lived.legal.0.free) where
       setup : Setup
@@ -155,7 +160,7 @@ check-says apart host laws config passes before event cell is tells last ended =
       all entry told = entries-more config passes before event ∙ ap (λ o. option_to_list o ++ entries) told
 
       go : Told (now config passes before) event →
-          (word : ℕ) × Stands (now config passes (event ∷ before)).host (now config passes (event ∷ before)).device cell word
+          (word : ℕ) × StandsRead config passes (event ∷ before) cell word
       go (wrote acked told) = absurd (check-wrote setup entries acked cell
           (subst (λ e. last_job e ≡ Some (Check cell)) (all (Finished acked) told) last)
           (subst (λ e. end_of setup e ≡ Some Done) (all (Finished acked) told) ended))
@@ -235,7 +240,7 @@ learn-says host laws config passes before event output is spelled tells last end
           (subst (λ e. last_job e ≡ Some (Learn output)) (all (Got bytes) said) last) (inr (bytes, refl))
 
 -- the end of the last job is that of the transcript
-now-end : (config : Config) (passes : ℕ) (events : List Event) →
+pub now-end : (config : Config) (passes : ℕ) (events : List Event) →
     (now config passes events).end ≡ end_of (setup_of config passes) (life config passes events).entries
 unfolding now state_of
 now-end config passes events = refl
@@ -255,21 +260,28 @@ ends-are-true apart host laws config passes (event ∷ before) job end spelled l
 
       go : (j : Job) (e : JobEnd) → last_job (life config passes (event ∷ before)).entries ≡ Some j →
           end_of (setup_of config passes) (life config passes (event ∷ before)).entries ≡ Some e →
-          EndSays j (now config passes (event ∷ before)).host (now config passes (event ∷ before)).device e
-      go (Order cell word) Done l so = order-says apart host laws config passes before event cell word Done word is tells l so refl
+          EndIsTrue config passes (event ∷ before) j e
+      go (Order cell word) Done l so =
+          let one = order-says apart host laws config passes before event cell word Done word is tells l so refl in
+          record { says = one.stands; read = one.fresh }
       go (Order cell word) (Differs read) l so =
-          order-says apart host laws config passes before event cell word (Differs read) read is tells l so refl
-      go (Order cell word) Unknown l so = tt
-      go (Order cell word) Learned l so = tt
-      go (Check cell) Done l so = check-says apart host laws config passes before event cell is tells l so
-      go (Check cell) (Differs read) l so = tt
-      go (Check cell) Unknown l so = tt
-      go (Check cell) Learned l so = tt
-      go (Learn output) Learned l so =
-          subst (λ c. IsSomeAnd (format_at (now config passes (event ∷ before)).host output) (λ shape. shape ≡ shape_for c output))
-          (sym (now-config config passes (event ∷ before)))
-          (learn-says host laws config passes before event output is spelled tells l so)
-      go (Learn output) Done l so = tt
-      go (Learn output) (Differs read) l so = tt
-      go (Learn output) Unknown l so = tt
-      go (Send command) e l so = tt
+          let one = order-says apart host laws config passes before event cell word (Differs read) read is tells l so refl in
+          record { says = one.stands; read = one.fresh }
+      go (Order cell word) Unknown l so = record { says = tt; read = tt }
+      go (Order cell word) Learned l so = record { says = tt; read = tt }
+      go (Check cell) Done l so =
+          let one = check-says apart host laws config passes before event cell is tells l so in
+          record { says = (one.0, one.1.stands); read = one.1.fresh }
+      go (Check cell) (Differs read) l so = record { says = tt; read = tt }
+      go (Check cell) Unknown l so = record { says = tt; read = tt }
+      go (Check cell) Learned l so = record { says = tt; read = tt }
+      go (Learn output) Learned l so = record {
+        says = subst (λ c. IsSomeAnd (format_at (now config passes (event ∷ before)).host output) (λ shape. shape ≡ shape_for c output))
+            (sym (now-config config passes (event ∷ before)))
+            (learn-says host laws config passes before event output is spelled tells l so);
+        read = tt;
+      }
+      go (Learn output) Done l so = record { says = tt; read = tt }
+      go (Learn output) (Differs read) l so = record { says = tt; read = tt }
+      go (Learn output) Unknown l so = record { says = tt; read = tt }
+      go (Send command) e l so = record { says = tt; read = tt }

@@ -5,4 +5,6 @@ mod Grown
 mod OpenJobs
 mod ReadBack
 mod SentFrames
+mod NoRestarts
+mod UndisturbedOrders
 mod WithinLimits

@@ -99,7 +99,7 @@ stays-open s (Wrote frame acked) busy h = go s.stage busy h where
       is_some (finished (idle s) stage acked).after.stage ≡ true
   go None b e = cc
   go (Some stage) b e = finished-open (idle s) stage acked e
-stays-open s (Read request needed came) busy h = go s.stage busy h where
+stays-open s (Read request room came) busy h = go s.stage busy h where
   go : (stage : Option Stage) → is_some stage ≡ true → (answered (idle s) stage came).step ≡ Next →
       is_some (answered (idle s) stage came).after.stage ≡ true
   go None b e = cc

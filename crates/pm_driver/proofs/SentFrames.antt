@@ -1,6 +1,7 @@
 -- A call of the bus, as the events of a life.
-use Rattle.std.proofs.Common.{◌≡◌, ℕ, Bool, true, not, cond, List, [], ◌∷◌, Option, Some, None, refl, sym, ◌∙◌, ap, ap₂, subst}
-use Rattle.std.specs.Prelude.{IsSomeAnd}
+use Rattle.std.proofs.Common.{◌≡◌, ◌+◌, arith, ℕ, Bool, true, not, cond, List, [], ◌∷◌, Option, Some, None, length, refl, sym, ◌∙◌, ap, ap₂, subst}
+use Rattle.std.specs.Prelude.{IsSomeAnd, replicate}
+use Rattle.std.proofs.lemmas.List.{length-replicate}
 use Rattle.std.specs.Option.{option_or}
 use Rattle.pm_frame.specs.declared.message.Message.{Message}
 use Rattle.pm_frame.specs.Fault.{whole_answer}
@@ -28,12 +29,19 @@ use Rattle.pm_world.specs.Life.{now}
 use Rattle.pm_world.specs.State.{State, Share, delivered, delivery_cause, end_by, event_cause, exchange_cause, exchanged, finish_cause}
 use Rattle.pm_world.specs.State.{hears, rule, share_of, tells}
 use Rattle.pm_driver.specs.Acts.{Call, Called, MayDo, Read, Wrote, told_of}
-use Rattle.pm_driver.specs.Bus.{AreAll, answer_of, held_by, is_beside, may_hear}
-use Rattle.pm_driver.specs.Laws.{LawsOfLives}
+use Rattle.pm_driver.specs.Bus.{AreAll, answer_of, restarts_in, held_by, is_beside, may_hear}
 use Rattle.pm_driver.specs.Lives.{EndsSo, EndsTold, Goes, IsLife, Leads, jobs_asked, newest_tells, with_job}
-use Rattle.pm_driver.specs.Steps.{FramesLead, IsCalled, StaysOpen}
+use Rattle.pm_driver.specs.Laws.{LawsOfLives}
+use Rattle.pm_driver.specs.Steps.{CallsGo, FramesLead, IsCalled, StaysOpen}
 use Rattle.pm_driver.proofs.Grown.{beside-one, goes-on, grown, heard-one, of-life, quiet}
 use Rattle.pm_driver.proofs.OpenJobs.{stays-open}
+
+-- the room for the whole answer to a message that is being sent
+pub room-empty : (sending : Option Message) (bytes : ℕ) (room : List ℕ) → room ≡ replicate bytes 0 →
+    IsSomeAnd sending (λ message. bytes ≡ whole_answer message) →
+    IsSomeAnd sending (λ message. room ≡ replicate (whole_answer message) 0)
+room-empty None bytes room empty is = absurd is
+room-empty (Some message) bytes room empty is = empty ∙ ap (λ n. replicate n 0) is
 
 -- a message that the host is sending, with its frame
 record SendsWrite (host : Summary) (frame : List ℕ) : Type 0 where
@@ -56,16 +64,21 @@ sends-write host frame shown = go (sending_in host) refl shown where
   go None e is = absurd is
   go (Some message) e is = record { message = message; sending = e; is = is }
 
--- a request and the length of its whole answer, as a host shows them, are those of the message that it is sending
-sends-request : (host : Summary) (request : List ℕ) (needed : ℕ) →
+-- a request and the room for its whole answer, as a host shows them, are those of the message that it is sending
+sends-request : (host : Summary) (request room : List ℕ) →
     IsSomeAnd (sending_in host) (λ message. IsRequest host.setup.addr message request)
-    × IsSomeAnd (sending_in host) (λ message. needed ≡ whole_answer message) → SendsRequest host request needed
-sends-request host request needed shown = go (sending_in host) refl shown where
+    × IsSomeAnd (sending_in host) (λ message. room ≡ replicate (whole_answer message) 0) → SendsRequest host request (length room)
+sends-request host request room shown = go (sending_in host) refl shown where
   go : (sending : Option Message) → sending_in host ≡ sending →
       IsSomeAnd sending (λ message. IsRequest host.setup.addr message request)
-      × IsSomeAnd sending (λ message. needed ≡ whole_answer message) → SendsRequest host request needed
+      × IsSomeAnd sending (λ message. room ≡ replicate (whole_answer message) 0) → SendsRequest host request (length room)
   go None e is = absurd is.0
-  go (Some message) e is = record { message = message; sending = e; is = is.0; long = is.1 }
+  go (Some message) e is = record {
+    message = message;
+    sending = e;
+    is = is.0;
+    long = ap length is.1 ∙ length-replicate (whole_answer message) 0;
+  }
 
 -- the frame of a write, and of a request
 write-frame : {addr : ℕ} {message : Message} {frame : List ℕ} → IsWrite addr message frame → frame_of addr message ≡ frame
@@ -180,12 +193,13 @@ record Comes (request : List ℕ) (needed : ℕ) (held : Held) (came : List ℕ)
 
 -- a request came back
 answered : LawsOfLives → {config : Config} {passes : ℕ} {before : List Event} {host : Summary} {held new : Held} →
-    (request : List ℕ) (needed : ℕ) (came : List ℕ) (arrival : Arrival) (back : Back) → SendsRequest host request needed →
-    IsLife config passes before host held → Comes request needed held came arrival back new →
-    Goes config passes before (Exchange arrival back ∷ []) (Called (Read request needed came) ∷ [])
+    (request room came : List ℕ) (arrival : Arrival) (back : Back) → SendsRequest host request (length room) →
+    IsLife config passes before host held → Comes request (length room) held came arrival back new →
+    Goes config passes before (Exchange arrival back ∷ []) (Called (Read request room came) ∷ [])
     (end_by (step_of host (Got came))) (host_next host (Got came)) new
-answered laws {config = config} {passes = passes} {before = before} {host = host} {held = held} {new = new} request needed came arrival
+answered laws {config = config} {passes = passes} {before = before} {host = host} {held = held} {new = new} request room came arrival
     back sends is comes =
+    let needed = length room in
     let s = now config passes before in
     let shown = of-life (λ h. SendsRequest h request needed) is sends in
     let hears_so : device.Event = device.Hearing (heard_bytes request arrival) (ending_of Restart arrival) in
@@ -225,44 +239,55 @@ none-asked may none (event ∷ events) all =
     ap (λ o. with_job o (jobs_asked events)) (none event all.0) ∙ none-asked may none events all.1
 
 -- the events of a call of the frame that the host was sending
-pub record CallEvents (call : Call) (host : Summary) (old new : Held) : Type 0 where
+pub record CallEvents (call : Call) (host : Summary) (old : Held) (was : ℕ) (new : Held) (is : ℕ) : Type 0 where
   pub events : List Event
   pub newest : newest_tells events ≡ true
   pub orders : jobs_asked events ≡ []
+  pub count : restarts_in events + was ≡ is
   pub goes : (config : Config) (passes : ℕ) (before : List Event) → IsLife config passes before host old →
       Goes config passes before events (Called call ∷ []) (end_by (step_of host (told_of call))) (host_next host (told_of call)) new
 
 -- there are such
-pub call-events : LawsOfLives → (call : Call) (host : Summary) (old new : Held) → MayDo host (Called call) →
-    IsCalled call old new →
-    CallEvents call host old new
-call-events laws (Wrote frame acked) host old new may is =
+pub call-events : LawsOfLives → (call : Call) (host : Summary) (old : Held) (was : ℕ) (new : Held) (count : ℕ) → MayDo host (Called call) →
+    IsCalled call old was new count →
+    CallEvents call host old was new count
+call-events laws (Wrote frame acked) host old was new count may is =
     let sends = sends-write host frame may in
     record {
       events = Finish acked ∷ is.events;
       newest = refl;
       orders = none-asked (may_hear frame) (hears-none frame) is.events is.may;
+      count = (let rose = is.count in omega arith);
       goes = λ config passes before life.
           let heard = subst (λ d. Goes config passes before is.events [] None host d) is.after
           (quiet frame (may_hear frame) (hear-one laws frame sends) is.events is.may life) in
           goes-on heard (finished laws frame acked sends heard.is_life);
     }
-call-events laws (Read request needed came) host old new may is =
-    let sends = sends-request host request needed may in
+call-events laws (Read request room came) host old was new count may is =
+    let sends = sends-request host request room may in
     record {
       events = Exchange is.arrival is.back ∷ is.before;
       newest = refl;
       orders = none-asked is_beside beside-none is.before is.beside_before;
+      count = (let rose = is.count in omega arith);
       goes = λ config passes before life.
           let beside = quiet request is_beside (beside-one laws request) is.before is.beside_before life in
-          goes-on beside (answered laws request needed came is.arrival is.back sends beside.is_life
+          goes-on beside (answered laws request room came is.arrival is.back sends beside.is_life
           (record { legal = is.legal; returned = is.returned; came_is = is.came_is; after = is.after }));
     }
 
+-- they are those that the call names
+pub calls-go : LawsOfLives → CallsGo
+unfolding call-events
+calls-go laws (Wrote frame acked) host old was new is may called =
+    (call-events laws (Wrote frame acked) host old was new is may called).goes
+calls-go laws (Read request room came) host old was new is may called =
+    (call-events laws (Read request room came) host old was new is may called).goes
+
 -- so it leads on
-pub frames-lead : LawsOfLives → {B : Type 0} → (gives : B → Call → B → Type 0) → (held : B → Held) → FramesLead gives held
-frames-lead laws gives held call host old new may is so =
-    let e = call-events laws call host (held old) (held new) may is in
+pub frames-lead : LawsOfLives → {B : Type 0} → (gives : B → Call → B → Type 0) → (held : B → Held) → (restarts : B → ℕ) → FramesLead gives held restarts
+frames-lead laws gives held restarts call host old new may is so =
+    let e = call-events laws call host (held old) (restarts old) (held new) (restarts new) may is in
     record {
       acts = Called call ∷ [];
       events = e.events;
@@ -271,18 +296,19 @@ frames-lead laws gives held call host old new may is so =
       may = (may, tt);
       host = refl;
       newest = ends-told (end_by (step_of host (told_of call))) e.events e.newest;
+      count = e.count;
       orders = e.orders;
       lives = e.goes;
     }
 
 -- what `told` leaves and answers after a call leads on
-pub told-leads : {B : Type 0} (gives : B → Call → B → Type 0) (held : B → Held) → FramesLead gives held →
-    (call : Call) (host after : Summary) (step : Step) (old new : B) → MayDo host (Called call) → IsCalled call (held old) (held new) →
+pub told-leads : {B : Type 0} (gives : B → Call → B → Type 0) (held : B → Held) (restarts : B → ℕ) → FramesLead gives held restarts →
+    (call : Call) (host after : Summary) (step : Step) (old new : B) → MayDo host (Called call) → IsCalled call (held old) (restarts old) (held new) (restarts new) →
     gives old call new → after ≡ host_next host (told_of call) → step ≡ step_of host (told_of call) →
-    Leads gives held [] (end_by step) (record { host = host; bus = old }) (record { host = after; bus = new })
-told-leads gives held lead call host after step old new may is so next_is step_is =
-    subst (λ s. Leads gives held [] (end_by s) (record { host = host; bus = old }) (record { host = after; bus = new })) (sym step_is)
-    (subst (λ h. Leads gives held [] (end_by (step_of host (told_of call))) (record { host = host; bus = old })
+    Leads gives held restarts [] (end_by step) (record { host = host; bus = old }) (record { host = after; bus = new })
+told-leads gives held restarts lead call host after step old new may is so next_is step_is =
+    subst (λ s. Leads gives held restarts [] (end_by s) (record { host = host; bus = old }) (record { host = after; bus = new })) (sym step_is)
+    (subst (λ h. Leads gives held restarts [] (end_by (step_of host (told_of call))) (record { host = host; bus = old })
     (record { host = h; bus = new })) (sym next_is) (lead call host old new may is so))
 
 -- and it leaves the job open where it didn't end

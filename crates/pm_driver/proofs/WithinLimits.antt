@@ -1,7 +1,7 @@
 -- The words of an output stay within limits while a driver orders no other, and what a call of it does.
 use Rattle.std.proofs.Common.{◌≡◌, ◌||◌, ℕ, Bool, true, false, List, [], ◌∷◌, ◌++◌, Option, Some, None, Ok, inl, inr, refl}
 use Rattle.std.proofs.Common.{sym, ◌∙◌, ap, subst, arith, int_lt}
-use Rattle.std.specs.Prelude.{IsSomeAnd, option_map, option_and_then}
+use Rattle.std.specs.Prelude.{IfSome, IsSomeAnd, option_map, option_and_then}
 use Rattle.std.proofs.lemmas.Bool.Decides.{nat_tests}
 use Rattle.std.proofs.lemmas.Int.{ints}
 use Rattle.std.specs.Option.{option_or}
@@ -35,23 +35,24 @@ use Rattle.pm_world.specs.Limited.{OrdersWithin, OwnWithin, StartsWithin, WordWi
 use Rattle.pm_world.specs.State.{asked, tells}
 use Rattle.pm_world.specs.Uncertainty.{job_event}
 use Rattle.pm_driver.specs.Acts.{Act, Began, Call, Called, Renewed, asked_in}
-use Rattle.pm_driver.specs.Driven.{AreAsNarrow, Driving, HasLife, HasLifeWithin, MayBegin, Runs, driven}
-use Rattle.pm_driver.specs.Ends.{EndSays}
+use Rattle.pm_driver.specs.Driven.{AreAsNarrow, Driving, HasLife, HasLifeWithin, HasNoRestartSince, MayBegin, Runs, driven}
+use Rattle.pm_driver.specs.Ends.{EndSays, cell_read}
 use Rattle.pm_driver.specs.Laws.{EndsAreTrue, LawsOfLives, LeadsCompose, NewConvertersAreWithin}
 use Rattle.pm_driver.specs.Lives.{Driven, IsLife, Leads, jobs_asked, jobs_begun, with_job}
 use Rattle.pm_driver.specs.Steps.{JobsLead}
 use Rattle.pm_driver.proofs.BegunJobs.{IsBegun, job-leads, leads-say, new-lived, renewed-new}
 use Rattle.pm_driver.proofs.Grown.{grown}
+use Rattle.pm_driver.proofs.NoRestarts.{job-since, leads-read}
 
 -- ---- a job that a guard lets begin
 
 -- of two faults, none
-first-none : {A : Type 0} (one other : Option A) → option_or one other ≡ None → one ≡ None
+pub first-none : {A : Type 0} (one other : Option A) → option_or one other ≡ None → one ≡ None
 first-none None other h = refl
 first-none (Some x) other h = cc
 
 -- the second of two faults is none where neither comes
-later-none : {A : Type 0} (one other : Option A) → option_or one other ≡ None → other ≡ None
+pub later-none : {A : Type 0} (one other : Option A) → option_or one other ≡ None → other ≡ None
 later-none None other h = h
 later-none (Some x) other h = cc
 
@@ -68,7 +69,7 @@ order-free limits s cell word free =
     (later-none (judged limits s cell word) _ (later-none (of_host (cell_fault s cell)) _ free)))
 
 -- a job that is let begin isn't refused by the host
-guard-free : (g : Guarded) (asked : Job) (begun : host.Job) → guard_fault g asked ≡ None → accepted_job g.host asked ≡ Some begun →
+pub guard-free : (g : Guarded) (asked : Job) (begun : host.Job) → guard_fault g asked ≡ None → accepted_job g.host asked ≡ Some begun →
     job_fault g.host begun ≡ None
 guard-free g (job.Order cell word) begun free is =
     let same : host.Order cell word ≡ begun = cc in
@@ -167,12 +168,12 @@ orders-within config passes output bounds before (event ∷ events) all =
     )
 
 -- the words stay within where a driver leads
-led-within : LawsOfLives → {B : Type 0} (gives : B → Call → B → Type 0) (held : B → Held) (acts : List Act)
+led-within : LawsOfLives → {B : Type 0} (gives : B → Call → B → Type 0) (held : B → Held) (restarts : B → ℕ) (acts : List Act)
     (end : Option JobEnd) (old new : Driven B) (output : ℕ) (bounds : Bounds) (lived : HasLifeWithin output bounds old.host (held old.bus))
     →
-    (leads : Leads gives held acts end old new) → JobsWithin lived.has.config output bounds (jobs_asked leads.events) →
+    (leads : Leads gives held restarts acts end old new) → JobsWithin lived.has.config output bounds (jobs_asked leads.events) →
     HasLifeWithin output bounds new.host (held new.bus)
-led-within laws gives held acts end old new output bounds lived leads all =
+led-within laws gives held restarts acts end old new output bounds lived leads all =
     let has = lived.has in
     let life = (leads.lives has.config has.passes has.events has.life).is_life in
     record {
@@ -212,13 +213,13 @@ begun-within config output bounds (host.Send StoreUserAll) within = (λ s regist
 begun-within config output bounds (host.Send RestoreUserAll) within = (λ s register other voltage is. cc, tt)
 
 -- so they stay within where it carries out a job that its guard let begin
-job-within : LawsOfLives → {B : Type 0} (gives : B → Call → B → Type 0) (held : B → Held) (g : Guarded) (asked : Job)
+job-within : LawsOfLives → {B : Type 0} (gives : B → Call → B → Type 0) (held : B → Held) (restarts : B → ℕ) (g : Guarded) (asked : Job)
     (begun : host.Job) (end : JobEnd) (bus : B) (new : Driven B) → guard_fault g asked ≡ None →
     accepted_job g.host asked ≡ Some begun →
-    (leads : Leads gives held (Began begun ∷ []) (Some end) (record { host = g.host; bus = bus }) new) →
+    (leads : Leads gives held restarts (Began begun ∷ []) (Some end) (record { host = g.host; bus = bus }) new) →
     (output : ℕ) (bounds : Bounds) → AreAsNarrow (limits_at g output) bounds → HasLifeWithin output bounds g.host (held bus) →
     HasLifeWithin output bounds new.host (held new.bus)
-job-within laws gives held g asked begun end bus new free is leads output bounds narrow lived =
+job-within laws gives held restarts g asked begun end bus new free is leads output bounds narrow lived =
     let has = lived.has in
     let life = has.life in
     let agree = laws.formats.agree has.config has.passes has.events has.spelled life.lived in
@@ -228,25 +229,27 @@ job-within laws gives held g asked begun end bus new free is leads output bounds
     (λ shape known. agree.held output shape (ap (λ (h : Summary). format_at h output) life.host_is ∙ known))
     (all-narrower (limits_at g output) bounds (format_at g.host output) word narrow
     (λ own own_is. guarded-voltage g asked output register word own free (is ∙ ap (λ j. Some j) same) voltage own_is))) in
-    led-within laws gives held (Began begun ∷ []) (Some end) (record { host = g.host; bus = bus }) new output bounds lived leads
+    led-within laws gives held restarts (Began begun ∷ []) (Some end) (record { host = g.host; bus = bus }) new output bounds lived leads
     (subst (JobsWithin has.config output bounds) (sym (leads.orders ∙ (asked-begun leads.acts ∙ jobs))) all)
 
 -- ---- what a call does
 
 -- a job that is carried out
-pub runs-so : LawsOfLives → EndsAreTrue → {B : Type 0} (gives : B → Call → B → Type 0) (held : B → Held) →
-    JobsLead gives held → LeadsCompose gives held → (asked : Job) (end : JobEnd) (old new : Driving B) (middle : Guarded) →
+pub runs-so : LawsOfLives → EndsAreTrue → {B : Type 0} (gives : B → Call → B → Type 0) (held : B → Held) (restarts : B → ℕ) →
+    JobsLead gives held restarts → LeadsCompose gives held restarts → (asked : Job) (end : JobEnd) (old new : Driving B) (middle : Guarded) →
     HasLife old.guard.host (held old.bus) → LetsBegin old.guard asked (Ok tt) middle →
-    Leads gives held [] (Some end) (record { host = middle.host; bus = old.bus }) (driven new) → frames_left new.guard.host ≡ 0 →
+    Leads gives held restarts [] (Some end) (record { host = middle.host; bus = old.bus }) (driven new) → frames_left new.guard.host ≡ 0 →
     new.guard.limits ≡ middle.limits → new.guard.host.setup ≡ middle.host.setup →
-    Runs gives held asked old (Ok end) new
-runs-so laws law gives held jobs compose asked end old new middle has begins leads over limits kept =
-    let led = job-leads gives held jobs compose asked end (driven old) (driven new) middle.host
+    Runs gives held restarts asked old (Ok end) new
+runs-so laws law gives held restarts jobs compose asked end old new middle has begins leads over limits kept =
+    let led = job-leads gives held restarts jobs compose asked end (driven old) (driven new) middle.host
     (guard-begun old.guard middle asked begins) leads in
     record {
       fault = begins.fault;
       leads = led;
       says = says (accepted_job old.guard.host asked) led;
+      read = read (accepted_job old.guard.host asked) led;
+      stays = job-since gives held restarts (accepted_job old.guard.host asked) end (driven old) (driven new) led;
       over = over;
       err = tt;
       limits = limits ∙ begins.limits;
@@ -254,25 +257,31 @@ runs-so laws law gives held jobs compose asked end old new middle has begins lea
       within = λ output bounds narrow lived. stays (accepted_job old.guard.host asked) refl led output bounds narrow lived;
     } where
       says : (o : Option host.Job) →
-          IsSomeAnd o (λ begun. Leads gives held (Began begun ∷ []) (Some end) (driven old) (driven new)) →
+          IsSomeAnd o (λ begun. Leads gives held restarts (Began begun ∷ []) (Some end) (driven old) (driven new)) →
           IsSomeAnd o (λ begun. EndSays begun new.guard.host (held new.bus) end)
       says None is = absurd is
-      says (Some begun) is = leads-say law gives held begun end (driven old) (driven new) has is
+      says (Some begun) is = leads-say law gives held restarts begun end (driven old) (driven new) has is
+
+      read : (o : Option host.Job) →
+          IsSomeAnd o (λ begun. Leads gives held restarts (Began begun ∷ []) (Some end) (driven old) (driven new)) →
+          IsSomeAnd o (λ begun. IfSome (cell_read begun end) (λ cell. HasNoRestartSince cell new.guard.host (held new.bus)))
+      read None is = absurd is
+      read (Some begun) is = leads-read law gives held restarts begun end (driven old) (driven new) has is
 
       stays : (o : Option host.Job) → accepted_job old.guard.host asked ≡ o →
-          IsSomeAnd o (λ begun. Leads gives held (Began begun ∷ []) (Some end) (driven old) (driven new)) →
+          IsSomeAnd o (λ begun. Leads gives held restarts (Began begun ∷ []) (Some end) (driven old) (driven new)) →
           (output : ℕ) (bounds : Bounds) → AreAsNarrow (limits_at old.guard output) bounds →
           HasLifeWithin output bounds old.guard.host (held old.bus) → HasLifeWithin output bounds new.guard.host (held new.bus)
       stays None e is output bounds narrow lived = absurd is
       stays (Some begun) e is output bounds narrow lived =
-          job-within laws gives held old.guard asked begun end old.bus (driven new) (sym begins.fault) e is output bounds narrow lived
+          job-within laws gives held restarts old.guard asked begun end old.bus (driven new) (sym begins.fault) e is output bounds narrow lived
 
 -- a restart
-pub restart-within : LawsOfLives → {B : Type 0} (gives : B → Call → B → Type 0) (held : B → Held) (old new : Driven B) →
-    Leads gives held (Renewed ∷ []) None old new → (output : ℕ) (bounds : Bounds) →
+pub restart-within : LawsOfLives → {B : Type 0} (gives : B → Call → B → Type 0) (held : B → Held) (restarts : B → ℕ) (old new : Driven B) →
+    Leads gives held restarts (Renewed ∷ []) None old new → (output : ℕ) (bounds : Bounds) →
     HasLifeWithin output bounds old.host (held old.bus) → HasLifeWithin output bounds new.host (held new.bus)
-restart-within laws gives held old new leads output bounds lived =
-    led-within laws gives held (Renewed ∷ []) None old new output bounds lived leads
+restart-within laws gives held restarts old new leads output bounds lived =
+    led-within laws gives held restarts (Renewed ∷ []) None old new output bounds lived leads
     (subst (JobsWithin lived.has.config output bounds)
     (sym (leads.orders ∙ (asked-begun leads.acts ∙ ap jobs_begun leads.asks))) tt)
 

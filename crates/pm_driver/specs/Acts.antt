@@ -1,6 +1,6 @@
 -- What a driver does, call by call: the calls of its bus, with what they answered, and the jobs and restarts of its
 -- host. Lists are newest first.
-use Rattle.std.specs.Prelude.{◌≡◌, ℕ, Bool, List, [], ◌∷◌, None, IsSomeAnd}
+use Rattle.std.specs.Prelude.{◌≡◌, ℕ, Bool, List, [], ◌∷◌, None, IsSomeAnd, replicate}
 use Rattle.pm_frame.specs.Fault.{whole_answer}
 use Rattle.pm_frame.specs.Layout.{IsWrite, IsRequest}
 use Rattle.pm_host.specs.Refusals.{job_fault}
@@ -11,8 +11,8 @@ use Rattle.pm_host.specs.Transcript.{Job, Entry, Accepted, Finished, Got, Restar
 pub data Call : Type 0 where
   -- this frame was sent, and acknowledged or not
   Wrote : (frame : List ℕ) (acked : Bool) → Call
-  -- this request was sent, whose whole answer has this many bytes, and these came back
-  Read : (request : List ℕ) (needed : ℕ) (came : List ℕ) → Call
+  -- this request was sent with this room for its answer, and these bytes came back
+  Read : (request : List ℕ) (room : List ℕ) (came : List ℕ) → Call
 
 -- one act of a driver
 pub data Act : Type 0 where
@@ -26,7 +26,7 @@ pub data Act : Type 0 where
 -- what the host is told by a call, and by an act
 abbrev pub told_of : Call → Entry
 told_of (Wrote frame acked) = Finished acked
-told_of (Read request needed came) = Got came
+told_of (Read request room came) = Got came
 
 abbrev pub told_by : Act → Entry
 told_by (Called call) = told_of call
@@ -42,13 +42,14 @@ abbrev pub host_by : Summary → List Act → Summary
 host_by s [] = s
 host_by s (act ∷ before) = host_next (host_by s before) (told_by act)
 
--- a call sends the frame of the message that the host was sending; a job is one that it doesn't refuse
+-- A call sends the frame of the message that the host was sending, and a read has room for just a whole answer, all
+-- zero. A job is one that the host doesn't refuse.
 abbrev pub MayDo : Summary → Act → Type 0
 MayDo s (Called (Wrote frame acked)) =
     IsSomeAnd (sending_in s) (λ message. IsWrite s.setup.addr message frame)
-MayDo s (Called (Read request needed came)) =
+MayDo s (Called (Read request room came)) =
     IsSomeAnd (sending_in s) (λ message. IsRequest s.setup.addr message request)
-    × IsSomeAnd (sending_in s) (λ message. needed ≡ whole_answer message)
+    × IsSomeAnd (sending_in s) (λ message. room ≡ replicate (whole_answer message) 0)
 MayDo s (Began job) = job_fault s job ≡ None
 MayDo s Renewed = Unit {0}
 

@@ -1,6 +1,6 @@
 -- What a bus may do to the converter at its other end, by the events of a world: this project's own premise on
 -- a bus. Lists are newest first.
-use Rattle.std.specs.Prelude.{◌≡◌, ℕ, Bool, true, false, List, [], ◌∷◌}
+use Rattle.std.specs.Prelude.{◌≡◌, ◌+◌, ℕ, Bool, true, false, cond, List, [], ◌∷◌}
 use Rattle.pm_device.specs.declared.ending.Ending.TheVariants.{Stop, Restart}
 use Rattle.pm_device.specs.Held.{Held}
 use Rattle.pm_device.specs.Effect as device
@@ -10,6 +10,7 @@ use Rattle.pm_world.specs.declared.arrival.Arrival.{Arrival}
 use Rattle.pm_world.specs.declared.back.Back.{Back}
 use Rattle.pm_world.specs.declared.event.Event.{Event}
 use Rattle.pm_world.specs.declared.event.Event.TheVariants.{Deliver, RestartDevice, Reading}
+use Rattle.pm_world.specs.Confirmed.{restarts_converter}
 use Rattle.pm_world.specs.Legal.{heard_bytes, ending_of, is_legal_hearing, is_legal_return, is_heard_whole, answer_in, back_bytes}
 
 -- what happens to a converter beside the bus: it restarts, or what it measures changes
@@ -43,12 +44,18 @@ abbrev pub held_after : List ℕ → Held → List Event → Held
 held_after frame held [] = held
 held_after frame held (event ∷ before) = held_by frame (held_after frame held before) event
 
+-- how often the converter restarted by these events
+abbrev pub restarts_in : List Event → ℕ
+restarts_in [] = 0
+restarts_in (event ∷ before) = cond (restarts_converter event) 1 0 + restarts_in before
+
 -- A write was sent: the converter heard its frame any number of times, also never, each time legally, and what
--- else happened to it.
-pub record IsSent (frame : List ℕ) (old new : Held) : Type 0 where
+-- else happened to it. A count of its restarts rose by just those that happened.
+pub record IsSent (frame : List ℕ) (old : Held) (was : ℕ) (new : Held) (is : ℕ) : Type 0 where
   pub events : List Event
   pub may : AreAll (may_hear frame) events
   pub after : held_after frame old events ≡ new
+  pub count : restarts_in events + was ≡ is
 
 -- the answer of a converter to a request as it arrives
 abbrev pub answer_of : Held → List ℕ → Arrival → List ℕ
@@ -56,8 +63,8 @@ answer_of held request arrival =
     answer_in (reply_of held (heard_bytes request arrival) (ending_of Restart arrival))
 
 -- A request was sent, whose whole answer has this many bytes, and these came back: the converter heard it once,
--- legally, and what came back is a legal return of its answer.
-pub record IsAsked (request : List ℕ) (needed : ℕ) (old : Held) (came : List ℕ) (new : Held) : Type 0 where
+-- legally, and what came back is a legal return of its answer. A count of its restarts rose by just those that happened.
+pub record IsAsked (request : List ℕ) (needed : ℕ) (old : Held) (was : ℕ) (came : List ℕ) (new : Held) (is : ℕ) : Type 0 where
   pub before : List Event
   pub arrival : Arrival
   pub back : Back
@@ -70,3 +77,4 @@ pub record IsAsked (request : List ℕ) (needed : ℕ) (old : Held) (came : List
   pub came_is : back_bytes (answer_of (held_after request old before) request arrival) back ≡ came
   pub after : device_next (held_after request old before)
       (device.Hearing (heard_bytes request arrival) (ending_of Restart arrival)) ≡ new
+  pub count : restarts_in before + was ≡ is

@@ -1,6 +1,6 @@
 -- What holds of a driver between two calls, what each call of it does, and what is true of it with no event in
 -- sight: this project's own choice.
-use Rattle.std.specs.Prelude.{◌≡◌, ◌<◌, ℕ, false, List, [], ◌∷◌, Option, Some, None, IsSomeAnd, Result, IfOk, OnOk, OnErr}
+use Rattle.std.specs.Prelude.{◌≡◌, ◌<◌, ℕ, true, false, List, [], ◌∷◌, Option, Some, None, IfSome, IsSomeAnd, Result, IfOk, OnOk, OnErr}
 use Rattle.std.specs.Result.{result_err}
 use Rattle.pm_table.specs.declared.cell.Cell.{Cell}
 use Rattle.pm_table.specs.Cell.{IsCell}
@@ -12,12 +12,14 @@ use Rattle.pm_host.specs.declared.job.Job.{Job}
 use Rattle.pm_host.specs.declared.job_end.JobEnd.{JobEnd}
 use Rattle.pm_host.specs.Frames.{frames_left}
 use Rattle.pm_host.specs.Jobs.{accepted_job}
-use Rattle.pm_host.specs.Summary.{Summary, start}
+use Rattle.pm_host.specs.declared.standing.Standing.TheVariants.{Confirmed}
+use Rattle.pm_host.specs.Possible.{is_possible}
+use Rattle.pm_host.specs.Summary.{Summary, possible_at, standing_at, start}
 use Rattle.pm_limits.specs.declared.fault.LimitFault.{LimitFault}
 use Rattle.pm_limits.specs.Bounds.{Bounds, IsWithin, is_wider}
 use Rattle.pm_limits.specs.Guard.{Guarded, guard_fault, limits_at}
 use Rattle.pm_world.specs.declared.event.Event.{Event}
-use Rattle.pm_world.specs.Confirmed.{ConfirmedIsHeld}
+use Rattle.pm_world.specs.Confirmed.{ConfirmedIsHeld, restarted_since}
 use Rattle.pm_world.specs.Honest.{FormatsAgree, IsSpelled}
 use Rattle.pm_world.specs.Life.{now}
 use Rattle.pm_world.specs.Limited.{OwnWithin}
@@ -25,7 +27,7 @@ use Rattle.pm_world.specs.Possible.{PossibleIsHeld, SeenIsTrue}
 use Rattle.pm_world.specs.Retelling.{CommandsOwn, IsOwnWord}
 use Rattle.pm_world.specs.Setup.{setup_of}
 use Rattle.pm_driver.specs.Acts.{Began, Call}
-use Rattle.pm_driver.specs.Ends.{EndSays}
+use Rattle.pm_driver.specs.Ends.{EndSays, cell_read}
 use Rattle.pm_driver.specs.Lives.{Driven, IsLife, Leads}
 
 -- a driver: its host with its limits, and its bus
@@ -51,6 +53,12 @@ pub record HasLifeWithin (output : ℕ) (bounds : Bounds) (host : Summary) (held
   pub has : HasLife host held
   pub within : OwnWithin has.config has.passes has.events output bounds
 
+-- Some life led to them in which the converter didn't restart since the host's last good answer for this cell; where
+-- there was none, it never did.
+pub record HasNoRestartSince (cell : Cell) (host : Summary) (held : Held) : Type 0 where
+  pub has : HasLife host held
+  pub since : restarted_since has.config has.passes cell has.events ≡ false
+
 -- an output's limits let through nothing that these don't
 abbrev pub AreAsNarrow : Option Bounds → Bounds → Type 0
 AreAsNarrow None bounds = ⊥
@@ -66,13 +74,18 @@ pub record MayBegin (host : Summary) (held : Held) : Type 0 where
 -- What a call does that asks for a job. It is refused exactly where the host or its limits refuse the job, and then
 -- nothing changes. Otherwise the job is carried out: the driver leads to where it ended, no frame is left, and what
 -- the end is worth holds. Where all words of an output were within limits that its own are as narrow as, they still
--- are (`within`).
-pub record Runs {B : Type 0} (gives : B → Call → B → Type 0) (held : B → Held) (job : Job) (old : Driving B) (result : Result JobEnd LimitFault) (new : Driving B) : Type 0 where
+-- are (`within`). Of the cell that it ends with the reading of, the converter didn't restart since (`read`), and of
+-- each cell that it didn't restart since the reading of, it didn't still where the bus counted no restart (`stays`).
+pub record Runs {B : Type 0} (gives : B → Call → B → Type 0) (held : B → Held) (restarts : B → ℕ) (job : Job) (old : Driving B) (result : Result JobEnd LimitFault) (new : Driving B) : Type 0 where
   pub fault : result_err result ≡ guard_fault old.guard job
   pub leads : IfOk result (λ end. IsSomeAnd (accepted_job old.guard.host job)
-      (λ begun. Leads gives held (Began begun ∷ []) (Some end) (driven old) (driven new)))
+      (λ begun. Leads gives held restarts (Began begun ∷ []) (Some end) (driven old) (driven new)))
   pub says : IfOk result (λ end. IsSomeAnd (accepted_job old.guard.host job)
       (λ begun. EndSays begun new.guard.host (held new.bus) end))
+  pub read : IfOk result (λ end. IsSomeAnd (accepted_job old.guard.host job)
+      (λ begun. IfSome (cell_read begun end) (λ cell. HasNoRestartSince cell new.guard.host (held new.bus))))
+  pub stays : restarts new.bus ≡ restarts old.bus → (cell : Cell) →
+      HasNoRestartSince cell old.guard.host (held old.bus) → HasNoRestartSince cell new.guard.host (held new.bus)
   pub over : OnOk result (frames_left new.guard.host ≡ 0)
   pub err : OnErr result (new ≡ old)
   pub limits : new.guard.limits ≡ old.guard.limits
@@ -85,7 +98,8 @@ pub record Runs {B : Type 0} (gives : B → Call → B → Type 0) (held : B →
 -- calls confirmed and possible is true of the converter (`confirmed`, `possible`), it saw no restart that didn't
 -- happen (`seen`), each cell has a word of its own (`own`), each output commands the value of one of its own
 -- words (`commanded`), and the formats that the host learned are the converter's (`formats`). An output whose words all
--- lie within limits commands a voltage within them (`limited`).
+-- lie within limits commands a voltage within them (`limited`). Where the converter didn't restart since a cell was
+-- read, what the host calls confirmed of it is held (`stands`), and what is held is possible (`among`).
 pub record IsTrueOf (host : Summary) (held : Held) : Type 0 where
   pub has : HasLife host held
   pub confirmed : ConfirmedIsHeld has.config has.passes has.events (now has.config has.passes has.events)
@@ -97,6 +111,10 @@ pub record IsTrueOf (host : Summary) (held : Held) : Type 0 where
   pub limited : (output : ℕ) (bounds : Bounds) (lived : HasLifeWithin output bounds host held) →
       output < lived.has.config.count →
       IsWithin bounds (commanded (value_for held.config output) held.words output)
+  pub stands : (cell : Cell) (word : ℕ) → IsCell host.setup.outputs cell → HasNoRestartSince cell host held →
+      standing_at host cell ≡ Confirmed word → word_at held.words cell ≡ word
+  pub among : (cell : Cell) → IsCell host.setup.outputs cell → HasNoRestartSince cell host held →
+      is_possible (word_at held.words cell) (possible_at host cell) ≡ true
   pub commanded : (output : ℕ) → output < has.config.count →
       CommandsOwn has.config has.passes has.events output
       (commanded (value_for held.config output) held.words output)

@@ -1,5 +1,5 @@
 -- What the end of a job is worth at the moment when the call returns it: this project's own choice.
-use Rattle.std.specs.Prelude.{◌≡◌, ℕ, IsSomeAnd}
+use Rattle.std.specs.Prelude.{◌≡◌, ℕ, Option, Some, None, IsSomeAnd}
 use Rattle.pm_table.specs.declared.cell.Cell.{Cell}
 use Rattle.pm_model.specs.Settings.{word_at}
 use Rattle.pm_device.specs.Held.{Held, shape_for}
@@ -23,3 +23,10 @@ EndSays (Check cell) host held Done = (word : ℕ) × Stands host held cell word
 EndSays (Learn output) host held Learned =
     IsSomeAnd (format_at host output) (λ shape. shape ≡ shape_for held.config output)
 EndSays job host held end = Unit {0}
+
+-- the cell whose word an end tells, by the good answer with which the job ended
+abbrev pub cell_read : Job → JobEnd → Option Cell
+cell_read (Order cell word) Done = Some cell
+cell_read (Order cell word) (Differs read) = Some cell
+cell_read (Check cell) Done = Some cell
+cell_read job end = None

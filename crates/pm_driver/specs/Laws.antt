@@ -1,5 +1,5 @@
 -- The laws of a driver, over the definitions alone.
-use Rattle.std.specs.Prelude.{◌≡◌, ℕ, true, List, ◌++◌, Option, Some}
+use Rattle.std.specs.Prelude.{◌≡◌, ℕ, true, false, IfSome, List, ◌++◌, Option, Some}
 use Rattle.pm_limits.specs.Bounds.{Bounds}
 use Rattle.pm_device.specs.declared.config.Config.{Config}
 use Rattle.pm_device.specs.Held.{Held}
@@ -10,6 +10,8 @@ use Rattle.pm_host.specs.Refusals.{IsSetup}
 use Rattle.pm_host.specs.Summary.{start}
 use Rattle.pm_host.specs.Transcript.{Job, last_job}
 use Rattle.pm_world.specs.declared.event.Event.{Event}
+use Rattle.pm_table.specs.declared.cell.Cell.{Cell}
+use Rattle.pm_world.specs.Confirmed.{restarted_since}
 use Rattle.pm_world.specs.Honest.{IsSpelled}
 use Rattle.pm_world.specs.Laws.{ConfirmedSettingsAreHeld, LearnedFormatsAreTrue, LivesAreFollowed, LivesAreOrders, PossibleWordsAreHeld}
 use Rattle.pm_world.specs.Life.{life, now}
@@ -18,8 +20,8 @@ use Rattle.pm_world.specs.Limited.{StartsWithin}
 use Rattle.pm_world.specs.LimitLaws.{LivesStayLimited}
 use Rattle.pm_world.specs.Setup.{setup_of}
 use Rattle.pm_driver.specs.Acts.{Act, Call}
-use Rattle.pm_driver.specs.Driven.{HasLifeWithin, MayBegin}
-use Rattle.pm_driver.specs.Ends.{EndSays}
+use Rattle.pm_driver.specs.Driven.{HasLifeWithin, HasNoRestartSince, MayBegin}
+use Rattle.pm_driver.specs.Ends.{EndSays, cell_read}
 use Rattle.pm_driver.specs.Lives.{Driven, Leads, newest_tells}
 
 -- the laws of lives that a driver keeps its promises by
@@ -32,9 +34,21 @@ pub record LawsOfLives : Type 0 where
   pub limited : LivesStayLimited
 
 -- What leads on from where something led is one that leads from its beginning: calls compose.
-abbrev pub LeadsCompose : {B : Type 0} → (B → Call → B → Type 0) → (B → Held) → Type 0
-LeadsCompose {B = B} gives held = (first second : List Act) (middle end : Option JobEnd) (a b c : Driven B) →
-    Leads gives held first middle a b → Leads gives held second end b c → Leads gives held (second ++ first) end a c
+abbrev pub LeadsCompose : {B : Type 0} → (B → Call → B → Type 0) → (B → Held) → (B → ℕ) → Type 0
+LeadsCompose {B = B} gives held restarts = (first second : List Act) (middle end : Option JobEnd) (a b c : Driven B) →
+    Leads gives held restarts first middle a b → Leads gives held restarts second end b c → Leads gives held restarts (second ++ first) end a c
+
+-- Where something led and the bus counted no restart, the converter didn't restart since a cell was read of which it
+-- hadn't before.
+abbrev pub RestartsAreCounted : {B : Type 0} → (B → Call → B → Type 0) → (B → Held) → (B → ℕ) → Type 0
+RestartsAreCounted {B = B} gives held restarts = (acts : List Act) (end : Option JobEnd) (old new : Driven B) (cell : Cell) →
+    Leads gives held restarts acts end old new → restarts new.bus ≡ restarts old.bus →
+    HasNoRestartSince cell old.host (held old.bus) → HasNoRestartSince cell new.host (held new.bus)
+
+-- an end is worth what it says, and the converter didn't restart since the cell was read whose word it tells
+pub record EndIsTrue (config : Config) (passes : ℕ) (events : List Event) (job : Job) (end : JobEnd) : Type 0 where
+  pub says : EndSays job (now config passes events).host (now config passes events).device end
+  pub read : IfSome (cell_read job end) (λ cell. restarted_since config passes cell events ≡ false)
 
 -- In every life whose newest event is one that the host was told of, the end of the last job says what it is worth.
 abbrev pub EndsAreTrue : Type 0
@@ -42,13 +56,19 @@ EndsAreTrue = (config : Config) (passes : ℕ) (events : List Event) (job : Job)
     IsSpelled config → IsLived config passes events →
     newest_tells events ≡ true → last_job (life config passes events).entries ≡ Some job →
     (now config passes events).end ≡ Some end →
-    EndSays job (now config passes events).host (now config passes events).device end
+    EndIsTrue config passes events job end
 
 -- A new host may begin beside a converter as it was made.
 abbrev pub NewConvertersMayBegin : Type 0
 NewConvertersMayBegin = (config : Config) (passes : ℕ) →
     IsSound config → IsSpelled config → IsSetup (setup_of config passes) →
     MayBegin (start (setup_of config passes)) (history.start_of config)
+
+-- Beside one the converter didn't restart since a cell was read.
+abbrev pub NewConvertersHaveNoRestart : Type 0
+NewConvertersHaveNoRestart = (config : Config) (passes : ℕ) (cell : Cell) →
+    IsSound config → IsSpelled config → IsSetup (setup_of config passes) →
+    HasNoRestartSince cell (start (setup_of config passes)) (history.start_of config)
 
 -- Where the start words of an output's voltages lie within limits, all words of a converter as it was made do.
 abbrev pub NewConvertersAreWithin : Type 0

@@ -1,9 +1,11 @@
 -- What the crate promises.
 pub mod Bus
+pub mod Adapter
 pub mod Acts
 pub mod Lives
 pub mod Ends
 pub mod Driven
 pub mod Laws
+pub mod Undisturbed
 -- How it is kept.
 pub mod Steps

@@ -1,6 +1,6 @@
 -- What a driver's acts come to, over every life that may have led to where they began: this project's own choice.
 -- Lists are newest first.
-use Rattle.std.specs.Prelude.{◌≡◌, ℕ, Bool, true, false, List, [], ◌∷◌, ◌++◌, Option, Some, None}
+use Rattle.std.specs.Prelude.{◌≡◌, ◌+◌, ℕ, Bool, true, false, List, [], ◌∷◌, ◌++◌, Option, Some, None}
 use Rattle.pm_device.specs.declared.config.Config.{Config}
 use Rattle.pm_device.specs.Held.{Held}
 use Rattle.pm_host.specs.declared.job.Job.{Job}
@@ -12,6 +12,7 @@ use Rattle.pm_world.specs.Job.{asked_by}
 use Rattle.pm_world.specs.Life.{life, now}
 use Rattle.pm_world.specs.Lived.{IsLived}
 use Rattle.pm_world.specs.Uncertainty.{job_event}
+use Rattle.pm_driver.specs.Bus.{restarts_in}
 use Rattle.pm_driver.specs.Acts.{Act, Began, Call, AreCalls, AreDone, asked_in, host_by, told_all}
 
 -- a driver: what its host holds, and its bus
@@ -66,8 +67,8 @@ jobs_begun (act ∷ acts) = jobs_begun acts
 -- acts, with these jobs and restarts among them, whose calls lead from the one bus to the other, each of the frame
 -- that the host was sending, and what each answered is what the host was told. And there are further events by
 -- which every life that led to the old host and its converter leads to the new ones. A life's events that tell a
--- host something are those of the acts, and so are the jobs that they ask for (`orders`); the others are deliveries, restarts of the converter and readings.
-pub record Leads {B : Type 0} (gives : B → Call → B → Type 0) (held : B → Held) (asked : List Act) (end : Option JobEnd) (old new : Driven B) : Type 0 where
+-- host something are those of the acts, and so are the jobs that they ask for (`orders`); the others are deliveries, restarts of the converter and readings. The bus counts the restarts among them (`count`).
+pub record Leads {B : Type 0} (gives : B → Call → B → Type 0) (held : B → Held) (restarts : B → ℕ) (asked : List Act) (end : Option JobEnd) (old new : Driven B) : Type 0 where
   pub acts : List Act
   pub events : List Event
   pub asks : asked_in acts ≡ asked
@@ -75,6 +76,7 @@ pub record Leads {B : Type 0} (gives : B → Call → B → Type 0) (held : B �
   pub may : AreDone old.host acts
   pub host : host_by old.host acts ≡ new.host
   pub newest : EndsTold end events
+  pub count : restarts_in events + restarts old.bus ≡ restarts new.bus
   pub orders : jobs_asked events ≡ jobs_begun acts
   pub lives : (config : Config) (passes : ℕ) (before : List Event) →
       IsLife config passes before old.host (held old.bus) →

@@ -1,5 +1,5 @@
 -- What sending one frame comes to, for the loop that sends them all.
-use Rattle.std.specs.Prelude.{◌≡◌, true, [], ◌∷◌, Option, Some, None}
+use Rattle.std.specs.Prelude.{◌≡◌, ℕ, true, List, [], ◌∷◌, Option, Some, None, length}
 use Rattle.pm_device.specs.Held.{Held}
 use Rattle.pm_host.specs.declared.job_end.JobEnd.{JobEnd}
 use Rattle.pm_host.specs.declared.step.Step.{Step}
@@ -7,10 +7,13 @@ use Rattle.pm_host.specs.declared.step.Step.TheVariants.{Next}
 use Rattle.pm_host.specs.Refusals.{is_busy, job_fault}
 use Rattle.pm_host.specs.Summary.{Summary, next as host_next, step_of}
 use Rattle.pm_host.specs.Transcript.{Job, Accepted, Restarted}
+use Rattle.pm_device.specs.declared.config.Config.{Config}
+use Rattle.pm_world.specs.declared.event.Event.{Event}
+use Rattle.pm_world.specs.declared.event.Event.TheVariants.{Exchange, Finish}
 use Rattle.pm_world.specs.State.{end_by}
 use Rattle.pm_driver.specs.Acts.{Began, Call, Called, MayDo, Read, Renewed, Wrote, told_of}
 use Rattle.pm_driver.specs.Bus.{IsSent, IsAsked}
-use Rattle.pm_driver.specs.Lives.{Leads}
+use Rattle.pm_driver.specs.Lives.{Goes, IsLife, Leads}
 
 -- how the job ended with a step
 abbrev pub end_in : Option Step → Option JobEnd
@@ -23,25 +26,38 @@ StaysOpen (Some Next) host = is_busy host ≡ true
 StaysOpen step host = Unit {0}
 
 -- what the bus does to the converter by a call
-abbrev pub IsCalled : Call → Held → Held → Type 0
-IsCalled (Wrote frame acked) old new = IsSent frame old new
-IsCalled (Read request needed came) old new = IsAsked request needed old came new
+abbrev pub IsCalled : Call → Held → ℕ → Held → ℕ → Type 0
+IsCalled (Wrote frame acked) old was new is = IsSent frame old was new is
+IsCalled (Read request room came) old was new is = IsAsked request (length room) old was came new is
+
+-- the events of a call, by what the bus did
+abbrev pub events_by : (call : Call) (old : Held) (was : ℕ) (new : Held) (is : ℕ) → IsCalled call old was new is → List Event
+events_by (Wrote frame acked) old was new is called = Finish acked ∷ called.events
+events_by (Read request room came) old was new is called = Exchange called.arrival called.back ∷ called.before
+
+-- By a call of the frame that the host was sending a life goes on by just these events.
+abbrev pub CallsGo : Type 0
+CallsGo = (call : Call) (host : Summary) (old : Held) (was : ℕ) (new : Held) (is : ℕ) → MayDo host (Called call) →
+    (called : IsCalled call old was new is) → (config : Config) (passes : ℕ) (before : List Event) →
+    IsLife config passes before host old →
+    Goes config passes before (events_by call old was new is called) (Called call ∷ [])
+    (end_by (step_of host (told_of call))) (host_next host (told_of call)) new
 
 -- A call of the frame that the host was sending, whose answer the host is told, leads on.
-abbrev pub FramesLead : {B : Type 0} → (B → Call → B → Type 0) → (B → Held) → Type 0
-FramesLead {B = B} gives held = (call : Call) (host : Summary) (old new : B) →
-    MayDo host (Called call) → IsCalled call (held old) (held new) → gives old call new →
-    Leads gives held [] (end_by (step_of host (told_of call)))
+abbrev pub FramesLead : {B : Type 0} → (B → Call → B → Type 0) → (B → Held) → (B → ℕ) → Type 0
+FramesLead {B = B} gives held restarts = (call : Call) (host : Summary) (old new : B) →
+    MayDo host (Called call) → IsCalled call (held old) (restarts old) (held new) (restarts new) → gives old call new →
+    Leads gives held restarts [] (end_by (step_of host (told_of call)))
     (record { host = host; bus = old }) (record { host = host_next host (told_of call); bus = new })
 
 -- A restart of the host leads on.
-abbrev pub RenewalsLead : {B : Type 0} → (B → Call → B → Type 0) → (B → Held) → Type 0
-RenewalsLead {B = B} gives held = (host : Summary) (bus : B) →
-    Leads gives held (Renewed ∷ []) None
+abbrev pub RenewalsLead : {B : Type 0} → (B → Call → B → Type 0) → (B → Held) → (B → ℕ) → Type 0
+RenewalsLead {B = B} gives held restarts = (host : Summary) (bus : B) →
+    Leads gives held restarts (Renewed ∷ []) None
     (record { host = host; bus = bus }) (record { host = host_next host Restarted; bus = bus })
 
 -- A job that the host accepts leads on.
-abbrev pub JobsLead : {B : Type 0} → (B → Call → B → Type 0) → (B → Held) → Type 0
-JobsLead {B = B} gives held = (host : Summary) (bus : B) (job : Job) → job_fault host job ≡ None →
-    Leads gives held (Began job ∷ []) None
+abbrev pub JobsLead : {B : Type 0} → (B → Call → B → Type 0) → (B → Held) → (B → ℕ) → Type 0
+JobsLead {B = B} gives held restarts = (host : Summary) (bus : B) (job : Job) → job_fault host job ≡ None →
+    Leads gives held restarts (Began job ∷ []) None
     (record { host = host; bus = bus }) (record { host = host_next host (Accepted job); bus = bus })

@@ -8,6 +8,10 @@ pub trait Bus {
     /// What the converter holds.
     ghost held: { Self → Held };
 
+    /// How often the converter restarted: a count that rises in a call by exactly the restarts that happened in it, and
+    /// not at all between calls.
+    ghost restarts: { Self → ℕ };
+
     /// From this bus a call, with what it answers, leads to that one. An implementor says what it likes of its calls, and
     /// remembers none. The loop is proved for each bus, so it can have this of two buses by a call alone: it makes each
     /// call that its contract names, once, and no other.
@@ -18,7 +22,8 @@ pub trait Bus {
     /// The converter heard the packet any number of times, each time whole, cut or so damaged that its packet error
     /// code betrays it (`sent`).
     fn write(&mut self, packet: &[u8]) -> bool
-        ensures sent { IsSent packet.now (held self.old) (held self.new) }
+        ensures sent { IsSent packet.now (held self.old) (restarts self.old)
+            (held self.new) (restarts self.new) }
         ensures gives { gives self.old (Wrote packet.now result) self.new };
 
     /// Sends a request, a repeated start and the read address, and reads. How many bytes came, the
@@ -29,8 +34,7 @@ pub trait Bus {
     fn read(&mut self, request: &[u8], answer: &mut [u8]) -> usize
         requires { 1 ≤ length answer.old }
         ensures fits { result ≤ length answer.new }
-        ensures asked { IsAsked request.now (length answer.old) (held self.old)
-            (take result answer.new) (held self.new) }
-        ensures gives { gives self.old
-            (Asked request.now (length answer.old) (take result answer.new)) self.new };
+        ensures asked { IsAsked request.now (length answer.old) (held self.old) (restarts self.old)
+            (take result answer.new) (held self.new) (restarts self.new) }
+        ensures gives { gives self.old (Asked request.now answer.old (take result answer.new)) self.new };
 }

@@ -4,10 +4,11 @@ ghost use Rattle.pm_host.specs.declared.job.Job.TheVariants as asked;
 ghost use Rattle.pm_host.specs.declared.command.Command.TheVariants as command;
 ghost use Rattle.pm_host.specs.Frames.{frames_left};
 ghost use Rattle.pm_host.specs.Summary.{Summary};
+ghost use Rattle.pm_table.specs.declared.cell.Cell.{Cell as Place};
 ghost use Rattle.pm_limits.specs.Bounds.{Bounds};
 ghost use Rattle.pm_limits.specs.Guard.{narrow_fault, narrowed};
 ghost use Rattle.pm_driver.specs.Acts.{Renewed};
-ghost use Rattle.pm_driver.specs.Driven.{HasLifeWithin, IsTrueOf, MayBegin, Runs, driven};
+ghost use Rattle.pm_driver.specs.Driven.{HasLifeWithin, HasNoRestartSince, IsTrueOf, MayBegin, Runs, driven};
 ghost use Rattle.pm_driver.specs.Lives.{Leads};
 
 use crate::bus::Bus;
@@ -46,6 +47,8 @@ impl<B: Bus> Driver<B> {
         ensures bus { result.bus ≡ bus }
         ensures within { (was : Summary) (output : ℕ) (bounds : Bounds) → was.setup ≡ host.setup →
             HasLifeWithin output bounds was (B.held bus) → HasLifeWithin output bounds host (B.held bus) }
+        ensures since { (was : Summary) (cell : Place) → was.setup ≡ host.setup →
+            HasNoRestartSince cell was (B.held bus) → HasNoRestartSince cell host (B.held bus) }
     {
         Driver::guarded(Guard::over(host), bus)
     }
@@ -63,6 +66,8 @@ impl<B: Bus> Driver<B> {
         ensures bus { result.bus ≡ bus }
         ensures within { (was : Summary) (output : ℕ) (bounds : Bounds) → was.setup ≡ guard.host.setup →
             HasLifeWithin output bounds was (B.held bus) → HasLifeWithin output bounds guard.host (B.held bus) }
+        ensures since { (was : Summary) (cell : Place) → was.setup ≡ guard.host.setup →
+            HasNoRestartSince cell was (B.held bus) → HasNoRestartSince cell guard.host (B.held bus) }
     {
         // Hands its law to the prover.
         laws_of_lives();
@@ -72,7 +77,7 @@ impl<B: Bus> Driver<B> {
     /// Carries a job out. How it ended, or why the host or its limits refuse it, which changes nothing: the refusals are
     /// those of [`Guard::begin`], in its order.
     pub fn run(&mut self, job: Job) -> Result<JobEnd, LimitFault>
-        ensures { Runs B.gives B.held job self.old result self.new }
+        ensures { Runs B.gives B.held B.restarts job self.old result self.new }
     {
         // These calls hand their laws to the prover.
         ends_are_true();
@@ -89,14 +94,14 @@ impl<B: Bus> Driver<B> {
     /// Writes a word to a cell and reads it back, as [`Job::Order`] says. `Done`: the host calls the word confirmed,
     /// and the converter held it when it answered. `Differs`: the same of the word that was read.
     pub fn order(&mut self, cell: Cell, word: u16) -> Result<JobEnd, LimitFault>
-        ensures { Runs B.gives B.held (asked.Order cell word) self.old result self.new }
+        ensures { Runs B.gives B.held B.restarts (asked.Order cell word) self.old result self.new }
     {
         self.run(Job::Order(cell, word))
     }
 
     /// The same of a number of microvolts, as [`Job::OrderMicro`] says.
     pub fn order_micro(&mut self, cell: Cell, microvolts: i64) -> Result<JobEnd, LimitFault>
-        ensures { Runs B.gives B.held (asked.OrderMicro cell microvolts) self.old result self.new }
+        ensures { Runs B.gives B.held B.restarts (asked.OrderMicro cell microvolts) self.old result self.new }
     {
         self.run(Job::OrderMicro(cell, microvolts))
     }
@@ -104,42 +109,45 @@ impl<B: Bus> Driver<B> {
     /// Reads a cell, as [`Job::Check`] says. `Done`: the host calls a word confirmed, and the converter held it when
     /// it answered.
     pub fn check(&mut self, cell: Cell) -> Result<JobEnd, LimitFault>
-        ensures { Runs B.gives B.held (asked.Check cell) self.old result self.new }
+        ensures { Runs B.gives B.held B.restarts (asked.Check cell) self.old result self.new }
     {
         self.run(Job::Check(cell))
     }
 
     /// Reads the format of an output's voltages, as [`Job::Learn`] says. `Learned`: the host holds the converter's.
     pub fn learn(&mut self, output: u8) -> Result<JobEnd, LimitFault>
-        ensures { Runs B.gives B.held (asked.Learn output) self.old result self.new }
+        ensures { Runs B.gives B.held B.restarts (asked.Learn output) self.old result self.new }
     {
         self.run(Job::Learn(output))
     }
 
     /// Clears an output's latched faults, as [`Command::ClearFaults`] says.
     pub fn clear(&mut self, output: u8) -> Result<JobEnd, LimitFault>
-        ensures { Runs B.gives B.held (asked.Send (command.ClearFaults output)) self.old result self.new }
+        ensures { Runs B.gives B.held B.restarts (asked.Send (command.ClearFaults output)) self.old result self.new }
     {
         self.run(Job::Send(Command::ClearFaults { output }))
     }
 
     /// Has the outputs' settings stored, as [`Command::StoreUserAll`] says.
     pub fn store(&mut self) -> Result<JobEnd, LimitFault>
-        ensures { Runs B.gives B.held (asked.Send command.StoreUserAll) self.old result self.new }
+        ensures { Runs B.gives B.held B.restarts (asked.Send command.StoreUserAll) self.old result self.new }
     {
         self.run(Job::Send(Command::StoreUserAll))
     }
 
     /// Has the outputs' stored settings back, as [`Command::RestoreUserAll`] says.
     pub fn restore(&mut self) -> Result<JobEnd, LimitFault>
-        ensures { Runs B.gives B.held (asked.Send command.RestoreUserAll) self.old result self.new }
+        ensures { Runs B.gives B.held B.restarts (asked.Send command.RestoreUserAll) self.old result self.new }
     {
         self.run(Job::Send(Command::RestoreUserAll))
     }
 
     /// Restarts the host, as after a reset of the firmware: nothing is known of the converter then. The limits stay.
     pub fn restart(&mut self)
-        ensures leads { Leads B.gives B.held (Renewed ∷ []) None (driven self.old) (driven self.new) }
+        ensures leads { Leads B.gives B.held B.restarts (Renewed ∷ []) None (driven self.old) (driven self.new) }
+        ensures bus { self.new.bus ≡ self.old.bus }
+        ensures since { (cell : Place) → HasNoRestartSince cell self.old.guard.host (B.held self.old.bus) →
+            HasNoRestartSince cell self.new.guard.host (B.held self.new.bus) }
         ensures over { frames_left self.new.guard.host ≡ 0 }
         ensures limits { self.new.guard.limits ≡ self.old.guard.limits }
         ensures kept { self.new.guard.host.setup ≡ self.old.guard.host.setup }

@@ -17,7 +17,7 @@ use pm_limits::Guard;
 /// Each frame is sent by one call of the bus, and what that answered is what the host is told (`leads`). No frame
 /// is left then (`over`), the limits stay, and the host stays that of its converter (`kept`).
 pub fn carry_out<B: Bus>(guard: &mut Guard, bus: &mut B) -> Option<JobEnd>
-    ensures leads { Leads B.gives B.held [] result
+    ensures leads { Leads B.gives B.held B.restarts [] result
         (record { host = guard.old.host; bus = bus.old }) (record { host = guard.new.host; bus = bus.new }) }
     ensures some { is_some result ≡ is_busy guard.old.host }
     ensures over { frames_left guard.new.host ≡ 0 }
@@ -37,7 +37,7 @@ pub fn carry_out<B: Bus>(guard: &mut Guard, bus: &mut B) -> Option<JobEnd>
 
 // Sends one frame, and tells the host what came of it; `None` where no job is open.
 fn send<B: Bus>(guard: &mut Guard, bus: &mut B) -> Option<Step>
-    ensures leads { Leads B.gives B.held [] (end_in result)
+    ensures leads { Leads B.gives B.held B.restarts [] (end_in result)
         (record { host = guard.old.host; bus = bus.old }) (record { host = guard.new.host; bus = bus.new }) }
     ensures some { is_some result ≡ is_busy guard.old.host }
     ensures open { StaysOpen result guard.new.host }

@@ -1,14 +1,17 @@
 //! The laws of a driver: each is the contract of a function that does nothing when it runs.
 
-ghost use Rattle.pm_driver.specs.Laws.{EndsAreTrue, LawsOfLives, LeadsCompose, NewConvertersAreWithin, NewConvertersMayBegin};
-ghost use Rattle.pm_driver.specs.Steps.{FramesLead, JobsLead, RenewalsLead};
+ghost use Rattle.pm_driver.specs.Laws.{EndsAreTrue, LeadsCompose, NewConvertersAreWithin, NewConvertersHaveNoRestart, NewConvertersMayBegin};
+ghost use Rattle.pm_driver.specs.Laws.{LawsOfLives, RestartsAreCounted};
+ghost use Rattle.pm_driver.specs.Steps.{CallsGo, FramesLead, JobsLead, RenewalsLead};
+ghost use Rattle.pm_driver.specs.Undisturbed.{JobsRestartNothing, UndisturbedOrdersAreDone, WholeFramesAreLegal};
 
 use crate::bus::Bus;
 use pm_host::transcripts_are_followed;
 use pm_table::cells_are_told_apart;
 use pm_world::{
-    confirmed_settings_are_held, learned_formats_are_true, lives_are_followed, lives_are_orders,
-    lives_stay_limited, possible_words_are_held,
+    confirmed_settings_are_held, good_frames_end_jobs, learned_formats_are_true,
+    lives_are_followed, lives_are_orders, lives_stay_limited, possible_words_are_held,
+    whole_frames_are_undisturbed,
 };
 
 /// What `pm_world` says of each life, which the laws below are had from.
@@ -25,7 +28,12 @@ pub(crate) fn laws_of_lives()
 
 /// What leads on from where something led is one that leads from its beginning: calls compose.
 pub fn leads_compose<B: Bus>()
-    ensures { LeadsCompose B.gives B.held }
+    ensures { LeadsCompose B.gives B.held B.restarts }
+{}
+
+/// While the bus counts no restart, a cell since whose reading the converter didn't restart stays one.
+pub fn restarts_are_counted<B: Bus>()
+    ensures { RestartsAreCounted B.gives B.held B.restarts }
 {}
 
 /// In every life whose newest event is one that the host was told of, the end of the last job says what it is worth:
@@ -46,6 +54,13 @@ pub fn new_converters_may_begin()
     laws_of_lives();
 }
 
+/// Beside a new host a converter as it was made never restarted, so it didn't since any cell was read.
+pub fn new_converters_have_no_restart()
+    ensures { NewConvertersHaveNoRestart }
+{
+    laws_of_lives();
+}
+
 /// Where the start words of an output's voltages lie within limits, all words of a converter as it was made do.
 pub fn new_converters_are_within()
     ensures { NewConvertersAreWithin }
@@ -53,23 +68,50 @@ pub fn new_converters_are_within()
     laws_of_lives();
 }
 
+/// Frames that come whole are legal: what a bus that disturbs nothing does meets its contract.
+pub fn whole_frames_are_legal()
+    ensures { WholeFramesAreLegal }
+{}
+
+/// Over a bus whose calls nothing disturbs, an order that WRITE_PROTECT allows is done, and the converter holds its word.
+pub fn undisturbed_orders_are_done<B: Bus>()
+    ensures { UndisturbedOrdersAreDone B.gives B.held B.restarts }
+{
+    laws_of_lives();
+    good_frames_end_jobs();
+    whole_frames_are_undisturbed();
+    calls_go();
+}
+
+/// Over a bus whose calls restart nothing, what the host confirms of a cell that was read is held: no job ends that.
+pub fn jobs_restart_nothing<B: Bus>()
+    ensures { JobsRestartNothing B.gives B.held B.restarts }
+{}
+
+/// By a call of the frame that the host was sending a life goes on by just the events that the bus's clause names.
+pub(crate) fn calls_go()
+    ensures { CallsGo }
+{
+    laws_of_lives();
+}
+
 /// A call of the frame that the host was sending, whose answer the host is told, leads on.
 pub(crate) fn frames_lead<B: Bus>()
-    ensures { FramesLead B.gives B.held }
+    ensures { FramesLead B.gives B.held B.restarts }
 {
     laws_of_lives();
 }
 
 /// A job that the host accepts leads on.
 pub(crate) fn jobs_lead<B: Bus>()
-    ensures { JobsLead B.gives B.held }
+    ensures { JobsLead B.gives B.held B.restarts }
 {
     laws_of_lives();
 }
 
 /// A restart of the host leads on.
 pub(crate) fn renewals_lead<B: Bus>()
-    ensures { RenewalsLead B.gives B.held }
+    ensures { RenewalsLead B.gives B.held B.restarts }
 {
     laws_of_lives();
 }

@@ -8,6 +8,12 @@
 //! and the converter before leads to those after; so what holds of lives holds of a caller's own loop, with no list
 //! of events.
 //!
+//! An [`Adapter`] is what lies below a bus that knows more than whether a frame was acknowledged: it says which frames the
+//! converter heard nothing of, so that a bus over it may send these again.
+//!
+//! The bus counts the converter's restarts, and each call of a driver hands out how many there were: while there are
+//! none, what the host calls confirmed is held ([`restarts_are_counted`], [`Driver::laws`]).
+//!
 //! It has no bus of its own, no clock and no memory: a bus decides how long it waits, and whether it tries a write
 //! again. There is one host and one converter; a second master on the bus is no part of it.
 //!
@@ -20,12 +26,18 @@
 //! ```
 #![tactic(auto)]
 
+mod adapter;
 mod bus;
 mod driver;
 mod frames;
 mod laws;
 
+pub use adapter::{Adapter, ReadEnd, WriteEnd};
 pub use bus::Bus;
 pub use driver::Driver;
 pub use frames::carry_out;
-pub use laws::{ends_are_true, leads_compose, new_converters_are_within, new_converters_may_begin};
+pub use laws::{
+    ends_are_true, jobs_restart_nothing, leads_compose, new_converters_are_within,
+    new_converters_have_no_restart, new_converters_may_begin, restarts_are_counted,
+    undisturbed_orders_are_done, whole_frames_are_legal,
+};

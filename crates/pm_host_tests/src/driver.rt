@@ -19,6 +19,7 @@ static SWITCH: Cell = Cell::Out(0, Reg::Operation);
 fn whole() -> Fault {
     Fault {
         restarts: false,
+        unheard: false,
         heard: Some(Arrival::Whole),
         repeated: None,
         acked: true,
@@ -185,7 +186,7 @@ fn limits_refuse_before_a_frame_is_sent(rt: HostRuntime) {
                 &Err(LimitFault::NotKnownWithin),
                 &6,
             );
-            equal(&rt, &driver.bus().plan.len(), &4, &7);
+            equal(&rt, &driver.bus().next, &1, &7);
             equal(&rt, &driver.order(FIRST, 0x34CD), &Ok(JobEnd::Done), &8);
             equal(&rt, &held(&driver.bus().device), &0x34CD, &8);
             equal(
@@ -230,6 +231,7 @@ fn buses_of_other_kinds_carry_a_job_out(rt: HostRuntime) {
                 bus: SimulatedBus {
                     device,
                     plan: &plan,
+                    next: 0,
                 },
             };
             let end = Some((Some(JobEnd::Done), Standing::Confirmed(0x34CD)));
@@ -251,9 +253,10 @@ fn an_idle_host_sends_nothing(rt: HostRuntime) {
             let mut bus = SimulatedBus {
                 device,
                 plan: &plan,
+                next: 0,
             };
             equal(&rt, &carry_out(&mut guard, &mut bus), &None, &1);
-            equal(&rt, &bus.plan.len(), &1, &2);
+            equal(&rt, &bus.next, &0, &2);
         }
         _ => panic!(rt; "refused"),
     }

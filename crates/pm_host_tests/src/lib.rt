@@ -3,6 +3,8 @@
 #![tactic(auto)]
 
 #[cfg(test)]
+mod buses;
+#[cfg(test)]
 mod checks;
 #[cfg(test)]
 mod driver;

@@ -1,6 +1,6 @@
 use Rattle.std.proofs.Common.{drop, length, sym, ◌∙◌, ap, subst}
 use Rattle.pm_world.specs.Legal.{answer_in}
-use Rattle.pm_driver.specs.Bus.{IsAsked}
+use Rattle.pm_buses.specs.Disturbed.{IsAskedPart}
 use Rattle.pm_buses.proofs.Heard.{Hears, came-back, lost-back, put-in}
 use Rattle.pm_buses.proofs.converter_end.ask.Goals as goal
 
@@ -33,6 +33,6 @@ returns-clause-asked c =
     (length c.args.answer.now) c.args.device.now
     c.hear-reply.new.self hears c.back_bytes-came.ensures c.is_heard_whole-whole.ensures
     (sym c.is_legal_return.ensures ∙ c.if-not-is_legal_return.false) in
-    subst (λ bytes. IsAsked c.args.request.now (length c.args.answer.now) c.args.device.now bytes c.hear-reply.new.self)
+    subst (λ bytes. IsAskedPart c.args.request.now (length c.args.answer.now) c.args.device.now bytes c.hear-reply.new.self)
     (sym (put-in c.back_bytes-came.result.now c.copy_from_slice.new.self (drop (length c.back_bytes-came.result.now) c.args.answer.now)
     c.copy_from_slice.ensures.after)) back

@@ -2,8 +2,8 @@ use Rattle.std.proofs.Common.{sym, ◌∙◌}
 use Rattle.pm_buses.proofs.Heard.{delivered}
 use Rattle.pm_buses.proofs.converter_end.deliver.Goals as goal
 
-pub returns-then-is_legal_hearing : goal.returns-then-is_legal_hearing
-returns-then-is_legal_hearing c =
+pub returns-then-is_legal_hearing-clause-is : goal.returns-then-is_legal_hearing-clause-is
+returns-then-is_legal_hearing-clause-is c =
     delivered c.args.packet.now c.heard_bytes-bytes.result.now c.heard_ending-ending.result c.args.arrival.now c.args.device.now
     c.hear.new.self
     c.heard_bytes-bytes.ensures c.heard_ending-ending.ensures

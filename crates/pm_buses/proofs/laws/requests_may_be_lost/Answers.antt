@@ -15,4 +15,4 @@ unfolding next after verdict_of write_fault opening_fault address_fault
 unchanged held = refl
 
 pub returns : goal.returns
-returns c = λ request needed held some. lost-asked request needed held held some (unchanged held)
+returns c = λ request needed held n some. lost-asked request needed held held some (unchanged held) n

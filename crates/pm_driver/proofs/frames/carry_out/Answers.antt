@@ -4,7 +4,7 @@ use Rattle.pm_driver.proofs.frames.carry_out.Goals as goal
 
 pub frames-init : goal.frames-init
 frames-init g c = record {
-  leads = leads-nothing g.B.Bus.gives g.B.Bus.held (record { host = c.args.guard.now.host; bus = c.args.bus.now });
+  leads = leads-nothing g.B.Bus.gives g.B.Bus.held g.B.Bus.restarts (record { host = c.args.guard.now.host; bus = c.args.bus.now });
   some = refl;
   limits = refl;
   kept = refl;

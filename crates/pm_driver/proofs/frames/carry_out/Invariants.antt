@@ -6,7 +6,7 @@ use Rattle.pm_driver.proofs.frames.carry_out.Given as goal
 
 abbrev pub invariant-frames : goal.invariant-frames
 invariant-frames g l = record {
-  leads : Leads g.B.Bus.gives g.B.Bus.held [] None (record { host = l.fn.guard.host; bus = l.fn.bus })
+  leads : Leads g.B.Bus.gives g.B.Bus.held g.B.Bus.restarts [] None (record { host = l.fn.guard.host; bus = l.fn.bus })
       (record { host = l.guard.host; bus = l.bus });
   some : is_busy l.guard.host ≡ is_busy l.fn.guard.host;
   limits : l.guard.limits ≡ l.fn.guard.limits;

@@ -2,4 +2,4 @@ use Rattle.pm_driver.proofs.Composed.{leads-compose}
 use Rattle.pm_driver.proofs.laws.leads_compose.Goals as goal
 
 pub returns : goal.returns
-returns g c = leads-compose g.B.Bus.gives g.B.Bus.held
+returns g c = leads-compose g.B.Bus.gives g.B.Bus.held g.B.Bus.restarts

@@ -1,4 +1,5 @@
 use Rattle.pm_driver.proofs.BegunJobs.{begins-lived}
+use Rattle.pm_driver.proofs.NoRestarts.{begins-since}
 use Rattle.pm_driver.proofs.WithinLimits.{begins-within}
 use Rattle.pm_driver.proofs.driver.Driver.guarded.Goals as goal
 
@@ -9,3 +10,7 @@ invariant_of-result g c =
 pub returns-clause-within : goal.returns-clause-within
 returns-clause-within g c = λ was output bounds same lived.
     begins-within c.laws_of_lives.ensures was c.args.guard.host (g.B.Bus.held c.args.bus) c.requires same output bounds lived
+
+pub returns-clause-since : goal.returns-clause-since
+returns-clause-since g c = λ was cell same is.
+    begins-since c.laws_of_lives.ensures was c.args.guard.host (g.B.Bus.held c.args.bus) c.requires same cell is

@@ -1,0 +1,5 @@
+use Rattle.pm_driver.proofs.NoRestarts.{leads-since}
+use Rattle.pm_driver.proofs.laws.restarts_are_counted.Goals as goal
+
+pub returns : goal.returns
+returns g c = leads-since g.B.Bus.gives g.B.Bus.held g.B.Bus.restarts
