@@ -10,12 +10,14 @@ import re
 import sys
 from types import ModuleType
 
-from . import streams
+from . import capture, desk, pictures, streams
 from .call import Call, complain
 from .parser import BadCall, Parser, bus_options
 
 # The modules of the commands, in the order of the help.
-MODULES: list[ModuleType] = []
+MODULES: list[ModuleType] = [desk, capture, pictures]
+# The commands that have jobs of their own, between which a + stands: the call has no other command.
+OWN_JOBS = ("desk",)
 
 ABOUT = "Supply voltages over PMBus, by a proved host. Several commands stand in one call with a + between them."
 BAD_CALL, INTERRUPTED = 2, 130
@@ -33,6 +35,8 @@ def parser() -> Parser:
 
 def parts_of(words: list[str]) -> list[list[str]]:
     """The words of each command: + stands between them. A word that begins like a negative number is no option."""
+    if words[:1] and words[0] in OWN_JOBS:
+        return [words]
     parts: list[list[str]] = [[]]
     for word in words:
         if word == "+":

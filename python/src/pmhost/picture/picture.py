@@ -1,37 +1,19 @@
-#!/usr/bin/env python3
-"""Draws a scenario's run as a picture (SVG), a row for each event: what each output commands, between its limits, what
-the host believes of the registers that the events name, jobs with their ends, status where it isn't 0, and what came of
-each event on the bus.
-
-    scripts/picture.py SCENARIO [--limit=O:LEAST:MOST ..] > picture.svg
-
---limit draws the limits of output O's rail, in whole microvolts, as pmbhost takes them; the events are those of the
-text, and none is refused by them. A shade shows between which voltages the host knows an output to be, once it has learned
-the output's format.
-
-Voltages, words, status, jobs and beliefs are the reports of the built program, or of the one that the environment
-variable PMB names: it runs the text up to each event, a text of version 1 in the form of version 2. What came of an
-event on the bus, which limit cuts, which confirmed words are in doubt since a restart was seen, the shade, and how many
-volts a word is are found by the plain model of scripts/plain. A refused text has status 1.
+"""A scenario's run as a picture (SVG), a row for each event: what each output commands, between its limits, what the host
+believes of the registers that the events name, jobs with their ends, status where it isn't 0, and what came of each event on
+the bus. A shade shows between which voltages the host knows an output to be, once it has learned the output's format.
 """
-import os
-import sys
+from __future__ import annotations
+
 from html import escape
 
-sys.dont_write_bytecode = True
-
-import bus_arguments  # noqa: E402
-import program  # noqa: E402
-from drawing import (  # noqa: E402
-    EDGES, FAULT, GOOD, INK, LIMIT, LINE, MARKS, MONO, PALE, PANEL, RAIL, RESTART, box, first_that_fits, line, path,
-    symbol, text, width_of,
-)
-from lane import INSIDE, OUTSIDE, SHADE, Lane  # noqa: E402
-from lived import Refused  # noqa: E402
-from refusals import in_words  # noqa: E402
-from seen import Seen  # noqa: E402
-from standard_streams import write_all  # noqa: E402
-from told import NAMES, bits_in  # noqa: E402
+from ..scenario import Cell
+from ..status import BITS, names_of
+from .drawing import (EDGES, FAULT, GOOD, INK, LIMIT, LINE, MARKS, MONO, PALE, PANEL, RAIL, RESTART, box, first_that_fits, line,
+                      path, symbol, text, width_of)
+from .lane import INSIDE, OUTSIDE, SHADE, Lane
+from .life import Belief, State
+from .seen import Job, Row, Seen
+from .told import digits_of
 
 ROW, HEADS, EDGE, GAP, PITCH = 28, 84, 18, 20, 15
 PAGE, MOST_PAGE = 20, 25
@@ -53,7 +35,7 @@ ENDS = {"done": (GOOD, "#ffffff"), "learned": (GOOD, "#ffffff"), "differs": (FAU
 MOST_LABEL = 44
 
 
-def shortened(label):
+def shortened(label: str) -> str:
     return label if len(label) <= MOST_LABEL else label[:24] + ".." + label[26 - MOST_LABEL:]
 
 
@@ -62,8 +44,9 @@ class Pages:
 
     row = ROW
 
-    def __init__(self, count, top):
-        self.parts, self.tops = [], []
+    def __init__(self, count: int, top: float) -> None:
+        self.parts: list[tuple[int, int]] = []
+        self.tops: list[float] = []
         while len(self.tops) < count:
             left = count - len(self.tops)
             first, rows = len(self.tops), left if left <= MOST_PAGE else PAGE
@@ -72,16 +55,19 @@ class Pages:
             self.parts.append((first, first + rows))
             top = self.bottom = self.tops[-1] + ROW
 
-    def __call__(self, place):
+    def __call__(self, place: int) -> float:
         return self.tops[place]
 
 
 class Picture:
-    def __init__(self, seen, name, rails=None):
-        self.seen, self.name, self.parts, self.entries = seen, name, [], None
-        self.rails = rails or {}
+    """Of what is seen of a run, with a name above it. `rails` are limits of rails to be drawn, in microvolts by output."""
+
+    def __init__(self, seen: Seen, name: str, rails: dict[int, tuple[int, int]] | None = None) -> None:
+        self.seen, self.name, self.rails = seen, name, rails or {}
+        self.parts: list[str] = []
+        self.entries: list[tuple[str | None, str, str]] = []
         rows = seen.rows
-        self.numbers_at = EDGE + 8 + max(width_of(str(row.number), 12) for row in rows[-2:])
+        self.numbers_at = EDGE + 8 + max(width_of(row.number, 12) for row in rows[-2:])
         self.labels_at = self.numbers_at + 10
         self.marks_at = self.labels_at + max(width_of(shortened(row.label), 12, True) for row in rows) + GAP
         marks = max(width_of(row.mark[1], 12) for row in rows)
@@ -92,38 +78,40 @@ class Picture:
 
     # Where everything stands.
 
-    def place_columns(self):
+    def place_columns(self) -> None:
         """Where each output's voltage and status and each register's belief begin."""
-        self.lanes, self.beliefs_at, self.status_at, x = {}, {}, {}, self.lanes_at
-        for output in (None, *self.seen.model.outputs):
+        self.lanes: dict[int, tuple[float, Lane]] = {}
+        self.beliefs_at: dict[Cell, float] = {}
+        self.status_at: dict[int | None, tuple[float, float]] = {}
+        x = self.lanes_at
+        for output in (None, *self.seen.outputs):
             start = x
             if output is not None:
                 self.lanes[output] = x, Lane(output, self.seen, self.rails.get(output))
                 x += self.lanes[output][1].width + 8
-            for register in (it for it in self.seen.model.registers if it[0] == output):
+            for register in (it for it in self.seen.registers if it.output == output):
                 self.beliefs_at[register] = x
                 x += BELIEF + 8
-            if any(is_shown(row.report, output) for row in self.seen.rows):
+            if any(is_shown(row.state, output) for row in self.seen.rows):
                 self.status_at[output] = x, self.width_of_status(output)
                 x += self.status_at[output][1] + 8
             x += GAP - 8 if x > start else 0
         self.width = max(x - GAP + EDGE, 700)
 
-    def width_of_status(self, output):
-        said = {word for row in self.seen.rows for word in status_of(row.report, output)[1].split()}
+    def width_of_status(self, output: int | None) -> float:
+        said = {word for row in self.seen.rows for word in status_of(row.state, output)[1].split()}
         return max(110, *(width_of(word, 11) + 12 for word in said))
 
     # The beliefs and the status.
 
-    def words_of(self, register, belief):
+    def words_of(self, register: Cell, belief: Belief) -> list[str]:
         """What a bar may say, the longest first."""
-        kind, words = belief
+        kind, words = belief.kind, belief.words
         if kind == "any":
             return ["any word"]
-        volts = [self.seen.model.words.volts(register, word) for word in words]
-        named = [f"{joined([it.removesuffix(' V') for it in volts])} V"] if None not in volts else []
-        if len(set(volts)) != len(words) or any(it.endswith("uV") for it in volts if it):
-            named = []
+        volts = [it for it in (self.seen.words.volts(register, word) for word in words) if it]
+        is_whole = len(set(volts)) == len(words) and not any(it.endswith("uV") for it in volts)
+        named = [f"{joined([it.removesuffix(' V') for it in volts])} V"] if is_whole else []
         named.append(joined(hexadecimal(register, words)))
         if kind == "confirmed":
             return [f"confirmed {it}" for it in named] + named
@@ -131,19 +119,20 @@ class Picture:
             return [f"{it}, in doubt" for it in named] + [f"{it} ?" for it in named]
         return ([f"only {it}" for it in named] if len(words) == 1 else named) + [f"{len(words)} words"]
 
-    def bars(self, register, first, end):
+    def bars(self, register: Cell, first: int, end: int) -> list[tuple[int, int, Belief, bool]]:
         """The runs of rows of a page that say the same: the first, the one after the last, the belief, and whether the
         converter's word isn't among its words."""
-        found = []
+        found: list[tuple[int, int, Belief, bool]] = []
         for place in range(first, end):
-            row = self.seen.rows[place]
-            belief, held = row.beliefs[register], int(row.report.words[register], 16)
-            told = belief, belief[0] != "any" and held not in belief[1]
+            state = self.seen.rows[place].state
+            belief = state.beliefs[register]
+            told = belief, belief.kind != "any" and state.words[register] not in belief.words
             start = found.pop()[0] if found and found[-1][2:] == told else place
             found.append((start, place + 1, *told))
         return found
 
-    def draw_bar(self, x, first, end, wide, look, title, choices, size=12):
+    def draw_bar(self, x: float, first: int, end: int, wide: float, look: tuple[str, str, str], title: str, choices: list[str],
+                 size: int = 12) -> None:
         """A bar over rows, and as many lines of words as it has room for."""
         fill, edge, ink = look
         top, high = self.tops(first) + 2, ROW * (end - first) - 4
@@ -151,20 +140,20 @@ class Picture:
         for place, said in enumerate(first_that_fits(choices, wide - 10, size, int(high - 4) // PITCH)):
             self.parts.append(text(x + wide / 2, top + 16 + PITCH * place, said, size, ink, anchor="middle"))
 
-    def draw_beliefs(self, register, first, end):
+    def draw_beliefs(self, register: Cell, first: int, end: int) -> None:
         for start, stop, belief, is_false in self.bars(register, first, end):
-            fill, ink, _ = BELIEFS[belief[0]]
-            title = f"{belief[0]} {', '.join(hexadecimal(register, belief[1]))}"
-            look = fill, edge_of(belief[0], is_false), ink
+            fill, ink, _ = BELIEFS[belief.kind]
+            title = f"{belief.kind} {', '.join(hexadecimal(register, belief.words))}"
+            look = fill, edge_of(belief.kind, is_false), ink
             self.draw_bar(self.beliefs_at[register], start, stop, BELIEF, look, title, self.words_of(register, belief))
 
-    def draw_status(self, output, first, end):
+    def draw_status(self, output: int | None, first: int, end: int) -> None:
         x, wide = self.status_at[output]
         start = first
         for place in range(first + 1, end + 1):
-            told = status_of(self.seen.rows[start].report, output)
-            if place == end or status_of(self.seen.rows[place].report, output) != told:
-                fill, edge, ink = STATUS[is_shown(self.seen.rows[start].report, output)]
+            told = status_of(self.seen.rows[start].state, output)
+            if place == end or status_of(self.seen.rows[place].state, output) != told:
+                fill, edge, ink = STATUS[is_shown(self.seen.rows[start].state, output)]
                 choices = [told[1], told[0]]
                 look = fill, f' stroke="{edge}"', ink
                 self.draw_bar(x, start, place, wide, look, f"status {told[1]}", choices, 11)
@@ -172,7 +161,7 @@ class Picture:
 
     # The jobs.
 
-    def draw_job(self, job, first, end):
+    def draw_job(self, job: Job, first: int, end: int) -> None:
         """A band over the job's rows of a page, a line beside them, and its end."""
         start, stop = max(job.first, first), min(job.last + 1, end)
         top, bottom, x = self.tops(start), self.tops(stop - 1) + ROW, self.jobs_at + 5
@@ -189,7 +178,7 @@ class Picture:
         if is_over:
             self.draw_end(job, x + 10, bottom - ROW)
 
-    def draw_end(self, job, x, top):
+    def draw_end(self, job: Job, x: float, top: float) -> None:
         words = end_in_words(job)
         if not job.end:
             self.parts.append(text(x, top + 18, words, 12, PALE))
@@ -200,26 +189,26 @@ class Picture:
 
     # The rest.
 
-    def draw_heads(self, first):
+    def draw_heads(self, first: int) -> None:
         y = self.tops(first)
         for x, words in ((EDGE, "line"), (self.jobs_at, "job")):
             self.parts.append(text(x, y - 8, words, 12, PALE))
         for x, lane in self.lanes.values():
             self.parts += lane.heads(x, y, first)
         for register, x in self.beliefs_at.items():
-            self.parts.append(text(x, y - 8, register[1], 11, PALE))
+            self.parts.append(text(x, y - 8, register.register, 11, PALE))
         for output, (x, _) in self.status_at.items():
             self.parts.append(text(x, y - 8, "STATUS_CML" if output is None else "STATUS_WORD", 11, PALE))
 
-    def draw_row(self, place, row):
+    def draw_row(self, place: int, row: Row) -> None:
         top, colour = self.tops(place), MARKS[row.mark[0]]
         self.parts.append(line(EDGE, top, self.width - EDGE, top, "#dcdfe3"))
-        self.parts.append(text(self.numbers_at, top + 18, str(row.number), fill=PALE, anchor="end"))
+        self.parts.append(text(self.numbers_at, top + 18, row.number, fill=PALE, anchor="end"))
         self.parts.append(text(self.labels_at, top + 18, shortened(row.label), family=MONO))
         self.parts.append(symbol(row.mark[0], self.marks_at + 9, top + ROW / 2))
         self.parts.append(text(self.marks_at + MARK, top + 18, row.mark[1], fill=colour))
 
-    def draw_page(self, first, end):
+    def draw_page(self, first: int, end: int) -> None:
         self.draw_heads(first)
         for job in self.seen.jobs:
             if job.first < end and first <= job.last:
@@ -238,15 +227,16 @@ class Picture:
                 top = self.tops(place)
                 self.parts.append(line(EDGE, top, self.width - EDGE, top, RESTART, 1.6, ' stroke-dasharray="6 4"'))
 
-    def legend(self):
+    def legend(self) -> list[tuple[str | None, str, str]]:
         """What colours mean, and what isn't drawn."""
         rows = self.seen.rows
-        kinds = {belief[0] for row in rows for belief in row.beliefs.values()}
-        entries = [(it[0], edge_of(kind, False), it[2]) for kind, it in BELIEFS.items() if kind in kinds]
+        kinds = {row.state.beliefs[register].kind for row in rows for register in self.seen.registers}
+        entries: list[tuple[str | None, str, str]] = [
+            (it[0], edge_of(kind, False), it[2]) for kind, it in BELIEFS.items() if kind in kinds]
         if any(bar[3] for register in self.beliefs_at for bar in self.bars(register, 0, len(rows))):
             entries.append(("none", edge_of("", True), "false since a restart"))
         entries += [(INSIDE, f' stroke="{LIMIT}"', "between the limits"), (OUTSIDE, "", "outside of them")]
-        if any(band for row in rows for band in row.bands.values()):
+        if any(band for row in rows for band in row.state.bands.values()):
             entries.append((LINE, SHADE, "where the host knows the voltage to be"))
         if self.rails:
             entries.append(("none", f' stroke="{RAIL}" stroke-width="1.6" stroke-dasharray="2 3"', "limits of the rail"))
@@ -255,13 +245,13 @@ class Picture:
         zero = [] if None in self.status_at else ["STATUS_CML stays 00"]
         if not self.status_at.keys() - {None}:
             zero.append("STATUS_VOUT stays 00")
-        elif self.status_at.keys() - {None} != {*self.seen.model.outputs}:
+        elif self.status_at.keys() - {None} != {*self.seen.outputs}:
             zero.append("of outputs with no STATUS_WORD here STATUS_VOUT stays 00")
         return [*entries, (None, "", "of other registers the host knows nothing"), *((None, "", it) for it in zero)]
 
-    def draw_legend(self, y):
+    def draw_legend(self, y: float) -> float:
         """The legend, as many to a line as fit; where it ends."""
-        x = EDGE
+        x: float = EDGE
         self.entries = self.entries or self.legend()
         for fill, edge, words in self.entries:
             wide = (34 if fill else 0) + width_of(words, 12) + GAP
@@ -273,7 +263,8 @@ class Picture:
             x += wide
         return y + 22
 
-    def svg(self):
+    def svg(self) -> str:
+        """The picture's text."""
         self.parts.append(text(EDGE, 30, self.name, 16, extra=' font-weight="bold"'))
         is_long = len(self.seen.rows) > MOST_PAGE
         self.tops = Pages(len(self.seen.rows), self.draw_legend(62) if is_long else 30)
@@ -290,23 +281,22 @@ class Picture:
         return "\n".join([head, *filter(None, self.parts), "</svg>"]) + "\n"
 
 
-def hatch():
+def hatch() -> str:
     ground, stripe = STRIPES
     return ('<defs><pattern id="doubt" width="10" height="10" patternUnits="userSpaceOnUse"'
             f' patternTransform="rotate(45)"><rect width="10" height="10" fill="{ground}"/>'
             f'<rect width="4" height="10" fill="{stripe}"/></pattern></defs>')
 
 
-def hexadecimal(register, words):
-    length = 2 if register[1] in ("OPERATION", "WRITE_PROTECT") else 4
-    return [f"{word:0{length}X}" for word in words]
+def hexadecimal(register: Cell, words: tuple[int, ...]) -> list[str]:
+    return [digits_of(register, word) for word in words]
 
 
-def joined(words):
+def joined(words: list[str]) -> str:
     return words[0] if len(words) == 1 else ", ".join(words[:-1]) + " or " + words[-1]
 
 
-def edge_of(kind, is_false):
+def edge_of(kind: str, is_false: bool) -> str:
     """The edge of a bar."""
     if is_false:
         return f' stroke="{FAULT}" stroke-width="3"'
@@ -315,65 +305,29 @@ def edge_of(kind, is_false):
     return f' stroke="{EDGES}" stroke-dasharray="4 3"' if kind == "any" else ""
 
 
-def pill_width(words):
+def pill_width(words: str) -> float:
     """Of bold words, which are wider."""
     return 1.15 * width_of(words, 12) + 16
 
 
-def end_in_words(job):
+def end_in_words(job: Job) -> str:
     return job.end or "pending"
 
 
-def status_of(report, output):
+def status_of(state: State, output: int | None) -> tuple[str, str]:
     """STATUS_CML, or an output's STATUS_WORD and STATUS_VOUT: the digits, and the same with the names of bits."""
     if output is None:
-        return report.cml, " ".join([report.cml, ", ".join(bits_in("STATUS_CML", int(report.cml, 16)))]).strip()
-    _, word, vout = report.status[output].split()
-    names = ", ".join(bits_in("STATUS_WORD", int(word, 16)))
-    words = f"{word} {names}".strip()
+        return state.cml, " ".join([state.cml, ", ".join(names_of("STATUS_CML", int(state.cml, 16)))]).strip()
+    word, vout = state.status[output]
+    words = f"{word} {', '.join(names_of('STATUS_WORD', int(word, 16)))}".strip()
     if int(vout, 16):
-        words += f"; STATUS_VOUT {vout} {', '.join(bits_in('STATUS_VOUT', int(vout, 16)))}"
+        words += f"; STATUS_VOUT {vout} {', '.join(names_of('STATUS_VOUT', int(vout, 16)))}"
     return word, words
 
 
-def is_shown(report, output):
+def is_shown(state: State, output: int | None) -> bool:
     """Whether the status isn't 0; of an output's the bit that only tells of STATUS_CML doesn't count."""
     if output is None:
-        return report.cml != "00"
-    cml = next(bit for bit, name in NAMES["STATUS_WORD"] if name == "CML")
-    return int(report.status[output].split()[1], 16) & ~cml != 0
-
-
-def rails_in(words, outputs):
-    """The limits that the options give, by output. Refused, of scripts/bus_arguments.py."""
-    rails = {}
-    for word in words:
-        name, _, value = word.partition("=")
-        if name != "--limit":
-            raise bus_arguments.Refused(f"{bus_arguments.shown(word)}: there is {bus_arguments.LIMIT_EXAMPLE}")
-        output, *limits = bus_arguments.limit_of(word, value)
-        if output not in outputs:
-            raise bus_arguments.Refused(f"{word}: there is no output {output}")
-        if output in rails:
-            raise bus_arguments.Refused(f"{word}: output {output} has limits already")
-        rails[output] = limits
-    return rails
-
-
-def main():
-    options = [word for word in sys.argv[1:] if word.startswith("--") and word != "--help"]
-    sys.argv[1:] = [word for word in sys.argv[1:] if word not in options]
-    words = program.one_file(__doc__)
-    try:
-        seen = Seen(words)
-        rails = rails_in(options, seen.model.outputs)
-    except bus_arguments.Refused as refused:
-        sys.exit(f"picture.py: {refused}")
-    except Refused as refused:
-        letter = in_words(str(refused))
-        sys.exit(f"{refused}: {letter}" if letter else str(refused))
-    write_all([Picture(seen, os.path.basename(sys.argv[1]), rails).svg().rstrip("\n")])
-
-
-if __name__ == "__main__":
-    main()
+        return state.cml != "00"
+    cml = next(bit for bit, name in BITS["STATUS_WORD"] if name == "CML")
+    return int(state.status[output][0], 16) & ~cml != 0
