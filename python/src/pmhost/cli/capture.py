@@ -3,7 +3,6 @@ from __future__ import annotations
 
 import argparse
 import re
-import sys
 from typing import Any
 
 from .. import capture
@@ -11,7 +10,7 @@ from ..capture import i2ctransfer, vcd
 from . import streams
 from .call import complain
 from .parser import BadCall, address_of, bus_of, shown
-from .texts import told, without_a_bus
+from .texts import standard_input, told, without_a_bus
 
 ABOUT = """Turns a capture of a bus on standard input into a trace for pmb decode, packet by packet as they end.
 
@@ -97,7 +96,7 @@ def run(arguments: argparse.Namespace) -> int:
     clock = None
     if arguments.times:
         clock = capture.clock_of(arguments.kind, getattr(arguments, "samplerate", None))
-    lines = capture.lines_of(sys.stdin.buffer)
+    lines = capture.lines_of(standard_input())
     try:
         return told(capture.trace(arguments.kind, lines, arguments.device, getattr(arguments, "wanted", None), clock))
     except capture.NoCapture as fault:
@@ -117,7 +116,7 @@ def judge_frames(arguments: argparse.Namespace) -> None:
 
 def run_frames(arguments: argparse.Namespace) -> int:
     """Writes the commands of frames, or runs them, or writes the frames of commands."""
-    text, bus = streams.read(), str(arguments.wanted)
+    text, bus = standard_input().read(), str(arguments.wanted)
     try:
         if arguments.is_run:
             return run_commands(text, bus)
@@ -140,4 +139,4 @@ def run_commands(text: bytes, bus: str) -> int:
 
 
 def run_waveform(arguments: argparse.Namespace) -> int:
-    return told([vcd.waveform(streams.read().decode("utf-8", "replace")).removesuffix("\n")])
+    return told([vcd.waveform(standard_input().read().decode("utf-8", "replace")).removesuffix("\n")])

@@ -2,7 +2,9 @@
 from __future__ import annotations
 
 import argparse
+import sys
 from collections.abc import Iterable
+from typing import BinaryIO
 
 from . import streams
 from .call import complain
@@ -15,6 +17,13 @@ def without_a_bus(arguments: argparse.Namespace) -> None:
         if getattr(arguments, name, None):
             raise BadCall(f"{arguments.command}: {flags[-1]} stands in front of it, and it uses no bus; "
                           f"pmhost {arguments.command} --help has its own options")
+
+
+def standard_input() -> BinaryIO:
+    """Standard input, in bytes."""
+    if sys.stdin is None:
+        raise BadCall("standard input is closed")
+    return sys.stdin.buffer
 
 
 def told(texts: Iterable[str]) -> int:
