@@ -2,6 +2,7 @@
 from __future__ import annotations
 
 import subprocess
+from collections.abc import Callable
 from dataclasses import dataclass
 
 from ..errors import PartRefused, PmhostError, Refused as LibraryRefused
@@ -9,11 +10,13 @@ from ..host import Sending, Step
 from ..packets import read_answer, read_request
 from ..part import Output, Part
 from ..programs import path_of
-from ..scenario import Cell, Event, Setup, code_of_cell, read_scenario
+from ..scenario import DIRECT, REGISTERS, Cell, Event, Setup, code_of_cell, read_scenario
 from ..values import NAMES
 from .told import Words
 
 PROTECT = Cell(None, "WRITE_PROTECT")
+# A VOUT_MODE of ULINEAR16, whose words are 1/4096 V.
+LINEAR = 0x14
 
 
 class Refused(PmhostError):
@@ -57,7 +60,7 @@ class Life:
         self.cells = [PROTECT, *(Cell(output, name) for output in self.outputs for name in setup.registers)]
         self.words = Words(setup.formats())
         self.job, self.taken = "none", False
-        self._cuts: dict[tuple[int, ...], str] = {}
+        self._cuts: dict[tuple[int, ...], tuple[int, str]] = {}
 
     # ---- Events ----
 
@@ -69,7 +72,9 @@ class Life:
             return self._restarted(event.is_host)
         if event.kind == "reading":
             assert event.cell is not None
-            self.part.set_reading(event.cell.output, event.cell.register, event.value)
+            # The program takes a reading of an output that isn't there, which changes nothing.
+            if event.cell.output in (None, *self.outputs):
+                self.part.set_reading(event.cell.output, event.cell.register, event.value)
             return "none", ""
         if event.begins:
             self._begun(event)
@@ -153,14 +158,15 @@ class Life:
 
     def state(self) -> State:
         part, bands = self.part, {output: self._band(output) for output in self.outputs}
-        found = {output: self._cut(output) for output in self.outputs}
+        found = {output: self._commanded(output) for output in self.outputs}
         return State(
-            {output: (part.is_on(output), self._commanded(part, output)) for output in self.outputs},
+            {output: (part.is_on(output), self.words.micro(Cell(output, "VOUT_COMMAND"), word) or 0)
+             for output, (word, _) in found.items()},
             {cell: part.word(*code_of_cell(cell)) for cell in self.cells},
             {cell: self._belief(cell) for cell in self.cells},
             {output: (f"{part.status_word(output):04X}", f"{part.status_vout(output):02X}") for output in self.outputs},
             f"{part.status_cml:02X}", self.host.restart_seen, self.job, bands,
-            {output: limit for output, limit in found.items() if limit})
+            {output: limit for output, (_, limit) in found.items() if limit})
 
     def _belief(self, cell: Cell) -> Belief:
         word, words = self.host.standing(*code_of_cell(cell)), self.host.possible(*code_of_cell(cell))
@@ -177,25 +183,43 @@ class Life:
             return None
         return found.least, found.greatest
 
-    def _commanded(self, part: Part, output: int) -> int:
-        return int(part.volts(output).scaleb(6))
-
-    def _cut(self, output: int) -> str:
-        """The name of the limit that cuts an output, by what a part with the same words and open limits commands; an empty
-        text where none does. Each set of words is judged once."""
-        operation, command, high, low, most, least = words = tuple(
-            self.part.word(output, name) for name in
-            ("OPERATION", "VOUT_COMMAND", "VOUT_MARGIN_HIGH", "VOUT_MARGIN_LOW", "VOUT_MAX", "VOUT_MIN"))
+    def _commanded(self, output: int) -> tuple[int, str]:
+        """The word whose value an output commands, and the name of the limit that cuts it, or an empty text. Each set of words
+        is judged once."""
+        words = tuple(self.part.word(output, name) for name in REGISTERS)
         if (output, *words) not in self._cuts:
-            form, mode = self.words.formats[output], self.setup.outputs[output].mode
-            ends = (0x8000, 0x7FFF) if form.kind == "DIRECT" else (0x0000, 0xFFFF)
-            low_end, high_end = ends if form.kind != "DIRECT" or form.m > 0 else ends[::-1]
-            opened = Part(self.setup.address, [Output(mode, operation, command, high_end, high, low, low_end)],
-                          self.setup.coefficients)
-            is_above = form.microvolts(least) > form.microvolts(most)
-            rest = self._commanded(opened, 0) - self._commanded(self.part, output)
-            self._cuts[output, *words] = "max" if is_above or rest > 0 else "min" if rest < 0 else ""
+            selected, rank = self._selected(output, words), self._rank(output)
+            most, least = words[2], words[5]
+            if rank(least) > rank(most) or rank(selected) > rank(most):
+                found = most, "max"
+            else:
+                found = (least, "min") if rank(selected) < rank(least) else (selected, "")
+            self._cuts[output, *words] = found
         return self._cuts[output, *words]
+
+    def _selected(self, output: int, words: tuple[int, ...]) -> int:
+        """The word that OPERATION selects: what a part commands with the same words and open limits, in a format of which each
+        word is told exactly."""
+        operation, command, _, high, low, _ = words
+        form, sign = self.words.formats[output], self._sign(output)
+        if form.kind == "DIRECT":
+            ends = (0x8000, 0x7FFF)[::sign]
+            part = Part(self.setup.address, [Output(DIRECT, operation, command, ends[1], high, low, ends[0])], (sign, 0, 3))
+            return sign * int(part.volts(0) * 1000) & 0xFFFF
+        part = Part(self.setup.address, [Output(LINEAR, operation, command, 0xFFFF, high, low, 0x0000)])
+        return round(part.volts(0) * 4096)
+
+    def _sign(self, output: int) -> int:
+        """The sign of a format's slope."""
+        form = self.words.formats[output]
+        return -1 if form.kind == "DIRECT" and form.m < 0 else 1
+
+    def _rank(self, output: int) -> Callable[[int], int]:
+        """What grows with the value of a word."""
+        sign = self._sign(output)
+        if self.words.formats[output].kind == "DIRECT":
+            return lambda word: sign * (word - 0x10000 if word >= 0x8000 else word)
+        return lambda word: word
 
 
 def harm(got: bytes, sent: bytes, name: str) -> str:

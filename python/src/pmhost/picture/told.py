@@ -3,10 +3,12 @@ stopped."""
 from __future__ import annotations
 
 import re
+import subprocess
 from collections.abc import Sequence
 from decimal import ROUND_HALF_EVEN, Decimal
 
-from ..errors import SAYINGS
+from ..errors import SAYINGS, NumberRefused
+from ..programs import path_of
 from ..scenario import Cell
 from ..status import names_of
 from ..values import Format
@@ -61,7 +63,7 @@ class Words:
         if cell.output is None or not cell.register.startswith("VOUT_"):
             return None
         if (cell.output, word) not in self.found:
-            self.found[cell.output, word] = self.formats[cell.output].microvolts(word)
+            self.found[cell.output, word] = microvolts_of(self.formats[cell.output], word)
         return self.found[cell.output, word]
 
     def volts(self, cell: Cell, word: int) -> str | None:
@@ -73,6 +75,16 @@ class Words:
         """A word's digits with its volts, where it has some."""
         volts = self.volts(cell, word)
         return f"{digits_of(cell, word)} ({volts})" if volts else digits_of(cell, word)
+
+
+def microvolts_of(form: Format, word: int) -> int:
+    """The microvolts of a word, rounded down: the library's, and beyond 10^15 of them those that `pmb number` tells."""
+    try:
+        return form.microvolts(word)
+    except NumberRefused:
+        shape = f"direct:{form.m}:{form.b}:{form.exponent}" if form.kind == "DIRECT" else f"ulinear16:{form.exponent}"
+        ran = subprocess.run([path_of("pmb"), "number", f"--format={shape}", f"--word={word:04X}"], capture_output=True, text=True)
+        return int(ran.stdout.split()[-1])
 
 
 def digits_of(cell: Cell, word: int) -> str:

@@ -1,10 +1,9 @@
-"""A picture of scripts/picture.py, read back: where its rows, columns, bars and lines stand."""
+"""A picture, read back: where its rows, columns, bars and lines stand."""
 import re
 import xml.etree.ElementTree as tree
 from bisect import bisect_right
 
-import drawing
-import picture
+from pmhost.picture import drawing, picture
 
 SVG = "{http://www.w3.org/2000/svg}"
 COLUMN = re.compile(r"OPERATION|WRITE_PROTECT|VOUT_[A-Z_]+|STATUS_CML|STATUS_WORD")

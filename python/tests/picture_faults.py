@@ -1,69 +1,14 @@
 """What is wrong with a picture, by the plain model of the run that it shows."""
 import re
 from decimal import Decimal
-from math import ceil, floor
 
-import drawing
-import lane
-import picture
-from lived import Report
-from plain.converter import MAX, MIN, format_of
-from plain.host import ANY
-from plain.limits import band
-from plain.numbers import millionths, value_of
-from plain.packets import name_of
-from plain.report import report
-from plain.scenario import read_scenario
-from plain.world import World
-from told import NAMES
+from pmhost.picture import drawing, lane, picture
+from pmhost.status import BITS
+
+from .oracle import ANY, MAX, name_of
 
 # Of a row in 20 to 25 the heads must be on the screen.
 MOST_ROWS = 25
-
-
-class Plain:
-    """The reports of the plain model, and what its host thinks, after each event that is taken."""
-
-    def __init__(self, text):
-        self.setup, passes, events = read_scenario(text)
-        world = World(self.setup, passes)
-        self.reports, self.thoughts, self.cuts, self.bands = [], [], [], []
-        self.note(world)
-        for event in events:
-            world.stop = world.step(event)
-            if world.stop:
-                break
-            world.taken += 1
-            self.note(world)
-        # A stop's row, which shows what stood before.
-        if world.stop:
-            for those in self.reports, self.thoughts, self.cuts, self.bands:
-                those.append(those[-1])
-        self.stop = world.stop
-
-    def note(self, world):
-        self.reports.append(Report("\n".join(report(world))))
-        host, cells, device = world.host, world.device.cells, world.device
-        self.cuts.append({it: {MAX: "max ", MIN: "min "}[device.commanding(it)] for it in device.outputs
-                          if device.is_cut(it) and device.is_on(it)})
-        self.bands.append({it: in_microvolts(band(host, it)) for it in device.outputs})
-        self.thoughts.append({cell: (host.standing(cell), host.possible(cell), cells[cell]) for cell in cells})
-
-    def micro(self, output, word):
-        mode, _ = self.setup["outputs"][output]
-        return millionths(value_of(format_of(mode, self.setup["coefficients"]), word))
-
-    def limits(self, output, place):
-        """The microvolts of the limits in a row; a text of version 1 has no least one."""
-        found = {"max": self.micro(output, self.thoughts[place][output, MAX][2])}
-        if self.setup["version"] == 2:
-            found["min"] = self.micro(output, self.thoughts[place][output, MIN][2])
-        return found
-
-
-def in_microvolts(found):
-    """The ends of a band in whole microvolts, the least rounded down and the greatest up."""
-    return found and (floor(found[0] * 10**6), ceil(found[1] * 10**6))
 
 
 def tells(said, micro):
@@ -115,8 +60,8 @@ def status_faults(drawn, plain):
     bars = drawn.bars()
     for output in [None, *drawn.lanes]:
         name = "STATUS_WORD" if output is not None else "STATUS_CML"
-        every = [it.cml if output is None else it.status[output] for it in plain.reports]
-        zero = {"00"} if output is None else {"00 0000 00", "02 0002 00"}
+        every = [it.cml if output is None else " ".join(it.status[output]) for it in plain.states]
+        zero = {"00"} if output is None else {"0000 00", "0002 00"}
         for place, status in enumerate(every):
             title = bars.get((output, name, place), (None,))[0]
             if not title:
@@ -125,9 +70,9 @@ def status_faults(drawn, plain):
                 continue
             _, digits, *rest = title.split(" ", 2)
             vout = (re.search("STATUS_VOUT (..)", title) or ["", "00"])[1]
-            if digits not in status.split() or output is not None and vout != status.split()[2]:
+            if digits not in status.split() or output is not None and vout != status.split()[1]:
                 yield f"row {place}: {name} of {output} is drawn as {title}"
-            names = [it for bit, it in NAMES[name] if int(digits, 16) & bit]
+            names = [it for bit, it in BITS[name] if int(digits, 16) & bit]
             if re.findall(r"[A-Z_]{2,}", "".join(rest).split(";")[0]) != names:
                 yield f"row {place}: the bits of {title} are {names}"
 
@@ -138,7 +83,7 @@ def value_faults(drawn, plain):
     firsts = {first for first, _ in drawn.pages()}
     for output in drawn.lanes:
         told = None
-        for place, after in enumerate(plain.reports):
+        for place, after in enumerate(plain.states):
             is_on, micro = after.outputs[output]
             said, cut = found.get((output, place)), plain.cuts[place].get(output, "")
             if said is None and (told != (is_on, micro, cut) or place in firsts):
@@ -156,15 +101,15 @@ def scale_faults(drawn, plain):
         low, high = (drawn.in_head(0, output, nth) for nth in (1, 2))
         ends = [float(it.words.split()[0]) * (1 if it.words.endswith("uV") else 1e6) for it in (low, high)]
         wide = high.x - left
-        every = {it.outputs[output][1] for it in plain.reports}
-        for place in range(len(plain.reports)):
+        every = {it.outputs[output][1] for it in plain.states}
+        for place in range(len(plain.states)):
             every |= {*plain.limits(output, place).values()}
         if not ends[0] <= min(every) <= max(every) <= ends[1] or ends[1] == ends[0]:
             yield f"the scale of output {output} is from {low.words} to {high.words}"
             continue
         if max(every) > min(every) and ends[1] - ends[0] > 1.35 * (max(every) - min(every)) + 2:
             yield f"the scale of output {output} has too much room: {low.words} to {high.words}"
-        for place, after in enumerate(plain.reports):
+        for place, after in enumerate(plain.states):
             those = plain.limits(output, place).values()
             for micros, found in ([after.outputs[output][1]], voltages), (those, limits):
                 shares = [(it - ends[0]) / (ends[1] - ends[0]) for it in micros]
@@ -186,8 +131,8 @@ def place_in(drawn, output, micro):
 def band_faults(drawn, plain):
     """The shade is what the host knows of the voltage, to a microvolt in its title, and as far as the scale goes."""
     shades = drawn.shades()
-    for place, bands in enumerate(plain.bands):
-        for output, wanted in bands.items():
+    for place, state in enumerate(plain.states):
+        for output, wanted in state.bands.items():
             found = shades.get((output, place))
             if (found and found[0]) != wanted:
                 yield f"row {place}: the band of output {output} is {found}, and not {wanted}"
@@ -249,10 +194,10 @@ def head_faults(drawn):
 def job_faults(drawn, plain, events):
     """A band stands over each job, from its order on, and its end in a field of its own."""
     wanted, ends, is_open, first = set(), {}, False, 0
-    for place, after in enumerate(plain.reports):
+    for place, after in enumerate(plain.states):
         line = events[place - 1][1].split()[0].decode() if place else ""
         is_begun = line in ("order", "volts", "check", "learn", "clear", "store", "restore")
-        is_stop = plain.stop and place == len(plain.reports) - 1
+        is_stop = plain.stop and place == len(plain.states) - 1
         if is_begun and not is_open and not is_stop:
             is_open, first = True, place
         if is_open and not is_stop:
@@ -274,7 +219,7 @@ def job_faults(drawn, plain, events):
 def row_faults(drawn, plain, events):
     """The events with their lines, and the restarts."""
     wanted = ["start", *(picture.shortened(" ".join(line.decode().split())) for _, line in events)]
-    shown = len(plain.reports)
+    shown = len(plain.states)
     if [it.words for it in drawn.labels] != wanted[:shown]:
         yield "the rows are the events"
     numbers = [it.words for it in drawn.texts if it.anchor == "end" and it.x < drawn.labels[0].x and it.size == 12]
