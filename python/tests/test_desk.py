@@ -11,7 +11,7 @@ from pmhost import desk, programs
 from pmhost.scenario import Setup
 
 from . import running
-from .data.desk_rows import BELIEVED, JOBS, NO_SETUP, ORDER, PROVED, REFUSED, SETUP
+from .data.desk_rows import ASKED, BELIEVED, JOBS, NO_SETUP, ORDER, PROVED, REFUSED, SETUP, WRITTEN
 from .running import needs, pmhost
 
 FIGURES = re.compile(r"(.+): (\d+) orders, (\d+) words reached the wrong output; success was reported (\d+) times, (\d+) times wrongly")
@@ -122,6 +122,56 @@ class Calls(unittest.TestCase):
                 status, out, errors = pmhost("desk", "seen", PMBHOST=program.replace("./babbling", path))
             self.assertEqual((status, out, errors.count("\n")), (1, "seen\n", 1))
             self.assertIn(said, errors)
+
+
+class Recorder:
+    """A part that keeps what it is asked."""
+
+    def __init__(self, answer):
+        self.answer, self.asked = answer, []
+
+    def ask(self, line):
+        self.asked.append(line)
+        return "restarted" if line == "restart" else self.answer
+
+
+class Arrivals(unittest.TestCase):
+    """What a part hears of a frame under each mishap, and what the host is told."""
+
+    def test_what_arrives_of_a_write(self):
+        for mishap, asked, is_acknowledged in WRITTEN:
+            part, lines = Recorder("taken"), []
+            bus = desk.DeskBus(part, [mishap], lines.append)
+            self.assertEqual((bus.write(bytes.fromhex("B0 03 46")), part.asked), (is_acknowledged, asked), mishap)
+            self.assertEqual(bus.write(b"\xB0\x03\x46"), True, "no mishap befalls the next one")
+            self.assertEqual(len(lines), 2)
+
+    def test_what_arrives_of_a_request_and_what_comes_back(self):
+        for mishap, asked, back in ASKED:
+            part = Recorder("answer B1 14 ED")
+            bus = desk.DeskBus(part, [mishap], lambda line: None)
+            self.assertEqual((bus.read(bytes.fromhex("B0 20"), 3), part.asked), (bytes.fromhex(back), asked), mishap)
+
+    def test_both_hosts_meet_the_same_lists(self):
+        met = {}
+
+        class Host:
+            def __init__(self, name):
+                self.name = name
+
+            def restart(self):
+                pass
+
+            def carry_out(self, job):
+                met.setdefault(self.name, []).append((job, tuple(both.bus.mishaps)))
+                both.bus.mishaps.clear()
+                return "ended unknown"
+        both = unittest.mock.Mock(outputs=range(2), proved=Host("one"), plain=Host("other"))
+        both.words.return_value = ["1000", "1000"]
+        self.assertEqual([*desk.figures(both, 5, 1, 50)][0], "one: 10 orders, 0 words reached the wrong output; success was reported "
+                                                          "0 times, 0 times wrongly")
+        self.assertEqual(met["one"], met["other"])
+        self.assertEqual(len({mishaps for _, mishaps in met["one"]}), 6)
 
 
 class Draws(unittest.TestCase):

@@ -79,3 +79,17 @@ REFUSED = [
 # The head of a scenario that a part is made from, and one that no part is made from.
 SETUP = "scenario 2\naddress 40\npasses 2\nprotect 00\ncoefficients 1 0 3\noutput 40 80 0CE4 0D89 0D48 0C80 0000\nbegin\nstore\n"
 NO_SETUP = [("address 40", "address 78", "X7 Setup V3 Address"), ("passes 2", "passes", "X1 Syntax line 3")]
+# What a part hears of the frame B0 03 46 under a mishap, and whether the host is told that it was acknowledged.
+WRITTEN = [
+    ("ok", ["B0 03 46"], True), ("lost", [], False), ("false", [], True), ("cut:2", ["B0 03"], False), ("cut:3", [], False),
+    ("cut:5", ["B0 03"], False), ("damaged:1:2", ["B0 07 46"], True), ("damaged:0:0", ["B1 03 46"], False),
+    ("damaged:5:7", ["B0 03 C6"], True), ("twice", ["B0 03 46", "B0 03 46"], True), ("mute", ["B0 03 46"], False),
+    ("restart", ["restart", "B0 03 46"], True), ("short:1", ["B0 03 46"], True), ("garbled:1:1", ["B0 03 46"], True),
+]
+# What a part that answers B1 14 ED hears of the request B0 20, and what comes back.
+ASKED = [
+    ("ok", ["B0 20 /"], "B1 14 ED"), ("lost", [], ""), ("false", [], ""), ("cut:1", ["B0"], "B1 14 ED"), ("cut:2", [], ""),
+    ("damaged:1:0", ["B0 21 /"], "B1 14 ED"), ("twice", ["B0 20 /", "B0 20 /"], "B1 14 ED"), ("mute", ["B0 20 /"], ""),
+    ("restart", ["restart", "B0 20 /"], "B1 14 ED"), ("short:2", ["B0 20 /"], "B1 14"), ("short:3", ["B0 20 /"], ""),
+    ("garbled:1:0", ["B0 20 /"], "B1 15 ED"), ("garbled:4:4", ["B0 20 /"], "B1 04 ED"),
+]
