@@ -9,7 +9,6 @@ import random
 import re
 import resource
 import subprocess
-import sys
 import tempfile
 import unittest
 import unittest.mock
@@ -20,7 +19,6 @@ from pmhost.picture import Life, Picture, Seen, drawing, lived, timeline
 from pmhost.picture.life import Refused
 from pmhost.picture.timeline import facts
 from pmhost.picture.told import OF_TEXTS, Words
-from pmhost.scenario import Cell
 from pmhost.texts import lines_of, numbered
 
 from . import oracle, running

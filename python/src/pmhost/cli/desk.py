@@ -97,9 +97,8 @@ def setup_in(path: str | None) -> Setup:
 
 def run(arguments: argparse.Namespace) -> int:
     """Carries the jobs out, or counts over many runs."""
-    tell = (lambda line: None) if arguments.runs else (lambda line: streams.write(f"  {line}"))
     try:
-        both = desk.Desk(arguments.start, arguments.setup, arguments.tries, tell)
+        both = desk.Desk(arguments.start, arguments.setup, arguments.tries, silent if arguments.runs else indented)
         try:
             return counted(both, arguments) if arguments.runs else carried_out(both, arguments)
         finally:
@@ -107,6 +106,15 @@ def run(arguments: argparse.Namespace) -> int:
     except (programs.Missing, programs.NoAnswer) as fault:
         complain(f"desk: {fault}")
         return 1
+
+
+def silent(line: str) -> None:
+    """Tells nothing of a transfer."""
+
+
+def indented(line: str) -> None:
+    """Tells of a transfer below its job."""
+    streams.write(f"  {line}")
 
 
 def counted(both: desk.Desk, arguments: argparse.Namespace) -> int:
@@ -120,7 +128,9 @@ def carried_out(both: desk.Desk, arguments: argparse.Namespace) -> int:
     both.bus.mishaps = [*arguments.faults]
     if arguments.seed is not None:
         both.bus.mishaps += desk.draw_mishaps(random.Random(arguments.seed), arguments.rate)
-    host: desk.LineHost = both.plain if arguments.plain_host else both.proved
+    host: desk.LineHost = both.proved
+    if arguments.plain_host:
+        host = both.plain
     is_well = True
     for job in arguments.jobs:
         streams.write(" ".join(job))

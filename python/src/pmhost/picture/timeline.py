@@ -6,8 +6,9 @@ from __future__ import annotations
 
 from collections.abc import Iterator
 
+from ..scenario import Cell
 from .life import PROTECT, Belief, Life, Run, State
-from .told import Cell, Words, digits_of, in_volts, in_words, with_bits
+from .told import Words, digits_of, in_volts, in_words, with_bits
 
 
 def facts(state: State, words: Words, version: int) -> dict[str, str]:
