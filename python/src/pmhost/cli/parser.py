@@ -88,7 +88,7 @@ def limit_of(word: str) -> tuple[int, int, int]:
         raise argparse.ArgumentTypeError(
             f"limit {shown(word)}: give an output, the least and the most with their units, as {LIMIT_EXAMPLE}")
     try:
-        least, most = (voltages.microvolts(part, "limit") for part in parts[1:])
+        least, most = (voltages.microvolts(part, "") for part in parts[1:])
     except ValueError as fault:
         raise argparse.ArgumentTypeError(f"limit {shown(word)}: {fault}") from None
     if most < least:
