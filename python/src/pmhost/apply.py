@@ -72,14 +72,12 @@ class Board:
     # ---- What is wanted ----
 
     def learn(self) -> None:
-        """Learns each rail's format, and finds the words."""
+        """Learns each rail's format, and finds the words. Words are in the order of the voltages, which the file was judged for."""
         for rail in self.rails:
             self.part.host.learn(rail.output)
             if self.part.carried_out().kind != "learned":
                 raise Stopped(f"{rail.name}: its format isn't known: {probe.why_not_learned(self.part, rail.output)}")
         self.settings = [self.setting(rail, key) for rail in self.rails for key in SETTINGS if key in rail.settings]
-        for rail in self.rails:
-            self.judge(rail)
 
     def setting(self, rail: Rail, key: str) -> Setting:
         """The word of a setting, whose value lies within the rail's limits: a copy of the host judges its order."""
@@ -90,14 +88,6 @@ class Board:
             return Setting(rail, key, form.nearest(micro))
         except Refused as fault:
             raise Stopped(f"{rail.name}.{key}: {voltages.shown(micro)}: {fault.letter} {fault.name}, in the rail's format") from None
-
-    def judge(self, rail: Rail) -> None:
-        """The words are in the order of their volts: VOUT_MIN at most each, and each at most VOUT_MAX."""
-        value = {it.key: self.value(rail, it.wanted) for it in self.of(rail)}
-        for key in WORDS:
-            for low, high in (("min", key), (key, "max"), ("min", "max")):
-                if low in value and high in value and value[low] > value[high]:
-                    raise Stopped(f"{rail.name}: the word of {low} is above that of {high}")
 
     def value(self, rail: Rail, word: int) -> int:
         """The microvolts of a word, rounded down."""
@@ -153,8 +143,11 @@ class Board:
         self.after_order(it)
 
     def look(self) -> None:
-        """Stops where the part restarted."""
+        """Stops where the part restarted: what was read before isn't known any more."""
         if self.part.restart_seen:
+            for it in self.settings:
+                if it.last is not None:
+                    self.take(it)
             raise Stopped("the part restarted meanwhile: nothing that was read before holds: run this again")
 
     # ---- The whole ----

@@ -299,7 +299,7 @@ class Host:
         number = library.pm_host_restart_seen(REFERENCE(self._image))
         if number > 1:
             raise refusal(number)
-        return number == 1
+        return bool(number == 1)
 
     # ---- Its memory ----
 

@@ -41,7 +41,7 @@ class Pmbus:
     def limits(self, output: int) -> tuple[Decimal, Decimal] | None:
         """The limits of an output in volts, None where it has none."""
         found = self.host.limits(output)
-        return found and (volts_of(found.least), volts_of(found.most))
+        return None if found is None else (volts_of(found.least), volts_of(found.most))
 
     def within(self, output: int) -> bool | None:
         """Whether the output lies within its limits, by what is known: None where that doesn't tell."""

@@ -1,11 +1,9 @@
 """Whether the host can drive a part: PEC, PAGE_PLUS, its outputs and their formats, by reads alone."""
 from __future__ import annotations
 
-import ctypes
 from dataclasses import dataclass, field
 
-from ._library import FormatImage, library
-from .errors import FrameRefused, Refused, accepted
+from .errors import FrameRefused
 from .host import Bus, Host
 from .packets import Packet, pec, read_answer
 from .pmbus import Pmbus
@@ -125,11 +123,10 @@ def coefficients_words(transfers: Transfers) -> str:
         if asked.kind == "COEFFICIENTS":
             m, b = (int.from_bytes(payload[at:at + 2], "little", signed=True) for at in (0, 2))
             r = int.from_bytes(payload[4:5], "little", signed=True)
-            found = ctypes.c_int64()
             try:
-                accepted(library.pm_microvolts(FormatImage(Format.KINDS.index("DIRECT"), r, m, b), 0, ctypes.byref(found)))
-            except Refused as wrong:
-                return f"{m} {b} {r} ({wrong.letter} {wrong.name})"
+                Format("DIRECT", r, m, b)
+            except ValueError as wrong:
+                return f"{m} {b} {r} ({wrong})"
             return f"{m} {b} {r}"
     return ""
 

@@ -49,16 +49,18 @@ class Commanded:
 
 
 def survey(part: Pmbus, output: int) -> Commanded:
-    """Reads OPERATION, the register that it selects, VOUT_MAX and VOUT_MIN of an output, whose format was learned."""
+    """Reads OPERATION, VOUT_MAX, VOUT_MIN and the register that OPERATION selects, of an output whose format was learned, and
+    OPERATION once more: a restart meanwhile shows in what was read last, or leaves the registers as they were read."""
     found = Commanded()
     operation = read(part, output, "OPERATION", found)
-    chosen = None if operation is None else selection(operation)
-    if chosen is not None:
-        found.selected, found.is_on = chosen
-        word, form = read(part, output, chosen[0], found), part.host.format(output)
-        found.value = None if word is None or form is None else form.microvolts(word)
     for register in BOUNDS:
         read(part, output, register, found)
+    chosen = None if operation is None else selection(operation)
+    if chosen is not None:
+        word, form = read(part, output, chosen[0], found), part.host.format(output)
+        if read(part, output, "OPERATION", found) == operation:
+            found.selected, found.is_on = chosen
+            found.value = None if word is None or form is None else form.microvolts(word)
     return judged(part, output, found)
 
 

@@ -35,7 +35,7 @@ class Transfers:
     def why(self) -> str:
         """Why the job ended badly, as far as its transfers say it; nothing where they all went well."""
         found = (counted(self.failed, "1 transfer failed, the last: {}", "{} transfers failed, the last: {}"),
-                 counted(self.faults, "1 answer wasn't good: {}", "{} answers weren't good, the last: {}"))
+                 counted(self.faults, "1 answer wasn't good: {}", "{} answers weren't good: {}"))
         return "; ".join(words for words in found if words)
 
 
@@ -43,4 +43,5 @@ def counted(words: list[str], one: str, many: str) -> str:
     """How many there are, and the last of them."""
     if not words:
         return ""
-    return one.format(words[-1]) if len(words) == 1 else many.format(len(words), words[-1])
+    found = one.format(words[-1]) if len(words) == 1 else many.format(len(words), words[-1])
+    return found if len(set(words)) == 1 else found.replace("good: ", "good, the last: ")

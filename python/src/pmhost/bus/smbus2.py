@@ -13,7 +13,7 @@ class Smbus2Bus:
     def __init__(self, bus: Any) -> None:
         if not callable(getattr(bus, "i2c_rdwr", None)):
             raise TypeError(f"bus: an open smbus2.SMBus is wanted, and not {bus!r}")
-        import smbus2
+        import smbus2  # type: ignore[import]
 
         self._bus, self._message = bus, smbus2.i2c_msg
 

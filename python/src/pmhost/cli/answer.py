@@ -36,6 +36,10 @@ class Answer:
     refusal: str | None = None
     rows: list[dict[str, object]] = field(default_factory=list)
 
+    def place(self) -> str:
+        """The output behind the command, - for the device's register."""
+        return f" {self.output}" if self.output is not None else " -" if self.register is not None else ""
+
     def as_json(self) -> str:
         """The same as one object; each command's has the same keys."""
         found = self.commanded or Commanded()

@@ -5,7 +5,7 @@ import argparse
 import contextlib
 import signal
 import sys
-from typing import Iterator
+from typing import Any, Iterator
 
 from ..bus import DeskBus, LinuxBus, Trace
 from ..bus.linux import ENDING, Calls
@@ -81,8 +81,8 @@ class Call:
 
     # ---- Options ----
 
-    def _all(self, name: str) -> list[object]:
-        found: list[object] = []
+    def _all(self, name: str) -> list[Any]:
+        found: list[Any] = []
         for each in self.commands:
             if not hasattr(each, name + BEHIND):
                 if getattr(each, name, None):
@@ -91,7 +91,7 @@ class Call:
             found += getattr(each, name) + getattr(each, name + BEHIND)
         return found
 
-    def _one(self, name: str) -> object:
+    def _one(self, name: str) -> Any:
         found = self._all(name)
         if len(found) > 1:
             raise BadCall(f"{OPTIONS[name][0][-1]}: it is given twice")
@@ -109,10 +109,10 @@ class Call:
             if self.outputs is not None and output >= self.outputs:
                 raise BadCall(f"--limit: there is no output {output}, with --outputs {self.outputs}")
         for each in self.commands:
-            output = getattr(each, "output", None)
-            if output is not None and self.outputs is not None and output >= self.outputs:
+            named = getattr(each, "output", None)
+            if named is not None and self.outputs is not None and named >= self.outputs:
                 counted = f"0 to {self.outputs - 1}" if self.outputs > 1 else "0"
-                raise BadCall(f"{said(each)}: output {output}: give {counted}, with --outputs {self.outputs}")
+                raise BadCall(f"{said(each)}: output {named}: give {counted}, with --outputs {self.outputs}")
 
     def take_rails(self, arguments: argparse.Namespace, found: Rails) -> None:
         """The outputs and the limits of a file of rails are those of the call. BadCall."""
@@ -150,16 +150,17 @@ class Call:
         if self._bus is None:
             trace = Trace(self.trace_path)
             try:
-                if self.bus == DESK:
-                    outputs = self.outputs or max(DESK_OUTPUTS, self.counted())
-                    self._bus = DeskBus(self.address or DESK_ADDRESS, outputs, trace)
-                else:
-                    assert self.bus is not None and self.address is not None
-                    self._bus = LinuxBus(self.bus, self.address, self.is_forced, trace, self._kernel)
-            finally:
-                if self._bus is None:
-                    trace.close()
+                self._bus = self._made(trace)
+            except BaseException:
+                trace.close()
+                raise
         return self._bus
+
+    def _made(self, trace: Trace) -> DeskBus | LinuxBus:
+        if self.bus == DESK:
+            return DeskBus(self.address or DESK_ADDRESS, self.outputs or max(DESK_OUTPUTS, self.counted()), trace)
+        assert self.bus is not None and self.address is not None
+        return LinuxBus(self.bus, self.address, self.is_forced, trace, self._kernel)
 
     def part(self) -> Pmbus:
         """The part on the bus, through the one host of the call."""
@@ -183,9 +184,8 @@ class Call:
 
     def say(self, answer: Answer) -> int:
         """Prints an answer, and on standard error why it is a bad one. Its status."""
-        lines = [answer.as_json()] if self.is_json else [
-            f"{answer.command.split()[0]}{f' {answer.output}' if answer.output is not None else ''}: {answer.text}"
-        ] if answer.text else []
+        place = answer.place()
+        lines = [answer.as_json()] if self.is_json else [f"{answer.command.split()[0]}{place}: {answer.text}"] if answer.text else []
         self.say_lines(lines)
         if answer.why:
             complain(f"{answer.command}: {answer.why}")

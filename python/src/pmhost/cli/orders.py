@@ -26,6 +26,8 @@ RESTORES = f"{', '.join(REGISTERS)} of every output may hold the old or the stor
 
 # ---- Words of the command line ----
 
+OUTPUT = whole(0, 7, "output")
+
 def register_of(names: tuple[str, ...]) -> Callable[[str], str]:
     """The judge of a register's name."""
     def judge(word: str) -> str:
@@ -47,7 +49,7 @@ def voltage_of(word: str) -> int:
 
 def output_of(word: str) -> int | None:
     """An output, or None for - , which stands for the device."""
-    return None if word == "-" else whole(0, 7, "output")(word)  # type: ignore[no-any-return]
+    return None if word == "-" else OUTPUT(word)
 
 
 def digits_of(word: str) -> str:
@@ -58,7 +60,7 @@ def digits_of(word: str) -> str:
 
 def add(commands: Any) -> None:
     """Adds the subparsers."""
-    output = {"type": whole(0, 7, "output"), "metavar": "O", "help": "the output, from 0"}
+    output = {"type": OUTPUT, "metavar": "O", "help": "the output, from 0"}
     device = {"type": output_of, "metavar": "O", "help": f"the output, from 0; or - for {DEVICE}"}
 
     def command(name: str, run: Any, help: str, judge: Any = None) -> Any:
@@ -291,6 +293,8 @@ def why_not(found: Commanded) -> str:
     if found.limits is not None and found.within is not True:
         return "the output isn't known to command a voltage within its limits" if found.within is None else \
             "the output commands a voltage outside its limits"
+    if found.selected is None:
+        return "OPERATION holds a word that selects no register"
     return "the output doesn't command what was ordered: VOUT_MAX or VOUT_MIN cuts it"
 
 
@@ -335,7 +339,7 @@ def read(arguments: argparse.Namespace) -> int:
     return call.say(found)
 
 
-def carried_out(arguments: argparse.Namespace, register: str, begin: Callable[[], None]) -> int:
+def carried_out(arguments: argparse.Namespace, register: str, begin: Callable[[], object]) -> int:
     """An order: what became of it, and what the output then commands."""
     call: Call = arguments.call
     part, output = call.part(), arguments.output
@@ -352,7 +356,8 @@ def carried_out(arguments: argparse.Namespace, register: str, begin: Callable[[]
 
 def set_voltage(arguments: argparse.Namespace) -> int:
     """Orders a voltage of a register."""
-    part, output, register = arguments.call.part(), arguments.output, arguments.register
+    part: Pmbus = arguments.call.part()
+    output, register = arguments.output, arguments.register
     if not learned(part, output):
         found = answer_of(arguments, part, register, "unknown", status=1, text="its format isn't known, nothing was ordered",
                           why=probe.why_not_learned(part, output))
@@ -362,7 +367,8 @@ def set_voltage(arguments: argparse.Namespace) -> int:
 
 def word(arguments: argparse.Namespace) -> int:
     """Orders a word of a register."""
-    part, register = arguments.call.part(), arguments.register
+    part: Pmbus = arguments.call.part()
+    register = arguments.register
     if register != DEVICE and part.host.limits(arguments.output) is not None:
         prepared(part, arguments.output, register)
     return carried_out(arguments, register,
@@ -378,7 +384,8 @@ def prepared(part: Pmbus, output: int, register: str) -> None:
 
 def operate(arguments: argparse.Namespace) -> int:
     """Orders OPERATION."""
-    part, output = arguments.call.part(), arguments.output
+    part: Pmbus = arguments.call.part()
+    output = arguments.output
     if arguments.command != "off":
         prepared(part, output, "OPERATION")
     return carried_out(arguments, "OPERATION", lambda: part.host.order(output, "OPERATION", int(arguments.digits, 16)))

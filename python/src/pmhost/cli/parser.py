@@ -4,7 +4,7 @@ from __future__ import annotations
 
 import argparse
 import re
-from typing import Any, NoReturn
+from typing import Any, Callable, NoReturn
 
 from .. import voltages
 
@@ -48,7 +48,7 @@ def shown(word: str) -> str:
     return word if word.isprintable() and word.isascii() and word else repr(word)
 
 
-def whole(least: int, most: int, what: str) -> Any:
+def whole(least: int, most: int, what: str) -> Callable[[str], int]:
     """The judge of a whole number from `least` to `most`."""
     def judge(word: str) -> int:
         if not re.fullmatch("[0-9]{1,9}", word.strip()) or not least <= int(word) <= most:

@@ -6,6 +6,7 @@ from typing import Any
 
 from .. import rails
 from ..apply import Board, Setting, Stopped
+from ..rails import SETTINGS
 from .answer import Answer, in_digits, number
 from .call import Call, said
 from .orders import commanded_words
@@ -111,9 +112,8 @@ def table(board: Board, is_dry: bool) -> list[str]:
 
 def line_of(board: Board, name: str) -> str:
     """What a rail's output commands."""
-    volts = next(it for it in board.settings if it.rail.name == name and it.key == "volts")
-    held = None if volts.last is None else board.value(volts.rail, volts.last)
-    return f"{name}: {commanded_words(board.commanded[name], volts.register, held)}"
+    found, register = board.commanded[name], SETTINGS["volts"]
+    return f"{name}: {commanded_words(found, register, found.value if found.selected == register else None)}"
 
 
 def rows(board: Board, is_dry: bool) -> list[dict[str, object]]:
