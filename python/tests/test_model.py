@@ -111,7 +111,6 @@ class Life:
 
 
 class RandomLives(unittest.TestCase):
-    @unittest.skipUnless(os.path.isdir(os.path.join(PLAIN, "plain")), "scripts/plain isn't beside this folder")
     def test_ten_thousand_events(self):
         draw, lived = random.Random(7), 0
         while lived < EVENTS:

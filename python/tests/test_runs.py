@@ -9,7 +9,7 @@ from pmhost.bus.linux import ENDING
 from .runs import blocks, ran, writes
 
 
-class Runs(unittest.TestCase):
+class Blocks(unittest.TestCase):
     """Each block of a file of data/ is a subtest."""
 
     maxDiff = None
@@ -50,6 +50,8 @@ class Runs(unittest.TestCase):
             except FrameRefused:
                 self.assertFalse(is_whole, line)
 
+
+class Runs(Blocks):
     def test_whole_jobs(self):
         self.carry_out("jobs.txt")
 

@@ -12,13 +12,15 @@ import re
 import sys
 from types import ModuleType
 
+from .._version import __version__
 from ..bus import NoBus
 from ..bus.linux import Calls
 from ..errors import PmhostError
 from . import known, orders, probe, rails, streams
 from .answer import Answer
+from .completion import bash
 from .call import Call, Interrupted, complain, interruptible
-from .parser import OPTIONS, BadCall, Parser, bus_options
+from .parser import OPTIONS, BadCall, Parser, bus_options, shown
 
 # The modules of the commands, in the order of the help.
 MODULES: list[ModuleType] = [probe, orders, known, rails]
@@ -37,14 +39,21 @@ fails, and 130 after an interruption, which says what is now unknown."""
 BAD_CALL, INTERRUPTED = 2, 130
 
 
-def parser() -> Parser:
-    """The whole parser."""
+def parser() -> tuple[Parser, dict[str, argparse.ArgumentParser]]:
+    """The whole parser, and that of each command."""
     whole = Parser(prog="pmhost", description=ABOUT)
     bus_options(whole, "")
+    whole.add_argument("--version", action="version", version=f"pmhost {__version__}")
+    whole.add_argument("--completion", action="store_true", help="prints the completion for bash")
     commands = whole.add_subparsers(metavar="COMMAND", dest="command", required=True, parser_class=Parser)
     for module in MODULES:
         module.add(commands)
-    return whole
+    return whole, dict(commands.choices)
+
+
+def options_of(found: argparse.ArgumentParser) -> set[str]:
+    """The options of a parser."""
+    return {flag for action in found._actions for flag in action.option_strings}
 
 
 def parts_of(words: list[str]) -> list[list[str]]:
@@ -63,8 +72,12 @@ def parts_of(words: list[str]) -> list[list[str]]:
 def commands_of(words: list[str]) -> list[argparse.Namespace]:
     """The commands of a command line, each with its own words as `said`. A word that begins like a negative number is no
     option, and argparse takes one behind a blank for what it is."""
-    whole, found = parser(), []
+    whole, commands = parser()
+    options, found = options_of(whole).union(*(options_of(each) for each in commands.values())), []
     for part in parts_of(words):
+        for word in part:
+            if word.startswith("--") and word.partition("=")[0] not in options:
+                raise BadCall(f"{shown(word)}: no such option; --help tells which there are")
         arguments = whole.parse_args([f" {word}" if re.match(r"-[.0-9]", word) else word for word in part])
         arguments.said = " ".join([arguments.command, *words_behind(arguments.command, part)])
         found.append(arguments)
@@ -79,8 +92,14 @@ def words_behind(command: str, part: list[str]) -> list[str]:
         if word in has_value:
             next(words, None)
         elif not re.match("-.*[A-Za-z]", word) or re.match(r"-[.0-9]", word):
-            found.append(word if word.isprintable() else repr(word))
+            found.append(shown(word))
     return found[found.index(command) + 1:]
+
+
+def completion() -> int:
+    """Prints the completion for bash."""
+    streams.write(bash(*parser()).rstrip("\n"))
+    return 0
 
 
 def carried_out(call: Call) -> int:
@@ -126,6 +145,8 @@ def main(words: list[str] | None = None, kernel: Calls | None = None) -> int:
     try:
         if 1 in closed:
             raise BadCall("standard output is closed: nothing was sent")
+        if given == ["--completion"]:
+            return completion()
         with interruptible():
             call = judged(given, kernel)
             try:

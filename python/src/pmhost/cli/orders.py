@@ -13,6 +13,7 @@ from ..survey import Commanded, judged, read as read_register, selection, survey
 from ..values import CODES
 from .answer import Answer, between, in_digits
 from .call import Call, said
+from .completion import completed_by
 from .parser import BadCall, bus_options, shown, whole
 
 DEVICE = "WRITE_PROTECT"
@@ -73,18 +74,18 @@ def add(commands: Any) -> None:
     bus_options(found)
     found = command("read", read, "reads a register, and tells its word and its volts", judge_read)
     found.add_argument("output", **device)
-    found.add_argument("register", metavar="REG", nargs="?", type=register_of((*REGISTERS, DEVICE)),
-                       help="VOUT_COMMAND if left out")
+    completed_by(found.add_argument("register", metavar="REG", nargs="?", type=register_of((*REGISTERS, DEVICE)),
+                                    help="VOUT_COMMAND if left out"), (*REGISTERS, DEVICE))
     bus_options(found)
     found = command("set", set_voltage, "orders a voltage, and says what the output then commands", judge_order)
     found.add_argument("output", **output)
     found.add_argument("microvolts", type=voltage_of, metavar="VOLTAGE", help="as 3.3V, 3300mV or 3300000uV")
-    found.add_argument("register", metavar="REG", nargs="?", type=register_of(VOLTAGES), default="VOUT_COMMAND",
-                       help="VOUT_COMMAND if left out")
+    completed_by(found.add_argument("register", metavar="REG", nargs="?", type=register_of(VOLTAGES), default="VOUT_COMMAND",
+                                    help="VOUT_COMMAND if left out"), VOLTAGES)
     bus_options(found)
     found = command("word", word, "orders a register's word", judge_word)
     found.add_argument("output", **device)
-    found.add_argument("register", metavar="REG", type=register_of((*REGISTERS, DEVICE)))
+    completed_by(found.add_argument("register", metavar="REG", type=register_of((*REGISTERS, DEVICE))), (*REGISTERS, DEVICE))
     found.add_argument("digits", metavar="WORD", type=digits_of, help="in hexadecimal digits, as 34CD")
     bus_options(found)
     found = command("on", operate, "turns an output on, by OPERATION 80", judge_order)
@@ -97,7 +98,7 @@ def add(commands: Any) -> None:
     bus_options(found)
     found = command("margin", operate, "has an output command a margin", judge_order)
     found.add_argument("output", **output)
-    found.add_argument("digits", metavar="high|low", type=margin_of)
+    completed_by(found.add_argument("digits", metavar="high|low", type=margin_of), ("high", "low"))
     bus_options(found)
     found = command("clear", acknowledged, "clears the latched faults of an output", judge_write)
     found.add_argument("output", **output)

@@ -9,6 +9,7 @@ from ..apply import Board, Setting, Stopped
 from ..rails import SETTINGS
 from .answer import Answer, in_digits, number
 from .call import Call, said
+from .completion import FILES, completed_by
 from .orders import commanded_words
 from .parser import BadCall, bus_options, file_of
 
@@ -18,7 +19,7 @@ def add(commands: Any) -> None:
     for name, run, help in (("apply", apply, "brings the part to the settings of a file of rails"),
                             ("verify", verify, "compares the part with a file of rails, and orders nothing")):
         found = commands.add_parser(name, help=help, description=help[0].upper() + help[1:] + ".")
-        found.add_argument("file", metavar="FILE", type=file_of, help="settings of a board's rails, in TOML")
+        completed_by(found.add_argument("file", metavar="FILE", type=file_of, help="settings of a board's rails, in TOML"), FILES)
         found.set_defaults(run=run, judge_file=judge_file, dry_run=False)
         if name == "apply":
             found.add_argument("--dry-run", action="store_true", help="reads, and says what would be ordered")
