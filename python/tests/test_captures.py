@@ -218,8 +218,7 @@ class Calls(unittest.TestCase):
                 self.assertEqual(pmhost("capture", *words.split()), (2, "", f"pmhost: {said}\n"))
 
     def test_options_of_a_bus_stand_in_front_of_no_capture(self):
-        self.assertEqual(pmhost("-a", "58", "capture", "linux"), (2, "", "pmhost: capture: --address stands in front of it, and it "
-                         "uses no bus; pmhost capture --help has its own options\n"))
+        self.assertEqual(pmhost("-a", "58", "capture", "linux"), (2, "", "pmhost: capture: it takes no --address\n"))
 
 
 class Frames(unittest.TestCase):

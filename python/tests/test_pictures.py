@@ -253,10 +253,8 @@ class Calls(unittest.TestCase):
             with self.subTest(words):
                 self.assertEqual(pmhost("picture", path, *words.split()), (2, "", f"pmhost: {said}\n"))
         for command in "picture", "timeline":
-            self.assertEqual(pmhost(command), (2, "", f"pmhost: {command}: the following arguments are required: SCENARIO\n"))
-            self.assertEqual(pmhost("--limit=0:1V:2V", command, path)[::2], (
-                2, f"pmhost: {command}: --limit stands in front of it, and it uses no bus; pmhost {command} --help has its own "
-                   "options\n"))
+            self.assertEqual(pmhost(command), (2, "", f"pmhost: {command}: the scenario is missing\n"))
+            self.assertEqual(pmhost("--limit=0:1V:2V", command, path), (2, "", f"pmhost: {command}: it takes no --limit\n"))
 
     @needs("pmb")
     def test_a_refused_text_is_one_line_with_status_1(self):

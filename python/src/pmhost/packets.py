@@ -57,7 +57,8 @@ class Packet:
 def pec(data: bytes) -> int:
     """The packet error code of bytes."""
     taken = frame_bytes(data, MOST)
-    return library.pm_pec(taken, len(taken))
+    found: int = library.pm_pec(taken, len(taken))
+    return found
 
 
 def read_write(address: int, data: bytes) -> Packet:

@@ -10,26 +10,26 @@ MICRO = {"V": 1_000_000, "mV": 1_000, "uV": 1}
 MOST, MOST_LIMIT = 10**15, 10**9
 
 
-def microvolts(word: str, what: str = "voltage") -> int:
+def microvolts(word: str, what: str = "voltage ") -> int:
     """The microvolts of a voltage with its unit, exactly. A ValueError says what is wrong and what to give."""
     found = WITH_UNIT.match(word)
     if found is None:
         if BARE.match(word):
-            raise ValueError(f"{what} {word}: {readings(word)}")
-        raise ValueError(f"{what} {word!r}: give a number and its unit, as 3.3V, 3300mV or 3300000uV")
+            raise ValueError(f"{what}{word}: {readings(word)}")
+        raise ValueError(f"{what}{word!r}: give a number and its unit, as 3.3V, 3300mV or 3300000uV")
     exact = Decimal(found[1]) * MICRO[found[2]]
     if exact != int(exact):
-        raise ValueError(f"{what} {word}: it is no whole number of microvolts")
+        raise ValueError(f"{what}{word}: it is no whole number of microvolts")
     if abs(exact) > MOST:
-        raise ValueError(f"{what} {word}: it is beyond 10^9 V")
+        raise ValueError(f"{what}{word}: it is beyond 10^9 V")
     return int(exact)
 
 
 def readings(word: str) -> str:
     """What a number without its unit may mean."""
     number = word.replace(",", ".")
-    small = "uV" if "." not in number else "mV"
-    return f"give its unit: {number}V or {number}{small}"
+    small = f"{number}uV" if "." in number else f"{number}uV, which is {shown(int(number))}"
+    return f"give its unit: {number}V, or {small}"
 
 
 def shown(micro: int) -> str:

@@ -137,9 +137,9 @@ WRONG = [
     ("--limit=0:0.95:3.465V", "picture: limit 0:0.95:3.465V: limit 0.95: give its unit: 0.95V or 0.95mV"),
     ("--limit=0:1V", "picture: limit 0:1V: give an output, the least and the most with their units, as 0:3.135V:3.465V"),
     ("--limit=0:1V:2V --limit=0:1V:2V", "picture: --limit 0: output 0 has limits already"),
-    ("--limits=0:1V:2V", "unrecognized arguments: --limits=0:1V:2V"),
-    ("--outputs=2", "unrecognized arguments: --outputs=2"),
-    ("more.scenario", "unrecognized arguments: more.scenario"),
+    ("--limits=0:1V:2V", "--limits=0:1V:2V: no such option; --help tells which there are"),
+    ("--outputs=2", "--outputs=2: a word too many"),
+    ("more.scenario", "more.scenario: a word too many"),
 ]
 # Eight rails, of 0.85 to 5 V, in 100 rows: a job, its output and word, and what comes of it on the bus, a line each.
 RAILS = """scenario 2

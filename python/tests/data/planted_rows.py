@@ -87,5 +87,6 @@ PLANTED = [
      "return told(picture.timeline(run))", "test_pictures.Calls.test_a_run_that_stops_has_status_1_and_says_where"),
     ("a reader that left is told", "cli/texts.py", "if not isinstance(fault.__cause__, BrokenPipeError):", "if True:",
      "test_pictures.Calls.test_a_pipe_whose_reader_left_ends_it_without_a_word"),
-    ("options of a bus are dropped in silence", "cli/texts.py", "if getattr(arguments, name, None):", "if False:", "test_pictures.Calls"),
+    ("options of a bus are dropped in silence", "cli/call.py", "                if getattr(each, name, None):", "                if False:",
+     "test_pictures.Calls.test_wrong_command_lines"),
 ]

@@ -8,9 +8,9 @@ from typing import Any
 from .. import capture
 from ..capture import i2ctransfer, vcd
 from . import streams
-from .call import complain
+from .call import Interrupted, complain
 from .parser import BadCall, address_of, bus_of, shown
-from .texts import standard_input, told, without_a_bus
+from .texts import standard_input, told
 
 ABOUT = """Turns a capture of a bus on standard input into a trace for pmb decode, packet by packet as they end.
 
@@ -68,7 +68,7 @@ def add(commands: Any) -> None:
     frames.add_argument("--back", action=Once, nargs=0, const=True, help="turns such commands into frames")
     frames.set_defaults(run=run_frames, judge=judge_frames)
     drawn = kinds.add_parser("waveform", help="a trace as a waveform (VCD)", description=vcd.__doc__)
-    drawn.set_defaults(run=run_waveform, judge=without_a_bus)
+    drawn.set_defaults(run=run_waveform)
 
 
 class Once(argparse.Action):
@@ -82,7 +82,6 @@ class Once(argparse.Action):
 
 
 def judge(arguments: argparse.Namespace) -> None:
-    without_a_bus(arguments)
     rate = getattr(arguments, "samplerate", None)
     if arguments.kind == "sigrok" and arguments.times and not rate:
         raise BadCall("capture sigrok: the times of sigrok are numbers of samples: give --samplerate=RATE, as `sigrok-cli -i FILE "
@@ -107,7 +106,6 @@ def run(arguments: argparse.Namespace) -> int:
 
 
 def judge_frames(arguments: argparse.Namespace) -> None:
-    without_a_bus(arguments)
     if arguments.back and (arguments.is_run or arguments.wanted is not None):
         raise BadCall("capture i2ctransfer: --back stands alone: it needs no bus, and runs nothing")
     if not arguments.back and arguments.wanted is None:
@@ -132,8 +130,8 @@ def run_commands(text: bytes, bus: str) -> int:
         for line, went_well in i2ctransfer.run(text, bus):
             is_well = is_well and went_well
             streams.write(line)
-    except KeyboardInterrupt:
-        complain("interrupted: the last frame may have been taken")
+    except Interrupted:
+        complain("capture i2ctransfer: interrupted: the last frame may have been taken")
         return INTERRUPTED
     return 0 if is_well else 1
 

@@ -9,7 +9,8 @@ from .. import desk, programs
 from ..desk import bus as desk_bus
 from ..scenario import Setup, read_setup
 from . import streams
-from .call import complain
+from .call import Interrupted, complain
+from .completion import FILES, completed_by
 from .parser import BadCall, file_of, shown, whole
 
 ABOUT = """Joins both ends at a desk: the proved host pmbhost and the proved converter pmbpart, over a bus that loses, cuts,
@@ -50,8 +51,9 @@ def add(commands: Any) -> None:
                         help="how many of a hundred transfers a random mishap befalls, 25 if left out")
     parser.add_argument("--passes", type=whole(1, 15, "passes"), default=3, metavar="N",
                         help="how often a job is tried, 3 if left out", dest="tries")
-    parser.add_argument("--setup", type=file_of, metavar="FILE",
-                        help="a scenario whose head says what the part is made from, two outputs at address 58 if left out")
+    completed_by(parser.add_argument(
+        "--setup", type=file_of, metavar="FILE",
+        help="a scenario whose head says what the part is made from, two outputs at address 58 if left out"), FILES)
     parser.add_argument("--plain-host", action="store_true",
                         help="in place of pmbhost a host that selects by PAGE and believes acknowledgements; it takes orders")
     parser.add_argument("--runs", type=whole(1, 10**9 - 1, "runs"), metavar="N",
@@ -106,6 +108,9 @@ def run(arguments: argparse.Namespace) -> int:
     except (programs.Missing, programs.NoAnswer) as fault:
         complain(f"desk: {fault}")
         return 1
+    except Interrupted:
+        complain("desk: interrupted")
+        return streams.INTERRUPTED
 
 
 def silent(line: str) -> None:

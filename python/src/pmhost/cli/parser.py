@@ -3,10 +3,12 @@ command's words."""
 from __future__ import annotations
 
 import argparse
+import ast
 import re
-from typing import Any, NoReturn
+from typing import Any, Callable, NoReturn
 
 from .. import voltages
+from .completion import FILES, completed_by
 
 ADDRESS = re.compile(r"(?:0[xX])?([0-9A-Fa-f]{2})[hH]?\Z")
 BUS = re.compile(r"(?:/dev/i2c-|i2c-)?([0-9]{1,9})\Z")
@@ -30,16 +32,34 @@ class Parser(argparse.ArgumentParser):
         raise BadCall(line_of(message, self.prog))
 
 
+# How what is missing is called, by its place in a command.
+MISSING = {"O": "the output", "VOLTAGE": "the voltage, as 3.3V,", "REG": "the register", "WORD": "the word, as 34CD,",
+           "high|low": "high or low", "FILE": "the file", "KIND": "the kind of a capture, as linux,", "SCENARIO": "the scenario"}
+# What a word of a list is.
+CHOSEN = {"COMMAND": "command", "KIND": "kind of a capture"}
+
+
 def line_of(message: str, program: str) -> str:
     """What argparse says, with the command in front of it, and the words of this program's own judges alone."""
-    command = program.partition(" ")[2]
-    choice = re.match(r"argument COMMAND: invalid choice: '(.*)' \(choose from (.*)\)\Z", message, re.DOTALL)
+    command, message = program.partition(" ")[2], " ".join(message.split())
+    choice = re.match(r"argument (COMMAND|KIND): invalid choice: (.*) \(choose from (.*)\)\Z", message)
     if choice:
-        return f"{shown(choice[1])}: no command; there are {choice[2].replace(chr(39), '')}"
-    if message.endswith("required: COMMAND"):
+        return f"{shown(ast.literal_eval(choice[2]))}: no {CHOSEN[choice[1]]}; there are {choice[3].replace(chr(39), '')}"
+    missing = re.match("the following arguments are required: ([^,]*)", message)
+    alone = re.match("argument (?:.*/)?(--[a-z-]+): ignored explicit argument", message)
+    valued = re.match("argument (?:.*/)?(--[a-z-]+): expected one argument", message)
+    if missing and missing[1] == "COMMAND":
         return f"give a command, as learn 0 + set 0 3.3V; {program} --help tells more"
-    message = re.sub(r"\Aargument [^:]*: (?!expected|ignored|not allowed|invalid)", "", message)
-    message = " ".join(message.split())
+    if missing:
+        message = f"{MISSING.get(missing[1], missing[1])} is missing"
+    elif alone:
+        message = f"{alone[1]}: give it alone"
+    elif valued:
+        message = f"{valued[1]}: its value is missing"
+    elif message.startswith("unrecognized arguments: "):
+        message = f"{shown(message.partition(': ')[2].split()[0])}: a word too many"
+    else:
+        message = re.sub(r"\Aargument [^:]*: ", "", message)
     return f"{command}: {message}" if command else message
 
 
@@ -48,7 +68,7 @@ def shown(word: str) -> str:
     return word if word.isprintable() and word.isascii() and word else repr(word)
 
 
-def whole(least: int, most: int, what: str) -> Any:
+def whole(least: int, most: int, what: str) -> Callable[[str], int]:
     """The judge of a whole number from `least` to `most`."""
     def judge(word: str) -> int:
         if not re.fullmatch("[0-9]{1,9}", word.strip()) or not least <= int(word) <= most:
@@ -88,7 +108,7 @@ def limit_of(word: str) -> tuple[int, int, int]:
         raise argparse.ArgumentTypeError(
             f"limit {shown(word)}: give an output, the least and the most with their units, as {LIMIT_EXAMPLE}")
     try:
-        least, most = (voltages.microvolts(part, "limit") for part in parts[1:])
+        least, most = (voltages.microvolts(part, "") for part in parts[1:])
     except ValueError as fault:
         raise argparse.ArgumentTypeError(f"limit {shown(word)}: {fault}") from None
     if most < least:
@@ -100,8 +120,9 @@ def limit_of(word: str) -> tuple[int, int, int]:
 
 
 def file_of(word: str) -> str:
+    """The name of a file."""
     if not word or "\0" in word:
-        raise argparse.ArgumentTypeError(f"{shown(word)}: give a file")
+        raise argparse.ArgumentTypeError(f"file {shown(word)}: give its name")
     return word
 
 
@@ -126,4 +147,5 @@ def bus_options(parser: argparse.ArgumentParser, suffix: str = BEHIND) -> None:
     group = parser.add_argument_group("options of a bus")
     for name, (flags, words) in OPTIONS.items():
         action = "append_const" if "const" in words else "append"
-        group.add_argument(*flags, dest=name + suffix, action=action, default=[], **words)
+        added = group.add_argument(*flags, dest=name + suffix, action=action, default=[], **words)
+        completed_by(added, {"bus": (DESK,), "trace": FILES}.get(name))

@@ -1,6 +1,9 @@
 """Standard input, output and error as a program finds them: closed, full, or a pipe that its reader left."""
+from __future__ import annotations
+
 import os
 import sys
+from typing import Iterable
 
 INTERRUPTED = 130
 
@@ -9,7 +12,7 @@ class NoStream(Exception):
     """A standard stream failed: which one, and why."""
 
 
-def open_missing():
+def open_missing() -> list[int]:
     """Closed streams are opened on nothing, so that no file of the script's gets their numbers. Which were closed."""
     missing = [number for number in range(3) if not is_open(number)]
     for _ in missing:
@@ -19,7 +22,7 @@ def open_missing():
     return missing
 
 
-def is_open(number):
+def is_open(number: int) -> bool:
     try:
         os.fstat(number)
     except OSError:
@@ -27,7 +30,7 @@ def is_open(number):
     return True
 
 
-def write(line):
+def write(line: str) -> None:
     """A line on standard output. NoStream where it can't be written; what is left of it is dropped then."""
     try:
         print(line, flush=True)
@@ -36,14 +39,14 @@ def write(line):
         raise NoStream(f"standard output: {fault.strerror}") from fault
 
 
-def drop(number):
+def drop(number: int) -> None:
     """What is left to be written into a stream goes nowhere."""
     nothing = os.open(os.devnull, os.O_WRONLY)
     os.dup2(nothing, number)
     os.close(nothing)
 
 
-def read():
+def read() -> bytes:
     """All bytes of standard input."""
     try:
         return sys.stdin.buffer.read()
@@ -51,7 +54,7 @@ def read():
         raise NoStream(f"standard input: {fault.strerror}") from fault
 
 
-def write_all(texts):
+def write_all(texts: Iterable[str]) -> None:
     """Texts, each as it comes, on standard output. Where that fails, or the script is interrupted, it ends: without a
     word where the reader of a pipe left, otherwise with one line."""
     try:

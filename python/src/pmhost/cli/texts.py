@@ -1,22 +1,13 @@
-"""What the commands without a bus share: lines that are written as they come, and no options of a bus."""
+"""What the commands without a bus share: standard input, and lines that are written as they come."""
 from __future__ import annotations
 
-import argparse
 import sys
 from collections.abc import Iterable
 from typing import BinaryIO
 
 from . import streams
-from .call import complain
-from .parser import OPTIONS, BadCall
-
-
-def without_a_bus(arguments: argparse.Namespace) -> None:
-    """Refuses options of a bus in front of a command that uses none."""
-    for name, (flags, _) in OPTIONS.items():
-        if getattr(arguments, name, None):
-            raise BadCall(f"{arguments.command}: {flags[-1]} stands in front of it, and it uses no bus; "
-                          f"pmhost {arguments.command} --help has its own options")
+from .call import Interrupted, complain
+from .parser import BadCall
 
 
 def standard_input() -> BinaryIO:
@@ -36,6 +27,6 @@ def told(texts: Iterable[str]) -> int:
         if not isinstance(fault.__cause__, BrokenPipeError):
             complain(str(fault))
         return 1
-    except KeyboardInterrupt:
+    except Interrupted:
         return streams.INTERRUPTED
     return 0

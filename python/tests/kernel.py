@@ -1,5 +1,6 @@
-"""Stands in for the kernel's /dev/i2c-7 below scripts/bus.py, with a part behind it: the plain model converter, or one
-of its kin that lacks something. What the kernel answers is what Linux answers: errors by their numbers, and of a
+"""Stands in for the kernel's /dev/i2c-7 below pmhost.bus.linux, with a part behind it: a model converter, or one of its kin
+that lacks something. Where the plain model of scripts/plain takes the setup, the proved converter hears each frame beside
+it, and an answer that differs fails the test. What the kernel answers is what Linux answers: errors by their numbers, and of a
 transfer how many messages went, which some adapters answer as 0 or 1 in place of an error.
 
 A mishap befalls one transfer, in their order:
@@ -18,6 +19,8 @@ A mishap befalls one transfer, in their order:
     empty      the transfer succeeds, and nothing was written into the buffer for the answer
     sigint     Ctrl-C comes while the transfer is under way
     sigterm    the same of SIGTERM
+    sigquit    the same of SIGQUIT
+    sighup     the same of SIGHUP
     group      the same of Ctrl-C, for all processes of the group
 """
 import ctypes
@@ -25,17 +28,57 @@ import errno
 import os
 import signal
 
-from i2c_dev import I2C_FUNC_I2C, I2C_FUNCS, I2C_M_RD, I2C_RDWR, I2C_SLAVE, Messages
+from pmhost import Output, Part as ProvedPart, PartRefused, SetupRefused
+from pmhost.bus.linux import I2C_FUNC_I2C, I2C_FUNCS, I2C_M_RD, I2C_RDWR, I2C_SLAVE, Messages
+
+from . import plain_model  # noqa: F401
 from plain.commands import BASE, reply_words
-from plain.converter import COMMAND, Converter
+from plain.converter import COMMAND, HIGH, LOW, MAX, MIN, OPERATION, Converter
 from plain.packets import CODES, write_message
 
 FILE = 77
 WRITES, READS = CODES["PAGE_PLUS_WRITE"], CODES["PAGE_PLUS_READ"]
 SIGNALS = {
     "sigint": lambda: os.kill(os.getpid(), signal.SIGINT), "sigterm": lambda: os.kill(os.getpid(), signal.SIGTERM),
+    "sigquit": lambda: os.kill(os.getpid(), signal.SIGQUIT), "sighup": lambda: os.kill(os.getpid(), signal.SIGHUP),
     "group": lambda: os.killpg(os.getpgid(0), signal.SIGINT),
 }
+
+
+class Both:
+    """The plain converter with the proved one beside it, which has to answer the same."""
+
+    def __init__(self, setup):
+        self.plain, self.setup = Converter(setup), setup
+        starts = [Output(mode, *(words[code] for code in (OPERATION, COMMAND, MAX, HIGH, LOW, MIN)))
+                  for mode, words in setup["outputs"]]
+        try:
+            self.proved = ProvedPart(setup["address"], starts, setup["coefficients"], setup["protect"])
+        except SetupRefused:
+            self.proved = None
+
+    def __getattr__(self, name):
+        return getattr(self.plain, name)
+
+    def restart(self):
+        self.plain.restart()
+        if self.proved:
+            self.proved.restart()
+
+    def set(self, cell, word):
+        """Gives a register a word that nobody ordered, from now on in the plain converter alone."""
+        self.plain.cells[cell], self.proved = word, None
+
+    def hear(self, frame, ending):
+        reply = self.plain.hear(frame, ending)
+        if self.proved:
+            try:
+                found = list(self.proved.hear(bytes(frame), ending == "restart"))
+            except PartRefused as refused:
+                assert str(reply).startswith(refused.letter), (frame, reply, refused)
+            else:
+                assert found == (reply if isinstance(reply, list) else []), (frame, reply, found)
+        return reply
 
 
 class Part:
@@ -46,7 +89,7 @@ class Part:
 
     def __init__(self, modes=(0x14, 0x14), coefficients=(1, 0, 3)):
         outputs = [(mode, dict(BASE["outputs"][0][1])) for mode in modes]
-        self.converter = Converter({**BASE, "count": len(outputs), "outputs": outputs, "coefficients": coefficients})
+        self.converter = Both({**BASE, "count": len(outputs), "outputs": outputs, "coefficients": coefficients})
         self.lines, self.answers = [], []
 
     def restart(self):
@@ -97,9 +140,9 @@ class Rounding(Part):
 
     def hear(self, frame, ending):
         answer = super().hear(frame, ending)
-        for cell, word in self.converter.cells.items():
+        for cell, word in list(self.converter.cells.items()):
             if cell[1] == COMMAND:
-                self.converter.cells[cell] = word & 0xFFF8
+                self.converter.set(cell, word & 0xFFF8)
         return answer
 
 
@@ -126,6 +169,13 @@ class WithoutCoefficients(Part):
         return None if frame[1] == CODES["COEFFICIENTS"] else super().hear(frame, ending)
 
 
+class WithoutMinimum(Part):
+    """VOUT_MIN isn't acknowledged."""
+
+    def hear(self, frame, ending):
+        return None if CODES["VOUT_MIN"] in frame[2:5] else super().hear(frame, ending)
+
+
 class Absent(Part):
     """There is no part: the address isn't acknowledged."""
 
@@ -136,7 +186,7 @@ class Absent(Part):
 
 
 class FakeKernel:
-    """The calls of i2c_dev.Kernel. `faults` has the kernel's error for a path that is opened and for each request."""
+    """The calls of pmhost.bus.linux.Kernel. `faults` has the kernel's error for a path that is opened and for each request."""
 
     def __init__(self, part, mishaps=(), faults=None, functions=I2C_FUNC_I2C):
         self.part, self.mishaps, self.faults, self.functions = part, list(mishaps), faults or {}, functions
