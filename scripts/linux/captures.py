@@ -1,4 +1,4 @@
-"""One run of bus.py, told by its trace and by the kernel's tracepoints: captures BUS. capture_to_trace.py must make the
+"""One run of bus.py, told by its trace and by the kernel's tracepoints: captures BUS. The package pmhost must make the
 same packets of both. They stay in FOLDER, and so does the waveform of the bit-banged bus, for waveform.py.
 
 Over an adapter that stands on another the events of both are there, which --bus takes apart. Where the kernel repeats a
@@ -8,8 +8,8 @@ import os
 import subprocess
 import sys
 
-from capture_to_trace import trace
 from guest_bus import FOLDER, Bench, root_file
+from pmhost.capture import trace
 from rows import read, write
 from tally import Tally
 

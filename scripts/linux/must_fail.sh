@@ -15,7 +15,7 @@ built=$CACHE
 # plant NAME FILE OLD NEW: a copy of what the trials read, with one text changed, which stands there once.
 plant() {
     mkdir -p "$work/$1/tree"
-    (cd "$root" && cp -r --parents scripts docs/bus.md docs/refusals.md examples/c crates/pm_c/include "$work/$1/tree")
+    (cd "$root" && cp -r --parents scripts python/src docs/bus.md docs/refusals.md examples/c crates/pm_c/include "$work/$1/tree")
     python3 - "$work/$1/tree/$2" "$3" "$4" << 'END' || refuse "$1: the text to change doesn't stand once in $2"
 import sys
 path, old, new = sys.argv[1:]
@@ -32,7 +32,7 @@ tried() {
 }
 plant script scripts/i2c_dev.py "if went != len(messages):" "if went < 0:"
 tried script rows 0
-plant frames scripts/frames_to_i2ctransfer.py "if ran.returncode or ran.stderr or len(back) != wanted or BYTES.sub(\"\", ran.stdout).strip():" \
+plant frames python/src/pmhost/capture/i2ctransfer.py "if ran.returncode or ran.stderr or len(back) != wanted or BYTES.sub(\"\", ran.stdout).strip():" \
     "if ran.returncode:"
 tried frames commands 0
 names="script frames"

@@ -2,7 +2,7 @@
 """Compares what a run's wires tell with what bus.py told: waveform.py FOLDER
 
 FOLDER is that of the trial `captures 5`, which left the wires' waveform and bus.py's trace there. sigrok-cli decodes the
-waveform into FOLDER/captured.sigrok, and capture_to_trace.py makes packets of that.
+waveform into FOLDER/captured.sigrok, and the package pmhost makes packets of that.
 """
 import os
 import shutil
@@ -11,9 +11,10 @@ import sys
 
 sys.dont_write_bytecode = True
 HERE = os.path.dirname(os.path.abspath(__file__))
-sys.path[:0] = [HERE, os.path.dirname(HERE)]
+SCRIPTS = os.path.dirname(HERE)
+sys.path[:0] = [HERE, SCRIPTS, os.path.join(os.path.dirname(SCRIPTS), "python", "src")]
 
-from capture_to_trace import trace  # noqa: E402
+from pmhost.capture import trace  # noqa: E402
 from program import answer_help  # noqa: E402
 from tally import Tally  # noqa: E402
 
