@@ -1,18 +1,15 @@
 """The plain model of scripts/plain under a scenario's events, which tests hold pictures to: what both ends are at after each
 event, and what came of each event on the bus."""
 import os
-import sys
 from math import ceil, floor
 
 from pmhost.picture.life import Belief, State
 from pmhost.scenario import Cell
 
-from .running import ROOT
+from .plain_model import SCRIPTS
 
-SCRIPTS = os.path.join(ROOT, "scripts")
 IS_THERE = os.path.isdir(os.path.join(SCRIPTS, "plain"))
 if IS_THERE:
-    sys.path.insert(0, SCRIPTS)
     from plain.converter import MAX, MIN, PROTECT, REGISTERS, format_of
     from plain.host import ANY
     from plain.limits import band

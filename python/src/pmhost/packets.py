@@ -45,7 +45,8 @@ class Packet:
     def answer(self) -> int:
         """How many bytes the answer of a request has behind the read address, its packet error code among them; 0 of a
         write."""
-        return max(int(self._sending(0x58).answer) - 1, 0)
+        whole_answer: int = self._sending(0x58).answer
+        return max(whole_answer - 1, 0)
 
     def _sending(self, address: int) -> SendingImage:
         found = SendingImage()

@@ -40,8 +40,7 @@ PLANTED = [
      "test_captures.Frames.test_each_end_of_a_command"),
     ("commands are run before all frames are read", "capture/i2ctransfer.py", "    found = transfers(text)\n    tool",
      "    found = (Transfer(*it) for it in numbered(text))\n    tool", "test_captures.Frames.test_each_end_of_a_command"),
-    ("a read asks for a byte less", "packets.py", "return max(int(self._sending(0x58).answer) - 1, 0)",
-     "return max(int(self._sending(0x58).answer) - 2, 0)", "test_captures.Frames"),
+    ("a read asks for a byte less", "packets.py", "return max(whole_answer - 1, 0)", "return max(whole_answer - 2, 0)", "test_captures.Frames"),
     # ---- The desk ----
     ("a mute bus acknowledges", "desk/bus.py", 'kind in ("lost", "cut", "mute")', 'kind in ("lost", "cut")', "test_desk.Mishaps"),
     ("a bit of the address is acknowledged", "desk/bus.py", " or sent[:1] != frame[:1]", "", "test_desk.Mishaps"),

@@ -18,13 +18,13 @@ from ..bus.linux import Calls
 from ..errors import PmhostError
 from . import capture, desk, known, orders, pictures, probe, rails, streams
 from .answer import Answer
-from .completion import bash, flags_of
+from .completion import bash
 from .call import Call, Interrupted, complain, interruptible
 from .parser import OPTIONS, BadCall, Parser, bus_options, shown
 
 # The modules of the commands, in the order of the help.
 MODULES: list[ModuleType] = [probe, orders, known, rails, desk, capture, pictures]
-# The commands with jobs of their own, between which a + stands: the call has no other command.
+# The commands that have jobs of their own, between which a + stands: the call has no other command.
 OWN_JOBS = ("desk",)
 
 ABOUT = """Supply voltages over PMBus, by a proved host.
@@ -54,12 +54,18 @@ def parser() -> tuple[Parser, dict[str, argparse.ArgumentParser]]:
 
 
 def options_of(found: argparse.ArgumentParser) -> set[str]:
-    """The options of a parser, those of its kinds too."""
-    return set(flags_of(found))
+    """The options of a parser, and of those below it."""
+    options: set[str] = set()
+    for action in found._actions:
+        options.update(action.option_strings)
+        if isinstance(action, argparse._SubParsersAction):
+            options.update(*(options_of(each) for each in action.choices.values()))
+    return options
 
 
 def parts_of(words: list[str]) -> list[list[str]]:
-    """The words of each command: + stands between them."""
+    """The words of each command: + stands between them. A word that begins like a negative number is no option, and argparse
+    takes one behind a blank for what it is."""
     if words[:1] and words[0] in OWN_JOBS:
         return [words]
     parts: list[list[str]] = [[]]
@@ -67,22 +73,21 @@ def parts_of(words: list[str]) -> list[list[str]]:
         if word == "+":
             parts.append([])
         else:
-            parts[-1].append(word)
+            parts[-1].append(f" {word}" if re.match(r"-[.0-9]", word) else word)
     if len(parts) > 1 and not all(parts):
         raise BadCall("+: a command stands before it and behind it, as learn 0 + clear 0")
     return parts
 
 
 def commands_of(words: list[str]) -> list[argparse.Namespace]:
-    """The commands of a command line, each with its own words as `said`. A word that begins like a negative number is no
-    option, and argparse takes one behind a blank for what it is."""
-    whole, commands = parser()
-    options, found = options_of(whole).union(*(options_of(each) for each in commands.values())), []
+    """The commands of a command line, each with its own words as `said`."""
+    whole, _ = parser()
+    options, found = options_of(whole), []
     for part in parts_of(words):
-        for word in part:
+        for word in () if part[:1] and part[0] in OWN_JOBS else part:
             if word.startswith("--") and word.partition("=")[0] not in options:
                 raise BadCall(f"{shown(word)}: no such option; --help tells which there are")
-        arguments = whole.parse_args([f" {word}" if re.match(r"-[.0-9]", word) else word for word in part])
+        arguments = whole.parse_args(part)
         arguments.said = " ".join([arguments.command, *words_behind(arguments.command, part)])
         found.append(arguments)
     return found
@@ -95,8 +100,8 @@ def words_behind(command: str, part: list[str]) -> list[str]:
     for word in words:
         if word in has_value:
             next(words, None)
-        elif not re.match("-.*[A-Za-z]", word) or re.match(r"-[.0-9]", word):
-            found.append(shown(word))
+        elif not re.match("-.*[A-Za-z]", word):
+            found.append(shown(word.removeprefix(" ")))
     return found[found.index(command) + 1:]
 
 
@@ -151,8 +156,10 @@ def main(words: list[str] | None = None, kernel: Calls | None = None) -> int:
             raise BadCall("standard output is closed: nothing was sent")
         if given == ["--completion"]:
             return completion()
+        call = judged(given, kernel)
+        if not call.has_bus:
+            return carried_out(call)
         with interruptible():
-            call = judged(given, kernel)
             try:
                 return carried_out(call)
             finally:

@@ -85,8 +85,7 @@ class Call:
         found: list[Any] = []
         for each in self.commands:
             if not hasattr(each, name + BEHIND):
-                if getattr(each, name, None):
-                    raise BadCall(f"{each.command}: it takes no {OPTIONS[name][0][-1]}")
+                # A command without a bus refuses what stands in front of it by itself.
                 continue
             found += getattr(each, name) + getattr(each, name + BEHIND)
         return found
@@ -97,9 +96,14 @@ class Call:
             raise BadCall(f"{OPTIONS[name][0][-1]}: it is given twice")
         return found[0] if found else None
 
+    @property
+    def has_bus(self) -> bool:
+        """Whether a command of the call uses a bus."""
+        return any(hasattr(each, "bus" + BEHIND) for each in self.commands)
+
     def judge(self) -> None:
         """The options agree with one another. BadCall."""
-        if not any(hasattr(each, "bus" + BEHIND) for each in self.commands):
+        if not self.has_bus:
             return
         if self.bus is None:
             raise BadCall("give a bus, as -b 1 for /dev/i2c-1, or -b desk for a model part")

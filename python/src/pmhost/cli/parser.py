@@ -34,9 +34,7 @@ class Parser(argparse.ArgumentParser):
 
 # How what is missing is called, by its place in a command.
 MISSING = {"O": "the output", "VOLTAGE": "the voltage, as 3.3V,", "REG": "the register", "WORD": "the word, as 34CD,",
-           "high|low": "high or low", "FILE": "the file", "KIND": "the kind of a capture, as linux,", "SCENARIO": "the scenario"}
-# What a word of a list is.
-CHOSEN = {"COMMAND": "command", "KIND": "kind of a capture"}
+           "high|low": "high or low", "FILE": "the file", "SCENARIO": "the scenario", "KIND": "the kind, as sigrok,"}
 
 
 def line_of(message: str, program: str) -> str:
@@ -44,7 +42,8 @@ def line_of(message: str, program: str) -> str:
     command, message = program.partition(" ")[2], " ".join(message.split())
     choice = re.match(r"argument (COMMAND|KIND): invalid choice: (.*) \(choose from (.*)\)\Z", message)
     if choice:
-        return f"{shown(ast.literal_eval(choice[2]))}: no {CHOSEN[choice[1]]}; there are {choice[3].replace(chr(39), '')}"
+        words = f"{shown(ast.literal_eval(choice[2]))}: no {choice[1].lower()}; there are {choice[3].replace(chr(39), '')}"
+        return f"{command}: {words}" if command else words
     missing = re.match("the following arguments are required: ([^,]*)", message)
     alone = re.match("argument (?:.*/)?(--[a-z-]+): ignored explicit argument", message)
     valued = re.match("argument (?:.*/)?(--[a-z-]+): expected one argument", message)
