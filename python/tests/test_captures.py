@@ -2,6 +2,7 @@
 and back, and run."""
 import os
 import select
+import signal
 import stat
 import subprocess
 import tempfile
@@ -200,6 +201,16 @@ class Streams(unittest.TestCase):
                     count = sum(1 for _ in out)
                 self.assertEqual((ran.returncode, count), (0, times * len(capture("bus.trace").splitlines())))
                 self.assertLessEqual(used.ru_maxrss, MOST_MEMORY)
+
+    def test_an_interrupt_ends_a_live_capture_without_a_word(self):
+        with subprocess.Popen(running.command("capture", "linux"), stdin=subprocess.PIPE, stdout=subprocess.PIPE,
+                              stderr=subprocess.PIPE, text=True, env=running.around()) as ran:
+            ran.stdin.write(capture("bus.linux"))
+            ran.stdin.flush()
+            ran.stdout.readline()
+            ran.send_signal(signal.SIGINT)
+            _, errors = ran.communicate()
+        self.assertEqual((ran.returncode, errors), (130, ""))
 
     def test_closed_and_full_streams_end_it_in_one_line(self):
         for redirections, words, status, errors in STREAMS:

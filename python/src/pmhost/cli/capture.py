@@ -8,7 +8,7 @@ from typing import Any
 from .. import capture
 from ..capture import i2ctransfer, vcd
 from . import streams
-from .call import Interrupted, complain
+from .call import complain
 from .parser import BadCall, address_of, bus_of, shown
 from .texts import standard_input, told
 
@@ -130,7 +130,7 @@ def run_commands(text: bytes, bus: str) -> int:
         for line, went_well in i2ctransfer.run(text, bus):
             is_well = is_well and went_well
             streams.write(line)
-    except Interrupted:
+    except KeyboardInterrupt:
         complain("capture i2ctransfer: interrupted: the last frame may have been taken")
         return INTERRUPTED
     return 0 if is_well else 1

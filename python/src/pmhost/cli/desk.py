@@ -9,7 +9,7 @@ from .. import desk, programs
 from ..desk import bus as desk_bus
 from ..scenario import Setup, read_setup
 from . import streams
-from .call import Interrupted, complain
+from .call import complain
 from .completion import FILES, completed_by
 from .parser import BadCall, file_of, shown, whole
 
@@ -108,7 +108,7 @@ def run(arguments: argparse.Namespace) -> int:
     except (programs.Missing, programs.NoAnswer) as fault:
         complain(f"desk: {fault}")
         return 1
-    except Interrupted:
+    except KeyboardInterrupt:
         complain("desk: interrupted")
         return streams.INTERRUPTED
 

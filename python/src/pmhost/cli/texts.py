@@ -6,7 +6,7 @@ from collections.abc import Iterable
 from typing import BinaryIO
 
 from . import streams
-from .call import Interrupted, complain
+from .call import complain
 from .parser import BadCall
 
 
@@ -27,6 +27,6 @@ def told(texts: Iterable[str]) -> int:
         if not isinstance(fault.__cause__, BrokenPipeError):
             complain(str(fault))
         return 1
-    except Interrupted:
+    except KeyboardInterrupt:
         return streams.INTERRUPTED
     return 0
