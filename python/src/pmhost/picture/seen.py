@@ -3,7 +3,6 @@ from __future__ import annotations
 
 from ..scenario import Cell
 from .life import PROTECT, Life, Run, State
-from .told import Cell
 
 # How a picture names the limits; a text of version 1 has no least one.
 LIMITS = {"min": "VOUT_MIN", "max": "VOUT_MAX"}
