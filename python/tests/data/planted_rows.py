@@ -43,7 +43,7 @@ PLANTED = [
     ("a read asks for a byte less", "packets.py", "return max(whole_answer - 1, 0)", "return max(whole_answer - 2, 0)", "test_captures.Frames"),
     # ---- The desk ----
     ("a mute bus acknowledges", "desk/bus.py", 'kind in ("lost", "cut", "mute")', 'kind in ("lost", "cut")', "test_desk.Mishaps"),
-    ("a bit of the address is acknowledged", "desk/bus.py", " or sent[:1] != frame[:1]", "", "test_desk.Mishaps"),
+    ("a bit of the address is acknowledged", "desk/bus.py", " or sent[:1] != frame[:1]", "", "test_desk.Arrivals"),
     ("twice is once", "desk/bus.py", '        answer = self.heard(sent, "")\n        if kind == "twice":\n            answer = self.heard(sent, "")\n',
      '        answer = self.heard(sent, "")\n', "test_desk.Arrivals"),
     ("a false acknowledgement reaches the part", "desk/bus.py", 'if kind in ("lost", "false"):', 'if kind == "lost":', "test_desk.Mishaps"),
