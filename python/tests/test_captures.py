@@ -229,7 +229,8 @@ class Calls(unittest.TestCase):
                 self.assertEqual(pmhost("capture", *words.split()), (2, "", f"pmhost: {said}\n"))
 
     def test_options_of_a_bus_stand_in_front_of_no_capture(self):
-        self.assertEqual(pmhost("-a", "58", "capture", "linux"), (2, "", "pmhost: capture: it takes no --address\n"))
+        self.assertEqual(pmhost("-a", "58", "capture", "linux"), (
+            2, "", "pmhost: capture: --address in front of it is an option of a bus, and it uses none\n"))
 
 
 class Frames(unittest.TestCase):

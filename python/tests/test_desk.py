@@ -120,6 +120,10 @@ class Calls(unittest.TestCase):
             with self.subTest(words):
                 self.assertEqual(pmhost("desk", *words), (2, "", f"pmhost: desk: {said}\n"))
 
+    def test_options_of_a_bus_stand_in_front_of_no_desk(self):
+        self.assertEqual(pmhost("--passes=2", "desk", "seen"), (
+            2, "", "pmhost: desk: --passes in front of it is an option of a bus, and it uses none\n"))
+
     @needs("pmbhost", "pmbpart")
     def test_a_setup_is_judged_by_the_part(self):
         with tempfile.TemporaryDirectory() as folder:

@@ -254,7 +254,8 @@ class Calls(unittest.TestCase):
                 self.assertEqual(pmhost("picture", path, *words.split()), (2, "", f"pmhost: {said}\n"))
         for command in "picture", "timeline":
             self.assertEqual(pmhost(command), (2, "", f"pmhost: {command}: the scenario is missing\n"))
-            self.assertEqual(pmhost("--limit=0:1V:2V", command, path), (2, "", f"pmhost: {command}: it takes no --limit\n"))
+            self.assertEqual(pmhost("--limit=0:1V:2V", command, path), (2, "", 
+                2, "", f"pmhost: {command}: --limit in front of it is an option of a bus, and it uses none\n"))
 
     @needs("pmb")
     def test_a_refused_text_is_one_line_with_status_1(self):

@@ -10,7 +10,7 @@ from ..capture import i2ctransfer, vcd
 from . import streams
 from .call import complain
 from .parser import BadCall, address_of, bus_of, shown
-from .texts import standard_input, told
+from .texts import standard_input, told, without_a_bus
 
 ABOUT = """Turns a capture of a bus on standard input into a trace for pmb decode, packet by packet as they end.
 
@@ -68,7 +68,7 @@ def add(commands: Any) -> None:
     frames.add_argument("--back", action=Once, nargs=0, const=True, help="turns such commands into frames")
     frames.set_defaults(run=run_frames, judge=judge_frames)
     drawn = kinds.add_parser("waveform", help="a trace as a waveform (VCD)", description=vcd.__doc__)
-    drawn.set_defaults(run=run_waveform)
+    drawn.set_defaults(run=run_waveform, judge=without_a_bus)
 
 
 class Once(argparse.Action):
@@ -82,6 +82,7 @@ class Once(argparse.Action):
 
 
 def judge(arguments: argparse.Namespace) -> None:
+    without_a_bus(arguments)
     rate = getattr(arguments, "samplerate", None)
     if arguments.kind == "sigrok" and arguments.times and not rate:
         raise BadCall("capture sigrok: the times of sigrok are numbers of samples: give --samplerate=RATE, as `sigrok-cli -i FILE "
@@ -106,6 +107,7 @@ def run(arguments: argparse.Namespace) -> int:
 
 
 def judge_frames(arguments: argparse.Namespace) -> None:
+    without_a_bus(arguments)
     if arguments.back and (arguments.is_run or arguments.wanted is not None):
         raise BadCall("capture i2ctransfer: --back stands alone: it needs no bus, and runs nothing")
     if not arguments.back and arguments.wanted is None:

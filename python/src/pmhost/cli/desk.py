@@ -12,6 +12,7 @@ from . import streams
 from .call import complain
 from .completion import FILES, completed_by
 from .parser import BadCall, file_of, shown, whole
+from .texts import without_a_bus
 
 ABOUT = """Joins both ends at a desk: the proved host pmbhost and the proved converter pmbpart, over a bus that loses, cuts,
 damages and repeats frames. Each frame is told as it goes, with what the part answered and what came of it.
@@ -63,6 +64,7 @@ def add(commands: Any) -> None:
 
 
 def judge(arguments: argparse.Namespace) -> None:
+    without_a_bus(arguments)
     try:
         arguments.jobs = desk.read_jobs(arguments.jobs)
     except ValueError as fault:

@@ -1,13 +1,21 @@
-"""What the commands without a bus share: standard input, and lines that are written as they come."""
+"""What the commands without a bus share: lines that are written as they come, and no options of a bus."""
 from __future__ import annotations
 
+import argparse
 import sys
 from collections.abc import Iterable
 from typing import BinaryIO
 
 from . import streams
 from .call import complain
-from .parser import BadCall
+from .parser import OPTIONS, BadCall
+
+
+def without_a_bus(arguments: argparse.Namespace) -> None:
+    """Refuses options of a bus in front of a command that uses none."""
+    for name, (flags, _) in OPTIONS.items():
+        if getattr(arguments, name, None):
+            raise BadCall(f"{arguments.command}: {flags[-1]} in front of it is an option of a bus, and it uses none")
 
 
 def standard_input() -> BinaryIO:
