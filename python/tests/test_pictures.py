@@ -254,7 +254,7 @@ class Calls(unittest.TestCase):
                 self.assertEqual(pmhost("picture", path, *words.split()), (2, "", f"pmhost: {said}\n"))
         for command in "picture", "timeline":
             self.assertEqual(pmhost(command), (2, "", f"pmhost: {command}: the scenario is missing\n"))
-            self.assertEqual(pmhost("--limit=0:1V:2V", command, path), (2, "", 
+            self.assertEqual(pmhost("--limit=0:1V:2V", command, path), (
                 2, "", f"pmhost: {command}: --limit in front of it is an option of a bus, and it uses none\n"))
 
     @needs("pmb")
