@@ -178,7 +178,8 @@ class ByHand(unittest.TestCase):
 
     def test_stored_pictures_are_those_that_the_examples_give(self):
         for name in STORED:
-            self.assertEqual(picture_of(example(name), f"{name}.scenario"), stored(ROOT, "docs", "pictures", f"{name}.svg"), name)
+            self.assertEqual(picture_of(example(name), f"{name}.scenario"), stored(ROOT, "docs", "pictures", f"{name}.svg"),
+                             f"pmhost picture examples/{name}.scenario > docs/pictures/{name}.svg")
 
     def test_marks_of_the_examples(self):
         for name, marks in MARKS.items():

@@ -158,8 +158,9 @@ TRANSFERS = [
 STREAMS = [
     ("<&-", ["capture", "i2ctransfer", "7"], 2, "pmhost: standard input is closed\n"),
     (">&-", ["capture", "i2ctransfer", "7"], 2, "pmhost: standard output is closed: nothing was sent\n"),
-    ("> /dev/full", ["capture", "i2ctransfer", "7"], 1, "pmhost: standard output: No space left on device\n"),
-    ("| true; exit ${PIPESTATUS[0]}", ["capture", "i2ctransfer", "7"], 1, ""),
+    ("> /dev/full", ["capture", "i2ctransfer", "7"], 2, "pmhost: standard output: No space left on device\n"),
+    ("| true; exit ${PIPESTATUS[0]}", ["capture", "i2ctransfer", "7"], 2, "pmhost: standard output: Broken pipe\n"),
+    ("> /dev/full", ["capture", "linux"], 1, "pmhost: standard output: No space left on device\n"),
     ("<&-", ["capture", "linux"], 2, "pmhost: standard input is closed\n"),
     (">&-", ["capture", "linux"], 2, "pmhost: standard output is closed: nothing was sent\n"),
 ]

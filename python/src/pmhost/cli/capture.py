@@ -120,10 +120,13 @@ def run_frames(arguments: argparse.Namespace) -> int:
     try:
         if arguments.is_run:
             return run_commands(text, bus)
-        return told(i2ctransfer.frames(text) if arguments.back else i2ctransfer.commands(text, bus))
+        lines = i2ctransfer.frames(text) if arguments.back else i2ctransfer.commands(text, bus)
     except i2ctransfer.Refused as refused:
         complain(f"capture i2ctransfer: {refused}")
         return BAD_LINE
+    if lines:
+        streams.write("\n".join(lines))
+    return 0
 
 
 def run_commands(text: bytes, bus: str) -> int:
