@@ -17,13 +17,13 @@ import tempfile
 
 sys.dont_write_bytecode = True
 
-import session  # noqa: E402
+import package  # noqa: E402, F401
 from plain.commands import START  # noqa: E402
 from plain.converter import COMMAND, HIGH, LOW, MAX, MIN, OPERATION, REGISTERS  # noqa: E402
 from plain.packets import CODES, TABLE, length_of, name_of, pec  # noqa: E402
 from plain.part import PlainPart  # noqa: E402
+from pmhost.programs import NoAnswer, PartProgram, path_of  # noqa: E402
 from program import seed_and_count  # noqa: E402
-from spoken import setup_text  # noqa: E402
 
 WRITE, REQUEST = "B0 05 04 00 21 CD 34 5A", "B0 06 02 00 21 /"
 TAKEN = (WRITE, "taken")
@@ -96,7 +96,7 @@ NOISE = [*(line for line, _ in STORIES["faulty lines"]), "reading", "reading 0",
 
 def story_faults():
     for name, lines in STORIES.items():
-        part, plain = session.Part(), PlainPart()
+        part, plain = PartProgram(), PlainPart()
         for line, wanted in lines:
             for who, answer in ("it", part.ask(line)), ("the plain part", plain.answer(line.encode())):
                 if answer != wanted:
@@ -106,7 +106,7 @@ def story_faults():
 
 
 def ended(options, text, **streams):
-    ran = subprocess.run([session.PART.needed(), *options], input=text, timeout=10,
+    ran = subprocess.run([path_of("pmbpart"), *options], input=text, timeout=10,
                          **{"stdout": subprocess.PIPE, "stderr": subprocess.PIPE, **streams})
     return ran.returncode, ran.stdout, ran.stderr.decode()
 
@@ -129,7 +129,7 @@ def end_faults(folder):
     with open("/dev/full", "wb") as full:
         if ended([], b"page\n", stdout=full) != (1, None, "pmbpart: X5 Write\n"):
             yield "a full disk isn't told"
-    ran = subprocess.run(["sh", "-c", '"$0" < /', session.PART.needed()], capture_output=True, timeout=10)
+    ran = subprocess.run(["sh", "-c", '"$0" < /', path_of("pmbpart")], capture_output=True, timeout=10)
     if (ran.returncode, ran.stdout, ran.stderr) != (1, b"", b"pmbpart: X4 Read\n"):
         yield f"a folder as its input gives {ran.stdout!r}, {ran.stderr!r} and status {ran.returncode}"
 
@@ -190,6 +190,16 @@ def any_line(dice, setup):
                         f"status {output}", "page"])
 
 
+def setup_text(setup):
+    """The lines that say a configuration, up to `begin`."""
+    lines = [f"scenario 2\naddress {setup['address']:02X}\npasses 2\nprotect {setup['protect']:02X}",
+             "coefficients " + " ".join(str(number) for number in setup["coefficients"])]
+    for mode, words in setup["outputs"]:
+        voltages = " ".join(f"{words[code]:04X}" for code in REGISTERS if code != OPERATION)
+        lines.append(f"output {mode:02X} {words[OPERATION]:02X} {voltages}")
+    return "\n".join([*lines, "begin\n"])
+
+
 def random_faults(dice, wanted, folder):
     """Sessions of two hundred lines each, up to so many lines."""
     said, path = 0, os.path.join(folder, "setup")
@@ -197,7 +207,7 @@ def random_faults(dice, wanted, folder):
         setup = setup_of(dice)
         with open(path, "w", encoding="ascii") as file:
             file.write(setup_text(setup))
-        plain, part = PlainPart(setup), session.Part(path)
+        plain, part = PlainPart(setup), PartProgram(path)
         for _ in range(min(200, wanted - said)):
             line = any_line(dice, setup)
             answer, right = part.ask(line + dice.choice(["", "", "", "\r"]) * (len(line) < 256)), plain.answer(line.encode())
@@ -211,11 +221,11 @@ def random_faults(dice, wanted, folder):
 
 def main():
     seed, wanted = seed_and_count(__doc__, 10000)
-    session.PART.needed()
+    path_of("pmbpart")
     try:
         with tempfile.TemporaryDirectory() as folder:
             faults = [*story_faults(), *end_faults(folder), *random_faults(random.Random(seed), wanted, folder)]
-    except session.NoAnswer as fault:
+    except NoAnswer as fault:
         faults = [str(fault)]
     tried = len(STORIES) + len(ENDS) + len(SETUPS) + 6
     print("\n".join([*faults, f"{len(STORIES)} stories, {tried - len(STORIES)} ends, {wanted} lines of seed {seed}"]))

@@ -15,10 +15,11 @@ import sys
 
 sys.dont_write_bytecode = True
 
-import session  # noqa: E402
+import package  # noqa: E402, F401
 from plain.converter import Converter  # noqa: E402
 from plain.packets import name_of, pec  # noqa: E402
 from plain.session import PlainSession, in_hex  # noqa: E402
+from pmhost.programs import HostProgram, NoAnswer, path_of  # noqa: E402
 from program import seed_and_count  # noqa: E402
 
 WRITE, REQUEST = "send B0 05 04 00 21 CD 34 5A", "send B0 06 02 00 21 read 4"
@@ -105,7 +106,7 @@ def uncertain_story():
 
 def story_faults():
     for name, lines in {**STORIES, "too many words": uncertain_story()}.items():
-        host = session.Session("58", 2, 2)
+        host = HostProgram(0x58, 2, 2)
         for line, wanted in lines:
             answer = host.ask(line)
             if answer != wanted:
@@ -116,15 +117,15 @@ def story_faults():
 
 def end_faults():
     for options, text, status, printed, said in ENDS:
-        ran = subprocess.run([session.needed(), *options], input=text, capture_output=True, timeout=10)
+        ran = subprocess.run([path_of("pmbhost"), *options], input=text, capture_output=True, timeout=10)
         if (ran.returncode, ran.stdout, ran.stderr.decode()) != (status, printed, said):
             yield f"{options} with {text!r} gives {ran.stdout!r}, {ran.stderr!r} and status {ran.returncode}"
     options = ["--address=58", "--outputs=2", "--passes=2"]
     with open("/dev/full", "wb") as full:
-        ran = subprocess.run([session.needed(), *options], input=b"seen\n", stdout=full, stderr=subprocess.PIPE, timeout=10)
+        ran = subprocess.run([path_of("pmbhost"), *options], input=b"seen\n", stdout=full, stderr=subprocess.PIPE, timeout=10)
         if (ran.returncode, ran.stderr) != (1, b"pmbhost: X5 Write\n"):
             yield f"a full disk gives {ran.stderr!r} and status {ran.returncode}"
-    ran = subprocess.run(["sh", "-c", '"$0" "$@" < /', session.needed(), *options], capture_output=True, timeout=10)
+    ran = subprocess.run(["sh", "-c", '"$0" "$@" < /', path_of("pmbhost"), *options], capture_output=True, timeout=10)
     if (ran.returncode, ran.stdout, ran.stderr) != (1, b"", b"pmbhost: X4 Read\n"):
         yield f"a folder as its input gives {ran.stdout!r}, {ran.stderr!r} and status {ran.returncode}"
 
@@ -212,7 +213,7 @@ def random_faults(dice, wanted):
         limits = [f"{output}:{dice.choice([0, 900000, 1000000])}:{dice.choice([3465000, 7000000, 16 * 10**6])}"
                   for output in range(outputs) if dice.random() < 0.5]
         device, plain = Converter(setup), PlainSession(0x58, outputs, passes)
-        host = session.Session("58", outputs, passes, limits)
+        host = HostProgram(0x58, outputs, passes, limits)
         for limit in limits:
             plain.answer(b"narrow " + limit.replace(":", " ").encode())
         for _ in range(min(200, wanted - said)):
@@ -230,10 +231,10 @@ def random_faults(dice, wanted):
 
 def main():
     seed, wanted = seed_and_count(__doc__, 10000)
-    session.needed()
+    path_of("pmbhost")
     try:
         faults = [*story_faults(), *end_faults(), *random_faults(random.Random(seed), wanted)]
-    except session.NoAnswer as fault:
+    except NoAnswer as fault:
         faults = [str(fault)]
     print("\n".join([*faults, f"{len(STORIES) + 1} stories, {len(ENDS) + 2} ends, {wanted} lines of seed {seed}, {len(faults)} faults"]))
     return 1 if faults else 0

@@ -17,6 +17,9 @@ import zipfile
 HOME = os.path.dirname(os.path.dirname(os.path.abspath(__file__)))
 CRATES = ("pm_c", "pm_part")
 LIBRARY = "libpmhost.so"
+# The files of the package that are no programs are data that its modules read.
+KINDS = (".py", ".typed", ".json", ".toml", ".txt")
+COMMANDS = "[console_scripts]\npmhost = pmhost.cli:main\n"
 
 
 def setting(name):
@@ -94,12 +97,16 @@ def add_facts(wheel):
     folder = f"{stem()}.dist-info"
     wheel.add(f"{folder}/METADATA", metadata().encode())
     wheel.add(f"{folder}/WHEEL", wheel_facts().encode())
+    wheel.add(f"{folder}/entry_points.txt", COMMANDS.encode())
     wheel.close(folder)
 
 
 def sources():
-    folder = os.path.join(HOME, "src", "pmhost")
-    return sorted(name for name in os.listdir(folder) if name.endswith((".py", ".typed")))
+    """The files of the package, by their paths below it."""
+    top, found = os.path.join(HOME, "src", "pmhost"), []
+    for folder, _, names in os.walk(top):
+        found += [os.path.relpath(os.path.join(folder, name), top) for name in names if name.endswith(KINDS)]
+    return sorted(found)
 
 
 def read(path):

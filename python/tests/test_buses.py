@@ -1,94 +1,158 @@
-"""The buses of Linux over a stand-in for the kernel's ioctl, which has a model part behind it."""
-import ctypes
+"""The buses: that of Linux over the stand-in for the kernel, that of smbus2 over a stand-in for the package, and the desk's."""
+import errno
+import sys
+import tempfile
+import types
 import unittest
 from decimal import Decimal
 from unittest import mock
 
-from pmhost import LinuxBus, Part, PartBus, Pmbus, Smbus2Bus
-from pmhost import buses
+from pmhost import DeskBus, LinuxBus, NoBus, NoTransfer, Pmbus, Smbus2Bus
+from pmhost.bus.linux import I2C_FUNCS, I2C_RDWR, I2C_SLAVE, Message, Messages
 
-from .fixtures import ADDRESS, RAILS
+from . import kernel
 
-try:
-    import smbus2
-except ImportError:
-    smbus2 = None
-
-
-class Kernel:
-    """The ioctl of a bus: transfers of one or two messages with the part; `mishaps` are the next transfers' errors."""
-
-    def __init__(self):
-        self.bus, self.mishaps, self.seen = PartBus(Part(ADDRESS, RAILS)), [], []
-
-    def ioctl(self, file, request, argument=0, *_):
-        self.seen.append(request)
-        if request != buses.I2C_RDWR:
-            return 0
-        mishap = self.mishaps.pop(0) if self.mishaps else None
-        if isinstance(mishap, OSError):
-            raise mishap
-        if mishap is not None:
-            return mishap
-        messages = [argument.msgs[place] for place in range(argument.nmsgs)]
-        sent = self.data(messages[0])
-        frame = bytes([messages[0].addr << 1]) + sent
-        if len(messages) == 1:
-            if not self.bus.write(frame):
-                raise OSError(121, "Remote I/O error")
-        else:
-            answer = self.bus.read(frame, messages[1].len)
-            if not answer:
-                raise OSError(121, "Remote I/O error")
-            for place, byte in enumerate(answer):
-                self.pointer(messages[1])[place] = byte
-        return len(messages)
-
-    @staticmethod
-    def pointer(message):
-        return ctypes.cast(message.buf, ctypes.POINTER(ctypes.c_uint8))
-
-    def data(self, message):
-        return bytes(self.pointer(message)[place] for place in range(message.len))
+ADDRESS = 0x58
+FRAME, REQUEST = bytes.fromhex("B0050400 21CD345A"), bytes.fromhex("B006020021")
 
 
 class Linux(unittest.TestCase):
-    def setUp(self):
-        self.kernel = Kernel()
-        for name, value in (("fcntl.ioctl", self.kernel.ioctl), ("os.open", lambda *_: 5), ("os.close", lambda *_: None)):
-            patch = mock.patch(f"pmhost.buses.{name}", value)
-            patch.start()
-            self.addCleanup(patch.stop)
+    def bus(self, *mishaps, **named):
+        self.over = kernel.FakeKernel(kernel.Part(), list(mishaps))
+        return LinuxBus(7, ADDRESS, kernel=self.over, **named)
 
     def test_an_order(self):
-        with LinuxBus(1, ADDRESS) as bus:
+        with self.bus() as bus:
             pmbus = Pmbus(bus, ADDRESS, outputs=2)
             pmbus.learn(0)
-            self.kernel.mishaps = [None, OSError(5, "Input/output error"), 0, 1]
+            self.over.mishaps = ["lost", "hung", "short0", "short1"]
             self.assertEqual(pmbus.order_volts(0, "3.25"), Decimal("3.25"))
-        self.assertEqual(self.kernel.seen[0], buses.I2C_SLAVE)
+        self.assertEqual(self.over.opened, 0)
+
+    def test_the_kernel_s_structures(self):
+        # Where the kernel has each field, on a machine of 64 bits.
+        for each, name, place in ((Message, "addr", 0), (Message, "flags", 2), (Message, "len", 4), (Message, "buf", 8),
+                                  (Messages, "msgs", 0), (Messages, "nmsgs", 8)):
+            self.assertEqual(getattr(each, name).offset, place)
+        self.assertEqual((I2C_SLAVE, I2C_FUNCS, I2C_RDWR), (0x0703, 0x0705, 0x0707))
+
+    def test_names_of_a_bus(self):
+        for number in (7, "7", "i2c-7", "/dev/i2c-7"):
+            with LinuxBus(number, ADDRESS, kernel=kernel.FakeKernel(kernel.Part())) as bus:
+                self.assertEqual(repr(bus), "LinuxBus(7, 0x58)")
+        for number in (True, None, 7.0, "/dev/spi-7", "", -1):
+            with self.subTest(number=number), self.assertRaises(TypeError):
+                LinuxBus(number, ADDRESS, kernel=kernel.FakeKernel(kernel.Part()))
 
     def test_a_part_that_a_driver_holds(self):
-        def held(file, request, *rest):
-            if request == buses.I2C_SLAVE:
-                raise OSError(16, "Device or resource busy")
-            return self.kernel.ioctl(file, request, *rest)
-        with mock.patch("pmhost.buses.fcntl.ioctl", held):
-            with self.assertRaises(OSError):
-                LinuxBus(1, ADDRESS)
-            LinuxBus(1, ADDRESS, force=True).close()
+        over = kernel.FakeKernel(kernel.Part(), faults={I2C_SLAVE: errno.EBUSY})
+        with self.assertRaisesRegex(NoBus, "7-0058 is held by a driver of the kernel: unbind it, .*, or give --force") as raised:
+            LinuxBus(7, ADDRESS, kernel=over)
+        self.assertEqual((raised.exception.errno, over.opened), (errno.EBUSY, 0))
+        LinuxBus(7, ADDRESS, force=True, kernel=over).close()
+        self.assertEqual(over.opened, 0)
+
+    def test_an_adapter_without_plain_transfers(self):
+        with self.assertRaisesRegex(NoBus, "has no plain I2C transfers"):
+            LinuxBus(7, ADDRESS, kernel=kernel.FakeKernel(kernel.Part(), functions=0x0EFF0008))
+
+    def test_a_transfer_counts_where_every_message_went(self):
+        for mishap, said in (("short0", "0 of 2 messages went"), ("short0h", "0 of 2 messages went"), ("short1", "1 of 2 messages went"),
+                             ("deaf", "No such device or address"), ("lost", "Remote I/O error"), ("hung", "Connection timed out")):
+            with self.subTest(mishap=mishap), self.bus(mishap) as bus, self.assertRaisesRegex(NoTransfer, f"^{said}$"):
+                bus.read(REQUEST, 4)
+        for mishap, said in (("short0", "0 of 1 message went"), ("short0h", "0 of 1 message went"), ("deaf", "No such device or address")):
+            with self.subTest(mishap=mishap), self.bus(mishap) as bus, self.assertRaisesRegex(NoTransfer, f"^{said}$"):
+                bus.write(FRAME)
+        with self.bus() as bus:
+            self.assertIs(bus.write(FRAME), True)
+            self.assertEqual(bus.read(REQUEST, 4), bytes.fromhex("02CD34B9"))
+
+    def test_the_trace(self):
+        with tempfile.NamedTemporaryFile() as file:
+            with self.bus("ok", "short0", "ok", trace=file.name) as bus:
+                bus.write(FRAME)
+                with self.assertRaises(NoTransfer):
+                    bus.read(REQUEST, 4)
+                bus.read(REQUEST, 4)
+            self.assertEqual(file.read().decode(), "B0 05 04 00 21 CD 34 5A\n# failed: B0 06 02 00 21: 0 of 2 messages went\n"
+                                                   "B0 06 02 00 21 / B1 02 CD 34 B9\n")
+        with self.assertRaisesRegex(NoBus, "^/nowhere/t: No such file or directory$"):
+            self.bus(trace="/nowhere/t")
+
+    def test_a_buffer_keeps_no_older_answer(self):
+        with self.bus("ok", "empty") as bus:
+            bus.read(REQUEST, 4)
+            self.assertEqual(bus.read(REQUEST, 4), bytes(4))
 
 
-@unittest.skipUnless(smbus2, "smbus2 isn't installed here")
+class Smbus2Stand:
+    """What the package needs of smbus2, over the stand-in for the kernel: messages, and `i2c_rdwr`, which doesn't tell how many
+    went."""
+
+    class Message:
+        def __init__(self, address, is_read, data):
+            self.address, self.is_read, self.data = address, is_read, data
+
+        def __iter__(self):
+            return iter(self.data)
+
+    class i2c_msg:
+        @staticmethod
+        def write(address, data):
+            return Smbus2Stand.Message(address, False, list(data))
+
+        @staticmethod
+        def read(address, count):
+            return Smbus2Stand.Message(address, True, [0] * count)
+
+    def __init__(self, mishaps=()):
+        self.bus = LinuxBus(7, ADDRESS, kernel=kernel.FakeKernel(kernel.Part(), list(mishaps)))
+
+    def i2c_rdwr(self, *messages):
+        assert [it.is_read for it in messages] in ([False], [False, True]), "a write, or a write and a read"
+        assert {it.address for it in messages} == {ADDRESS}
+        frame = bytes([2 * ADDRESS, *messages[0].data])
+        if len(messages) == 1:
+            self.bus.write(frame)
+        else:
+            messages[1].data = list(self.bus.read(frame, len(messages[1].data)))
+
+
 class Smbus2(unittest.TestCase):
-    def test_an_order_over_its_ioctl(self):
-        kernel = Kernel()
-        with mock.patch("smbus2.smbus2.ioctl", kernel.ioctl), mock.patch("smbus2.smbus2.os.open", lambda *_: 5), \
-                mock.patch("smbus2.smbus2.os.close", lambda *_: None), \
-                mock.patch.object(smbus2.SMBus, "_get_funcs", lambda self: 0x7FFFFFFF, create=True):
-            bus = smbus2.SMBus(1)
-            pmbus = Pmbus(Smbus2Bus(bus), ADDRESS, outputs=2)
-            pmbus.learn(0)
-            kernel.mishaps = [None, OSError(5, "Input/output error")]
-            self.assertEqual(pmbus.order_volts(0, "3.25"), Decimal("3.25"))
-            self.assertEqual(kernel.bus.part.word(0, "VOUT_COMMAND"), 0x3400)
+    def setUp(self):
+        module = types.ModuleType("smbus2")
+        module.i2c_msg = Smbus2Stand.i2c_msg
+        patch = mock.patch.dict(sys.modules, {"smbus2": module})
+        patch.start()
+        self.addCleanup(patch.stop)
+
+    def test_an_order(self):
+        stand = Smbus2Stand()
+        pmbus = Pmbus(Smbus2Bus(stand), ADDRESS, outputs=2)
+        pmbus.learn(0)
+        stand.bus._kernel.mishaps = ["lost", "deaf", "ok", "ok"]
+        self.assertEqual(pmbus.order_volts(0, "3.25"), Decimal("3.25"))
+        self.assertEqual(stand.bus._kernel.part.word(), "3400")
+
+    def test_what_a_bus_answers(self):
+        bus = Smbus2Bus(Smbus2Stand())
+        self.assertIs(bus.write(FRAME), True)
+        self.assertEqual(bus.read(REQUEST, 4), bytes.fromhex("02CD34B9"))
+        self.assertEqual(bus.read(REQUEST, 2), bytes.fromhex("02CD"))
+
+    def test_no_bus(self):
+        with self.assertRaisesRegex(TypeError, "an open smbus2.SMBus is wanted"):
+            Smbus2Bus(7)
+
+
+class Desk(unittest.TestCase):
+    def test_an_order_and_its_trace(self):
+        with tempfile.NamedTemporaryFile() as file:
+            bus = DeskBus(ADDRESS, 2, file.name)
+            Pmbus(bus, ADDRESS, outputs=2).order(1, "VOUT_COMMAND", 0x34CD)
+            with self.assertRaisesRegex(NoTransfer, "Remote I/O error"):
+                bus.read(bytes.fromhex("B006020721"), 4)
+            bus.close()
+            self.assertEqual(file.read().decode().splitlines()[-1], "# failed: B0 06 02 07 21: Remote I/O error")
+        self.assertEqual((bus.part.word(1, "VOUT_COMMAND"), repr(bus)), (0x34CD, "DeskBus(0x58)"))

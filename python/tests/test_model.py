@@ -1,14 +1,10 @@
 """Ten thousand random events beside the plain host of scripts/plain: the two say the same after each."""
-import os
 import random
-import sys
 import unittest
 
 from pmhost import Host, Refused
 
-PLAIN = os.path.join(os.path.dirname(os.path.dirname(os.path.dirname(os.path.abspath(__file__)))), "scripts")
-sys.path.insert(0, PLAIN)
-
+from . import plain_model  # noqa: F401, E402
 from plain import limits as plain_limits  # noqa: E402
 from plain.converter import PROTECT, REGISTERS, Converter  # noqa: E402
 from plain.host import ANY, Host as PlainHost  # noqa: E402
@@ -115,7 +111,6 @@ class Life:
 
 
 class RandomLives(unittest.TestCase):
-    @unittest.skipUnless(os.path.isdir(os.path.join(PLAIN, "plain")), "scripts/plain isn't beside this folder")
     def test_ten_thousand_events(self):
         draw, lived = random.Random(7), 0
         while lived < EVENTS:

@@ -10,7 +10,7 @@ the guest has gone.
 At address 0A of the first bus, text is taken: `part WORDS` puts a part there (parts.py), as made; `adapter errno` or
 `adapter count` says who asks; `plan WORD ..` has a mishap for each coming transfer; `restart` restarts the part. A read
 there tells as JSON what the part holds, and the transfers so far. A read of a byte at 0B tells the error of the last
-failed transfer, by its number, for an adapter that answers errors. The mishaps are those of scripts/fake_i2c.py, and
+failed transfer, by its number, for an adapter that answers errors. The mishaps are those of python/tests/kernel.py, and
 
     lostall   as `lost`, and of a read no message goes, where `lost` lets the first one go
     cut       the last byte that comes back is FF
@@ -29,7 +29,8 @@ import time
 
 sys.dont_write_bytecode = True
 HERE = os.path.dirname(os.path.abspath(__file__))
-sys.path[:0] = [HERE, os.path.dirname(HERE)]
+PYTHON = os.path.join(os.path.dirname(os.path.dirname(HERE)), "python")
+sys.path[:0] = [HERE, os.path.dirname(HERE), os.path.join(PYTHON, "src"), PYTHON]
 
 import counted  # noqa: E402
 import parts  # noqa: E402
@@ -44,12 +45,12 @@ class Bench:
     """The part, its mishaps, and what is known of its transfers. Both buses ask it."""
 
     def __init__(self, folder):
-        self.folder, self.library = folder, parts.library()
+        self.folder = folder
         self.has_errors = False
         self.put(["proved"])
 
     def put(self, words):
-        self.part, self.address = parts.made(words, self.library)
+        self.part, self.address = parts.made(words)
         self.plan, self.count, self.error = [], 0, 0
 
     def mishap(self):

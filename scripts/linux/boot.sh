@@ -4,8 +4,8 @@
 #   scripts/linux/boot.sh FOLDER TRIAL [WORD ..]
 #
 # FOLDER is made, and keeps what the trial said (`said`), its status (`ended`) and the kernel's messages (`dmesg`). CACHE
-# names the folder that build.sh filled, PMB and PMBHOST the built programs, PM_LIBRARY the C library as a shared object
-# (the plain model stands in for it where it names none), SECONDS_AT_MOST how long a guest may take (900). VCD=1 keeps
+# names the folder that build.sh filled, PMB and PMBHOST the built programs, PMHOST_LIBRARY the library of the package, and
+# PLAIN_PART=1 has the plain model alone behind the buses; SECONDS_AT_MOST how long a guest may take (900). VCD=1 keeps
 # the wire's waveform. The status is 0 where the trial's was 0.
 set -u
 case " $* " in *" --help "* | *" -h "*) sed -n '2,/^[^#]/s/^# \{0,1\}//p' "$0"; exit 0 ;; esac
@@ -15,7 +15,7 @@ folder=$(realpath -m "$1"); shift
 trial=$(IFS=,; echo "$*")
 mkdir -p "$folder" || exit 2
 rm -f "$folder"/{i2c.sock,wire.sock,held,said,ended}
-PM_LIBRARY=${PM_LIBRARY-} python3 "$here/bench.py" "$folder" ${VCD:+--vcd} > "$folder/bench" 2>&1 &
+PLAIN_PART=${PLAIN_PART-} python3 "$here/bench.py" "$folder" ${VCD:+--vcd} > "$folder/bench" 2>&1 &
 bench=$! guest=
 # User Mode Linux makes a session of its own, whose number it keeps in a file while it runs.
 end() {
@@ -42,7 +42,7 @@ TMPDIR=$memory timeout -k 5 "${SECONDS_AT_MOST:-900}" "$CACHE/kernel/linux" mem=
     "virtio_uml.device=$folder/i2c.sock:34" "virtio_uml.device=$folder/wire.sock:41" \
     root=/dev/root rootfstype=hostfs rootflags=/ ro "init=$here/guest.sh" "uml_dir=$folder/uml/" umid=guest \
     con=null con0=fd:0,fd:1 "ROOT=$(cd "$here/../.." && pwd)" "FOLDER=$folder" "CACHE=$CACHE" "TRIAL=$trial" \
-    "PMB=$PMB" "PMBHOST=$PMBHOST" > "$folder/console" 2>&1 < /dev/null &
+    "PMB=$PMB" "PMBHOST=$PMBHOST" "PMHOST_LIBRARY=$PMHOST_LIBRARY" > "$folder/console" 2>&1 < /dev/null &
 guest=$!
 wait "$guest"
 [ "$(cat "$folder/ended" 2> /dev/null)" = "status 0" ] && [ ! -s "$folder/bench" ]

@@ -1,11 +1,11 @@
 #!/usr/bin/env bash
 # Builds what scripts/linux/run.sh needs, once: a kernel of Debian's linux-source-6.1 for User Mode Linux, the modules of
-# scripts/linux/modules for it, and the archive of crates/pm_c as a shared object where it is built.
+# scripts/linux/modules for it, and the archives of crates/pm_c and crates/pm_part as one shared object for the package.
 #
 #   scripts/linux/build.sh CACHE
 #
 # CACHE is a folder outside of the repository, which gets 2 GB: source, kernel, modules. Some five minutes the first
-# time, on two cores; JOBS=4 takes four. PART names another libpm_part.a than crates/pm_part/out/libpm_part.a.
+# time, on two cores; JOBS=4 takes four. ARCHIVE and PART name other archives than crates/*/out/lib*.a.
 # Packages of Debian 12: linux-source-6.1 flex bison bc gcc make xz-utils.
 set -u
 case " $* " in *" --help "* | *" -h "*) sed -n '2,/^[^#]/s/^# \{0,1\}//p' "$0"; exit 0 ;; esac
@@ -45,10 +45,10 @@ for each in "$here"/modules/*; do
     cmp -s "$each" "$cache/modules/$(basename "$each")" || cp "$each" "$cache/modules/"
 done
 quiet make -C "$source" O="$kernel" M="$cache/modules" modules
-part=${PART-$root/crates/pm_part/out/libpm_part.a}
-rm -f "$cache/libpm.so"
-if [ -f "$part" ]; then
-    quiet gcc -shared -Wl,--whole-archive "$part" -Wl,--no-whole-archive -o "$cache/libpm.so"
+part=${PART-$root/crates/pm_part/out/libpm_part.a} archive=${ARCHIVE-$root/crates/pm_c/out/libpm_c.a}
+rm -f "$cache/libpmhost.so"
+if [ -f "$part" ] && [ -f "$archive" ]; then
+    quiet gcc -shared -Wl,--whole-archive "$archive" "$part" -Wl,--no-whole-archive -Wl,-z,noexecstack -o "$cache/libpmhost.so"
 fi
 echo "kernel $(make -s -C "$source" O="$kernel" kernelrelease), $(find "$cache/modules" -name '*.ko' | wc -l) modules," \
-    "$([ -f "$cache/libpm.so" ] && echo "the part" || echo "no part")"
+    "$([ -f "$cache/libpmhost.so" ] && echo "the library" || echo "no library")"

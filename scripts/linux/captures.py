@@ -1,4 +1,4 @@
-"""One run of bus.py, told by its trace and by the kernel's tracepoints: captures BUS. capture_to_trace.py must make the
+"""One run of pmhost, told by its trace and by the kernel's tracepoints: captures BUS. The package pmhost must make the
 same packets of both. They stay in FOLDER, and so does the waveform of the bit-banged bus, for waveform.py.
 
 Over an adapter that stands on another the events of both are there, which --bus takes apart. Where the kernel repeats a
@@ -8,20 +8,20 @@ import os
 import subprocess
 import sys
 
-from capture_to_trace import trace
-from guest_bus import FOLDER, Bench, root_file
+from guest_bus import FOLDER, Bench
+from pmhost.capture import trace
 from rows import read, write
 from tally import Tally
 
 TRACING = "/sys/kernel/tracing"
-JOBS = ("learn 0 + volts 0 VOUT_COMMAND 3300000 + order 1 VOUT_MAX 3000 + check 0 VOUT_COMMAND + clear 1 + "
-        "check 1 VOUT_MAX + order 1 VOUT_MARGIN_LOW 0E00 + seen")
+JOBS = ("word 0 VOUT_COMMAND 34CD + word 1 VOUT_MAX 3000 + read 0 OPERATION + clear 1 + read 1 OPERATION + "
+        "word 1 VOUT_MARGIN_LOW 0E00 + learn 0")
 # A lost acknowledgement, a damaged answer, a repeated frame, a restart.
-MISHAPS = "ok lost ok ok damaged ok ok twice ok restart"
-SAID = "learned done done done done done done".split()
+MISHAPS = "lost ok ok damaged ok ok twice ok restart"
+SAID = ["word 0", "word 1", "read 0", "clear 1", "read 1", "word 1", "learn 0"]
 ADDRESS = 0x58
 # Which of the packets it is that the kernel repeats.
-REPEATED = 6
+REPEATED = 5
 
 
 def packets(lines):
@@ -29,13 +29,13 @@ def packets(lines):
 
 
 def run(bench):
-    """The run, behind it a look for a device that isn't there, and the tracepoints of both. What bus.py printed."""
+    """The run, behind it a look for a device that isn't there, and the tracepoints of both. What pmhost printed."""
     write(f"{TRACING}/trace", "\n")
     write(f"{FOLDER}/captured.bus", "")
     bench.put("proved", MISHAPS)
     write(f"{TRACING}/events/i2c/enable", "1")
-    words = [root_file("scripts/bus.py"), str(bench.number), "58", f"--trace={FOLDER}/captured.bus", *JOBS.split()]
-    ran = subprocess.run([sys.executable, *words], capture_output=True, text=True)
+    words = ["-b", str(bench.number), "-a", "58", "--outputs=2", "--no-limit", f"--trace={FOLDER}/captured.bus", *JOBS.split()]
+    ran = subprocess.run([sys.executable, "-m", "pmhost", *words], capture_output=True, text=True)
     subprocess.run(["i2cdetect", "-y", "-q", str(bench.number), "0x59", "0x59"], capture_output=True)
     write(f"{TRACING}/events/i2c/enable", "0")
     write(f"{FOLDER}/captured.linux", read(f"{TRACING}/trace"))
@@ -46,10 +46,10 @@ def told_by_kernel(bench, sent):
     lines = read(f"{FOLDER}/captured.linux").splitlines()
     found = list(trace("linux", lines, ADDRESS, bench.number))
     if packets(found) != packets(sent):
-        yield f"the kernel tells {packets(found)}, and bus.py {packets(sent)}"
+        yield f"the kernel tells {packets(found)}, and pmhost {packets(sent)}"
     failed = [sum(line.startswith("# failed") for line in lines) for lines in (found, sent)]
     if failed[0] != failed[1]:
-        yield f"the kernel tells of {failed[0]} failed transfers, and bus.py of {failed[1]}"
+        yield f"the kernel tells of {failed[0]} failed transfers, and pmhost of {failed[1]}"
     if bench.number == 1:
         yield from told_below(lines, sent)
 
@@ -69,7 +69,7 @@ def told_below(lines, sent):
 def main(words):
     bench, tally = Bench(int(words[0])), Tally()
     ran = run(bench)
-    ends = [line.rpartition(" ")[2] for line in ran.stdout.splitlines()[:-1]]
+    ends = [line.partition(":")[0] for line in ran.stdout.splitlines()]
     sent = read(f"{FOLDER}/captured.bus").splitlines()
     tally.tell(f"bus {bench.number}, the run", [] if ends == SAID and ran.returncode == 0 else [f"{ran}"])
     tally.tell(f"bus {bench.number}, the kernel's tracepoints", told_by_kernel(bench, sent))

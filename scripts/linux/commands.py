@@ -1,7 +1,7 @@
 """The commands of docs/bus.md, word for word, over a bus of the guest: commands BUS.
 
 The page's bus is 1; over another its number stands in the commands in the place of that. A command that the page doesn't
-have is a fault. Beside them: frames_to_i2ctransfer.py with i2c-tools where transfers fail, and what the page says of a
+have is a fault. Beside them: pmhost capture i2ctransfer with i2c-tools where transfers fail, and what the page says of a
 driver that holds the part.
 """
 import os
@@ -14,13 +14,9 @@ from tally import Tally
 
 PLACE = "/run/commands"
 PROBE = "PEC yes, PAGE_PLUS yes, 2 outputs: 0 ULINEAR16 -12, 1 DIRECT 1 0 3\n"
-ORDER = ("scripts/bus.py 1 58 --outputs=2 --limit=0:3135000:3465000 --trace=bus.trace "
-         "learn 0 + volts 0 VOUT_COMMAND 3300000 + state 0 VOUT_COMMAND")
-ORDERED = """learn 0: ended learned
-volts 0 VOUT_COMMAND 3300000: ended done
-state 0 VOUT_COMMAND: state confirmed 34CD possible 34CD
-"""
-FRAMES = r"printf 'B0 19 /\nB0 06 02 00 20 /\n' | scripts/frames_to_i2ctransfer.py 1"
+ORDER = "pmhost -b 1 -a 58 --outputs 2 --limit 0:3.135V:3.465V --trace bus.trace set 0 3.3V"
+ORDERED = "set 0: VOUT_COMMAND 34CD 3.300048V confirmed; the output commands 3.300048V, within 3.135V to 3.465V\n"
+FRAMES = r"printf 'B0 19 /\nB0 06 02 00 20 /\n' | pmhost capture i2ctransfer 1"
 LEARNED = """1 58 page 0 VOUT_MODE read 14
 2 58 page 0 VOUT_COMMAND write 34CD
 3 58 page 0 VOUT_COMMAND read 34CD
@@ -38,11 +34,14 @@ class Page:
         os.chdir(PLACE)
         os.symlink(root_file("scripts"), "scripts")
         os.symlink(os.environ["PMB"], "pmb")
+        with open("pmhost", "w", encoding="utf-8") as file:
+            file.write(f"#!/bin/sh\nPYTHONPATH={root_file('python/src')} exec python3 -m pmhost \"$@\"\n")
+        os.chmod("pmhost", 0o755)
 
     def command(self, words):
         """A command of the page, for this bus."""
-        words = words.replace("bus.py 1 ", f"bus.py {self.number} ")
-        words = words.replace("frames_to_i2ctransfer.py 1", f"frames_to_i2ctransfer.py {self.number}")
+        words = words.replace("-b 1 ", f"-b {self.number} ")
+        words = words.replace("i2ctransfer 1", f"i2ctransfer {self.number}")
         return words.replace("1-0058", f"{self.number}-0058").replace("i2cdetect -F 1", f"i2cdetect -F {self.number}")
 
     def run(self, words):
@@ -68,14 +67,14 @@ def exactly(text):
 def board(page):
     """From a board to a confirmed voltage, and what went over the wire."""
     page.bench.put("modes 14 40")
-    page.tell("scripts/bus.py 1 58 probe", exactly(PROBE), more=[] if PROBE.strip() in page.text else ["the page has another"])
+    page.tell("pmhost -b 1 -a 58 probe", exactly(f"probe: {PROBE}"), more=[] if PROBE.strip() in page.text else ["the page has another"])
     page.bench.put("proved")
     for words in TRACED[:2]:
         page.tell(words, "")
     page.tell(ORDER, exactly(ORDERED), more=[] if page.command(ORDERED) in page.text else ["the page has another answer"])
-    page.tell("pmb decode < bus.trace", exactly(LEARNED) + "(count .*\n)*lines 3 accepted 3 faults 0 bad 0\n")
+    page.tell("pmb decode < bus.trace", exactly(LEARNED) + "(.*\n)*lines 8 accepted 8 faults 0 bad 0\n")
     page.tell("grep failed bus.trace", "", status=1)
-    kernel = page.run(f"{TRACED[2]} | scripts/capture_to_trace.py linux --address=58 --bus={page.number}").stdout
+    kernel = page.run(f"{TRACED[2]} | pmhost capture linux --address=58 --bus={page.number}").stdout
     sent = "".join(line for line in read("bus.trace").splitlines(True) if not line.startswith("#"))
     page.tally.tell(f"bus {page.number}, the kernel's tracepoints", [] if kernel == sent else [f"{kernel!r}, not {sent!r}"])
 
@@ -87,26 +86,26 @@ def frames(page):
     decoded = exactly("1 58 CAPABILITY read 80\n2 58 page 0 VOUT_MODE read 14\n") + "(.*\n)*"
     page.tell(f"{FRAMES} --run > part.trace; pmb decode < part.trace", decoded)
     nobody = {0: "Warning: only 0/2 messages were sent"}.get(number, "Error: Sending messages failed: No such device or address")
-    page.tell(r"printf 'B2 19 /\n' | scripts/frames_to_i2ctransfer.py 1 --run", exactly(f"# failed: B2 19: {nobody}\n"),
+    page.tell(r"printf 'B2 19 /\n' | pmhost capture i2ctransfer 1 --run", exactly(f"# failed: B2 19: {nobody}\n"),
               status=1, on_page=False)
     page.bench.put("proved", "lost")
     lost = {0: "Warning: only 0/1 messages were sent", 1: "Error: Sending messages failed: Remote I/O error"}
     said = lost.get(number, "Error: Sending messages failed: Input/output error")
-    page.tell(r"printf 'B0 03 5D\n' | scripts/frames_to_i2ctransfer.py 1 --run",
+    page.tell(r"printf 'B0 03 5D\n' | pmhost capture i2ctransfer 1 --run",
               exactly(f"# failed: B0 03 5D: {said}\n"), status=1, on_page=False)
 
 
 def drivers(page):
     """A driver that holds the part: it is refused, unbound, and the part is free."""
     page.bench.put("proved")
-    held = exactly(f"bus.py: {page.number}-0058 is held by a driver of the kernel: unbind it, echo ") + ".*\n"
+    held = exactly(f"pmhost: {page.number}-0058 is held by a driver of the kernel: unbind it, echo ") + ".*\n"
     with bound(page.number, "58"):
-        page.tell("scripts/bus.py 1 58 probe", "", held, 2)
-        page.tell("scripts/bus.py 1 58 --force probe", "PEC yes.*\n", on_page=False)
+        page.tell("pmhost -b 1 -a 58 probe", "", held, 2)
+        page.tell("pmhost -b 1 -a 58 --force probe", "probe: PEC yes.*\n", on_page=False)
         busy = page.run(FRAMES + " --run").stdout
         page.tally.tell("i2ctransfer beside a driver", [] if "busy" in busy else [busy])
         page.tell("echo 1-0058 > /sys/bus/i2c/devices/1-0058/driver/unbind", "")
-        page.tell("scripts/bus.py 1 58 probe", "PEC yes.*\n")
+        page.tell("pmhost -b 1 -a 58 probe", "probe: PEC yes.*\n")
 
 
 def main(words):

@@ -1,4 +1,4 @@
-"""Eight orders by bus.py under every placement of one fault, and under drawn lists of two to four: faults BUS.
+"""Eight orders by pmhost under every placement of one fault, and under drawn lists of two to four: faults BUS.
 
 The nine kinds: the part restarts; it doesn't take the frame; it takes the frame and the transfer fails, in two ways; an
 acknowledgement is false; an answer is damaged, or cut; a write is cut, or a bit of it is flipped. Each strikes each
@@ -14,9 +14,8 @@ import io
 import random
 import re
 
-import bus
 from guest_bus import Bench
-from i2c_dev import Kernel
+from pmhost import cli
 from tally import Tally
 
 KINDS = {"restart": "restart", "deaf": "not taken", "lost": "lost", "lostall": "lost, second way",
@@ -27,24 +26,28 @@ OUTPUTS = (0, 1, 1, 0, 0, 1, 0, 1)
 WORDS = tuple(0x1200 + 0x200 * place for place in range(len(OUTPUTS)))
 START = 0x1000
 LISTS, SEED = 60, 7
-ORDERS = " + ".join(f"order {output} VOUT_COMMAND {word:04X}" for output, word in zip(OUTPUTS, WORDS))
-QUESTIONS = "state 0 VOUT_COMMAND + state 1 VOUT_COMMAND + seen"
-STATE = re.compile(r"state (?:confirmed (\w{4})|unknown) possible (any|.*)")
+ORDERS = " + ".join(f"word {output} VOUT_COMMAND {word:04X}" for output, word in zip(OUTPUTS, WORDS))
+STATE = re.compile(r"([01]) VOUT_COMMAND (?:(\w{4}) confirmed|possible ([0-9A-F ]+)|any)")
+DONE = re.compile(r"word [01]: VOUT_COMMAND \w{4} confirmed; ")
+SEEN = re.compile(r"restart seen: (yes|no)")
 
 
 class Run:
-    """One call of bus.py over the bus with a plan of mishaps, what it said, and what the part then holds."""
+    """One call of pmhost over the bus with a plan of mishaps, what it said, and what the part then holds."""
 
     def __init__(self, bench, plan, passes, part="proved"):
         bench.put(part, " ".join(plan))
         out, err = io.StringIO(), io.StringIO()
-        words = [str(bench.number), "58", "--outputs=2", f"--passes={passes}", *f"{ORDERS} + {QUESTIONS}".split()]
+        words = ["-b", str(bench.number), "-a", "58", "--outputs=2", "--no-limit", f"--passes={passes}",
+                 *f"{ORDERS} + known".split()]
         with contextlib.redirect_stdout(out), contextlib.redirect_stderr(err):
-            self.status = bus.main(words, Kernel())
-        self.said = [line.partition(": ")[2] for line in out.getvalue().splitlines()]
+            self.status = cli.main(words)
+        self.said = out.getvalue().splitlines()
         told = bench.ask()
         self.held, self.count, self.has_restarted = told["held"], told["count"], "restart" in plan
-        self.ends, self.answers = self.said[:-3], self.said[-3:]
+        self.ends = [line for line in self.said if line.startswith("word ")]
+        self.answers = [found for found in map(STATE.fullmatch, self.said) if found]
+        self.is_seen = [found[1] for found in map(SEEN.fullmatch, self.said) if found]
 
     def wrong_outputs(self):
         """Words that were never ordered for the output that holds them."""
@@ -54,22 +57,20 @@ class Run:
                 yield f"output {output} holds {word:04X}"
 
     def is_done(self):
-        return len(self.ends) == len(OUTPUTS) and set(self.ends) == {"ended done"}
+        return len(self.ends) == len(OUTPUTS) and all(map(DONE.match, self.ends))
 
     def false_statements(self):
         """What was said and isn't so. A restart since may have taken a confirmed word away: that isn't promised."""
-        for output, (answer, word) in enumerate(zip(self.answers, self.held)):
-            found = STATE.fullmatch(answer)
-            if not found:
-                yield f"{answer!r} of output {output}"
-                continue
-            confirmed, possible = found.groups()
+        if len(self.answers) != 2:
+            yield f"{self.said} of two outputs"
+        for found, word in zip(self.answers, self.held):
+            output, confirmed, possible = found.groups()
             if not self.has_restarted and confirmed and int(confirmed, 16) != word:
                 yield f"{confirmed} is confirmed of output {output}, which holds {word:04X}"
-            if not self.has_restarted and possible != "any" and f"{word:04X}" not in possible.split():
+            if not self.has_restarted and possible and f"{word:04X}" not in possible.split():
                 yield f"{possible} is possible of output {output}, which holds {word:04X}"
-        if self.answers[2:] not in (["seen no"], ["seen yes"]) or self.answers[2:] == ["seen yes"] and not self.has_restarted:
-            yield f"{self.answers[2:]} without a restart"
+        if self.is_seen not in (["no"], ["yes"]) or self.is_seen == ["yes"] and not self.has_restarted:
+            yield f"restart seen: {self.is_seen} without a restart"
         if (self.status == 0) != self.is_done():
             yield f"status {self.status} with {self.ends}"
         if self.is_done() and not self.has_restarted and self.held != [WORDS[6], WORDS[7]]:
@@ -77,8 +78,7 @@ class Run:
 
     def has_lost_word(self):
         """A confirmed word went with a restart."""
-        found = [STATE.fullmatch(answer) for answer in self.answers[:2]]
-        return any(each and each[1] and int(each[1], 16) != word for each, word in zip(found, self.held))
+        return any(found[2] and int(found[2], 16) != word for found, word in zip(self.answers, self.held))
 
 
 class Table:
@@ -95,7 +95,7 @@ class Table:
         counts["false"] += bool(false)
         counts["all done"] += run.is_done()
         counts["gone by a restart"] += run.has_restarted and run.has_lost_word()
-        counts["of these seen"] += run.has_restarted and run.has_lost_word() and run.answers[2] == "seen yes"
+        counts["of these seen"] += run.has_restarted and run.has_lost_word() and run.is_seen == ["yes"]
         self.tally.tell(f"bus {self.bench.number}, {passes} passes, {' '.join(plan)}", [*wrong, *false])
 
     def show(self):

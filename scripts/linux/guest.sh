@@ -1,9 +1,9 @@
 #!/bin/bash
 # The first program of the guest, which boot.sh starts: mounts what Linux needs, brings the buses up and does one trial.
 # The root is the host's file system, read only; FOLDER alone is written through. ROOT, FOLDER, CACHE, TRIAL, PMB and
-# PMBHOST come from the kernel's command line.
+# PMBHOST and PMHOST_LIBRARY come from the kernel's command line.
 export PATH=/usr/local/sbin:/usr/local/bin:/usr/sbin:/usr/bin:/sbin:/bin HOME=/run LC_ALL=C.UTF-8
-export PYTHONDONTWRITEBYTECODE=1
+export PYTHONDONTWRITEBYTECODE=1 PYTHONPATH=$ROOT/python/src:$ROOT/python
 mount -t proc none /proc
 mount -t sysfs none /sys
 mount -t debugfs none /sys/kernel/debug

@@ -6,7 +6,7 @@ import json
 import os
 
 from counted import BENCH
-from i2c_dev import I2C_M_RD, I2C_RDWR, Message, Messages
+from pmhost.bus.linux import I2C_M_RD, I2C_RDWR, Message, Messages
 
 ROOM = 1024
 FOLDER = os.environ.get("FOLDER", "")

@@ -1,5 +1,5 @@
 #!/usr/bin/env bash
-# Plants bugs into copies of the scripts and of the C example, each of which a trial over a whole Linux must find: a short
+# Plants bugs into copies of the package and of the C example, each of which a trial over a whole Linux must find: a short
 # count that is taken for success, once in each of the three programs that make transfers. Prints what found them.
 #
 #   scripts/linux/must_fail.sh [OPTIONS]
@@ -15,7 +15,7 @@ built=$CACHE
 # plant NAME FILE OLD NEW: a copy of what the trials read, with one text changed, which stands there once.
 plant() {
     mkdir -p "$work/$1/tree"
-    (cd "$root" && cp -r --parents scripts docs/bus.md docs/refusals.md examples/c crates/pm_c/include "$work/$1/tree")
+    (cd "$root" && cp -r --parents scripts python docs/bus.md docs/refusals.md examples/c crates/pm_c/include "$work/$1/tree")
     python3 - "$work/$1/tree/$2" "$3" "$4" << 'END' || refuse "$1: the text to change doesn't stand once in $2"
 import sys
 path, old, new = sys.argv[1:]
@@ -30,21 +30,19 @@ tried() {
     "$work/$1/tree/scripts/linux/boot.sh" "$work/$1/guest" "$2" "$3" > "$work/$1/boot" 2>&1 &
     guests+=($!)
 }
-plant script scripts/i2c_dev.py "if went != len(messages):" "if went < 0:"
-tried script rows 0
-plant frames scripts/frames_to_i2ctransfer.py "if ran.returncode or ran.stderr or len(back) != wanted or BYTES.sub(\"\", ran.stdout).strip():" \
+plant package python/src/pmhost/bus/linux.py "if went != len(messages):" "if went < 0:"
+tried package rows 0
+plant frames python/src/pmhost/capture/i2ctransfer.py "if ran.returncode or ran.stderr or len(back) != wanted or BYTES.sub(\"\", ran.stdout).strip():" \
     "if ran.returncode:"
 tried frames commands 0
-names="script frames"
-if [ -n "$PM_LIBRARY" ]; then
-    plant program examples/c/i2c_dev.c "if (went == count)" "if (went >= 0)"
-    mkdir "$work/cache"
-    ln -s "$built/kernel" "$built/modules" "$work/cache"
-    gcc -I"$root/crates/pm_c/include" "$work/program/tree/examples/c/i2c_dev.c" "$archive" -o "$work/cache/i2c_dev" ||
-        refuse "examples/c/i2c_dev.c doesn't build"
-    CACHE=$work/cache tried program programs 0
-    names="$names program"
-fi
+names="package frames"
+plant program examples/c/i2c_dev.c "if (went == count)" "if (went >= 0)"
+mkdir "$work/cache"
+ln -s "$built/kernel" "$built/modules" "$built/libpmhost.so" "$work/cache"
+gcc -I"$root/crates/pm_c/include" "$work/program/tree/examples/c/i2c_dev.c" "$archive" -o "$work/cache/i2c_dev" ||
+    refuse "examples/c/i2c_dev.c doesn't build"
+CACHE=$work/cache tried program programs 0
+names="$names program"
 wait
 passed=0 failed=0
 for name in $names; do

@@ -1,4 +1,4 @@
-"""The eight orders of kernel_driver.py by bus.py, on the same part and under the same faults: our_host BUS."""
+"""The eight orders of kernel_driver.py by pmhost, on the same part and under the same faults: our_host BUS."""
 from faults import Run
 from guest_bus import Bench
 from kernel_driver import KINDS
@@ -14,5 +14,5 @@ def main(words):
             total, done = total + len(runs), done + sum(run.is_done() for run in runs)
             has_fault = has_fault or any(list(run.wrong_outputs()) + list(run.false_statements()) for run in runs)
         wrong = " ".join(f"{count:>4}" for count in counts)
-        print(f"bus.py, {passes} pass{'es' * (passes > 1)}|always|{transfers}|{wrong}|{sum(counts)} of {total}|-|-", flush=True)
+        print(f"pmhost, {passes} pass{'es' * (passes > 1)}|always|{transfers}|{wrong}|{sum(counts)} of {total}|-|-", flush=True)
     return int(has_fault)

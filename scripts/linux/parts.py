@@ -1,107 +1,25 @@
-"""The parts that stand behind the buses of the bench, each as a part of fake_i2c: it hears a frame and answers the
-bytes of an answer, [] where a write is acknowledged, None where the part doesn't acknowledge.
+"""The parts that stand behind the buses of the bench, each as a part of python/tests/kernel.py: it hears a frame and answers
+the bytes of an answer, [] where a write is acknowledged, None where the part doesn't acknowledge.
 
-    proved      the part of the C library, which is proved (crates/pm_part)
+    proved      the plain model with the proved converter beside it, which has to answer the same
     modes A B   the same with these VOUT_MODEs, as 14 40
-    row N       the part of row N of bus_rows.JOBS; what it doesn't do by itself is done by the proved converter
-    plain       the plain model (scripts/plain), which also stands in where there is no library, or a format that the
-                part refuses
+    row FILE N  the part of block N of python/tests/data/FILE, which also stands for formats that no converter takes
+    plain       the plain model (scripts/plain) alone
     ltc2972     the plain model with the registers that the kernel's driver of this name asks for
+
+PLAIN_PART=1 in the environment has the plain model alone in the place of both.
 """
-import collections.abc
-import ctypes
 import os
 
-import fake_i2c
-from bus_rows import JOBS
-from plain.commands import START
-from plain.converter import COMMAND, PROTECT, REGISTERS, setup_fault
-from plain.packets import TABLE, name_of, pec
+from plain.converter import COMMAND
+from plain.packets import TABLE, pec
+from tests import kernel
+from tests.runs import blocks
 
-SILENT, TAKEN, ANSWERED = 0x81, 0x82, 0x83
 MOST_PAST = 200
 
 
-class Output(ctypes.Structure):
-    """pm_part_output of pm_part.h."""
-    _fields_ = [("mode", ctypes.c_uint8), ("unused", ctypes.c_uint8)]
-    _fields_ += [(name_of(code), ctypes.c_uint16) for code in REGISTERS]
-
-
-class Config(ctypes.Structure):
-    """pm_part_config of pm_part.h."""
-    _fields_ = [("address", ctypes.c_uint8), ("outputs", ctypes.c_uint8), ("r", ctypes.c_int8), ("unused", ctypes.c_uint8),
-                ("m", ctypes.c_int16), ("b", ctypes.c_int16), ("protect", ctypes.c_uint16), ("starts", Output * 8)]
-
-
-class Reply(ctypes.Structure):
-    """pm_part_reply of pm_part.h."""
-    _fields_ = [("length", ctypes.c_uint8), ("unused", ctypes.c_uint8), ("bytes", ctypes.c_uint8 * 16)]
-
-
-class Cells(collections.abc.MutableMapping):
-    """The words of a part's cells, as those of the plain model stand in a dictionary: a cell is set by a write."""
-
-    def __init__(self, part):
-        self.part = part
-
-    def __getitem__(self, cell):
-        word = ctypes.c_uint16()
-        self.part.library.pm_part_word(self.part.memory, cell[0] or 0, cell[1], ctypes.byref(word))
-        return word.value
-
-    def __setitem__(self, cell, word):
-        carried = [word & 0xFF] if cell[1] in (0x01, 0x10) else [word & 0xFF, word >> 8]
-        head = [2 * self.part.address, 0x10] if cell == PROTECT else [2 * self.part.address, 0x05, 2 + len(carried), *cell]
-        self.part.hear([*head, *carried, pec([*head, *carried])], "stop")
-
-    def __delitem__(self, cell):
-        raise TypeError("a cell stays")
-
-    def __iter__(self):
-        yield PROTECT
-        for output in self.part.outputs:
-            yield from ((output, register) for register in REGISTERS)
-
-    def __len__(self):
-        return 1 + len(self.part.outputs) * len(REGISTERS)
-
-
-class Proved:
-    """The part of the C library, in the place of a plain one, whose setup it takes."""
-
-    def __init__(self, library, plain):
-        self.library, self.address, self.outputs, self.setup = library, plain.address, plain.outputs, plain.setup
-        m, b, r = self.setup["coefficients"]
-        config = Config(self.address, len(self.outputs), r, 0, m, b, self.setup["protect"])
-        for at in range(8):
-            mode, words = self.setup["outputs"][at] if at in self.outputs else (0x14, START)
-            config.starts[at] = Output(mode, 0, *(words[code] for code in REGISTERS))
-        library.pm_part_size.restype = ctypes.c_uint64
-        self.memory = (ctypes.c_uint16 * (library.pm_part_size() // 2))()
-        library.pm_part_new(self.memory, ctypes.byref(config))
-        self.cells = Cells(self)
-
-    @property
-    def page(self):
-        page = ctypes.c_uint8()
-        self.library.pm_part_page(self.memory, ctypes.byref(page))
-        return page.value
-
-    def restart(self):
-        self.library.pm_part_restart(self.memory)
-
-    def hear(self, frame, ending):
-        """The reply, in the words of the plain model."""
-        reply = Reply()
-        said = self.library.pm_part_hear(self.memory, bytes(frame), ctypes.c_uint64(len(frame)), int(ending == "restart"),
-                                         ctypes.byref(reply)) & 0xFF
-        if said == ANSWERED:
-            return list(reply.bytes[:reply.length])
-        return {SILENT: "silent", TAKEN: "taken"}.get(said, f"{said:02X}")
-
-
-class Ltc2972(fake_i2c.Part):
+class Ltc2972(kernel.Part):
     """The plain model with MFR_SPECIAL_ID and the limits and faults of each output that the kernel's driver reads and
     writes as words, and no currents, inputs or peaks. READ_VOUT follows what is commanded, and a restart leaves the
     limits. It is a model of these registers, and no measured part."""
@@ -112,6 +30,7 @@ class Ltc2972(fake_i2c.Part):
 
     def __init__(self):
         super().__init__()
+        self.converter.proved = None
         self.limits = {(output, code): word for output in self.converter.outputs for code, word in self.LIMITS.items()}
 
     def hear(self, frame, ending):
@@ -141,23 +60,25 @@ class Ltc2972(fake_i2c.Part):
         return [self.limits[output, self.MAX_LIMIT] for output in self.converter.outputs]
 
 
-def library():
-    """The C library as a shared object, which PM_LIBRARY names; None where it names none."""
-    path = os.environ.get("PM_LIBRARY")
-    return ctypes.CDLL(path) if path else None
+def address_of(run):
+    """The address that the words of a run name."""
+    words = run.words.split()
+    return int(words[words.index("-a") + 1].removesuffix("h"), 16) if "-a" in words else Ltc2972.ADDRESS
 
 
-def made(words, loaded):
+def made(words):
     """The part that these words name, and its address."""
     if words == ["ltc2972"]:
         return Ltc2972(), Ltc2972.ADDRESS
-    row = JOBS[int(words[1])] if words[0] == "row" else None
-    modes = tuple(int(word, 16) for word in words[1:]) if words[0] == "modes" else (0x14, 0x14)
-    part = row.part() if row else fake_i2c.Part(modes)
-    wants_plain = words == ["plain"] or setup_fault(part.converter.setup)
-    if loaded and not wants_plain:
-        part.converter = Proved(loaded, part.converter)
-    return part, int(row.address, 16) if row else part.converter.address
+    if words[0] == "row":
+        run = blocks(words[1])[int(words[2])]
+        part, address = run.made_part(), address_of(run)
+    else:
+        part = kernel.Part(tuple(int(word, 16) for word in words[1:]) if words[0] == "modes" else (0x14, 0x14))
+        address = part.converter.address
+    if words == ["plain"] or os.environ.get("PLAIN_PART"):
+        part.converter.proved = None
+    return part, address
 
 
 def held(part):

@@ -1,5 +1,5 @@
 #!/usr/bin/env bash
-# Tries the scripts and the C example over a whole Linux: a kernel of Debian as an ordinary process (User Mode Linux), its
+# Tries the package and the C example over a whole Linux: a kernel of Debian as an ordinary process (User Mode Linux), its
 # I2C core, i2c-dev, i2c-tools and PMBus drivers unchanged, and the model converter behind three kinds of adapter. It
 # needs no hardware, no root and no KVM.
 #
@@ -8,7 +8,7 @@
 #   --cache FOLDER    the folder of kernel and modules, some 2 GB, ~/.cache/pmbus-linux where it isn't given
 #   --archive FILE    the library with the host, crates/pm_c/out/libpm_c.a where it isn't given
 #   --part FILE       the library with the proved converter, crates/pm_part/out/libpm_part.a where it isn't given
-#   --plain           the plain model behind the buses, and not the converter of that library
+#   --plain           the plain model alone behind the buses, and not the proved converter beside it
 #   --at-once N       how many guests run at once, 3 where it isn't given
 #
 # The kernel is built the first time, in some five minutes. Packages of Debian 12: linux-source-6.1 flex bison bc gcc make
@@ -16,12 +16,12 @@
 # KEEP a folder for what the guests left.
 # Buses: 0 is i2c-virtio, whose failed transfers are short counts; 1 answers errors; 5 is bit-banged, i2c-gpio.
 #
-#   rows      every row of scripts/try_bus.py that is about bus.py, by bus.py as a process
+#   rows      every run of python/tests/data that is about a bus, by pmhost as a process
 #   faults    eight orders under nine kinds of fault at each transfer, and 60 lists of two to four faults
 #   commands  the commands of docs/bus.md
-#   programs  examples/c/i2c_dev.c under each fault (with the library alone)
-#   captures  one run, told by bus.py's trace, the kernel's tracepoints and the waveform of the wires
-#   together  both hosts at once, a part that is unplugged, a bus.py that is killed
+#   programs  examples/c/i2c_dev.c and examples/pmbhost/drive.py under each fault
+#   captures  one run, told by pmhost's trace, the kernel's tracepoints and the waveform of the wires
+#   together  both hosts at once, a part that is unplugged, a pmhost that is killed
 #
 # What is wrong is printed, each trial's own last line, and last how many runs passed and failed in all.
 set -u
@@ -32,12 +32,9 @@ root=$(cd "$here/../.." && pwd)
 start "$@"
 command -v i2ctransfer > /dev/null || [ -x /usr/sbin/i2ctransfer ] || refuse "no i2ctransfer: install i2c-tools"
 began=$(date +%s)
-kinds="faults rows commands captures together"
-if [ -n "$PM_LIBRARY" ]; then
-    gcc -O2 -Wall -Wextra -Werror -I"$root/crates/pm_c/include" "$root/examples/c/i2c_dev.c" "$archive" \
-        -o "$CACHE/i2c_dev" || refuse "examples/c/i2c_dev.c doesn't build"
-    kinds="$kinds programs"
-fi
+kinds="faults rows commands captures together programs"
+gcc -O2 -Wall -Wextra -Werror -I"$root/crates/pm_c/include" "$root/examples/c/i2c_dev.c" "$archive" -o "$CACHE/i2c_dev" ||
+    refuse "examples/c/i2c_dev.c doesn't build"
 names=()
 for kind in $kinds; do
     # The bit by bit one takes longest: it begins first.

@@ -19,16 +19,11 @@ start() {
     export PMB=${PMB-$root/crates/pmb/out/pmb} PMBHOST=${PMBHOST-$root/crates/pmbhost/out/pmbhost}
     [ -x "$PMB" ] || refuse "no program at $PMB: build it by (cd crates/pmb && rt run -- replay < stdin), or set PMB to one"
     [ -x "$PMBHOST" ] || refuse "no program at $PMBHOST: build it as docs/bus.md says, or set PMBHOST to one"
-    if [ -z "$is_plain" ] && [ ! -f "$archive" ]; then
-        refuse "no $archive: build it by (cd crates/pm_c && rt lib), or give --archive FILE, or --plain for the plain model"
-    fi
-    if [ -z "$is_plain" ] && [ ! -f "$part" ]; then
-        refuse "no $part: build it by (cd crates/pm_part && rt lib), or give --part FILE, or --plain for the plain model"
-    fi
-    PART=$part "$here/build.sh" "$cache" || exit 2
-    CACHE=$(realpath "$cache") PM_LIBRARY=
-    [ -n "$is_plain" ] || PM_LIBRARY=$CACHE/libpm.so
-    export CACHE PM_LIBRARY
+    [ -f "$archive" ] || refuse "no $archive: build it by (cd crates/pm_c && rt lib), or give --archive FILE"
+    [ -f "$part" ] || refuse "no $part: build it by (cd crates/pm_part && rt lib), or give --part FILE"
+    ARCHIVE=$archive PART=$part "$here/build.sh" "$cache" || exit 2
+    CACHE=$(realpath "$cache") PMHOST_LIBRARY=$(realpath "$cache")/libpmhost.so PLAIN_PART=$is_plain
+    export CACHE PMHOST_LIBRARY PLAIN_PART
     work=$(mktemp -d "$CACHE/run.XXXXXX") || exit 2
     guests=()
     trap end EXIT

@@ -6,7 +6,9 @@ import sys
 
 sys.dont_write_bytecode = True
 HERE = os.path.dirname(os.path.abspath(__file__))
-sys.path[:0] = [HERE, os.path.dirname(HERE)]
+SCRIPTS = os.path.dirname(HERE)
+sys.path[:0] = [HERE, SCRIPTS, os.path.join(os.path.dirname(SCRIPTS), "python", "src"),
+                os.path.join(os.path.dirname(SCRIPTS), "python")]
 
 
 def main():

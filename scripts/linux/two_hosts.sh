@@ -1,5 +1,5 @@
 #!/usr/bin/env bash
-# Two hosts on the same part, under the same faults: the kernel's driver `ltc2972` and bus.py carry the same eight orders
+# Two hosts on the same part, under the same faults: the kernel's driver `ltc2972` and pmhost carry the same eight orders
 # out, with one fault at every transfer in turn, in guests of User Mode Linux. Prints a table of all runs, and the
 # sharpest case as a listing.
 #
@@ -40,7 +40,7 @@ cat "$work/table"
 for each in limit regulator polled ours sharpest; do
     [ "$(cat "$work/$each/ended" 2> /dev/null)" = "status 0" ] || why $each
 done
-sed 's/^/not as before: /' <(grep -vxFf "$here/results/two_hosts.txt" "$work/table") | tee "$work/others"
+sed 's/^/not as before: /' <(grep -vxFf <(sed 's/^bus\.py, /pmhost, /' "$here/results/two_hosts.txt") "$work/table") | tee "$work/others"
 failed=$(wc -l < "$work/others") passed=$(wc -l < "$work/table")
 passed=$((passed - failed))
 echo "$passed passed, $failed failed"

@@ -1,8 +1,8 @@
 #!/usr/bin/env python3
-"""Compares what a run's wires tell with what bus.py told: waveform.py FOLDER
+"""Compares what a run's wires tell with what pmhost told: waveform.py FOLDER
 
-FOLDER is that of the trial `captures 5`, which left the wires' waveform and bus.py's trace there. sigrok-cli decodes the
-waveform into FOLDER/captured.sigrok, and capture_to_trace.py makes packets of that.
+FOLDER is that of the trial `captures 5`, which left the wires' waveform and pmhost's trace there. sigrok-cli decodes the
+waveform into FOLDER/captured.sigrok, and the package pmhost makes packets of that.
 """
 import os
 import shutil
@@ -11,9 +11,10 @@ import sys
 
 sys.dont_write_bytecode = True
 HERE = os.path.dirname(os.path.abspath(__file__))
-sys.path[:0] = [HERE, os.path.dirname(HERE)]
+SCRIPTS = os.path.dirname(HERE)
+sys.path[:0] = [HERE, SCRIPTS, os.path.join(os.path.dirname(SCRIPTS), "python", "src")]
 
-from capture_to_trace import trace  # noqa: E402
+from pmhost.capture import trace  # noqa: E402
 from program import answer_help  # noqa: E402
 from tally import Tally  # noqa: E402
 
@@ -26,15 +27,15 @@ def is_packet(line):
 
 
 def faults_of(wire, sent):
-    """What differs between the packets on the wire and those of bus.py's trace. A write that failed for bus.py went
+    """What differs between the packets on the wire and those of pmhost's trace. A write that failed for pmhost went
     over the wire, with a byte that wasn't acknowledged."""
     failed = [line.split(": ")[1] for line in sent if line.startswith("# failed")]
     expected = [line if is_packet(line) else line.split(": ")[1] for line in sent]
     if list(filter(is_packet, wire)) != expected:
-        yield f"the wire has {list(filter(is_packet, wire))}, and bus.py {expected}"
+        yield f"the wire has {list(filter(is_packet, wire))}, and pmhost {expected}"
     marked = [line for mark, line in zip(wire, wire[1:]) if mark.endswith("wasn't acknowledged") and is_packet(line)]
     if marked != failed:
-        yield f"not acknowledged on the wire are {marked}, and bus.py failed with {failed}"
+        yield f"not acknowledged on the wire are {marked}, and pmhost failed with {failed}"
 
 
 def main():

@@ -8,20 +8,20 @@
 
 What the library's calls answer is proved (docs/firmware.md says of what); this package is tested, and not proved.
 """
-from .buses import LinuxBus, Smbus2Bus
+from ._version import __version__
+from .bus import DeskBus, LinuxBus, NoBus, NoTransfer, Smbus2Bus
 from .errors import (Differs, FrameRefused, HostRefused, LimitRefused, MemoryRefused, NotDone, NumberRefused, PartRefused,
                      PmhostError, Refused, SetupRefused, Unknown)
 from .host import Band, Bus, Host, Known, Limits, Sending, Step
 from .packets import Packet, pec, read_answer, read_request, read_write
 from .part import Output, Part, PartBus
 from .pmbus import Pmbus
+from .transfers import Transfers
 from .values import CODES, LINEAR11, Format
 
-__version__ = "1.0.0"
-
 __all__ = [
-    "Band", "Bus", "CODES", "Differs", "Format", "FrameRefused", "Host", "HostRefused", "Known", "LINEAR11", "LimitRefused",
-    "Limits", "LinuxBus", "MemoryRefused", "NotDone", "NumberRefused", "Output", "Packet", "Part", "PartBus", "PartRefused",
-    "PmhostError", "Pmbus", "Refused", "Sending", "SetupRefused", "Smbus2Bus", "Step", "Unknown", "pec", "read_answer",
+    "__version__", "Band", "Bus", "CODES", "DeskBus", "Differs", "Format", "FrameRefused", "Host", "HostRefused", "Known", "LINEAR11", "LimitRefused",
+    "Limits", "LinuxBus", "MemoryRefused", "NoBus", "NoTransfer", "NotDone", "NumberRefused", "Output", "Packet", "Part", "PartBus", "PartRefused",
+    "PmhostError", "Pmbus", "Refused", "Sending", "SetupRefused", "Smbus2Bus", "Step", "Transfers", "Unknown", "pec", "read_answer",
     "read_request", "read_write",
 ]

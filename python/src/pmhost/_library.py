@@ -10,7 +10,7 @@ HOST_SIZE = 2056
 CELLS = 49
 
 
-def _load():
+def _load() -> c.CDLL:
     try:
         loaded = c.CDLL(PATH)
         loaded.pm_part_size.restype = c.c_uint64
@@ -150,7 +150,7 @@ CALLS = {
 }
 
 
-def _library():
+def _library() -> c.CDLL:
     for name, (answers, takes) in CALLS.items():
         if not hasattr(_loaded, name):
             raise ImportError(f"{PATH} is another library than this package is for: it has no {name}")

@@ -115,7 +115,8 @@ def name_of(number: int) -> str:
     name = NameImage()
     if library.pm_refusal_name(number, ctypes.byref(name)):
         return f"number {number:02X}h"
-    return name.text.decode("ascii")
+    text: bytes = name.text
+    return text.decode("ascii")
 
 
 def refusal(number: int) -> Refused:

@@ -8,6 +8,7 @@ from typing import Protocol
 from . import _library as at
 from ._library import library
 from .errors import accepted, refusal
+from .transfers import Transfers
 from .values import NAMES, Format, code_of, frame_bytes, whole
 
 REFERENCE = ctypes.byref
@@ -97,6 +98,12 @@ class Host:
         self._outputs = whole(outputs, 1, 8, "outputs")
         self._passes = whole(passes, 1, 15, "passes")
         accepted(library.pm_host_new(REFERENCE(self._image), address, outputs, passes))
+
+    def __repr__(self) -> str:
+        known = [f"{'' if it.output is None else f'{it.output} '}{it.register} {it.confirmed:04X}"
+                 for it in self.known() if it.confirmed is not None]
+        return (f"{type(self).__name__}(0x{self._address:02X}, outputs={self._outputs}, passes={self._passes}; "
+                f"confirmed: {', '.join(known) or 'nothing'})")
 
     @property
     def address(self) -> int:
@@ -208,27 +215,56 @@ class Host:
             raise refusal(step.kind)
         return Step(ENDS[step.kind], step.word if step.kind == 2 else None)
 
-    def run(self, bus: Bus) -> Step:
-        """Carries the open job out over a bus, and says how it ended. An OSError of the bus is a frame that failed."""
-        step = None
-        while (sending := self.sending()) is not None:
-            step = self._asked(bus, sending) if sending.is_request else self._written(bus, sending)
+    def run(self, bus: Bus, transfers: Transfers | None = None) -> Step:
+        """Carries the open job out over a bus, and says how it ended. An OSError of the bus is a frame that failed.
+
+        `transfers` is told what became of each. Whatever else is raised meanwhile, as by Ctrl-C, goes on to the caller: the
+        host is told before of each frame that is left, unsent, as failed, so that the job has ended as unknown then."""
+        step, kept = None, Transfers() if transfers is None else transfers
+        try:
+            while (sending := self.sending()) is not None:
+                step = self._asked(bus, sending, kept) if sending.is_request else self._written(bus, sending, kept)
+        except BaseException:
+            self.give_up()
+            raise
         if step is None:
             raise ValueError("run: no job is open")
         return step
 
-    def _written(self, bus: Bus, sending: Sending) -> Step:
-        try:
-            return self.finished(bool(bus.write(sending.frame)))
-        except OSError:
-            return self.finished(False)
+    def give_up(self) -> None:
+        """Ends the open job: its frames that are left aren't sent, and are told as failed."""
+        while (sending := self.sending()) is not None:
+            if sending.is_request:
+                self.got(b"")
+            else:
+                self.finished(False)
 
-    def _asked(self, bus: Bus, sending: Sending) -> Step:
+    def _written(self, bus: Bus, sending: Sending, transfers: Transfers) -> Step:
+        transfers.has_written = True
         try:
-            came = bytes(bus.read(sending.frame, sending.answer))
-        except OSError:
-            came = b""
-        return self.got(bytes([self._address << 1 | 1]) + came if came else b"")
+            acked = bus.write(sending.frame)
+        except OSError as fault:
+            transfers.fault(fault)
+            return self.finished(False)
+        if not isinstance(acked, bool):
+            raise TypeError(f"write: True or False is wanted, and not {acked!r}")
+        if not acked:
+            transfers.unheard("no acknowledgement")
+        return self.finished(acked)
+
+    def _asked(self, bus: Bus, sending: Sending, transfers: Transfers) -> Step:
+        try:
+            came = bus.read(sending.frame, sending.answer)
+        except OSError as fault:
+            transfers.fault(fault)
+            return self.got(b"")
+        taken = frame_bytes(came, 2**16, "read")
+        if not taken:
+            transfers.unheard("no answer")
+            return self.got(b"")
+        answer = bytes([self._address << 1 | 1]) + taken
+        transfers.answered(self._address, sending.frame, answer)
+        return self.got(answer)
 
     # ---- What is known ----
 
@@ -263,7 +299,7 @@ class Host:
         number = library.pm_host_restart_seen(REFERENCE(self._image))
         if number > 1:
             raise refusal(number)
-        return number == 1
+        return bool(number == 1)
 
     # ---- Its memory ----
 

@@ -38,16 +38,28 @@ class Packet:
 
     def frame(self, address: int) -> bytes:
         """Its bytes for a device, the address byte first; a write ends with its packet error code."""
+        found = self._sending(address)
+        return bytes(found.bytes[: found.length])
+
+    @property
+    def answer(self) -> int:
+        """How many bytes the answer of a request has behind the read address, its packet error code among them; 0 of a
+        write."""
+        whole_answer: int = self._sending(0x58).answer
+        return max(whole_answer - 1, 0)
+
+    def _sending(self, address: int) -> SendingImage:
         found = SendingImage()
         address = whole(address, 0, 255, "address")
         accepted(library.pm_packet_write(address, ctypes.byref(self._image()), ctypes.byref(found)))
-        return bytes(found.bytes[: found.length])
+        return found
 
 
 def pec(data: bytes) -> int:
     """The packet error code of bytes."""
     taken = frame_bytes(data, MOST)
-    return library.pm_pec(taken, len(taken))
+    found: int = library.pm_pec(taken, len(taken))
+    return found
 
 
 def read_write(address: int, data: bytes) -> Packet:

@@ -4,7 +4,7 @@ from __future__ import annotations
 import ctypes
 from dataclasses import dataclass
 from decimal import Decimal
-from typing import Callable
+from typing import Any, Callable
 
 from ._library import ConfigImage, PartImage, ReplyImage, library
 from .errors import PartRefused, accepted, refusal
@@ -75,11 +75,12 @@ class Part:
         other._address, other._outputs = self._address, self._outputs
         return other
 
-    def _asked(self, call: Callable[..., int], kind: type, *words: int) -> int:
+    def _asked(self, call: Callable[..., int], kind: Any, *words: int) -> int:
         """What a call of the library writes into memory of one kind."""
         found = kind()
         accepted(call(ctypes.byref(self._image), *words, ctypes.byref(found)))
-        return found.value
+        value: int = found.value
+        return value
 
     def _there(self, output: int) -> int:
         return whole(output, 0, self.outputs - 1, "output")
@@ -106,7 +107,7 @@ class Part:
             raise ValueError(f"reading: {reading!r} isn't one of {', '.join(READINGS)}")
         if reading in DEVICE_READINGS and output is not None:
             raise ValueError(f"output: {reading} is the device's: give None")
-        place = 0 if reading in DEVICE_READINGS else self._there(output)
+        place = 0 if reading in DEVICE_READINGS else whole(output, 0, self.outputs - 1, "output")
         accepted(library.pm_part_set_reading(ctypes.byref(self._image), place, READINGS[reading], whole(word, 0, 0xFFFF, "word")))
 
     # ---- What it holds ----

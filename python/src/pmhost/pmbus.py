@@ -6,6 +6,7 @@ from typing import Iterable, Mapping
 
 from .errors import Differs, Refused, Unknown
 from .host import Bus, Host, Known, Step
+from .transfers import Transfers
 from .values import Volts, code_of, microvolts_of, volts_of, NAMES
 
 
@@ -22,10 +23,14 @@ class Pmbus:
             if not callable(getattr(bus, name, None)):
                 raise TypeError(f"bus: {bus!r} has no call {name}: see pmhost.Bus")
         self.bus, self.host = bus, Host(address, outputs, passes)
+        self.transfers = Transfers()
         for output, pair in dict(limits or {}).items():
             if not isinstance(pair, (tuple, list)) or len(pair) != 2:
                 raise TypeError(f"limits of output {output}: give a least and a most, and not {pair!r}")
             self.limit(output, *pair)
+
+    def __repr__(self) -> str:
+        return f"Pmbus({self.bus!r}, {self.host!r})"
 
     # ---- Limits and what is known ----
 
@@ -36,7 +41,7 @@ class Pmbus:
     def limits(self, output: int) -> tuple[Decimal, Decimal] | None:
         """The limits of an output in volts, None where it has none."""
         found = self.host.limits(output)
-        return found and (volts_of(found.least), volts_of(found.most))
+        return None if found is None else (volts_of(found.least), volts_of(found.most))
 
     def within(self, output: int) -> bool | None:
         """Whether the output lies within its limits, by what is known: None where that doesn't tell."""
@@ -63,10 +68,15 @@ class Pmbus:
 
     # ---- Jobs ----
 
+    def carried_out(self) -> Step:
+        """Carries the job out that `host` has open, and says how it ended. `transfers` tells what became of its frames."""
+        self.transfers = Transfers()
+        return self.host.run(self.bus, self.transfers)
+
     def learn(self, output: int) -> str:
         """Learns the format of an output's voltages, and says it: ULINEAR16 or DIRECT."""
         self.host.learn(output)
-        self._ended(self.host.run(self.bus), f"learn {output}", None)
+        self._ended(self.carried_out(), f"learn {output}", None)
         form = self.host.format(output)
         assert form is not None
         return form.kind
@@ -82,7 +92,7 @@ class Pmbus:
         The output's format has to be learned first (H7). Raises a Refused before anything is sent, and Differs or
         Unknown where the word wasn't confirmed."""
         self.host.order_micro(output, register, microvolts_of(volts))
-        self._ended(self.host.run(self.bus), f"order {output} {volts} V", (output, register))
+        self._ended(self.carried_out(), f"order {output} {volts} V", (output, register))
         found = self.volts(output, register)
         assert found is not None
         return found
@@ -90,12 +100,12 @@ class Pmbus:
     def order(self, output: int, register: str | int, word: int) -> None:
         """Orders a word and reads it back."""
         self.host.order(output, register, word)
-        self._ended(self.host.run(self.bus), f"order {output} {NAMES[code_of(register)]}", (output, register))
+        self._ended(self.carried_out(), f"order {output} {NAMES[code_of(register)]}", (output, register))
 
     def check(self, output: int, register: str | int = "VOUT_COMMAND") -> int:
         """Reads a register back, and answers its word."""
         self.host.check(output, register)
-        self._ended(self.host.run(self.bus), f"check {output} {NAMES[code_of(register)]}", (output, register))
+        self._ended(self.carried_out(), f"check {output} {NAMES[code_of(register)]}", (output, register))
         word = self.host.standing(output, register)
         assert word is not None
         return word
@@ -118,17 +128,17 @@ class Pmbus:
     def clear(self, output: int) -> None:
         """Clears the latched faults of an output: acknowledged, and no more than that."""
         self.host.clear(output)
-        self._ended(self.host.run(self.bus), f"clear {output}", None)
+        self._ended(self.carried_out(), f"clear {output}", None)
 
     def store(self) -> None:
         """Has the part store its settings: acknowledged, and no more than that."""
         self.host.store()
-        self._ended(self.host.run(self.bus), "store", None)
+        self._ended(self.carried_out(), "store", None)
 
     def restore(self) -> None:
         """Has the part bring its stored settings back: acknowledged, and no more than that."""
         self.host.restore()
-        self._ended(self.host.run(self.bus), "restore", None)
+        self._ended(self.carried_out(), "restore", None)
 
     @property
     def restart_seen(self) -> bool:
@@ -145,4 +155,6 @@ class Pmbus:
             raise Differs(f"{job}: the part holds {step.word:04X}h: the write was lost, refused, limited or rounded",
                           step.kind, step.word, possible)
         if step.kind == "unknown":
-            raise Unknown(f"{job}: no good answer", step.kind, None, possible)
+            why = self.transfers.why()
+            raise Unknown(f"{job} at {self.host.address:02X}h: no good answer{': ' * bool(why)}{why}", step.kind, None,
+                          possible) from self.transfers.error

@@ -127,8 +127,13 @@ class Format:
 
     def word(self, value: Volts) -> int:
         """The word nearest to a value."""
+        return self.nearest(microvolts_of(value, "value"))
+
+    def nearest(self, microvolts: int) -> int:
+        """The word nearest to so many millionths. N3, N4, N5."""
         found = ctypes.c_uint16()
-        accepted(library.pm_nearest_word(self.image(), microvolts_of(value, "value"), ctypes.byref(found)))
+        taken = whole(microvolts, -(2**63), 2**63 - 1, "microvolts")
+        accepted(library.pm_nearest_word(self.image(), taken, ctypes.byref(found)))
         return found.value
 
 

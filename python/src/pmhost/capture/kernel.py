@@ -1,0 +1,80 @@
+"""The tracepoints of Linux i2c_write, i2c_read, i2c_reply and i2c_result. Those of smbus_ show no packet error code."""
+from __future__ import annotations
+
+import re
+from collections.abc import Iterable, Iterator
+
+from .times import Clock, NoCapture
+from .transfer import Transfer
+
+EVENT = re.compile(r"i2c_(write|read|reply|result):\s+i2c-(\d+) (.*)")
+MESSAGE = re.compile(r"#(\d+) a=([0-9a-f]+) f=([0-9a-f]+) l=(\d+)(?: \[([0-9a-f-]*)\])?")
+RESULT = re.compile(r"n=(\d+) ret=(-?\d+)")
+SMBUS = re.compile(r"smbus_(?:write|read|reply|result):\s")
+TEN_BITS, READS = 0x10, 0x01
+
+
+class Messages:
+    """The messages of a transfer that the kernel began on one bus, at this time."""
+
+    def __init__(self, time: int | None) -> None:
+        self.sent: dict[int, list[int]] = {}
+        self.fault: str | None = None
+        self.time = time
+
+    def take(self, kind: str, number: int, rest: str) -> None:
+        found = MESSAGE.fullmatch(rest.strip())
+        if not found:
+            raise NoCapture(f"line {number}: no message of the kernel")
+        place, address, flags, count, shown = found.groups()
+        payload = [int(byte, 16) for byte in shown.split("-")] if shown else []
+        if int(flags, 16) & TEN_BITS:
+            self.fault = "an address of ten bits"
+        if kind != "read" and len(payload) != int(count):
+            self.fault = f"the kernel shows {len(payload)} of {count} bytes"
+        first = int(address, 16) << 1 & 0xFF | int(flags, 16) & READS
+        self.sent[int(place)] = [first, *payload]
+
+    def transfer(self, wanted: int, result: int) -> Transfer:
+        """The transfer, of which so many messages were wanted, and the kernel said a result."""
+        transfer = Transfer(self.time)
+        transfer.ending = self.fault
+        if result != wanted or len(self.sent) != wanted:
+            transfer.ending = f"failed ({result})" if result < 0 else f"failed ({result} of {wanted})"
+        for place in sorted(self.sent):
+            transfer.begin()
+            for byte in self.sent[place]:
+                transfer.add(byte)
+        return transfer
+
+
+def transfers(lines: Iterable[str], clock: Clock | None = None, wanted: int | None = None) -> Iterator[Transfer]:
+    """Each transfer as the kernel tells its result, of all buses or of the one that is wanted."""
+    buses: dict[str, Messages] = {}
+    smbus = is_told = False
+    for number, line in enumerate(lines, 1):
+        found = EVENT.search(line)
+        if not found:
+            smbus = smbus or SMBUS.search(line) is not None
+            continue
+        if wanted not in (None, int(found[2])):
+            continue
+        kind, bus, rest = found.groups()
+        if kind != "result":
+            if bus not in buses:
+                buses[bus] = Messages(clock.of_stamp(line[:found.start()], number) if clock else None)
+            buses[bus].take(kind, number, rest)
+            continue
+        ended = RESULT.fullmatch(rest.strip())
+        if not ended:
+            raise NoCapture(f"line {number}: no result of the kernel")
+        if bus in buses:
+            is_told = True
+            yield buses.pop(bus).transfer(int(ended[1]), int(ended[2]))
+    for messages in buses.values():
+        transfer = messages.transfer(len(messages.sent), len(messages.sent))
+        transfer.ending = "no result"
+        is_told = True
+        yield transfer
+    if smbus and not is_told:
+        raise NoCapture("no packet: the events smbus_ show no packet error code; capture those of i2c_")

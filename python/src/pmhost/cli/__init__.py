@@ -1,0 +1,180 @@
+"""The command `pmhost`: each module of `MODULES` has a command or a group of them.
+
+`add(commands)` of a module adds its subparsers, and sets `run` of each by `set_defaults`. `run(arguments)` carries the
+command out and answers the status; `arguments.call` is what all commands of a call share. A module may set `judge_file` and
+`judge`, too, which raise `BadCall` before any command of the call is carried out: `judge_file` gives the call outputs and
+limits, `judge` looks at what the whole call has. A command that uses a bus adds `bus_options`.
+"""
+from __future__ import annotations
+
+import argparse
+import re
+import sys
+from types import ModuleType
+
+from .._version import __version__
+from ..bus import NoBus
+from ..bus.linux import Calls
+from ..errors import PmhostError
+from . import capture, desk, known, orders, pictures, probe, rails, streams
+from .answer import Answer
+from .completion import bash
+from .call import Call, Interrupted, complain, interruptible
+from .parser import OPTIONS, BadCall, Parser, bus_options, shown
+
+# The modules of the commands, in the order of the help.
+MODULES: list[ModuleType] = [probe, orders, known, rails, desk, capture, pictures]
+# The commands that have jobs of their own, between which a + stands: the call has no other command.
+OWN_JOBS = ("desk",)
+
+ABOUT = """Supply voltages over PMBus, by a proved host.
+
+    pmhost -b 1 -a 58 probe
+    pmhost -b 1 -a 58 --outputs 2 --limit 0:3.135V:3.465V set 0 3.3V
+    pmhost -b desk read 0 + known
+
+Several commands stand in one call with a + between them, and share one host. Options stand before or behind a command's
+words. After a command that doesn't end well none is begun, and only known and band are answered.
+
+The status is 0 where every command ended well, 1 where one didn't, 2 where the call can't be carried out or a stream
+fails, and 130 after an interruption, which says what is now unknown."""
+BAD_CALL, INTERRUPTED = 2, 130
+
+
+def parser() -> tuple[Parser, dict[str, argparse.ArgumentParser]]:
+    """The whole parser, and that of each command."""
+    whole = Parser(prog="pmhost", description=ABOUT)
+    bus_options(whole, "")
+    whole.add_argument("--version", action="version", version=f"pmhost {__version__}")
+    whole.add_argument("--completion", action="store_true", help="prints the completion for bash")
+    commands = whole.add_subparsers(metavar="COMMAND", dest="command", required=True, parser_class=Parser)
+    for module in MODULES:
+        module.add(commands)
+    return whole, dict(commands.choices)
+
+
+def options_of(found: argparse.ArgumentParser) -> set[str]:
+    """The options of a parser, and of those below it."""
+    options: set[str] = set()
+    for action in found._actions:
+        options.update(action.option_strings)
+        if isinstance(action, argparse._SubParsersAction):
+            options.update(*(options_of(each) for each in action.choices.values()))
+    return options
+
+
+def parts_of(words: list[str]) -> list[list[str]]:
+    """The words of each command: + stands between them. A word that begins like a negative number is no option, and argparse
+    takes one behind a blank for what it is."""
+    if words[:1] and words[0] in OWN_JOBS:
+        return [words]
+    parts: list[list[str]] = [[]]
+    for word in words:
+        if word == "+":
+            parts.append([])
+        else:
+            parts[-1].append(f" {word}" if re.match(r"-[.0-9]", word) else word)
+    if len(parts) > 1 and not all(parts):
+        raise BadCall("+: a command stands before it and behind it, as learn 0 + clear 0")
+    return parts
+
+
+def commands_of(words: list[str]) -> list[argparse.Namespace]:
+    """The commands of a command line, each with its own words as `said`."""
+    whole, _ = parser()
+    options, found = options_of(whole), []
+    for part in parts_of(words):
+        for word in () if part[:1] and part[0] in OWN_JOBS else part:
+            if word.startswith("--") and word.partition("=")[0] not in options:
+                raise BadCall(f"{shown(word)}: no such option; --help tells which there are")
+        arguments = whole.parse_args(part)
+        arguments.said = " ".join([arguments.command, *words_behind(arguments.command, part)])
+        found.append(arguments)
+    return found
+
+
+def words_behind(command: str, part: list[str]) -> list[str]:
+    """The words of a command without its options."""
+    found, has_value = [], {flag for flags, words in OPTIONS.values() if "const" not in words for flag in flags}
+    words = iter(part)
+    for word in words:
+        if word in has_value:
+            next(words, None)
+        elif not re.match("-.*[A-Za-z]", word):
+            found.append(shown(word.removeprefix(" ")))
+    return found[found.index(command) + 1:]
+
+
+def completion() -> int:
+    """Prints the completion for bash."""
+    streams.write(bash(*parser()).rstrip("\n"))
+    return 0
+
+
+def carried_out(call: Call) -> int:
+    """The status of a call's commands."""
+    status = 0
+    for arguments in call.commands:
+        if status and not getattr(arguments, "is_question", False):
+            continue
+        call.begin(arguments)
+        status = max(status, int(arguments.run(arguments)))
+    return status
+
+
+def judged(words: list[str], kernel: Calls | None) -> Call:
+    """The call of a command line, judged whole before anything is opened."""
+    call = Call(commands_of(words), kernel)
+    for arguments in call.commands:
+        arguments.call = call
+        if hasattr(arguments, "judge_file"):
+            arguments.judge_file(arguments)
+    call.judge()
+    for arguments in call.commands:
+        if hasattr(arguments, "judge"):
+            arguments.judge(arguments)
+    return call
+
+
+def fail(words: list[str], why: str, end: str, status: int, call: Call | None = None) -> int:
+    """One line on standard error, and where --json is given the object, too."""
+    if "--json" in words and end != "stream":
+        told = Answer(call.under_way if call and call.under_way else " ".join(words), end, status=status, why=why)
+        try:
+            streams.write(told.as_json())
+        except streams.NoStream:
+            pass
+    complain(why)
+    return status
+
+
+def main(words: list[str] | None = None, kernel: Calls | None = None) -> int:
+    """The status of the command line, over the calls of a kernel."""
+    given, closed, call = list(sys.argv[1:] if words is None else words), streams.open_missing(), None
+    try:
+        if 1 in closed:
+            raise BadCall("standard output is closed: nothing was sent")
+        if given == ["--completion"]:
+            return completion()
+        call = judged(given, kernel)
+        if not call.has_bus:
+            return carried_out(call)
+        with interruptible():
+            try:
+                return carried_out(call)
+            finally:
+                call.close()
+    except BadCall as fault:
+        return fail(given, str(fault), "bad call", BAD_CALL)
+    except Interrupted:
+        during = f" during {call.under_way}" if call and call.under_way else ""
+        unsure = f"{call.unsure()}{call.unsaid}" if call and call.under_way else "no command was begun"
+        return fail(given, f"interrupted{during}: {unsure}", "interrupted", INTERRUPTED, call)
+    except streams.NoStream as fault:
+        return fail(given, f"{fault}{call.unsaid if call else ''}", "stream", BAD_CALL)
+    except NoBus as fault:
+        return fail(given, str(fault), "no bus", BAD_CALL, call)
+    except PmhostError as fault:
+        return fail(given, str(fault), "refused", 1, call)
+    except SystemExit as ended:
+        return int(ended.code or 0)

@@ -1,0 +1,81 @@
+"""What a command answers: a line for people, or one object."""
+from __future__ import annotations
+
+import json
+import os
+import re
+import sys
+from dataclasses import dataclass, field
+from decimal import Decimal
+
+from .. import voltages
+from ..survey import Commanded
+
+GREEN, RED, PLAIN = "\033[32m", "\033[31m", "\033[0m"
+# The words that a terminal shows in a colour.
+GOOD = re.compile(r"\b(confirmed|acknowledged|learned|within)\b")
+BAD = re.compile(r"\b(CUT|OUTSIDE|differs|unknown|refused|restart seen: yes)\b")
+
+
+@dataclass
+class Answer:
+    """What became of a command. Voltages are in microvolts. `text` is the line without the command in front of it."""
+
+    command: str
+    end: str
+    text: str = ""
+    status: int = 0
+    why: str = ""
+    output: int | None = None
+    register: str | None = None
+    word: int | None = None
+    microvolts: int | None = None
+    possible: tuple[int, ...] | None = None
+    commanded: Commanded | None = None
+    restart_seen: bool | None = None
+    refusal: str | None = None
+    rows: list[dict[str, object]] = field(default_factory=list)
+
+    def place(self) -> str:
+        """The output behind the command, - for the device's register."""
+        return f" {self.output}" if self.output is not None else " -" if self.register is not None else ""
+
+    def as_json(self) -> str:
+        """The same as one object; each command's has the same keys."""
+        found = self.commanded or Commanded()
+        return json.dumps({
+            "command": self.command, "end": self.end, "status": self.status, "why": self.why or None,
+            "refusal": self.refusal,
+            "output": self.output, "register": self.register, "word": in_digits(self.register, self.word),
+            "volts": number(self.microvolts),
+            "possible": None if self.possible is None else [in_digits(self.register, word) for word in self.possible],
+            "selected": found.selected, "on": found.is_on,
+            "commands": None if found.least is None else [number(found.least), number(found.greatest)],
+            "limits": None if found.limits is None else [number(each) for each in found.limits],
+            "within": found.within, "missing": sorted(found.missing), "restart_seen": self.restart_seen, "rows": self.rows})
+
+
+def number(microvolts: int | None) -> float | None:
+    """Volts as a number."""
+    return None if microvolts is None else float(Decimal(microvolts).scaleb(-6))
+
+
+def in_digits(register: str | None, word: int | None) -> str | None:
+    """A word in two or four hexadecimal digits, as its register has them."""
+    return None if word is None else f"{word:02X}" if register in ("OPERATION", "WRITE_PROTECT") else f"{word:04X}"
+
+
+def between(least: int, greatest: int) -> str:
+    """A band in volts: one voltage where its ends are one, but for rounding."""
+    return voltages.shown(least) if greatest - least <= 1 else f"{voltages.shown(least)} to {voltages.shown(greatest)}"
+
+
+def has_colours() -> bool:
+    return sys.stdout.isatty() and not os.environ.get("NO_COLOR")
+
+
+def coloured(line: str) -> str:
+    """The line in colours, where standard output is a terminal and NO_COLOR isn't set."""
+    if not has_colours():
+        return line
+    return BAD.sub(rf"{RED}\1{PLAIN}", GOOD.sub(rf"{GREEN}\1{PLAIN}", line))

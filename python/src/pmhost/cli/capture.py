@@ -1,0 +1,145 @@
+"""`pmhost capture`: captures of a bus as traces for `pmb decode`, frames as commands of i2ctransfer, and waveforms."""
+from __future__ import annotations
+
+import argparse
+import re
+from typing import Any
+
+from .. import capture
+from ..capture import i2ctransfer, vcd
+from . import streams
+from .call import complain
+from .parser import BadCall, address_of, bus_of, shown
+from .texts import standard_input, told, without_a_bus
+
+ABOUT = """Turns a capture of a bus on standard input into a trace for pmb decode, packet by packet as they end.
+
+Packets of other devices, those with no stop, of more than two parts, and reads with no write part become comments; so does
+an address that nobody acknowledged. The status is 1 where no packet is found, or the text isn't a capture of that kind."""
+ABOUT_FRAMES = """Turns the frames of pmb hear on standard input into commands of i2ctransfer for a bus of Linux.
+
+A faulty line is refused before any command is printed or run. With --run a transfer that fails becomes a comment in the
+trace, and the status is then 1. i2ctransfer is looked for in PATH, /usr/sbin and /sbin."""
+KINDS = {
+    "sigrok": "what sigrok-cli -i FILE -P i2c:scl=SCL:sda=SDA:address_format=unshifted -A i2c=addr-data prints",
+    "linux": "the kernel's tracepoints i2c_write, i2c_read, i2c_reply and i2c_result",
+    "saleae": "Logic 2's table of an I2C analyser as CSV",
+}
+UNITS = {"": 1, "Hz": 1, "kHz": 10**3, "MHz": 10**6, "GHz": 10**9}
+BAD_LINE, INTERRUPTED = 1, 130
+
+
+def samplerate_of(word: str) -> int:
+    """Samples a second: a whole number, as sigrok-cli has it, or one with Hz, kHz, MHz or GHz behind it."""
+    found = re.fullmatch(r"([1-9][0-9]{0,14})(|Hz|kHz|MHz|GHz)", word)
+    if not found:
+        raise argparse.ArgumentTypeError(
+            f"samplerate {shown(word)}: give the samples a second, as `sigrok-cli -i FILE --show` has them: 1000000, or 1MHz")
+    return int(found[1]) * UNITS[found[2]]
+
+
+def bus_number(word: str) -> int:
+    """The number of a bus of Linux: a model part has none."""
+    found = bus_of(word)
+    if not found.isdecimal():
+        raise argparse.ArgumentTypeError(f"bus {shown(word)}: give the number of /dev/i2c-N, as 1")
+    return int(found)
+
+
+def add(commands: Any) -> None:
+    whole = commands.add_parser("capture", help="captures of a bus as traces for pmb decode", description=ABOUT)
+    kinds = whole.add_subparsers(metavar="KIND", dest="kind", required=True, parser_class=type(whole))
+    for kind, about in KINDS.items():
+        one = kinds.add_parser(kind, help=about, description=f"{ABOUT}\n\nThe capture is {about}.")
+        one.add_argument("-a", "--address", type=address_of, metavar="ADDRESS", action=Once, dest="device",
+                         help="the packets of one device, as 58; without it those of all")
+        one.add_argument("--times", action=Once, nargs=0, const=True,
+                         help="each packet behind its time, in whole microseconds since the first one began")
+        if kind == "sigrok":
+            one.add_argument("--samplerate", type=samplerate_of, metavar="RATE", action=Once,
+                             help="with --times: the samples a second, as 1MHz")
+        if kind == "linux":
+            one.add_argument("--bus", "-b", type=bus_number, metavar="N", action=Once, dest="wanted",
+                             help="the events of /dev/i2c-N: an adapter over another leaves events of both")
+        one.set_defaults(run=run, judge=judge)
+    frames = kinds.add_parser("i2ctransfer", help="frames of pmb hear as commands of i2ctransfer", description=ABOUT_FRAMES)
+    frames.add_argument("wanted", type=bus_number, metavar="BUS", nargs="?", help="the number of /dev/i2c-BUS")
+    frames.add_argument("--run", action=Once, nargs=0, const=True, dest="is_run", help="runs the commands, and writes a trace")
+    frames.add_argument("--back", action=Once, nargs=0, const=True, help="turns such commands into frames")
+    frames.set_defaults(run=run_frames, judge=judge_frames)
+    drawn = kinds.add_parser("waveform", help="a trace as a waveform (VCD)", description=vcd.__doc__)
+    drawn.set_defaults(run=run_waveform, judge=without_a_bus)
+
+
+class Once(argparse.Action):
+    """An option that stands once."""
+
+    def __call__(self, parser: argparse.ArgumentParser, namespace: argparse.Namespace, values: Any,
+                 option_string: str | None = None) -> None:
+        if getattr(namespace, self.dest, None) is not None:
+            parser.error(f"{option_string}: it stands twice")
+        setattr(namespace, self.dest, self.const if self.nargs == 0 else values)
+
+
+def judge(arguments: argparse.Namespace) -> None:
+    without_a_bus(arguments)
+    rate = getattr(arguments, "samplerate", None)
+    if arguments.kind == "sigrok" and arguments.times and not rate:
+        raise BadCall("capture sigrok: the times of sigrok are numbers of samples: give --samplerate=RATE, as `sigrok-cli -i FILE "
+                      "--show` has it")
+    if rate and not arguments.times:
+        raise BadCall("capture sigrok: --samplerate is of --times, which isn't given")
+
+
+def run(arguments: argparse.Namespace) -> int:
+    """Writes the trace of a capture."""
+    clock = None
+    if arguments.times:
+        clock = capture.clock_of(arguments.kind, getattr(arguments, "samplerate", None))
+    lines = capture.lines_of(standard_input())
+    try:
+        return told(capture.trace(arguments.kind, lines, arguments.device, getattr(arguments, "wanted", None), clock))
+    except capture.NoCapture as fault:
+        complain(f"no {arguments.kind} capture: {fault}")
+    except OSError as fault:
+        complain(f"standard input: {fault.strerror}")
+    return BAD_LINE
+
+
+def judge_frames(arguments: argparse.Namespace) -> None:
+    without_a_bus(arguments)
+    if arguments.back and (arguments.is_run or arguments.wanted is not None):
+        raise BadCall("capture i2ctransfer: --back stands alone: it needs no bus, and runs nothing")
+    if not arguments.back and arguments.wanted is None:
+        raise BadCall("capture i2ctransfer: give a bus, as 1, with --run behind it to run the commands; or --back")
+
+
+def run_frames(arguments: argparse.Namespace) -> int:
+    """Writes the commands of frames, or runs them, or writes the frames of commands."""
+    text, bus = standard_input().read(), str(arguments.wanted)
+    try:
+        if arguments.is_run:
+            return run_commands(text, bus)
+        lines = i2ctransfer.frames(text) if arguments.back else i2ctransfer.commands(text, bus)
+    except i2ctransfer.Refused as refused:
+        complain(f"capture i2ctransfer: {refused}")
+        return BAD_LINE
+    if lines:
+        streams.write("\n".join(lines))
+    return 0
+
+
+def run_commands(text: bytes, bus: str) -> int:
+    is_well = True
+    try:
+        for line, went_well in i2ctransfer.run(text, bus):
+            is_well = is_well and went_well
+            streams.write(line)
+    except KeyboardInterrupt:
+        complain("capture i2ctransfer: interrupted: the last frame may have been taken")
+        return INTERRUPTED
+    return 0 if is_well else 1
+
+
+def run_waveform(arguments: argparse.Namespace) -> int:
+    return told([vcd.waveform(standard_input().read().decode("utf-8", "replace")).removesuffix("\n")])

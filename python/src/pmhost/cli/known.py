@@ -1,0 +1,76 @@
+"""The questions, for which nothing is sent: known and band."""
+from __future__ import annotations
+
+import argparse
+from typing import Any
+
+from .. import voltages
+from ..host import Known
+from ..pmbus import Pmbus
+from ..survey import Commanded, judged
+from .answer import Answer, between, in_digits, number
+from .call import Call, said
+from .orders import VOLTAGES, limit_words
+from .parser import bus_options, whole
+
+YES = {True: "yes", False: "no"}
+
+
+def add(commands: Any) -> None:
+    """Adds the subparsers."""
+    found = commands.add_parser("known", help="tells what is known of every register, and sends nothing")
+    found.add_argument("output", metavar="O", nargs="?", type=whole(0, 7, "output"), help="of one output alone")
+    found.set_defaults(run=known, is_question=True)
+    bus_options(found)
+    found = commands.add_parser("band", help="tells between which voltages an output may be, and sends nothing")
+    found.add_argument("output", metavar="O", type=whole(0, 7, "output"))
+    found.set_defaults(run=band, is_question=True)
+    bus_options(found)
+
+
+def known(arguments: argparse.Namespace) -> int:
+    """What is known, register by register."""
+    call: Call = arguments.call
+    part = call.part()
+    cells = [it for it in part.known() if arguments.output is None or it.output in (None, arguments.output)]
+    if call.is_json:
+        return call.say(Answer(said(arguments), "told", output=arguments.output, restart_seen=part.host.restart_seen,
+                               rows=[row_of(part, it) for it in cells]))
+    lines = [" ".join(["-" if it.output is None else str(it.output), it.register, words_of(part, it)]) for it in cells]
+    call.say_lines([*lines, f"restart seen: {YES[part.host.restart_seen]}"])
+    return 0
+
+
+def volts_of(part: Pmbus, it: Known) -> int | None:
+    form = None if it.output is None else part.host.format(it.output)
+    if form is None or it.confirmed is None or it.register not in VOLTAGES:
+        return None
+    return form.microvolts(it.confirmed)
+
+
+def words_of(part: Pmbus, it: Known) -> str:
+    """A word that is confirmed, the words that are possible, or any."""
+    if it.confirmed is not None:
+        micro = volts_of(part, it)
+        return f"{in_digits(it.register, it.confirmed)}{'' if micro is None else f' {voltages.shown(micro)}'} confirmed"
+    if it.possible is None:
+        return "any"
+    return "possible " + " ".join(str(in_digits(it.register, word)) for word in it.possible)
+
+
+def row_of(part: Pmbus, it: Known) -> dict[str, object]:
+    return {"output": it.output, "register": it.register, "word": in_digits(it.register, it.confirmed),
+            "volts": number(volts_of(part, it)),
+            "possible": None if it.possible is None else [in_digits(it.register, word) for word in it.possible]}
+
+
+def band(arguments: argparse.Namespace) -> int:
+    """Between which voltages an output may be, by what is known."""
+    call: Call = arguments.call
+    part = call.part()
+    found = judged(part, arguments.output, Commanded())
+    words = "not known: its format wasn't learned"
+    if found.least is not None and found.greatest is not None:
+        words = f"commands {between(found.least, found.greatest)}{limit_words(found)}"
+    return call.say(Answer(said(arguments), "told", words, output=arguments.output, commanded=found,
+                           restart_seen=part.host.restart_seen))

@@ -1,0 +1,150 @@
+"""The parser of the command line: argparse, with one line for what is wrong, and the options of a bus before or behind a
+command's words."""
+from __future__ import annotations
+
+import argparse
+import ast
+import re
+from typing import Any, Callable, NoReturn
+
+from .. import voltages
+from .completion import FILES, completed_by
+
+ADDRESS = re.compile(r"(?:0[xX])?([0-9A-Fa-f]{2})[hH]?\Z")
+BUS = re.compile(r"(?:/dev/i2c-|i2c-)?([0-9]{1,9})\Z")
+DESK = "desk"
+LIMIT_EXAMPLE = "0:3.135V:3.465V"
+
+
+class BadCall(Exception):
+    """A command line that isn't carried out: which word it is, and what to give. The status is 2."""
+
+
+class Parser(argparse.ArgumentParser):
+    """A parser whose faults are a `BadCall` of one line, and which takes no shortened options."""
+
+    def __init__(self, **words: Any) -> None:
+        words.setdefault("allow_abbrev", False)
+        words.setdefault("formatter_class", argparse.RawDescriptionHelpFormatter)
+        super().__init__(**words)
+
+    def error(self, message: str) -> NoReturn:
+        raise BadCall(line_of(message, self.prog))
+
+
+# How what is missing is called, by its place in a command.
+MISSING = {"O": "the output", "VOLTAGE": "the voltage, as 3.3V,", "REG": "the register", "WORD": "the word, as 34CD,",
+           "high|low": "high or low", "FILE": "the file", "SCENARIO": "the scenario", "KIND": "the kind, as sigrok,"}
+
+
+def line_of(message: str, program: str) -> str:
+    """What argparse says, with the command in front of it, and the words of this program's own judges alone."""
+    command, message = program.partition(" ")[2], " ".join(message.split())
+    choice = re.match(r"argument (COMMAND|KIND): invalid choice: (.*) \(choose from (.*)\)\Z", message)
+    if choice:
+        words = f"{shown(ast.literal_eval(choice[2]))}: no {choice[1].lower()}; there are {choice[3].replace(chr(39), '')}"
+        return f"{command}: {words}" if command else words
+    missing = re.match("the following arguments are required: ([^,]*)", message)
+    alone = re.match("argument (?:.*/)?(--[a-z-]+): ignored explicit argument", message)
+    valued = re.match("argument (?:.*/)?(--[a-z-]+): expected one argument", message)
+    if missing and missing[1] == "COMMAND":
+        return f"give a command, as learn 0 + set 0 3.3V; {program} --help tells more"
+    if missing:
+        message = f"{MISSING.get(missing[1], missing[1])} is missing"
+    elif alone:
+        message = f"{alone[1]}: give it alone"
+    elif valued:
+        message = f"{valued[1]}: its value is missing"
+    elif message.startswith("unrecognized arguments: "):
+        message = f"{shown(message.partition(': ')[2].split()[0])}: a word too many"
+    else:
+        message = re.sub(r"\Aargument [^:]*: ", "", message)
+    return f"{command}: {message}" if command else message
+
+
+def shown(word: str) -> str:
+    """A word on one line."""
+    return word if word.isprintable() and word.isascii() and word else repr(word)
+
+
+def whole(least: int, most: int, what: str) -> Callable[[str], int]:
+    """The judge of a whole number from `least` to `most`."""
+    def judge(word: str) -> int:
+        if not re.fullmatch("[0-9]{1,9}", word.strip()) or not least <= int(word) <= most:
+            raise argparse.ArgumentTypeError(f"{what} {shown(word.strip())}: give a whole number from {least} to {most}")
+        return int(word)
+    return judge
+
+
+def bus_of(word: str) -> str:
+    """`desk`, or the number of a bus of Linux."""
+    found = BUS.match(word)
+    if word != DESK and not found:
+        raise argparse.ArgumentTypeError(f"bus {shown(word)}: give the number of /dev/i2c-N, as 1, or {DESK}")
+    return word if found is None else str(int(found[1]))
+
+
+def address_of(word: str) -> int:
+    """An address of seven bits, in hexadecimal digits: 58 and 0x58 are one."""
+    found, wire = ADDRESS.match(word), None
+    address = int(found[1], 16) if found else None
+    if found is None and re.fullmatch("[0-9]{3}", word) and 0x80 <= int(word) <= 0xEF:
+        wire = int(word)
+    if address is not None and 0x80 <= address <= 0xEF:
+        wire = address
+    if wire is not None:
+        raise argparse.ArgumentTypeError(
+            f"address {word}: give one from 08 to 77, in hexadecimal: on the wire {wire:02X} is {wire >> 1:02X}h")
+    if address is None or not 0x08 <= address <= 0x77:
+        raise argparse.ArgumentTypeError(f"address {shown(word)}: give one from 08 to 77, in hexadecimal, as 58")
+    return address
+
+
+def limit_of(word: str) -> tuple[int, int, int]:
+    """An output, and the least and the most of its limits in microvolts."""
+    parts = word.split(":")
+    if len(parts) != 3 or not re.fullmatch("[0-7]", parts[0]):
+        raise argparse.ArgumentTypeError(
+            f"limit {shown(word)}: give an output, the least and the most with their units, as {LIMIT_EXAMPLE}")
+    try:
+        least, most = (voltages.microvolts(part, "") for part in parts[1:])
+    except ValueError as fault:
+        raise argparse.ArgumentTypeError(f"limit {shown(word)}: {fault}") from None
+    if most < least:
+        raise argparse.ArgumentTypeError(f"limit {word}: the least is above the most")
+    for each in least, most:
+        if abs(each) > voltages.MOST_LIMIT:
+            raise argparse.ArgumentTypeError(f"limit {word}: {voltages.shown(each)} is beyond 1000V: is the unit right?")
+    return int(parts[0]), least, most
+
+
+def file_of(word: str) -> str:
+    """The name of a file."""
+    if not word or "\0" in word:
+        raise argparse.ArgumentTypeError(f"file {shown(word)}: give its name")
+    return word
+
+
+# The options of a bus: what argparse adds them with. Each stands in a list, so that one that stands twice is seen.
+OPTIONS: dict[str, tuple[tuple[str, ...], dict[str, Any]]] = {
+    "bus": (("-b", "--bus"), {"type": bus_of, "metavar": "BUS", "help": "the number of /dev/i2c-BUS, or desk for a model part"}),
+    "address": (("-a", "--address"), {"type": address_of, "metavar": "ADDRESS", "help": "the part's address, as 58"}),
+    "outputs": (("--outputs",), {"type": whole(1, 8, "outputs"), "metavar": "N", "help": "how many outputs the part has"}),
+    "limit": (("--limit",), {"type": limit_of, "metavar": "O:LEAST:MOST",
+                             "help": f"the limits of an output, as {LIMIT_EXAMPLE}: no order beyond them is sent"}),
+    "no_limit": (("--no-limit",), {"const": True, "help": "orders without limits"}),
+    "passes": (("--passes",), {"type": whole(1, 15, "passes"), "metavar": "N", "help": "how often a job is tried, 3 if left out"}),
+    "trace": (("--trace",), {"type": file_of, "metavar": "FILE", "help": "appends what went over the wire, for pmb decode"}),
+    "json": (("--json",), {"const": True, "help": "one object a command"}),
+    "force": (("--force",), {"const": True, "help": "drives a part that a driver of the kernel holds"}),
+}
+BEHIND = "_behind"
+
+
+def bus_options(parser: argparse.ArgumentParser, suffix: str = BEHIND) -> None:
+    """Adds the options of a bus to the parser of a command that uses one."""
+    group = parser.add_argument_group("options of a bus")
+    for name, (flags, words) in OPTIONS.items():
+        action = "append_const" if "const" in words else "append"
+        added = group.add_argument(*flags, dest=name + suffix, action=action, default=[], **words)
+        completed_by(added, {"bus": (DESK,), "trace": FILES}.get(name))

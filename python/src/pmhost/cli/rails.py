@@ -1,0 +1,135 @@
+"""The commands apply and verify: a file of rails."""
+from __future__ import annotations
+
+import argparse
+from typing import Any
+
+from .. import rails
+from ..apply import Board, Setting, Stopped
+from ..rails import SETTINGS
+from .answer import Answer, in_digits, number
+from .call import Call, said
+from .completion import FILES, completed_by
+from .orders import commanded_words
+from .parser import BadCall, bus_options, file_of
+
+
+def add(commands: Any) -> None:
+    """Adds the subparsers."""
+    for name, run, help in (("apply", apply, "brings the part to the settings of a file of rails"),
+                            ("verify", verify, "compares the part with a file of rails, and orders nothing")):
+        found = commands.add_parser(name, help=help, description=help[0].upper() + help[1:] + ".")
+        completed_by(found.add_argument("file", metavar="FILE", type=file_of, help="settings of a board's rails, in TOML"), FILES)
+        found.set_defaults(run=run, judge_file=judge_file, dry_run=False)
+        if name == "apply":
+            found.add_argument("--dry-run", action="store_true", help="reads, and says what would be ordered")
+        bus_options(found)
+
+
+def judge_file(arguments: argparse.Namespace) -> None:
+    """The file, judged whole: its outputs and its limits are those of the call."""
+    call: Call = arguments.call
+    try:
+        found = arguments.rails = rails.read(arguments.file)
+    except rails.BadRails as bad:
+        raise BadCall(str(bad)) from bad
+    call.take_rails(arguments, found)
+
+
+def apply(arguments: argparse.Namespace) -> int:
+    """Applies a file, or says what would be ordered."""
+    board = board_of(arguments)
+    return told(arguments, board, board.prepare if arguments.dry_run else board.apply)
+
+
+def verify(arguments: argparse.Namespace) -> int:
+    """Verifies a file."""
+    board = board_of(arguments)
+    return told(arguments, board, board.verify)
+
+
+def board_of(arguments: argparse.Namespace) -> Board:
+    call: Call = arguments.call
+    board = Board(call.part(), arguments.rails.rails)
+
+    def before(it: Setting) -> None:
+        call.maybe = f"output {it.rail.output} {it.register} may hold the old or the ordered word{written(it)}"
+
+    def after(it: Setting) -> None:
+        call.maybe, call.settled = "", f"written and confirmed: {', '.join(board.changed())}"
+
+    def written(it: Setting) -> str:
+        others = [name for name in board.changed() if name != it.name]
+        return f"; written before: {', '.join(others)}" if others else ""
+
+    board.before_order, board.after_order = before, after
+    return board
+
+
+def told(arguments: argparse.Namespace, board: Board, run: Any) -> int:
+    """Carries it out, and says what became of it."""
+    call: Call = arguments.call
+    why = ""
+    try:
+        run()
+    except Stopped as stopped:
+        why = str(stopped)
+    call.maybe, is_dry = "", arguments.dry_run
+    if why and arguments.command == "apply" and not is_dry:
+        why += after_a_stop(board)
+    found = Answer(said(arguments), "stopped" if why else "would order" if is_dry else "done", status=1 if why else 0, why=why,
+                   restart_seen=board.part.restart_seen, rows=rows(board, is_dry))
+    if not call.is_json and board.settings:
+        call.say_lines([*table(board, is_dry), *(line_of(board, name) for name in board.commanded)])
+    return call.say(found)
+
+
+def after_a_stop(board: Board) -> str:
+    """What stays changed, and of what nothing was ordered."""
+    words = ""
+    if board.changed():
+        words += f"; stays changed, or may be: {', '.join(board.changed())}"
+    if board.untouched():
+        words += f"; nothing was ordered of {', '.join(board.untouched())}"
+    return words
+
+
+def state_of(board: Board, it: Setting, is_dry: bool) -> str:
+    """What is known of a setting, in words."""
+    state = it.state
+    if is_dry and state == "differs":
+        return "now outside the limits; would be ordered" if board.is_outside(it) else "would be ordered"
+    return f"{state}, OUTSIDE the limits" if board.is_outside(it) else state
+
+
+def table(board: Board, is_dry: bool) -> list[str]:
+    """The lines: rail, setting, wanted, read back, and confirmed or what else."""
+    lines = [("rail", "setting", "wanted", "read back", "")]
+    lines += [(it.rail.name, it.register, board.shown(it, it.wanted), board.shown(it, it.last), state_of(board, it, is_dry))
+              for it in board.settings]
+    wide = [max(len(line[at]) for line in lines) for at in range(4)]
+    return ["  ".join([*(each.ljust(width) for each, width in zip(line, wide)), line[4]]).rstrip() for line in lines]
+
+
+def line_of(board: Board, name: str) -> str:
+    """What a rail's output commands."""
+    found, register = board.commanded[name], SETTINGS["volts"]
+    return f"{name}: {commanded_words(found, register, found.value if found.selected == register else None)}"
+
+
+def rows(board: Board, is_dry: bool) -> list[dict[str, object]]:
+    """The same by names and numbers."""
+    found: list[dict[str, object]] = []
+    for rail in board.rails:
+        known = board.commanded.get(rail.name)
+        found.append({
+            "rail": rail.name, "output": rail.output, "limits": [number(each) for each in rail.limits],
+            "selected": known and known.selected, "on": None if known is None else known.is_on,
+            "commands": None if known is None or known.least is None else [number(known.least), number(known.greatest)],
+            "within": None if known is None else known.within,
+            "settings": [{
+                "register": it.register, "wanted": in_digits(it.register, it.wanted), "wanted_volts": number(board.value(rail, it.wanted)),
+                "word": in_digits(it.register, it.last), "volts": None if it.last is None else number(board.value(rail, it.last)),
+                "state": "would be ordered" if is_dry and it.state == "differs" else it.state, "ordered": it.is_ordered,
+            } for it in board.of(rail)]})
+    return found

@@ -1,0 +1,40 @@
+"""What the commands without a bus share: lines that are written as they come, and no options of a bus."""
+from __future__ import annotations
+
+import argparse
+import sys
+from collections.abc import Iterable
+from typing import BinaryIO
+
+from . import streams
+from .call import complain
+from .parser import OPTIONS, BadCall
+
+
+def without_a_bus(arguments: argparse.Namespace) -> None:
+    """Refuses options of a bus in front of a command that uses none."""
+    for name, (flags, _) in OPTIONS.items():
+        if getattr(arguments, name, None):
+            raise BadCall(f"{arguments.command}: {flags[-1]} in front of it is an option of a bus, and it uses none")
+
+
+def standard_input() -> BinaryIO:
+    """Standard input, in bytes."""
+    if sys.stdin is None:
+        raise BadCall("standard input is closed")
+    return sys.stdin.buffer
+
+
+def told(texts: Iterable[str]) -> int:
+    """Writes texts on standard output, each as it comes. The status: 1 where that fails, without a word where the reader of a
+    pipe left, and 130 after an interrupt."""
+    try:
+        for text in texts:
+            streams.write(text)
+    except streams.NoStream as fault:
+        if not isinstance(fault.__cause__, BrokenPipeError):
+            complain(str(fault))
+        return 1
+    except KeyboardInterrupt:
+        return streams.INTERRUPTED
+    return 0

@@ -1,0 +1,72 @@
+"""Shapes and words of a picture (SVG)."""
+from __future__ import annotations
+
+from collections.abc import Sequence
+from html import escape
+
+SANS, MONO = "'DejaVu Sans', Verdana, sans-serif", "'DejaVu Sans Mono', Menlo, Consolas, monospace"
+INK, PALE, PANEL, EDGES = "#1c2127", "#5b6570", "#fbfbf8", "#8a9099"
+LINE, GOOD, FAULT, RESTART, LIMIT, RAIL = "#1f4e9c", "#14713f", "#b3261e", "#7a3db8", "#8a4b08", "#8c1d5a"
+MARKS = {"good": GOOD, "fault": FAULT, "restart": RESTART, "none": PALE}
+
+
+def width_of(words: str, size: float, is_mono: bool = False) -> float:
+    """A bound of the width of words, in the wide fonts of the list."""
+    if is_mono:
+        return 0.61 * size * len(words)
+    return size * sum(0.83 if it.isupper() else 0.36 if it in " .,:il" else 0.65 for it in words)
+
+
+def text(x: float, y: float, words: str, size: int = 12, fill: str = INK, family: str = SANS, anchor: str = "start",
+         extra: str = "") -> str:
+    return (f'<text x="{x:.1f}" y="{y:.1f}" font-size="{size}" fill="{fill}" font-family="{family}"'
+            f' text-anchor="{anchor}"{extra}>{escape(words)}</text>')
+
+
+def path(shape: str, colour: str, width: float = 1.0, extra: str = "") -> str:
+    return f'<path d="{shape}" stroke="{colour}" stroke-width="{width}" fill="none"{extra}/>'
+
+
+def line(x1: float, y1: float, x2: float, y2: float, colour: str, width: float = 1.0, extra: str = "") -> str:
+    return path(f"M{x1:.1f} {y1:.1f}L{x2:.1f} {y2:.1f}", colour, width, extra)
+
+
+def box(x: float, y: float, wide: float, high: float, fill: str, extra: str = "", title: str | None = None) -> str:
+    shape = f'<rect x="{x:.1f}" y="{y:.1f}" width="{wide:.1f}" height="{high:.1f}" fill="{fill}"{extra}'
+    return f"{shape}><title>{escape(title)}</title></rect>" if title else f"{shape}/>"
+
+
+def named(shape: str, title: str) -> str:
+    """A shape that shows its title where it is pointed at."""
+    return f"<g><title>{escape(title)}</title>{shape}</g>"
+
+
+def wrapped(words: str, room: float, size: float) -> list[str]:
+    """Words in lines that fit; a unit stays with its number, and `or` with what comes after it."""
+    lines: list[str] = []
+    for word in words.replace(" V", "\N{NO-BREAK SPACE}V").replace("or ", "or\N{NO-BREAK SPACE}").split(" "):
+        word = word.replace("\N{NO-BREAK SPACE}", " ")
+        if lines and width_of(f"{lines[-1]} {word}", size) <= room:
+            lines[-1] += f" {word}"
+        else:
+            lines.append(word)
+    return lines
+
+
+def first_that_fits(choices: Sequence[str], room: float, size: float, rows: int) -> list[str]:
+    """Of the choices in lines the first that has at most so many, all of which fit; otherwise the last."""
+    for words in choices:
+        lines = wrapped(words, room, size)
+        if len(lines) <= rows and all(width_of(it, size) <= room for it in lines):
+            return lines
+    return wrapped(choices[-1], room, size)[:rows]
+
+
+def symbol(kind: str, x: float, y: float) -> str:
+    """A mark: a tick, a cross, or an arrow in a circle."""
+    shapes = {
+        "good": f"M{x - 5:.1f} {y:.1f}l3.5 4.5l6.5 -9", "none": "",
+        "fault": f"M{x - 4.5:.1f} {y - 4.5:.1f}l9 9m0 -9l-9 9",
+        "restart": f"M{x + 4:.1f} {y - 4:.1f}a5.6 5.6 0 1 0 1.6 4m-1.6 -8v4.4h-4.4",
+    }
+    return path(shapes[kind], MARKS[kind], 2.2) if shapes[kind] else ""

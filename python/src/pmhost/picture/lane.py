@@ -1,0 +1,169 @@
+"""The lane of a picture that shows the voltage of one output: a scale of its own, from VOUT_MIN to VOUT_MAX with a
+little room, and farther where what is commanded or a limit of the rail lies outside."""
+from __future__ import annotations
+
+from collections.abc import Callable, Iterator, Sequence
+from math import floor, log10
+from typing import Protocol, TypeVar
+
+from .drawing import LIMIT, LINE, PALE, RAIL, box, line, named, text, width_of
+from .seen import Seen
+from .told import in_volts
+
+PAD, BESIDE, LEAST_WIDTH = 8, 8, 120
+OUTSIDE, INSIDE = "#f6e4d3", "#eef3ee"
+# What lies over the ground where the host knows the voltage to be.
+SHADE = ' fill-opacity="0.18"'
+
+# What is shown of an output in a row: whether it is on, the microvolts, the limit that cuts it or None, and the limits'
+# microvolts by their names.
+Told = tuple[bool, int, str | None, dict[str, int]]
+Key = TypeVar("Key")
+
+
+class Tops(Protocol):
+    """Where rows stand, and how high one is."""
+
+    row: int
+
+    def __call__(self, place: int) -> float:
+        ...
+
+
+def ends_of(values: set[int]) -> tuple[int, int]:
+    """The ends of a scale, in microvolts: round numbers with all values between them."""
+    least, most = min(values), max(values)
+    span = (most - least) or max(abs(most) // 5, 1000)
+    size = 10 ** max(floor(log10(span / 20)), 0)
+    step: int = next(it * size for it in (1, 2, 5, 10) if it * size * 20 >= span)
+    low = (least - span // 40) // step * step
+    return max(low, 0) if least >= 0 else low, -((-most - span // 40) // step) * step
+
+
+class Lane:
+    """Of one output. `told` has, row by row, what is shown. `bands` has the microvolts between which the host knows it, or
+    None, and `rail` those that the rail's limits allow, or None."""
+
+    def __init__(self, output: int, seen: Seen, rail: tuple[int, int] | None = None) -> None:
+        self.output, self.rail = output, rail
+        self.bands = [row.state.bands[output] for row in seen.rows]
+        self.told: list[Told] = [(*row.state.outputs[output], row.state.cut.get(output), seen.limits(row, output))
+                                 for row in seen.rows]
+        values = {micro for _, micro, _, _ in self.told}
+        for *_, limits in self.told:
+            values |= {*limits.values()}
+        values |= {*(rail or ())}
+        self.low, self.high = ends_of(values)
+        self.width = self.wide_enough()
+
+    def wide_enough(self) -> int:
+        """Wide enough for each value beside its line, for the limits, and for the ends of the scale."""
+        ends = sum(width_of(in_volts(it), 11) for it in (self.low, self.high)) + 16
+        wide = max(ends, width_of(f"output {self.output}", 13) + 8, LEAST_WIDTH, width_of(self.commands(), 12) + 4,
+                   *(width_of(it, 11) + 4 for it in {limits_in_words(told[3]) for told in self.told}))
+        for told in set((on, micro, cut) for on, micro, cut, _ in self.told):
+            share = self.share(told[1])
+            room = width_of(value_in_words(*told), 12) + BESIDE + 2
+            wide = max(wide, 2 * PAD + (room - PAD) / max(share, 1 - share))
+        return round(wide)
+
+    def share(self, micro: int) -> float:
+        return (micro - self.low) / (self.high - self.low)
+
+    def x_of(self, micro: int) -> float:
+        """How far to the right of the lane's left edge a voltage stands."""
+        return PAD + self.share(micro) * (self.width - 2 * PAD)
+
+    def heads(self, x: float, y: float, first: int) -> Iterator[str]:
+        """Above a page that begins with a row: the output, its limits then, and the ends of the scale."""
+        yield text(x, y - 60, f"output {self.output}", 13, extra=' font-weight="bold"')
+        yield text(x, y - 42, self.commands(), 12, RAIL if self.rail else PALE)
+        yield text(x, y - 25, limits_in_words(self.told[first][3]), 11, LIMIT)
+        yield text(x, y - 8, in_volts(self.low), 11, PALE)
+        yield text(x + self.width, y - 8, in_volts(self.high), 11, PALE, anchor="end")
+
+    def commands(self) -> str:
+        """What the lane shows, and the limits of its rail."""
+        return f"commands, limits {in_volts(self.rail[0])} to {in_volts(self.rail[1])}" if self.rail else "commands"
+
+    def runs(self, first: int, end: int, key: Callable[[Told], Key]) -> Iterator[tuple[int, int, Key]]:
+        """The runs of rows of a page that have the same key: the first, the one after the last, and the key."""
+        yield from runs_of([key(it) for it in self.told[first:end]], first)
+
+    def limits(self, x: float, top_of: Tops, first: int, end: int) -> Iterator[str]:
+        """The ground between the limits and outside of them, the limits, and their values where they change."""
+        for start, stop, limits in self.runs(first, end, lambda told: told[3]):
+            top, high = top_of(start), top_of(stop - 1) - top_of(start) + top_of.row
+            yield box(x, top, self.width, high, OUTSIDE)
+            left = self.x_of(min(limits.get("min", self.low), limits["max"]))
+            right = self.x_of(max(limits.get("min", self.low), limits["max"]))
+            if "min" not in limits:
+                left = 0
+            yield box(x + left, top, right - left, high, INSIDE)
+            for micro in limits.values():
+                yield line(x + self.x_of(micro), top, x + self.x_of(micro), top + high, LIMIT, 1.2)
+
+    def known(self, x: float, top_of: Tops, first: int, end: int) -> Iterator[str]:
+        """Where the host knows the voltage to be, as far as the scale goes, and the limits of the rail."""
+        for start, stop, band in runs_of(self.bands[first:end], first):
+            if band:
+                left, right = (self.x_of(min(max(it, self.low), self.high)) for it in band)
+                top, high = top_of(start), top_of(stop - 1) - top_of(start) + top_of.row
+                shade = box(x + left - 1, top, right - left + 2, high, LINE, SHADE)
+                yield named(shade, f"the host knows {band[0]} to {band[1]} uV")
+        for micro in self.rail or ():
+            at = x + self.x_of(micro)
+            yield line(at, top_of(first), at, top_of(end - 1) + top_of.row, RAIL, 1.6, ' stroke-dasharray="2 3"')
+
+    def voltage(self, x: float, top_of: Tops, first: int, end: int) -> Iterator[str]:
+        """The commanded voltage from row to row."""
+        before: float | None = None
+        for start, stop, (is_on, micro) in self.runs(first, end, lambda told: told[:2]):
+            at, top = x + self.x_of(micro), top_of(start)
+            if before is not None and before != at:
+                yield line(before, top, at, top, LINE, 3, ' stroke-linecap="square"')
+            yield line(at, top, at, top_of(stop - 1) + top_of.row, LINE, 3, "" if is_on else ' stroke-dasharray="4 4"')
+            before = at
+
+    def labels(self, x: float, top_of: Tops, first: int, end: int) -> Iterator[str]:
+        """Its value where it changes and where a page begins; and the limits below it, where they change."""
+        for start, _, told in self.runs(first, end, lambda told: told[:3]):
+            at, is_left = self.x_of(told[1]), self.share(told[1]) < 0.5
+            yield halo(x + at + (BESIDE if is_left else -BESIDE), top_of(start) + 13, value_in_words(*told), 12, LINE,
+                       "start" if is_left else "end")
+        for start, _, limits in self.runs(first, end, lambda told: told[3]):
+            if start != first:
+                is_left = self.share(self.told[start][1]) < 0.5
+                at = self.x_of(self.told[start][1]) + (BESIDE if is_left else -BESIDE)
+                yield halo(x + at, top_of(start) + 25, "; ".join(changed(self.told[start - 1][3], limits)), 11, LIMIT,
+                           "start" if is_left else "end")
+
+
+def runs_of(values: Sequence[Key], first: int) -> Iterator[tuple[int, int, Key]]:
+    """The runs of equal values, whose first stands in this row: the first row, the one after the last, the value."""
+    place = 0
+    while place < len(values):
+        start = place
+        while place < len(values) and values[place] == values[start]:
+            place += 1
+        yield first + start, first + place, values[start]
+
+
+def halo(x: float, y: float, words: str, size: int, colour: str, anchor: str) -> str:
+    """Words that stay readable over the lines of limits."""
+    extra = ' paint-order="stroke" stroke="#fbfbf8" stroke-width="3" stroke-linejoin="round"'
+    return text(x, y, words, size, colour, anchor=anchor, extra=extra)
+
+
+def value_in_words(is_on: bool, micro: int, limit: str | None) -> str:
+    if not is_on:
+        return "off"
+    return f"{limit} {in_volts(micro)}" if limit else in_volts(micro)
+
+
+def limits_in_words(limits: dict[str, int]) -> str:
+    return ", ".join(f"{name} {in_volts(micro)}" for name, micro in limits.items())
+
+
+def changed(before: dict[str, int], after: dict[str, int]) -> list[str]:
+    return [f"{name} {in_volts(after[name])}" for name in after if after[name] != before[name]]

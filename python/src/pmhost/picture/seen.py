@@ -1,0 +1,74 @@
+"""What a picture of a scenario's run shows, row by row."""
+from __future__ import annotations
+
+from ..scenario import Cell
+from .life import PROTECT, Life, Run, State
+
+# How a picture names the limits; a text of version 1 has no least one.
+LIMITS = {"min": "VOUT_MIN", "max": "VOUT_MAX"}
+
+
+class Row:
+    """One event, or the start: `number` and `label` of its line, `mark` (a kind and words), and the `state` after it.
+    `begins` where the event begins a job."""
+
+    def __init__(self, number: str, label: str, mark: tuple[str, str], state: State, begins: bool = False) -> None:
+        self.number, self.label, self.mark, self.state, self.begins = number, label, mark, state, begins
+
+
+class Job:
+    """A job's rows, from the first to the last, and its end; None where it is open when the run ends."""
+
+    def __init__(self, first: int) -> None:
+        self.first, self.last = first, first
+        self.end: str | None = None
+
+
+class Seen:
+    """A run with its rows and its jobs. `registers` are those whose beliefs are shown, `words` what words stand for."""
+
+    def __init__(self, run: Run) -> None:
+        self.run, life = run, Life(run.setup)
+        self.outputs, self.words = life.outputs, life.words
+        self.registers = self._named()
+        self.rows = [Row("", "start", ("none", ""), life.state())]
+        for event in run.events:
+            mark, before = life.step(event), self.rows[-1].state
+            state = life.state()
+            if (before.seen, state.seen) == (False, True):
+                mark = "restart", f"{mark[1]}, restart seen"
+            self.rows.append(Row(str(event.number), event.words, mark, state, event.begins))
+        if run.stopping:
+            mark = "fault", f"not taken: {run.stop}"
+            self.rows.append(Row(str(run.stopping.number), run.stopping.words, mark, self.rows[-1].state))
+        self.jobs = jobs_of(self.rows[: len(run.events) + 1])
+
+    def _named(self) -> list[Cell]:
+        """The registers that events order or check, WRITE_PROTECT first, then output by output in the order of their codes. Of
+        the others the host never knows anything."""
+        every = [*self.run.events, *([self.run.stopping] if self.run.stopping else []), *self.run.after]
+        named = {event.cell for event in every if event.cell and event.kind in ("order", "volts", "check")}
+        shown = [Cell(output, name) for output in self.outputs for name in self.run.setup.registers]
+        return [cell for cell in [PROTECT, *shown] if cell in named]
+
+    def limits(self, row: Row, output: int) -> dict[str, int]:
+        """The microvolts of an output's limits in a row, by their names."""
+        cells = {name: Cell(output, register) for name, register in LIMITS.items() if register in self.run.setup.registers}
+        found = {name: self.words.micro(cell, row.state.words[cell]) for name, cell in cells.items()}
+        return {name: micro for name, micro in found.items() if micro is not None}
+
+
+def jobs_of(rows: list[Row]) -> list[Job]:
+    """The jobs of a run."""
+    found: list[Job] = []
+    is_open = False
+    for place, row in enumerate(rows):
+        if row.begins:
+            found.append(Job(place))
+            is_open = True
+        if is_open:
+            found[-1].last = place
+            is_open = row.state.job == "pending"
+            if not is_open:
+                found[-1].end = "dropped" if row.state.job == "none" else row.state.job
+    return found

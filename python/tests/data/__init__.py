@@ -1,0 +1,1 @@
+"""Rows of the tests, and texts that they read."""

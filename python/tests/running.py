@@ -1,0 +1,64 @@
+"""The command and the built programs as the tests run them: in a process of its own, over this folder's package."""
+import os
+import shutil
+import subprocess
+import sys
+import unittest
+
+from pmhost import programs
+
+HERE = os.path.dirname(os.path.abspath(__file__))
+DATA = os.path.join(HERE, "data")
+SOURCE = os.path.join(os.path.dirname(HERE), "src")
+ROOT = os.path.dirname(os.path.dirname(HERE))
+EXAMPLES = os.path.join(ROOT, "examples")
+
+
+def around(**more):
+    """The environment in which this package is found."""
+    found = {name: it for name, it in os.environ.items() if name != "PYTHONUNBUFFERED"}
+    path = os.pathsep.join([SOURCE, *filter(None, [os.environ.get("PYTHONPATH")])])
+    return {**found, "PYTHONPATH": path, "PYTHONDONTWRITEBYTECODE": "1", "COLUMNS": "100", **more}
+
+
+def command(*words):
+    """The words of a call of pmhost."""
+    return [sys.executable, "-m", "pmhost", *words]
+
+
+def pmhost(*words, text="", **more):
+    """The status of a call, its standard output and its standard error."""
+    ran = subprocess.run(command(*words), input=text, capture_output=True, text=True, env=around(**more))
+    return ran.returncode, ran.stdout, ran.stderr
+
+
+def in_shell(redirections, *words, text="", **more):
+    """The same of a call whose streams bash redirects."""
+    ran = subprocess.run(["bash", "-c", f'"$@" {redirections}', "bash", *command(*words)], input=text, capture_output=True,
+                         text=True, env=around(**more))
+    return ran.returncode, ran.stdout, ran.stderr
+
+
+def stored(*names):
+    """A file's text."""
+    with open(os.path.join(*names), encoding="utf-8") as file:
+        return file.read()
+
+
+def needs(*names):
+    """Skips a test where a program isn't built, by its name."""
+    missing = [name for name in names if not is_there(name)]
+    return unittest.skipIf(missing, f"no program {' and '.join(missing)}")
+
+
+def is_there(name):
+    try:
+        programs.path_of(name)
+    except programs.Missing:
+        return False
+    return True
+
+
+def needs_tool(name):
+    """Skips a test where the machine lacks a tool."""
+    return unittest.skipUnless(shutil.which(name), f"no {name} on this machine")

@@ -1,0 +1,141 @@
+"""The runs of data/*.txt: what is asked, what goes wrong, and the exact words and the status that come of it.
+
+A file has a block for each run, a blank line between them. The lines of a block, of which `words` and `status` must stand there:
+
+    words: WORDS         the command line; `FILE` is the file of rails of the block
+    mishaps: M M ..      what befalls the transfers (kernel.py)
+    part: KIND [M M ..] [coefficients m b R]     the kind of part, and VOUT_MODEs in hexadecimal
+    cell: O REG WORD     a word that the part holds at first
+    fault: WHAT ERRNO    the kernel's error for `open` or `slave`
+    functions: HEX       the adapter's functions
+    held: WORD           what VOUT_COMMAND of output 0 holds behind the run, 1000 if left out
+    writes: N            how many writes the part heard, 0 if left out
+    comment: TEXT        a line of the trace
+    toml: TEXT           a line of the file of rails
+    status: N            the status
+    out: TEXT, err: TEXT     a line of standard output, of standard error
+"""
+import contextlib
+import errno
+import io
+import os
+import shlex
+from dataclasses import dataclass, field
+
+from pmhost import cli
+from pmhost.bus.linux import I2C_FUNC_I2C, I2C_SLAVE
+from pmhost.values import CODES
+
+from . import kernel
+
+DATA = os.path.join(os.path.dirname(os.path.abspath(__file__)), "data")
+
+
+@dataclass
+class Run:
+    """A block of a file."""
+
+    name: str
+    words: str = ""
+    mishaps: str = ""
+    part: str = "Part"
+    cells: list = field(default_factory=list)
+    faults: dict = field(default_factory=dict)
+    functions: int = I2C_FUNC_I2C
+    held: str = "1000"
+    writes: int = 0
+    comments: list = field(default_factory=list)
+    toml: list = field(default_factory=list)
+    status: int = 0
+    out: str = ""
+    err: str = ""
+
+    def take(self, key, text):
+        """A line of the block."""
+        if key in ("words", "mishaps", "part", "held"):
+            setattr(self, key, text)
+        elif key in ("out", "err"):
+            setattr(self, key, f"{getattr(self, key)}{text}\n")
+        elif key in ("status", "writes"):
+            setattr(self, key, int(text))
+        elif key == "functions":
+            self.functions = int(text, 16)
+        elif key == "fault":
+            what, name = text.split()
+            self.faults[{"open": "open", "slave": I2C_SLAVE}[what]] = getattr(errno, name)
+        elif key == "cell":
+            self.cells.append(text.split())
+        else:
+            {"comment": self.comments, "toml": self.toml}[key].append(text)
+
+    def made_part(self):
+        """The part of the run, with its words."""
+        kind, *rest = self.part.split()
+        made = {}
+        if "coefficients" in rest:
+            at = rest.index("coefficients")
+            made["coefficients"], rest = tuple(int(each) for each in rest[at + 1:at + 4]), rest[:at]
+        if rest:
+            made["modes"] = tuple(int(each, 16) for each in rest)
+        part = getattr(kernel, kind)(**made)
+        for output, register, word in self.cells:
+            part.converter.set((None if output == "None" else int(output), CODES[register]), int(word, 16))
+        return part
+
+
+def blocks(name):
+    """The runs of a file."""
+    found = []
+    with open(os.path.join(DATA, name), encoding="utf-8") as text:
+        for number, block in enumerate(text.read().split("\n\n")):
+            lines = [line for line in block.splitlines() if line and not line.startswith("#")]
+            if not lines:
+                continue
+            run = Run(f"{name} {number}")
+            for line in lines:
+                key, _, rest = line.partition(":")
+                run.take(key, rest[1:])
+            found.append(run)
+    return found
+
+
+def called(words, over):
+    """The status of a command line over a stand-in for the kernel, and what it prints on both streams."""
+    out, err = io.StringIO(), io.StringIO()
+    with contextlib.redirect_stdout(out), contextlib.redirect_stderr(err):
+        status = cli.main(words, over)
+    return status, out.getvalue(), err.getvalue()
+
+
+@dataclass
+class Ran:
+    """What came of a run."""
+
+    status: int
+    out: str
+    err: str
+    part: object
+    kernel: object
+    trace: str
+
+
+def writes(part):
+    """How many writes a part heard."""
+    return sum(" " in line and not line.endswith(" /") for line in part.lines)
+
+
+def ran(run, folder):
+    """Carries a run out, with a trace in a folder."""
+    part, path, rails = run.made_part(), os.path.join(folder, "trace"), os.path.join(folder, "rails.toml")
+    with open(rails, "w", encoding="utf-8") as file:
+        file.write("\n".join(run.toml))
+    with contextlib.suppress(FileNotFoundError):
+        os.remove(path)
+    over = kernel.FakeKernel(part, run.mishaps.split(), run.faults, run.functions)
+    words = [rails if word == "FILE" else word for word in shlex.split(run.words)]
+    status, out, err = called([*words, *([] if "--trace" in words else ["--trace", path])], over)
+    trace = ""
+    if os.path.exists(path):
+        with open(path, encoding="ascii") as file:
+            trace = file.read()
+    return Ran(status, out.replace(rails, "FILE"), err.replace(rails, "FILE"), part, over, trace)

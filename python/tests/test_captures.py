@@ -1,0 +1,289 @@
+"""Captures of a bus as traces, with the times of their packets, live and in little memory; frames as commands of i2ctransfer,
+and back, and run."""
+import os
+import select
+import signal
+import stat
+import subprocess
+import tempfile
+import unittest
+
+from pmhost.capture import NoCapture, clock_of, trace
+from pmhost.capture.vcd import waveform
+
+from . import running
+from .data.capture_rows import (CAPTURES, COUNTS, ENDLESS, FAILED, FAULTY, FRAMES, HEADS, LONG, MOST_MEMORY, NO_COMMANDS,
+                                READINGS, REFUSED, SHORT, STAND_IN, STREAMS, TIMES, TRANSFERS, UNTIMED, WRONG)
+from .running import DATA, EXAMPLES, needs, needs_tool, pmhost, stored
+
+FOLDER = os.path.join(DATA, "captures")
+
+
+def capture(name):
+    return stored(FOLDER, name)
+
+
+def traced(form, text, address=None, bus=None, clock=None):
+    return [*trace(form, text.splitlines(), address, bus, clock)]
+
+
+def packets(lines):
+    return [line for line in lines if not line.startswith("#")]
+
+
+def decoded(text, *options):
+    """What `pmb decode` says, line by line."""
+    ran = subprocess.run([running.programs.path_of("pmb"), "decode", *options], input=text, capture_output=True, text=True)
+    return ran.stdout.splitlines()
+
+
+class Waveforms(unittest.TestCase):
+    """The stored waveforms are those of the packets, and what sigrok-cli makes of them."""
+
+    def test_waveforms_are_drawn_from_their_packets(self):
+        for name, path in ("bus", os.path.join(EXAMPLES, "bus.trace")), ("faults", os.path.join(FOLDER, "faults.bus")):
+            with self.subTest(name):
+                self.assertEqual(waveform(stored(path)), capture(f"{name}.vcd"))
+                self.assertEqual(pmhost("capture", "waveform", text=stored(path)), (0, capture(f"{name}.vcd"), ""))
+
+    @needs_tool("sigrok-cli")
+    def test_sigrok_reads_them_as_stored(self):
+        for name, options, wanted in (("bus", [], "bus.sigrok"), ("faults", [], "faults.sigrok"), ("kernel", [], "kernel.sigrok"),
+                                      ("bus", ["--protocol-decoder-samplenum"], "bus.samples")):
+            with self.subTest(wanted):
+                ran = subprocess.run(["sigrok-cli", "-I", "vcd", "-i", os.path.join(FOLDER, f"{name}.vcd"), "-P",
+                                      "i2c:scl=SCL:sda=SDA:address_format=unshifted", "-A", "i2c=addr-data", *options],
+                                     capture_output=True, text=True)
+                self.assertEqual(ran.stdout, capture(wanted), ran.stderr)
+        shown = subprocess.run(["sigrok-cli", "-i", os.path.join(FOLDER, "bus.vcd"), "--show"], capture_output=True, text=True)
+        self.assertIn("Samplerate: 1000000\n", shown.stdout)
+
+
+class Traces(unittest.TestCase):
+    """Captures give their traces, and texts that are none say why."""
+
+    def test_captures_give_their_traces(self):
+        for name, form, wanted in CAPTURES:
+            with self.subTest(f"{name}.{form}"):
+                self.assertEqual("\n".join(traced(form, capture(f"{name}.{form}"), 0x58)) + "\n", capture(wanted))
+
+    def test_short_captures_give_their_traces(self):
+        for form, text, wanted in SHORT:
+            with self.subTest(text):
+                self.assertEqual(traced(form, text), wanted)
+
+    def test_without_an_address_all_devices_are_told(self):
+        every = traced("linux", capture("faults.linux"))
+        self.assertIn("A0 00 / A1 12", every)
+        self.assertIn("A0 00 01", every)
+
+    def test_texts_that_are_no_captures_say_why(self):
+        for form, text, why in REFUSED:
+            with self.subTest(text), self.assertRaises(NoCapture) as refused:
+                traced(form, text)
+            self.assertTrue(str(refused.exception).startswith(why), refused.exception)
+
+    def test_an_endless_packet_is_one_short_line(self):
+        for text, line in ENDLESS:
+            found = traced("sigrok", text)
+            self.assertEqual(len(found), 1)
+            self.assertTrue(found[0].startswith(line), found[0][:80])
+            self.assertLessEqual(len(found[0]), 1000)
+
+    def test_failed_transfers_are_comments(self):
+        for form, line in FAILED:
+            with self.subTest(line):
+                found = traced(form, capture(f"faults.{form}"), 0x58)
+                self.assertIn(line, found)
+                self.assertNotIn("B0", found)
+
+    @needs("pmb")
+    def test_decode_counts_no_fault_that_nobody_made(self):
+        for name, wanted in COUNTS:
+            with self.subTest(name):
+                self.assertEqual(decoded(capture(name))[-1:], [wanted])
+
+    def test_one_bus_of_several_has_each_packet_once(self):
+        both = "".join(line + "\n" + line.replace("i2c-1 ", "i2c-0 ") + "\n" for line in capture("bus.linux").splitlines()
+                       if "i2c-1 " in line)
+        once = capture("bus.trace").splitlines()
+        for bus, wanted in ((None, [line for line in once for _ in (0, 1)]), (1, once), (0, once)):
+            self.assertEqual(traced("linux", both, 0x58, bus), wanted)
+        self.assertEqual(pmhost("capture", "linux", "--bus=1", "--address=58", text=both), (0, capture("bus.trace"), ""))
+        self.assertEqual(pmhost("capture", "linux", "--bus=7", text=both),
+                         (1, "", "pmhost: no linux capture: no packet\n"))
+
+    def test_captures_of_a_kernel_tell_what_went_over_its_bus(self):
+        sent = capture("kernel.bus").splitlines()
+        on_wire = [line.split(": ")[1] if line.startswith("#") else line for line in sent]
+        over = packets(capture("two_adapters.bus").splitlines())
+        for name, form, bus, wanted in (("kernel", "linux", None, packets(sent)), ("kernel", "sigrok", None, on_wire),
+                                        ("two_adapters", "linux", 1, over)):
+            with self.subTest(f"{name}.{form}"):
+                self.assertEqual(packets(traced(form, capture(f"{name}.{form}"), 0x58, bus)), wanted)
+        both = packets(traced("linux", capture("two_adapters.linux"), 0x58))
+        self.assertEqual([line for line in over if both.count(line) < 2 * over.count(line)], [])
+
+
+class Times(unittest.TestCase):
+    """Packets with their times."""
+
+    def test_each_format_has_its_times(self):
+        lines = capture("bus.trace").splitlines()
+        for form, words, name in READINGS:
+            if "--times" not in words:
+                continue
+            wanted = "".join(f"{time} {packet}\n" for time, packet in zip(TIMES[form], lines))
+            with self.subTest(form):
+                self.assertEqual(pmhost("capture", form, "--address=58", *words, text=capture(name)), (0, wanted, ""))
+
+    def test_a_samplerate_has_its_unit_or_is_in_hertz(self):
+        for rate in "4000000", "4000000Hz", "4000kHz", "4MHz":
+            status, out, _ = pmhost("capture", "sigrok", "-a", "0x58", "--times", f"--samplerate={rate}", text=capture("bus.samples"))
+            self.assertEqual((status, [int(line.split()[0]) for line in out.splitlines()]),
+                             (0, [time // 4 for time in TIMES["sigrok"]]), rate)
+
+    def test_packets_of_two_adapters_begin_at_one_time(self):
+        found = packets(traced("linux", capture("two_adapters.linux"), 0x58, None, clock_of("linux")))
+        self.assertEqual(found[:2], ["0 B0 06 02 00 20 / B1 01 14 4E"] * 2)
+
+    def test_texts_without_good_times_say_why(self):
+        for form, text, why in UNTIMED:
+            with self.subTest(text), self.assertRaises(NoCapture) as refused:
+                traced(form, text, None, None, clock_of(form, 1))
+            self.assertTrue(str(refused.exception).startswith(why), refused.exception)
+
+    def test_a_clock_of_samples_needs_their_rate(self):
+        with self.assertRaises(ValueError):
+            clock_of("sigrok")
+
+    @needs("pmb")
+    def test_decode_takes_them(self):
+        status, out, _ = pmhost("capture", "sigrok", "-a", "58", "--times", "--samplerate=1MHz", text=capture("bus.samples"))
+        told = decoded(out, "--times")
+        self.assertEqual((status, told[0], told[-1]),
+                         (0, "1 0 us 58 page 0 VOUT_COMMAND write 34CD", "lines 8 accepted 6 faults 2 bad 0"))
+
+
+class Streams(unittest.TestCase):
+    """The first line comes before the input ends, a long text takes little memory, and streams may be closed or full."""
+
+    def test_the_first_line_comes_at_once(self):
+        for form, words, name in READINGS:
+            wanted = ("0 " if words else "") + capture("bus.trace").splitlines()[0]
+            with self.subTest(f"{form} {words}"):
+                call = running.command("capture", form, "--address=58", *words)
+                with subprocess.Popen(call, stdin=subprocess.PIPE, stdout=subprocess.PIPE, text=True, env=running.around()) as ran:
+                    ran.stdin.write(capture(name))
+                    ran.stdin.flush()
+                    is_there = select.select([ran.stdout], [], [], 20)[0]
+                    found = ran.stdout.readline().strip() if is_there else None
+                    ran.stdin.close()
+                    ran.stdout.read()
+                self.assertEqual(found, wanted)
+
+    def test_a_long_text_takes_little_memory(self):
+        for form, words, name in READINGS:
+            lines = capture(name).splitlines(keepends=True)
+            head, body = lines[:HEADS[form]], "".join(lines[HEADS[form]:])
+            times = LONG // len(body) + 1
+            with self.subTest(f"{form} {words}"), tempfile.TemporaryDirectory() as folder:
+                path = os.path.join(folder, "long")
+                with open(path, "w", encoding="utf-8") as file:
+                    file.writelines(head)
+                    file.writelines(body for _ in range(times))
+                with open(path, "rb") as file, open(os.path.join(folder, "trace"), "w+b") as out:
+                    ran = subprocess.Popen(running.command("capture", form, "--address=58", *words), stdin=file, stdout=out,
+                                           env=running.around())
+                    _, status, used = os.wait4(ran.pid, 0)
+                    ran.returncode = os.waitstatus_to_exitcode(status)
+                    out.seek(0)
+                    count = sum(1 for _ in out)
+                self.assertEqual((ran.returncode, count), (0, times * len(capture("bus.trace").splitlines())))
+                self.assertLessEqual(used.ru_maxrss, MOST_MEMORY)
+
+    def test_an_interrupt_ends_a_live_capture_without_a_word(self):
+        with subprocess.Popen(running.command("capture", "linux"), stdin=subprocess.PIPE, stdout=subprocess.PIPE,
+                              stderr=subprocess.PIPE, text=True, env=running.around()) as ran:
+            ran.stdin.write(capture("bus.linux"))
+            ran.stdin.flush()
+            ran.stdout.readline()
+            ran.send_signal(signal.SIGINT)
+            _, errors = ran.communicate()
+        self.assertEqual((ran.returncode, errors), (130, ""))
+
+    def test_closed_and_full_streams_end_it_in_one_line(self):
+        for redirections, words, status, errors in STREAMS:
+            text = "B0 19 /\n" if "i2ctransfer" in words else capture("bus.linux")
+            with self.subTest(f"{words} {redirections}"):
+                found = running.in_shell(redirections, *words, text=text)
+                self.assertEqual((found[0], found[2]), (status, errors))
+
+
+class Calls(unittest.TestCase):
+    """Wrong command lines name the word that was wrong, in one line."""
+
+    def test_wrong_command_lines(self):
+        for words, said in WRONG:
+            with self.subTest(words):
+                self.assertEqual(pmhost("capture", *words.split()), (2, "", f"pmhost: {said}\n"))
+
+    def test_options_of_a_bus_stand_in_front_of_no_capture(self):
+        self.assertEqual(pmhost("-a", "58", "capture", "linux"), (
+            2, "", "pmhost: capture: --address in front of it is an option of a bus, and it uses none\n"))
+
+
+class Frames(unittest.TestCase):
+    """Frames become commands of i2ctransfer, and come back, and the commands are run."""
+
+    def test_frames_become_commands_and_come_back(self):
+        frames = "".join(f"{frame}\n" for frame, _, _ in FRAMES)
+        made = pmhost("capture", "i2ctransfer", "7", text=frames)
+        self.assertEqual(made, (0, "".join(f"i2ctransfer -y 7 {command}\n" for _, command, _ in FRAMES), ""))
+        self.assertEqual(pmhost("capture", "i2ctransfer", "--back", text=made[1]), (0, frames, ""))
+
+    def test_faulty_frames_say_why(self):
+        for text, why in FAULTY:
+            with self.subTest(text):
+                self.assertEqual(pmhost("capture", "i2ctransfer", "7", text=f"{text}\n"),
+                                 (1, "", f"pmhost: capture i2ctransfer: {why}\n"))
+
+    def test_what_is_no_command_is_no_frame(self):
+        for text in NO_COMMANDS:
+            with self.subTest(text):
+                self.assertEqual(pmhost("capture", "i2ctransfer", "--back", text=text)[:2], (1, ""))
+
+    def test_each_end_of_a_command(self):
+        for words, frames, tool, *wanted in TRANSFERS:
+            with self.subTest(f"{words} {tool}"), tempfile.TemporaryDirectory() as folder:
+                if tool is not None:
+                    put(folder, "i2ctransfer", f"#!/bin/sh\n{tool}\n")
+                found = pmhost("capture", "i2ctransfer", *words.split(), text=frames, PATH=f"{folder}:/usr/bin:/bin")
+                self.assertEqual(found, tuple(wanted))
+
+    @needs("pmb", "pmbpart")
+    def test_commands_are_run_and_decode_takes_their_trace(self):
+        with tempfile.TemporaryDirectory() as folder:
+            put(folder, "i2ctransfer", STAND_IN)
+            pipes = {name: os.path.join(folder, name) for name in ("SAID", "ANSWERED")}
+            for each in pipes.values():
+                os.mkfifo(each)
+            # Both ends of each pipe stay open here, so that the part goes on from one command to the next.
+            with open(pipes["SAID"], "r+b", 0) as said, open(pipes["ANSWERED"], "r+b", 0) as answered:
+                part = subprocess.Popen([running.programs.path_of("pmbpart")], stdin=said, stdout=answered)
+                status, out, _ = pmhost("capture", "i2ctransfer", "7", "--run", text="".join(f"{frame}\n" for frame, _, _ in FRAMES),
+                                        PATH=folder + os.pathsep + os.environ["PATH"], **pipes)
+                part.kill()
+                part.wait()
+        failed = ": Error: Sending messages failed: No such device or address"
+        wanted = [line or "# failed: " + frame.removesuffix(" /") + failed for frame, _, line in FRAMES]
+        self.assertEqual((status, out.splitlines()), (1, wanted))
+        self.assertEqual(decoded(out)[-1:], ["lines 7 accepted 7 faults 0 bad 0"])
+
+
+def put(folder, name, text):
+    """A script that can be run."""
+    path = os.path.join(folder, name)
+    with open(path, "w", encoding="utf-8") as file:
+        file.write(text)
+    os.chmod(path, stat.S_IRWXU)

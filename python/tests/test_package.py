@@ -1,0 +1,53 @@
+"""What the package imports: nothing but its own modules and the standard library, and never the plain model."""
+import ast
+import os
+import sys
+import unittest
+
+import pmhost
+
+FOLDER = os.path.dirname(os.path.abspath(pmhost.__file__))
+# A bus of smbus2 is handed in by who has that package.
+BESIDE = {"smbus2"}
+
+
+def modules():
+    """The files of the package, by their paths below it."""
+    for folder, _, names in os.walk(FOLDER):
+        for name in names:
+            if name.endswith(".py"):
+                yield os.path.relpath(os.path.join(folder, name), FOLDER)
+
+
+def imported(path):
+    """The top names that a file imports from elsewhere, wherever the import stands in it."""
+    with open(os.path.join(FOLDER, path), encoding="utf-8") as text:
+        tree = ast.parse(text.read())
+    for node in ast.walk(tree):
+        if isinstance(node, ast.Import):
+            yield from (alias.name.partition(".")[0] for alias in node.names)
+        elif isinstance(node, ast.ImportFrom) and node.level == 0 and node.module:
+            yield node.module.partition(".")[0]
+
+
+class Imports(unittest.TestCase):
+    def test_each_module_imports_the_standard_library_and_the_package_alone(self):
+        found = list(modules())
+        self.assertGreater(len(found), 20)
+        for path in found:
+            with self.subTest(path=path):
+                self.assertLessEqual(set(imported(path)), set(sys.stdlib_module_names) | {"pmhost"} | BESIDE)
+
+    def test_no_module_that_people_run_has_the_plain_model(self):
+        for path in modules():
+            with self.subTest(path=path):
+                self.assertFalse({"plain", "tests"} & set(imported(path)))
+                with open(os.path.join(FOLDER, path), encoding="utf-8") as text:
+                    self.assertNotIn("sys.path", text.read())
+
+    def test_one_layer_speaks_to_the_kernel(self):
+        self.assertEqual([path for path in modules() if "fcntl" in set(imported(path))], ["bus/linux.py"])
+
+    def test_one_parser(self):
+        found = sorted(path for path in modules() if "argparse" in set(imported(path)))
+        self.assertTrue(all(path.startswith("cli" + os.sep) for path in found), found)

@@ -1,0 +1,104 @@
+"""`pmhost` as a process over the stand-in for the kernel: streams that are closed, full or left, signals, colours, the library."""
+import _ctypes
+import os
+import pty
+import subprocess
+import sys
+import unittest
+
+from .runs import called
+
+HERE = os.path.dirname(os.path.abspath(__file__))
+RUNNER = """import sys
+sys.path.insert(0, sys.argv[1])
+from tests import kernel
+from pmhost import cli
+sys.exit(cli.main(sys.argv[3:], kernel.FakeKernel(kernel.Part(), sys.argv[2].split())))
+"""
+PART = "-b 7 -a 58 --outputs 2 --no-limit"
+ORDER = f"{PART} word 0 OPERATION 80"
+DONE = "word 0: OPERATION 80 on confirmed; what the output commands isn't known, since its format wasn't learned\n"
+READ = "read 1: OPERATION 80 on confirmed\n"
+PROBED = "probe: PEC yes, PAGE_PLUS yes, 2 outputs: 0 ULINEAR16 -12, 1 ULINEAR16 -12\n"
+UNSAID = f"unsaid: {DONE}"
+# Words, redirections of a shell, mishaps; standard output, standard error, status.
+ROWS = [
+    (ORDER, "", "", DONE, "", 0),
+    (f"{ORDER} + read 1 OPERATION", "", "group", "",
+     "pmhost: interrupted during word 0 OPERATION 80: output 0 OPERATION may hold the old or the ordered word\n", 130),
+    (f"{ORDER} + read 1 OPERATION", "", "ok ok group", DONE,
+     "pmhost: interrupted during read 1 OPERATION: nothing was written\n", 130),
+    (f"{ORDER} + read 1 OPERATION", "> /dev/full", "", "", f"pmhost: standard output: No space left on device; {UNSAID}", 2),
+    (f"{ORDER} + read 1 OPERATION", ">&-", "", "", "pmhost: standard output is closed: nothing was sent\n", 2),
+    (f"{ORDER} + read 1 OPERATION", "<&-", "", DONE + READ, "", 0),
+    (f"{PART} probe", "<&- 2>&-", "", PROBED, "", 0),
+    ("frobnicate", "2>&-", "", "", "", 2),
+    ("frobnicate", "2> /dev/full", "", "", "", 2),
+    (f"{ORDER} + read 1 OPERATION", "| true; exit ${PIPESTATUS[0]}", "", "", f"pmhost: standard output: Broken pipe; {UNSAID}", 2),
+    (f"--trace /dev/full {ORDER} + read 1 OPERATION", "", "", DONE, "pmhost: /dev/full: No space left on device\n", 2),
+    (f"--trace=/dev/full {PART} probe", "", "", PROBED, "pmhost: /dev/full: No space left on device\n", 2),
+]
+
+
+def run(words, redirections="", mishaps="", around=None):
+    """A process in a shell's words."""
+    given = ["bash", "-c", f'"$@" {redirections}', "bash", sys.executable, "-c", RUNNER, os.path.dirname(HERE), mishaps, *words.split()]
+    env = {name: it for name, it in os.environ.items() if name != "PYTHONUNBUFFERED"} | (around or {})
+    return subprocess.run(given, capture_output=True, text=True, env=env, start_new_session=True, check=False)
+
+
+class Processes(unittest.TestCase):
+    def test_streams_and_a_signal_to_the_group(self):
+        for words, redirections, mishaps, out, err, status in ROWS:
+            with self.subTest(words=words, redirections=redirections):
+                ran = run(words, redirections, mishaps)
+                self.assertEqual((ran.stdout, ran.stderr, ran.returncode), (out, err, status))
+
+    def test_signals_that_are_ignored_stay_ignored(self):
+        given = ["bash", "-c", 'trap "" INT HUP; "$@"', "bash", sys.executable, "-c", RUNNER, os.path.dirname(HERE), "sighup", *ORDER.split()]
+        ran = subprocess.run(given, capture_output=True, text=True, start_new_session=True, check=False)
+        self.assertEqual((ran.returncode, ran.stdout, ran.stderr), (0, DONE, ""))
+
+    def test_both_names_of_the_command(self):
+        for given in ([sys.executable, "-m", "pmhost"], [sys.executable, "-c", "import sys; from pmhost.cli import main; sys.exit(main())"]):
+            ran = subprocess.run([*given, "-b", "desk", "read", "0"], capture_output=True, text=True, check=False)
+            self.assertEqual((ran.returncode, ran.stdout), (0, "read 0: VOUT_COMMAND 1000 1V confirmed\n"))
+
+    def test_help_of_each_command(self):
+        for words in (["--help"], ["set", "--help"], ["apply", "-h"]):
+            status, out, err = called(words, None)
+            self.assertEqual((status, err), (0, ""))
+            self.assertIn("usage: pmhost", out)
+
+    def test_no_library_and_another_library(self):
+        for path in ("/nowhere.so", _ctypes.__file__):
+            with self.subTest(path=path):
+                ended = subprocess.run([sys.executable, "-c", "import pmhost"], env={**os.environ, "PMHOST_LIBRARY": path},
+                                       stderr=subprocess.PIPE, text=True, check=False)
+                last = ended.stderr.splitlines()[-1]
+                self.assertEqual(ended.returncode, 1)
+                self.assertTrue(last.startswith(f"ImportError: {path}"), last)
+                self.assertIn("`pip install ./python` makes this package's library, PMHOST_LIBRARY names another", last)
+
+
+class Colours(unittest.TestCase):
+    def on_a_terminal(self, **around):
+        """What a process writes on a terminal."""
+        above, below = pty.openpty()
+        env = {name: it for name, it in os.environ.items() if name != "NO_COLOR"} | around
+        process = subprocess.Popen([sys.executable, "-m", "pmhost", "-b", "desk", "read", "0"], stdout=below, env=env)
+        os.close(below)
+        process.wait()
+        text = os.read(above, 4096).decode()
+        os.close(above)
+        return text
+
+    def test_a_terminal_gets_colours(self):
+        self.assertIn("\033[32mconfirmed\033[0m", self.on_a_terminal())
+
+    def test_no_color_wins(self):
+        self.assertEqual(self.on_a_terminal(NO_COLOR="1"), "read 0: VOUT_COMMAND 1000 1V confirmed\r\n")
+
+    def test_a_pipe_gets_none(self):
+        ran = subprocess.run([sys.executable, "-m", "pmhost", "-b", "desk", "read", "0"], capture_output=True, text=True, check=False)
+        self.assertNotIn("\033", ran.stdout)

@@ -1,0 +1,77 @@
+"""Whole runs of `pmhost` over a stand-in for the kernel with a part behind it, each with its exact words and its status."""
+import signal
+import tempfile
+import unittest
+
+from pmhost import FrameRefused, read_answer, read_request, read_write
+from pmhost.bus.linux import ENDING
+
+from .runs import blocks, ran, writes
+
+
+class Blocks(unittest.TestCase):
+    """Each block of a file of data/ is a subtest."""
+
+    maxDiff = None
+
+    def setUp(self):
+        # A shell may have started the tests with signals ignored, which pmhost goes by.
+        for each in ENDING:
+            before = signal.signal(each, signal.default_int_handler)
+            self.addCleanup(signal.signal, each, before)
+
+    def carry_out(self, name):
+        found = blocks(name)
+        self.assertGreater(len(found), 0)
+        for run in found:
+            with self.subTest(run=run.words, mishaps=run.mishaps, part=run.part), tempfile.TemporaryDirectory() as folder:
+                got = ran(run, folder)
+                self.assertEqual((got.status, got.out, got.err), (run.status, run.out, run.err))
+                self.assertEqual((got.part.word(), writes(got.part)), (run.held, run.writes))
+                self.assertEqual(got.kernel.opened, 0, "the bus wasn't closed")
+                self.assertEqual(got.kernel.mishaps, [], "transfers are missing")
+                for comment in run.comments:
+                    self.assertIn(f"# failed: {comment}\n", got.trace)
+                self.look_at(got.trace, run.mishaps, run.part)
+
+    def look_at(self, trace, mishaps, part):
+        """Each line of the trace is a frame, or a comment; and without damage each is a good one."""
+        is_whole = not {"damaged", "empty"} & set(mishaps.split()) and part.split()[0] not in ("WithoutPec", "FloatingPagePlus")
+        for line in trace.splitlines():
+            if line.startswith("# failed: "):
+                continue
+            front, slash, back = line.partition(" / ")
+            frame = bytes.fromhex(front)
+            try:
+                if slash:
+                    read_answer(frame[0] >> 1, read_request(frame[0] >> 1, frame), bytes.fromhex(back))
+                else:
+                    read_write(frame[0] >> 1, frame)
+            except FrameRefused:
+                self.assertFalse(is_whole, line)
+
+
+class Runs(Blocks):
+    def test_whole_jobs(self):
+        self.carry_out("jobs.txt")
+
+    def test_mishaps_of_transfers(self):
+        self.carry_out("mishaps.txt")
+
+    def test_short_counts(self):
+        self.carry_out("short_counts.txt")
+
+    def test_buses_that_cannot_be_used(self):
+        self.carry_out("buses.txt")
+
+    def test_parts_that_lack_something(self):
+        self.carry_out("parts.txt")
+
+    def test_what_an_output_commands(self):
+        self.carry_out("commanded.txt")
+
+    def test_interruptions(self):
+        self.carry_out("interruptions.txt")
+
+    def test_files_of_rails(self):
+        self.carry_out("rails.txt")
