@@ -3,6 +3,7 @@ pub mod Guard
 pub mod Host
 pub mod Known
 pub mod Limits
+pub mod Memory
 pub mod Names
 pub mod Numbers
 pub mod Packets

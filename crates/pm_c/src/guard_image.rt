@@ -2,6 +2,8 @@ ghost use Rattle.std.specs.Prelude.{◌≡◌, ◌<◌, true, map, slice_index_o
 ghost use Rattle.pm_host.specs.Image.{held, host_of, is_current};
 ghost use Rattle.pm_host.specs.Sound.{IsSound};
 ghost use Rattle.pm_c.specs.Guard.{job_limits, limits_held, limits_kept, no_limits};
+ghost use Rattle.pm_c.specs.Memory.{limits_image, AreLimits, IsMemory};
+ghost use Rattle.pm_host.specs.Memory.{IsImage};
 
 use pm_host::{Image, Job, NoHost, Stage};
 use pm_limits::{Limits, ordered_output};
@@ -38,7 +40,8 @@ impl LimitsImage {
 
     /// These limits.
     pub(crate) fn of(limits: &Limits) -> LimitsImage
-        ensures { limits_held result ≡ Some limits.now }
+        ensures held { limits_held result ≡ Some limits.now }
+        ensures written { result ≡ limits_image (Some limits.now) }
     {
         LimitsImage {
             least: limits.least(),
@@ -86,6 +89,7 @@ impl GuardImage {
     pub(crate) fn free(&mut self)
         ensures free { limits_kept self.new ≡ no_limits }
         ensures host { self.new.host ≡ self.old.host }
+        ensures written { IsImage self.old.host → IsMemory self.new }
     {
         self.unused = 0;
         self.limits.fill(LimitsImage::NONE);
@@ -120,6 +124,7 @@ impl GuardImage {
         requires { output < 8 }
         ensures limits { limits_kept self.new ≡ slice_set (limits_kept self.old) output (Some limits.now) }
         ensures host { self.new.host ≡ self.old.host }
+        ensures written { IsMemory self.old → IsMemory self.new }
     {
         put(&mut self.limits, output, LimitsImage::of(limits));
     }
@@ -128,7 +133,8 @@ impl GuardImage {
 // Gives an output limits.
 fn put(all: &mut [LimitsImage; OUTPUTS], output: u8, limits: LimitsImage)
     requires { output < 8 }
-    ensures { map limits_held all.new ≡ slice_set (map limits_held all.old) output (limits_held limits) }
+    ensures held { map limits_held all.new ≡ slice_set (map limits_held all.old) output (limits_held limits) }
+    ensures written { limits ≡ limits_image (limits_held limits) → AreLimits all.old → AreLimits all.new }
 {
     all[usize::from(output)] = limits;
 }

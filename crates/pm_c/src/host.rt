@@ -5,11 +5,13 @@ ghost use Rattle.std.specs.Result.{result_err};
 ghost use Rattle.pm_table.specs.Cell.{cell_at};
 ghost use Rattle.pm_host.specs.Image.{held, host_of, image_version};
 ghost use Rattle.pm_host.specs.Jobs.{begin_fault};
+ghost use Rattle.pm_host.specs.Memory.{IsState};
 ghost use Rattle.pm_host.specs.Sound.{IsSound};
 ghost use Rattle.pm_host.specs.Summary.{start};
 ghost use Rattle.pm_host.specs.Transcript.{Setup, Restarted};
 ghost use Rattle.pm_limits.specs.Guard.{limited_fault, of_host};
 ghost use Rattle.pm_c.specs.Guard.{guard_of, no_limits};
+ghost use Rattle.pm_c.specs.Memory.{IsMemory};
 ghost use Rattle.pm_c.specs.Sizes.{host_size, library_version};
 ghost use Rattle.pm_c.specs.Host.{new_number, memory_number, after, job_begun, BeginsJob};
 
@@ -54,6 +56,7 @@ pub extern "C" fn pm_host_new(host: &mut GuardImage, address: u8, outputs: u8, p
     ensures number { result ≡ new_number address outputs passes }
     ensures begun { let setup : Setup = record { addr = address; outputs = outputs; passes = passes } in
         result ≡ 0 → guard_of host.new ≡ Some (record { host = start setup; limits = no_limits }) }
+    ensures written { result ≡ 0 → IsMemory host.new }
     ensures refused { result ≢ 0 → host.new ≡ host.old }
 {
     if !address_ok(address) {
@@ -110,6 +113,7 @@ fn begin_within(
     ensures fault { result_err result ≡ limited_fault limits (held stage state.old) job }
     ensures ok { IfOk result (λ at. Some (held (Some at) state.new) ≡ job_begun (Some (held stage state.old)) (Some job)) }
     ensures err { OnErr result (state.new ≡ state.old) }
+    ensures written { IsState state.old → IsState state.new }
 {
     let asked = judge(state, stage, limits, job)?;
     begin_asked(state, stage, asked)
@@ -123,6 +127,7 @@ fn begin_asked(state: &mut State, stage: Option<Stage>, job: Job) -> Result<Stag
     ensures fault { result_err result ≡ of_host (begin_fault (held stage state.old) job) }
     ensures ok { IfOk result (λ at. Some (held (Some at) state.new) ≡ job_begun (Some (held stage state.old)) (Some job)) }
     ensures err { OnErr result (state.new ≡ state.old) }
+    ensures written { IsState state.old → IsState state.new }
 {
     match state.begin(stage, job) {
         Ok(stage) => Ok(stage),
@@ -205,6 +210,7 @@ pub extern "C" fn pm_host_restart(host: &mut GuardImage) -> u8
     ensures number { result ≡ memory_number (host_of host.old.host) }
     ensures begun { host_of host.new.host ≡ after (host_of host.old.host) Restarted }
     ensures limits { host.new.limits ≡ host.old.limits }
+    ensures written { IsMemory host.old → IsMemory host.new }
     ensures refused { result ≢ 0 → host.new ≡ host.old }
 {
     if host.open_stage().is_err() {

@@ -5,6 +5,7 @@ ghost use Rattle.pm_host.specs.Image.{host_of};
 ghost use Rattle.pm_limits.specs.Band.{band_at};
 ghost use Rattle.pm_limits.specs.Guard.{limits_at, narrowed};
 ghost use Rattle.pm_c.specs.Guard.{guard_of, limits_held};
+ghost use Rattle.pm_c.specs.Memory.{IsMemory};
 ghost use Rattle.pm_c.specs.Limits.{band_number, limits_number, narrow_number, within_number, within_word, ends_number, IsBand};
 
 use crate::guard_image::{GuardImage, LimitsImage};
@@ -28,6 +29,7 @@ pub struct BandImage {
 pub extern "C" fn pm_host_narrow(host: &mut GuardImage, output: u8, least: i64, most: i64) -> u8
     ensures number { result ≡ narrow_number (guard_of host.old) output least most }
     ensures narrowed { result ≡ 0 → guard_of host.new ≡ option_map (λ g. narrowed g output least most) (guard_of host.old) }
+    ensures written { IsMemory host.old → IsMemory host.new }
     ensures refused { result ≢ 0 → host.new ≡ host.old }
 {
     if host.open_stage().is_err() {

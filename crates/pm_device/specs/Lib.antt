@@ -9,3 +9,4 @@ pub mod History
 pub mod Image
 pub mod FaultWords
 pub mod Laws
+pub mod Memory

@@ -1,6 +1,7 @@
 ghost use Rattle.std.specs.Prelude.{◌≡◌};
 ghost use Rattle.pm_device.specs.Held.{no_faults};
 ghost use Rattle.pm_device.specs.Image.{latches_held};
+ghost use Rattle.pm_device.specs.Memory.{latches_image};
 ghost use Rattle.pm_device.specs.Status.{cml_byte};
 ghost use Rattle.pm_device.specs.History.{faults_by};
 ghost use Rattle.pm_device.specs.Effect.{Heard};
@@ -63,7 +64,8 @@ impl CmlLatches {
 
     /// Their image.
     pub(crate) fn image(&self) -> LatchesImage
-        ensures { latches_held result ≡ self.now }
+        ensures held { latches_held result ≡ self.now }
+        ensures written { result ≡ latches_image self.now }
     {
         LatchesImage {
             command: flag(self.command),

@@ -2,6 +2,7 @@
 
 ghost use Rattle.std.specs.Prelude.{◌≡◌, map, None};
 ghost use Rattle.pm_device.specs.Image.{config_held, device_of, is_current, is_set, start_held};
+ghost use Rattle.pm_device.specs.Memory.{config_image, flag_image, start_image};
 
 use crate::config::Config;
 use crate::output_start::OutputStart;
@@ -30,7 +31,8 @@ impl OutputImage {
 
     /// The numbers of a start.
     fn of(start: &OutputStart) -> OutputImage
-        ensures { start_held result ≡ start.now }
+        ensures held { start_held result ≡ start.now }
+        ensures written { result ≡ start_image start.now }
     {
         OutputImage {
             mode: start.mode,
@@ -49,7 +51,8 @@ fn starts_of(outputs: &[OutputImage; 8]) -> [OutputStart; 8]
 
 // The numbers of starts.
 fn images_of(starts: &[OutputStart; 8]) -> [OutputImage; 8]
-    ensures { map start_held result ≡ starts.now }
+    ensures held { map start_held result ≡ starts.now }
+    ensures written { result ≡ map start_image starts.now }
 {
     starts.map(|start| OutputImage::of(&start))
 }
@@ -96,7 +99,8 @@ impl ConfigImage {
 
     /// The numbers of a configuration.
     pub(crate) fn of(config: &Config) -> ConfigImage
-        ensures { config_held result ≡ config.now }
+        ensures held { config_held result ≡ config.now }
+        ensures written { result ≡ config_image config.now }
     {
         ConfigImage {
             address: config.addr,
@@ -164,7 +168,8 @@ pub struct Image {
 
 /// The flag of a bit.
 pub(crate) fn flag(bit: bool) -> u8
-    ensures { is_set result ≡ bit }
+    ensures set { is_set result ≡ bit }
+    ensures written { result ≡ flag_image bit }
 {
     if bit { 1 } else { 0 }
 }
@@ -178,7 +183,8 @@ pub(crate) fn bits_in(flags: &[u8; 8]) -> [bool; 8]
 
 /// The flags of bits.
 pub(crate) fn flags_of(bits: &[bool; 8]) -> [u8; 8]
-    ensures { map is_set result ≡ bits.now }
+    ensures set { map is_set result ≡ bits.now }
+    ensures written { result ≡ map flag_image bits.now }
 {
     bits.map(|bit| flag(bit))
 }

@@ -8,6 +8,7 @@ ghost use Rattle.pm_device.specs.Held.{
   with_reading,
 };
 ghost use Rattle.pm_device.specs.Image.{readings_held};
+ghost use Rattle.pm_device.specs.Memory.{readings_image};
 
 use crate::image::ReadingsImage;
 use pm_table::Code;
@@ -58,7 +59,8 @@ impl Readings {
 
     /// Their image.
     pub(crate) fn image(&self) -> ReadingsImage
-        ensures { readings_held result ≡ self.now }
+        ensures held { readings_held result ≡ self.now }
+        ensures written { result ≡ readings_image self.now }
     {
         ReadingsImage {
             device: self.device,

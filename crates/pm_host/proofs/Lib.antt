@@ -7,6 +7,7 @@ pub mod FrameLemmas
 pub mod Kept
 pub mod KnownLaws
 pub mod Left
+pub mod MemoryLemmas
 pub mod Once
 pub mod OpenJobs
 pub mod PossibleMarks

@@ -21,5 +21,6 @@ pub mod Transcript
 pub mod Turn
 -- How it is kept.
 pub mod Known
+pub mod Memory
 pub mod Progress
 pub mod Sound

@@ -4,6 +4,7 @@ ghost use Rattle.pm_num.specs.AnyFormat.{shape_of};
 ghost use Rattle.pm_table.specs.Format.{shape_in};
 ghost use Rattle.pm_table.specs.VoutMode.{IsMode};
 ghost use Rattle.pm_host.specs.Image.{format_held};
+ghost use Rattle.pm_host.specs.Memory.{IsFormat};
 
 use pm_num::AnyFormat;
 use pm_table::{Coefficients, VoutMode, format_of};
@@ -37,7 +38,8 @@ impl FormatImage {
     /// The format of a mode, at a device with these coefficients, as `format_of` finds it.
     pub(crate) fn of(mode: VoutMode, c: Coefficients) -> FormatImage
         requires { IsMode mode }
-        ensures { format_held result ≡ result_ok (shape_in mode c) }
+        ensures held { format_held result ≡ result_ok (shape_in mode c) }
+        ensures written { IsFormat result }
     {
         match mode {
             VoutMode::Linear(exponent) => FormatImage {

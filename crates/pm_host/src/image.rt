@@ -6,6 +6,7 @@ ghost use Rattle.std.specs.Result.{result_err, result_ok};
 ghost use Rattle.pm_table.specs.Address.{IsAddress};
 ghost use Rattle.pm_table.specs.Cell.{cell_at};
 ghost use Rattle.pm_host.specs.Image.{at_command, stage_held, stage_in, held, host_of, is_current, is_sound, is_stage};
+ghost use Rattle.pm_host.specs.Memory.{cell_stage, command_stage, output_stage, question_stage, stage_image, IsImage, IsState};
 ghost use Rattle.pm_host.specs.Refusals.{setup_fault, IsSetup};
 ghost use Rattle.pm_host.specs.Sound.{IsSound, IsStage};
 ghost use Rattle.pm_host.specs.Summary.{start};
@@ -65,6 +66,7 @@ impl Image {
             OnOk result (host_of self.new ≡ Some (start setup)) }
         ensures err { OnErr result (self.new ≡ self.old) }
         ensures fault { result_err result ≡ setup_fault outputs passes }
+        ensures written { OnOk result (IsImage self.new) }
     {
         self.state.start(addr, outputs, passes)?;
         self.mark = Image::MARK;
@@ -99,7 +101,8 @@ impl Image {
     pub fn write_stage(&mut self, stage: Option<Stage>)
         requires current { is_current self.old ≡ true }
         requires sound { IsSound (held stage self.old.state) }
-        ensures { host_of self.new ≡ Some (held stage self.old.state) }
+        ensures host { host_of self.new ≡ Some (held stage self.old.state) }
+        ensures written { IsState self.old.state → IsImage self.new }
     {
         self.stage = StageImage::of(stage);
     }
@@ -163,7 +166,8 @@ impl StageImage {
     /// The numbers of this stage; `None` is no open job.
     #[tactic(auto, unfolding(crate::specs::Image::stage_held))]
     fn of(stage: Option<Stage>) -> StageImage
-        ensures { stage_held result ≡ Some stage }
+        ensures held { stage_held result ≡ Some stage }
+        ensures written { result ≡ stage_image stage }
     {
         match stage {
             None => StageImage::at_output(0, 0, 0),
@@ -177,9 +181,7 @@ impl StageImage {
     // A stage of a cell.
     fn at_cell(kind: u8, cell: Cell, word: u16, count: u8) -> StageImage
         ensures cell { cell_at result.code result.output ≡ Some cell }
-        ensures kind { result.kind ≡ kind }
-        ensures word { result.word ≡ word }
-        ensures count { result.count ≡ count }
+        ensures written { result ≡ cell_stage kind cell word count }
     {
         StageImage {
             kind,
@@ -196,7 +198,8 @@ impl StageImage {
     // A stage of a question.
     #[tactic(auto, unfolding(crate::specs::Image::stage_held))]
     fn at_question(question: Question, count: u8) -> StageImage
-        ensures { stage_held result ≡ Some (Some (Asks question count)) }
+        ensures held { stage_held result ≡ Some (Some (Asks question count)) }
+        ensures written { result ≡ question_stage question count }
     {
         match question {
             Question::Word(cell) => StageImage::at_cell(3, cell, 0, count),
@@ -208,7 +211,8 @@ impl StageImage {
     // A stage of a command.
     #[tactic(auto, unfolding(crate::specs::Image::stage_held))]
     fn at_command(command: Command, count: u8) -> StageImage
-        ensures { stage_held result ≡ Some (Some (Sends command count)) }
+        ensures held { stage_held result ≡ Some (Some (Sends command count)) }
+        ensures written { result ≡ command_stage command count }
     {
         let (kind, output) = match command.output() {
             Some(output) => (6, output),
@@ -225,7 +229,7 @@ impl StageImage {
 
     // A stage of an output.
     fn at_output(kind: u8, output: u8, count: u8) -> StageImage
-        ensures { result ≡ record { kind = kind; code = 0; output = output; count = count; word = 0 } }
+        ensures { result ≡ output_stage kind output count }
     {
         StageImage {
             kind,

@@ -4,6 +4,7 @@ ghost use Rattle.pm_host.specs.Image.{is_unknown, known_held, words_held, standi
 ghost use Rattle.pm_host.specs.Possible.{is_possible, has_room, only};
 ghost use Rattle.pm_host.specs.Known.{HasPlaces, known_possible, known_standing, known_after, nothing_known};
 ghost use Rattle.pm_host.specs.Marks.{Put, Good, Restored};
+ghost use Rattle.pm_host.specs.Memory.{AreWords, IsKnown, IsSaid};
 
 use crate::possible::Possible;
 use crate::standing::Standing;
@@ -11,7 +12,8 @@ use crate::standing_image::StandingImage;
 use crate::words_image::WordsImage;
 use pm_table::Cell;
 
-/// What the host knows of each cell, as plain numbers; a cell stands at `Cell::place`.
+/// What the host knows of each cell, as plain numbers; a cell stands at `Cell::place`. It is laid out as callers in C
+/// keep it, since every call works on a caller's memory in place and copies none of it.
 #[repr(C)]
 #[derive(Debug, Drop)]
 pub struct Knowledge {
@@ -25,9 +27,10 @@ pub struct Knowledge {
 
 impl Knowledge {
     /// Forgets all.
-    #[tactic(auto, unfolding(crate::specs::Image::known_held, crate::specs::Known::nothing_known, crate::specs::Known::all_any, crate::specs::Known::all_unknown))]
+    #[tactic(auto, unfolding(crate::specs::Image::known_held, crate::specs::Known::nothing_known, crate::specs::Known::all_any, crate::specs::Known::all_unknown, crate::specs::Memory::IsKnown))]
     pub(crate) fn clear(&mut self)
-        ensures { known_held self.new ≡ nothing_known }
+        ensures cleared { known_held self.new ≡ nothing_known }
+        ensures written { IsKnown self.new }
     {
         self.possible.fill(WordsImage::ANY);
         self.standing.fill(StandingImage::UNKNOWN);
@@ -44,7 +47,8 @@ impl Knowledge {
     #[tactic(auto, unfolding(crate::specs::Image::known_held))]
     pub fn possible(&self, cell: Cell) -> &WordsImage
         requires { IsCell 8 cell }
-        ensures { words_held result.now ≡ known_possible (known_held self.now) cell }
+        ensures held { words_held result.now ≡ known_possible (known_held self.now) cell }
+        ensures written { IsKnown self.now → AreWords result.now }
     {
         &self.possible[cell.place()]
     }
@@ -53,7 +57,8 @@ impl Knowledge {
     #[tactic(auto, unfolding(crate::specs::Image::known_held))]
     pub fn standing(&self, cell: Cell) -> StandingImage
         requires { IsCell 8 cell }
-        ensures { standing_held result ≡ known_standing (known_held self.now) cell }
+        ensures held { standing_held result ≡ known_standing (known_held self.now) cell }
+        ensures written { IsKnown self.now → IsSaid result }
     {
         self.standing[cell.place()]
     }
@@ -88,6 +93,7 @@ impl Knowledge {
         ensures seen { (known_held self.new).seen ≡ (known_held self.old).seen }
         ensures words { known_possible (known_held self.new) cell ≡ words_held words }
         ensures said { known_standing (known_held self.new) cell ≡ standing_held said }
+        ensures written { IsKnown self.old → AreWords words → IsSaid said → IsKnown self.new }
     {
         let place = cell.place();
         self.possible[place] = words;
@@ -104,6 +110,7 @@ impl Knowledge {
         ensures listed { result ≡ true → is_possible word (known_possible (known_held self.new) cell) ≡ true }
         ensures unknown { result ≡ true → known_standing (known_held self.new) cell ≡ Standing.Unknown }
         ensures full { result ≡ false → self.new ≡ self.old }
+        ensures written { IsKnown self.old → IsKnown self.new }
     {
         let mut words = *self.possible(cell);
         if !words.join(word) {
@@ -119,6 +126,7 @@ impl Knowledge {
         requires { IsCell 8 cell }
         ensures after { known_held self.new ≡ known_after (known_held self.old) (Good cell word) }
         ensures alone { known_possible (known_held self.new) cell ≡ only word }
+        ensures written { IsKnown self.old → IsKnown self.new }
     {
         if !self.possible(cell).allows(word) {
             self.possible.fill(WordsImage::ANY);
@@ -135,7 +143,8 @@ impl Knowledge {
     /// known of WRITE_PROTECT stays.
     #[tactic(auto, unfolding(crate::specs::Image::known_held, crate::specs::Known::nothing_known))]
     pub(crate) fn restored(&mut self)
-        ensures { known_held self.new ≡ known_after (known_held self.old) Restored }
+        ensures after { known_held self.new ≡ known_after (known_held self.old) Restored }
+        ensures written { IsKnown self.old → IsKnown self.new }
     {
         let (words, said) = (*self.possible(Cell::Protect), self.standing(Cell::Protect));
         let seen = self.seen;

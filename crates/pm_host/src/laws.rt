@@ -2,6 +2,7 @@
 //! first.
 
 ghost use Rattle.pm_host.specs.Laws.{TranscriptsAreFollowed, EndsAreTold, JobsAreBounded, FramesAreNamed, OpenOrdersAreUncertain, OpenRestoresAreUncertain, PossibleWordsAreFollowed};
+ghost use Rattle.pm_host.specs.Memory.{ImagesAreMeanings};
 
 use pm_table::cells_have_places;
 
@@ -52,4 +53,9 @@ pub fn open_restores_are_uncertain()
 /// Which words a cell may hold, by one mark after another.
 pub fn possible_words_are_followed()
     ensures { PossibleWordsAreFollowed }
+{}
+
+/// What the calls of a host leave in its memory is a function of what the host holds: a number without a meaning is 0.
+pub fn images_are_meanings()
+    ensures { ImagesAreMeanings }
 {}

@@ -73,8 +73,9 @@ pub use job::Job;
 pub use job_end::JobEnd;
 pub use knowledge::Knowledge;
 pub use laws::{
-    ends_are_told, frames_are_named, jobs_are_bounded, open_orders_are_uncertain,
-    open_restores_are_uncertain, possible_words_are_followed, transcripts_are_followed,
+    ends_are_told, frames_are_named, images_are_meanings, jobs_are_bounded,
+    open_orders_are_uncertain, open_restores_are_uncertain, possible_words_are_followed,
+    transcripts_are_followed,
 };
 pub use possible::Possible;
 pub use progress::Progress;

@@ -26,7 +26,8 @@ impl Stage {
     ghost use Rattle.pm_host.specs.Sound.{HasWord};
     ghost use Rattle.pm_host.specs.Told.{is_awaited};
 
-    /// The message whose frame is sent.
+    /// The message whose frame is sent. A call of it would take 48 instructions of an order of a caller in C.
+    #[inline(always)]
     pub fn message(&self) -> Message
         requires { HasWord self.now }
         ensures message { result ≡ stage_message self.now }

@@ -7,6 +7,7 @@ ghost use Rattle.std.specs.Result.{result_err};
 ghost use Rattle.pm_table.specs.Address.{IsAddress};
 ghost use Rattle.pm_host.specs.Frames.{frames_left};
 ghost use Rattle.pm_host.specs.Image.{held};
+ghost use Rattle.pm_host.specs.Memory.{IsState};
 ghost use Rattle.pm_host.specs.Progress.{stage_after, step_after};
 ghost use Rattle.pm_host.specs.Refusals.{setup_fault, IsSetup, may_come};
 ghost use Rattle.pm_host.specs.Sound.{IsSound};
@@ -76,6 +77,7 @@ impl State {
         ensures sound { OnOk result (IsSound (held None self.new)) }
         ensures err { OnErr result (self.new ≡ self.old) }
         ensures fault { result_err result ≡ setup_fault outputs passes }
+        ensures written { OnOk result (IsState self.new) }
     {
         if !(1..=8).contains(&outputs) {
             return Err(HostFault::OutputCount);
@@ -86,7 +88,6 @@ impl State {
         self.address = addr;
         self.outputs = outputs;
         self.passes = passes;
-        self.unused = 0;
         self.restart();
         Ok(())
     }
@@ -101,6 +102,7 @@ impl State {
         ensures step { step_after result ≡ step_of (held (Some stage) self.old) (entry_told told.entry) }
         ensures kept { (held None self.new).setup ≡ (held None self.old).setup }
         ensures left { frames_left (held (stage_after result) self.new) < frames_left (held (Some stage) self.old) }
+        ensures written { IsState self.old → IsState self.new }
     {
         match (stage, told) {
             (Stage::Writes { cell, word, pass }, Told::Finished { .. }) => {
@@ -123,12 +125,14 @@ impl State {
 
     /// Forgets all that is known, as `Host::restart`. Of what it held the setup alone has to be sound. No
     /// job is open.
-    #[tactic(auto, unfolding(crate::specs::Summary::next, crate::specs::Image::formats_held, crate::specs::Summary::no_formats))]
+    #[tactic(auto, unfolding(crate::specs::Summary::next, crate::specs::Image::formats_held, crate::specs::Summary::no_formats, crate::specs::Memory::AreFormats))]
     pub fn restart(&mut self)
         requires { IsSetup (held None self.old).setup }
         ensures sound { IsSound (held None self.new) }
         ensures after { held None self.new ≡ start (held None self.old).setup }
+        ensures written { IsState self.new }
     {
+        self.unused = 0;
         self.formats.fill(FormatImage::NONE);
         self.known.clear();
     }

@@ -1,5 +1,6 @@
 ghost use Rattle.std.specs.Prelude.{◌≡◌, true, false, MatchOption};
 ghost use Rattle.pm_host.specs.Image.{listing, words_held};
+ghost use Rattle.pm_host.specs.Memory.{AreWords};
 ghost use Rattle.pm_host.specs.Possible.{is_possible, has_room, joined, only as spec_only};
 
 use crate::possible::Possible;
@@ -12,7 +13,7 @@ use arrayvec::ArrayVec;
 pub struct WordsImage {
     /// How many words are listed.
     pub count: u16,
-    /// The words, in the order in which they first came; after them anything.
+    /// The words, in the order in which they first came; after them 0, as the host leaves them.
     pub words: [u16; 16],
 }
 
@@ -67,6 +68,7 @@ impl WordsImage {
         ensures joined { result ≡ true → words_held self.new ≡ joined (words_held self.old) word }
         ensures listed { result ≡ true → is_possible word (words_held self.new) ≡ true }
         ensures full { result ≡ false → self.new ≡ self.old }
+        ensures written { AreWords self.old → AreWords self.new }
     {
         if self.allows(word) {
             return true;
@@ -81,7 +83,8 @@ impl WordsImage {
 
     /// Exactly this word.
     pub(crate) fn only(word: u16) -> WordsImage
-        ensures { words_held result ≡ spec_only word }
+        ensures held { words_held result ≡ spec_only word }
+        ensures written { AreWords result }
     {
         WordsImage {
             count: 1,

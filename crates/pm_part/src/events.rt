@@ -1,9 +1,10 @@
 //! What changes a part: it is made, hears a frame, restarts, and measures.
 
-ghost use Rattle.std.specs.Prelude.{◌≡◌, ◌≢◌, None, Some, option_map};
+ghost use Rattle.std.specs.Prelude.{◌≡◌, ◌≢◌, None, Some, option_map, IfSome};
 ghost use Rattle.pm_device.specs.Effect.{Hearing, Reading, Restarted};
 ghost use Rattle.pm_device.specs.History.{next, start_of};
 ghost use Rattle.pm_device.specs.Image.{config_held, device_of};
+ghost use Rattle.pm_device.specs.Memory.{image_of};
 ghost use Rattle.pm_device.specs.Reply.{reply_of};
 ghost use Rattle.pm_device.specs.Start.{config_fault};
 ghost use Rattle.pm_part.specs.Numbers.{heard_now_number, made_number, reading_number, there_number};
@@ -30,6 +31,7 @@ pub extern "C" fn pm_part_size() -> usize
 pub extern "C" fn pm_part_new(part: &mut Image, config: &ConfigImage) -> u8
     ensures number { result ≡ made_number (config_fault (config_held config.now)) }
     ensures made { result ≡ 0 → device_of part.new ≡ Some (start_of (config_held config.now)) }
+    ensures written { result ≡ 0 → part.new ≡ image_of (start_of (config_held config.now)) }
     ensures refused { result ≢ 0 → part.new ≡ part.old }
 {
     match Converter::new(config.config()) {
@@ -60,6 +62,8 @@ pub extern "C" fn pm_part_hear(
         IsReply heard reply.old reply.new }
     ensures after { device_of part.new
         ≡ option_map (λ held. next held (Hearing bytes.now (ending_of is_request))) (device_of part.old) }
+    ensures written { IfSome (device_of part.old)
+        (λ held. part.new ≡ image_of (next held (Hearing bytes.now (ending_of is_request)))) }
     ensures refused { device_of part.old ≡ None → part.new ≡ part.old }
 {
     match &mut Converter::read(part) {
@@ -89,6 +93,7 @@ fn ending(is_request: u8) -> Ending
 pub extern "C" fn pm_part_restart(part: &mut Image) -> u8
     ensures number { result ≡ there_number (device_of part.old) }
     ensures after { device_of part.new ≡ option_map (λ held. next held Restarted) (device_of part.old) }
+    ensures written { IfSome (device_of part.old) (λ held. part.new ≡ image_of (next held Restarted)) }
     ensures refused { result ≢ 0 → part.new ≡ part.old }
 {
     match &mut Converter::read(part) {
@@ -108,6 +113,8 @@ pub extern "C" fn pm_part_set_reading(part: &mut Image, output: u8, code: u8, wo
     ensures number { result ≡ reading_number (device_of part.old) output code }
     ensures after { result ≡ 0 → device_of part.new
         ≡ option_map (λ held. next held (Reading output code word)) (device_of part.old) }
+    ensures written { result ≡ 0 → IfSome (device_of part.old)
+        (λ held. part.new ≡ image_of (next held (Reading output code word))) }
     ensures refused { result ≢ 0 → part.new ≡ part.old }
 {
     match &mut Converter::read(part) {

@@ -2,6 +2,7 @@
 
 ghost use Rattle.std.specs.Prelude.{◌≡◌, Some};
 ghost use Rattle.pm_device.specs.Image.{device_of};
+ghost use Rattle.pm_device.specs.Memory.{image_of};
 
 use crate::cml_latches::CmlLatches;
 use crate::config::config_fault;
@@ -56,7 +57,8 @@ impl Converter {
 
     /// Makes it the image of this converter, whatever it was.
     pub fn write(&self, image: &mut Image)
-        ensures { device_of image.new ≡ Some self.now }
+        ensures device { device_of image.new ≡ Some self.now }
+        ensures written { image.new ≡ image_of self.now }
     {
         // Hands its law to the prover.
         sound_configurations_have_no_fault();

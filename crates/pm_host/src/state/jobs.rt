@@ -5,6 +5,7 @@ ghost use Rattle.std.specs.Result.{result_err, result_ok};
 ghost use Rattle.pm_table.specs.Cell.{IsCell};
 ghost use Rattle.pm_host.specs.Image.{held};
 ghost use Rattle.pm_host.specs.Jobs.{Begins, begun_at};
+ghost use Rattle.pm_host.specs.Memory.{IsState};
 ghost use Rattle.pm_host.specs.Question.{IsQuestion};
 ghost use Rattle.pm_host.specs.Refusals.{cell_fault, question_fault};
 ghost use Rattle.pm_table.specs.Rules.{rule};
@@ -25,6 +26,7 @@ impl State {
         ensures sound { IsSound (held (begun_at stage result) self.new) }
         ensures begins { Begins (held stage self.old) job result (held (begun_at stage result) self.new) }
         ensures err { OnErr result (self.new ≡ self.old) }
+        ensures written { IsState self.old → IsState self.new }
     {
         if stage.is_some() {
             return Err(HostFault::Busy);
@@ -48,6 +50,7 @@ impl State {
         ensures sound { IsSound (held (result_ok result) self.new) }
         ensures begins { Begins (held None self.old) (Job.Order cell word) result (held (result_ok result) self.new) }
         ensures err { OnErr result (self.new ≡ self.old) }
+        ensures written { IsState self.old → IsState self.new }
     {
         self.refuse_cell(cell)?;
         if !cell.accepts(word) {
@@ -63,6 +66,7 @@ impl State {
         ensures sound { IsSound (held (result_ok result) self.new) }
         ensures begins { Begins (held None self.old) (Job.OrderMicro cell x) result (held (result_ok result) self.new) }
         ensures err { OnErr result (self.new ≡ self.old) }
+        ensures written { IsState self.old → IsState self.new }
     {
         let format = self.voltage_format(cell)?;
         let word = nearest_word(&format, x)?;

@@ -8,6 +8,7 @@ ghost use Rattle.pm_frame.specs.Layout.{answer_length};
 ghost use Rattle.pm_host.specs.Frames.{frames_from, frames_left};
 ghost use Rattle.pm_host.specs.Image.{held, format_held, formats_held};
 ghost use Rattle.pm_host.specs.Marks.{Good};
+ghost use Rattle.pm_host.specs.Memory.{format_image, AreFormats, IsFormat, IsState};
 ghost use Rattle.pm_host.specs.Possible.{has_room, only};
 ghost use Rattle.pm_host.specs.Progress.{change_to, stage_after};
 ghost use Rattle.pm_host.specs.Question.{question_message, frames_after, IsQuestion};
@@ -38,6 +39,7 @@ impl State {
         ensures after { IfSome result
             (λ stage. held (Some stage) self.new ≡ (writes (held None self.old) cell word pass).after) }
         ensures full { MatchOption result (self.new ≡ self.old) (λ stage. Unit {0}) }
+        ensures written { IsState self.old → IsState self.new }
     {
         if self.known.put(cell, word) {
             Some(Stage::Writes { cell, word, pass })
@@ -53,6 +55,7 @@ impl State {
         ensures sound { IsSound (held (Some result) self.new) }
         ensures stage { result ≡ Stage.Sends command tries }
         ensures after { held (Some result) self.new ≡ (sends (held None self.old) command tries).after }
+        ensures written { IsState self.old → IsState self.new }
     {
         if let Command::RestoreUserAll = command {
             self.known.restored();
@@ -67,6 +70,7 @@ impl State {
         ensures sound { IsSound (held None self.new) }
         ensures after { held None self.new ≡ marked (held None self.old) (Good cell word) }
         ensures alone { possible_at (held None self.new) cell ≡ only word }
+        ensures written { IsState self.old → IsState self.new }
     {
         self.known.good(cell, word);
     }
@@ -84,6 +88,7 @@ impl State {
         ensures sound { IsSound (held (stage_after result) self.new) }
         ensures changed { change_to result self.new ≡ spec_read_back (held None self.old) cell word pass read }
         ensures left { frames_left (held (stage_after result) self.new) ≤ 2 * (self.old.passes - (pass + 1)) }
+        ensures written { IsState self.old → IsState self.new }
     {
         if let Some(read) = read {
             self.note(cell, read);
@@ -112,6 +117,7 @@ impl State {
         ensures kept { (held None self.new).setup ≡ (held None self.old).setup }
         ensures left { frames_left (held (stage_after result) self.new)
             < frames_from self.old.passes (Stage.Asks question tries) }
+        ensures written { IsState self.old → IsState self.new }
     {
         match good_answer(self.address, &question.message(), bytes) {
             Some(payload) => self.take_answer(question, payload),
@@ -145,6 +151,7 @@ impl State {
         ensures changed { change_to result self.new ≡ answer_taken (held None self.old) question payload.now }
         ensures kept { (held None self.new).setup ≡ (held None self.old).setup }
         ensures left { frames_left (held (stage_after result) self.new) ≤ frames_after self.old.passes question }
+        ensures written { IsState self.old → IsState self.new }
     {
         match question {
             Question::Word(cell) => {
@@ -167,6 +174,7 @@ impl State {
         ensures sound { IsSound (held (stage_after result) self.new) }
         ensures changed { change_to result self.new ≡ mode_taken (held None self.old) output mode }
         ensures left { frames_left (held (stage_after result) self.new) ≤ self.old.passes }
+        ensures written { IsState self.old → IsState self.new }
     {
         match mode {
             Ok(VoutMode::Direct) => Progress::At(Stage::Asks {
@@ -186,6 +194,7 @@ impl State {
         ensures over { stage_after result ≡ None }
         ensures changed { change_to result self.new
             ≡ spec_learned (held None self.old) output (format_held format) }
+        ensures written { IsFormat format → IsState self.old → IsState self.new }
     {
         if format.format().is_none() {
             return Progress::Over(JobEnd::Unknown);
@@ -202,6 +211,7 @@ impl State {
         ensures changed { change_to result self.new
             ≡ finished (held None self.old) (Some (Stage.Sends command tries)) acked }
         ensures left { frames_left (held (stage_after result) self.new) ≤ self.old.passes - (tries + 1) }
+        ensures written { IsState self.old → IsState self.new }
     {
         if acked {
             Progress::Over(JobEnd::Done)
@@ -217,7 +227,8 @@ impl State {
 #[tactic(auto, unfolding(crate::specs::Image::formats_held))]
 fn put_format(formats: &mut [FormatImage; OUTPUTS], output: u8, format: FormatImage)
     requires { output < 8 }
-    ensures { formats_held formats.new ≡ slice_set (formats_held formats.old) output (format_held format) }
+    ensures held { formats_held formats.new ≡ slice_set (formats_held formats.old) output (format_held format) }
+    ensures written { format ≡ format_image (format_held format) → AreFormats formats.old → AreFormats formats.new }
 {
     formats[usize::from(output)] = format;
 }

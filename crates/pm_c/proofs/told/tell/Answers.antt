@@ -19,3 +19,4 @@ returns-in-Some c =
     tells before (record before { host = c.write_stage.new.self }) (held (Some stage) before.host.state) entry c.step_after.result
     (c.in-Ok.ensures.found ∙ ap (λ at. Some (held at before.host.state)) is_open)
     (awaited stage before.host.state c.args.told (search rules)) became answered refl
+    (λ is. record { host = c.write_stage.ensures.written (c.told-progress.ensures.written is.host.state); unused = is.unused; limits = is.limits })

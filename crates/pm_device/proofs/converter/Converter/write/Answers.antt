@@ -3,8 +3,8 @@ use Rattle.pm_device.specs.declared.image.Image.{Image}
 use Rattle.pm_device.proofs.ImageLemmas.{read-back, same-held}
 use Rattle.pm_device.proofs.converter.Converter.write.Goals as goal
 
-pub returns : goal.returns
-returns c =
+pub returns-clause-device : goal.returns-clause-device
+returns-clause-device c =
     let image : Image = record {
       mark = 0x5443;
       version = 1;

@@ -3,6 +3,6 @@ use Rattle.pm_host.specs.Image.{held, host_of}
 use Rattle.pm_host.proofs.Tested.{sound-tested}
 use Rattle.pm_host.proofs.image.Image.write_stage.Goals as goal
 
-pub returns : goal.returns
+pub returns-clause-host : goal.returns-clause-host
 unfolding host_of
-returns c = rw (c.requires.current, c.of-self.ensures, sound-tested (held c.args.stage c.args.self.now.state) c.requires.sound) refl
+returns-clause-host c = rw (c.requires.current, c.of-self.ensures.held, sound-tested (held c.args.stage c.args.self.now.state) c.requires.sound) refl

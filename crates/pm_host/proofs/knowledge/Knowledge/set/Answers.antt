@@ -4,6 +4,7 @@ use Rattle.std.proofs.lemmas.List.{map-set}
 use Rattle.pm_host.specs.declared.possible.Possible.TheVariants.{Any}
 use Rattle.pm_host.specs.declared.standing.Standing.TheVariants.{Unknown}
 use Rattle.pm_host.specs.Image.{known_held, standing_held, words_held}
+use Rattle.pm_host.proofs.MemoryLemmas.{set-known}
 use Rattle.pm_host.proofs.Written.{written-there}
 use Rattle.pm_host.proofs.knowledge.Knowledge.set.Goals as goal
 
@@ -36,3 +37,6 @@ returns-clause-said c =
     let at = c.place-place.result in
     ap (λ place. get_or (map standing_held (set before at c.args.said)) place Unknown) (sym c.place-place.ensures.place)
     ∙ written-there standing_held before at c.args.said Unknown (search rules)
+
+pub returns-clause-written : goal.returns-clause-written
+returns-clause-written c = set-known c.args.self.now c.place-place.result c.args.words c.args.said
