@@ -300,6 +300,14 @@ B0 21 CD 34 *                             58 VOUT_COMMAND write 34CD
 = count code 0B 1
 = count code D4 1
 = lines 3 accepted 1 other 2 faults 0 bad 0
+
+# The first and the last code that the table doesn't have.
+B0 02                                     58 code 02 send, no PEC
+B0 FF                                     58 code FF send, no PEC
+B0 FF / B1 FF                             58 code FF read FF, no PEC
+= count code 02 1
+= count code FF 2
+= lines 3 accepted 0 other 3 faults 0 bad 0
 """
 
 TIMES = """
