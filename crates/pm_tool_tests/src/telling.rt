@@ -138,6 +138,28 @@ fn each_line_is_told_before_the_next_one_is_read(rt: HostRuntime) {
     }
 }
 
+/// So many lines that are there at once, and by how many writes they are told: 16 KiB and what a piece says at a time, and
+/// what is left.
+static GATHERED: [(usize, usize); 2] = [(64, 2), (2000, 4)];
+
+#[test]
+fn lines_that_are_there_at_once_are_told_together(rt: HostRuntime) -> Result<(), Fail> {
+    for &(lines, writes) in &GATHERED {
+        let mut text = String::new(rt.alloc());
+        for _ in 0..lines {
+            text.push_str("B0 03 46\n")?;
+        }
+        let mut input = Source::new(in_pieces(text.as_str().as_bytes(), 4096));
+        let output = blank_paper(rt.alloc(), 1_048_576);
+        let errors = blank_paper(rt.alloc(), 1);
+        let words = ["pmb", "decode", "--values"];
+        let found = run_with(rt.alloc(), Ok(&words), &mut input, output, errors);
+        equal(&rt, &found.status, &0, &lines);
+        equal(&rt, &found.output.calls, &writes, &lines);
+    }
+    Ok(())
+}
+
 #[test]
 fn options_are_read_as_they_are_written(rt: HostRuntime) -> Result<(), Fail> {
     let given = TellTexts::read(
