@@ -239,21 +239,6 @@ static STOPPED: &str =
 static STOPPED_REPORT: &str =
     "stopped 0 S2 NothingSent\nprotect 00 host unknown\noutput 0 on commanded 4096/4096 1000000 uV\nOPERATION 80 host unknown\nVOUT_COMMAND 1000 host unknown\nVOUT_MAX 4000 host unknown\nVOUT_MARGIN_HIGH 1100 host unknown\nVOUT_MARGIN_LOW 0F00 host unknown\nstatus 00 0000 00\ncml 00\nrestart seen no\njob none\n";
 
-// Of so many events that change nothing the report is that of the start.
-#[test]
-fn memory_suffices_for_a_hundred_events(rt: HostRuntime) -> Result<(), Fail> {
-    let mut text = String::new(rt.alloc());
-    text.push_str(STOPPED.strip_suffix("finish ack\n").unwrap_or(""))?;
-    for _ in 0..100 {
-        text.push_str("restart host\n")?;
-    }
-    let outputs = STOPPED_REPORT.strip_prefix("stopped 0 S2 NothingSent\n");
-    let report = format!(in rt.alloc(); "ran 100\n{}", outputs.unwrap_or(""))?;
-    let found = run_on(rt.alloc(), &["pmb", "replay"], text.as_str());
-    is_true(&rt, found.is(0, report.as_str(), ""), &report);
-    Ok(())
-}
-
 // A run over an output whose flush fails, or not.
 fn flushed(alloc: Global, words: &[&str], text: &str, flush_fails: bool) -> Ran {
     let mut input = Source::new(in_pieces(text.as_bytes(), 4096));
