@@ -300,6 +300,14 @@ B0 21 CD 34 *                             58 VOUT_COMMAND write 34CD
 = count code 0B 1
 = count code D4 1
 = lines 3 accepted 1 other 2 faults 0 bad 0
+
+# The first and the last code that the table doesn't have.
+B0 02                                     58 code 02 send, no PEC
+B0 FF                                     58 code FF send, no PEC
+B0 FF / B1 FF                             58 code FF read FF, no PEC
+= count code 02 1
+= count code FF 2
+= lines 3 accepted 0 other 3 faults 0 bad 0
 """
 
 TIMES = """
@@ -383,12 +391,16 @@ B0 D4 01 *                 {"line":4,"address":"58","code":"D4","direction":"wri
 B0 21 CD 34                {"line":5,"address":"58","code":"21","name":"VOUT_COMMAND","direction":"write","bytes":"CD 34","pec":false}
 B0 96 / B1                 {"line":6,"address":"58","code":"96","direction":"read","pec":false}
 B0 03 46                   {"line":7,"address":"58","code":"03","name":"CLEAR_FAULTS","direction":"send"}
+B0 02                      {"line":8,"address":"58","code":"02","direction":"send","pec":false}
+B0 FF                      {"line":9,"address":"58","code":"FF","direction":"send","pec":false}
 = {"count":"CLEAR_FAULTS","lines":1}
+= {"code":"02","lines":1}
 = {"code":"21","lines":1}
 = {"code":"86","lines":1}
 = {"code":"96","lines":2}
 = {"code":"D4","lines":2}
-= {"lines":7,"accepted":1,"other":6,"faults":0,"bad":0}
+= {"code":"FF","lines":1}
+= {"lines":9,"accepted":1,"other":8,"faults":0,"bad":0}
 """),
     ("--times --json", """
 0012 B0 03 46              {"line":1,"time":12,"address":"58","code":"03","name":"CLEAR_FAULTS","direction":"send"}

@@ -16,11 +16,11 @@ pub trait Setups {
     /// or it can't be read, X6 where memory for it was refused.
     fn text(&self, alloc: Global, name: &str) -> Result<Vec<u8>, TextFault>
         ensures text { IfOk result (λ text. has self.now name.now text.items) }
-        ensures faults { IfErr result IsOfReading };
+        ensures faults { IfErr result (λ fault. IsOfReading (has self.now name.now) fault) };
 }
 
-/// The files of a runtime, by their paths. What a file holds is in no clause of the standard library, so nothing
-/// is said of the text.
+/// The files of a runtime, by their paths. Which file stands at a path is in no clause of the standard library, so a
+/// text is one that some file of the runtime gives.
 #[derive(Debug, Drop)]
 pub struct SetupFiles<'a, R> {
     /// The runtime.
@@ -28,7 +28,10 @@ pub struct SetupFiles<'a, R> {
 }
 
 impl<R: Files> Setups for SetupFiles<'_, R> {
-    ghost has = { λ _ _ _. Unit {0} };
+    ghost use Rattle.std.specs.Io.KnownBytes.{Consumes};
+
+    ghost has = { λ _ _ text. (file : R.File) × (read : R.File)
+        × Consumes (R.File.remaining file) (R.File.remaining read) text };
 
     fn text(&self, alloc: Global, name: &str) -> Result<Vec<u8>, TextFault> {
         match fs::open(self.rt, name) {

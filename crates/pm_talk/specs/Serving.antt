@@ -4,12 +4,11 @@ use Rattle.std.specs.Prelude.{◌≡◌, ◌⊎◌, ℕ, true, List, ◌++◌, O
 use Rattle.std.specs.List.{list_all}
 use Rattle.clap.specs.declared.error.kind.ErrorKind.{ErrorKind}
 use Rattle.pm_lines.specs.Faults.{fault_words}
-use Rattle.pm_lines.specs.Lines.{EndsLine}
 use Rattle.pm_lines.specs.Streams.{Held}
 use Rattle.pm_lines.specs.declared.fault.TextFault.{TextFault}
 use Rattle.pm_lines.specs.declared.fault.TextFault.TheVariants.{Memory, Write}
 use Rattle.pm_program.specs.Refusals.{Says, program_line}
-use Rattle.pm_program.specs.Usage.{usage_status}
+use Rattle.pm_program.specs.Usage.{usage_status, IsSaid}
 use Rattle.pm_talk.specs.Speech.{Speech}
 use Rattle.pm_talk.specs.Talk.{after_lines, handed_on, is_line, last_turn, talk, IsCut, IsCutShort, IsOver}
 use Rattle.pm_talk.specs.declared.happening.Happening.{Happening}
@@ -71,14 +70,14 @@ module _ {P E : Type 0} (goes : P → List Happening → P → Type 0) (run : Ru
 
     -- help or the version, whose words are the parser's, was written and flushed, or a prefix of it
     abbrev pub Shows : ℕ → Type 0
-    Shows status = (text : List ℕ) × EndsLine text
+    Shows status = (text : List ℕ) × IsSaid text
         × (((status ≡ 0) × (run.errors' ≡ run.errors) × Happens (handed_on text))
         ⊎ ((status ≡ 1) × IsCutShort goes run.port run.port' text × Refuses (fault_words Write)))
 
     -- the parser's own text is said of bad options
     abbrev pub Misuses : ℕ → Type 0
     Misuses status = (status ≡ 2) × IsQuiet
-        × (text : List ℕ) × EndsLine text × Says run.told run.errors run.errors' text
+        × (text : List ℕ) × IsSaid text × Says run.told run.errors run.errors' text
 
     -- how it ends where the parser says something in place of options; nothing is read
     abbrev pub UsageEnds : ℕ → ErrorKind → Type 0

@@ -6,6 +6,8 @@
 #[cfg(test)]
 mod checks;
 #[cfg(test)]
+mod many_events;
+#[cfg(test)]
 mod replays;
 #[cfg(test)]
 mod scenarios;

@@ -8,7 +8,6 @@ use Rattle.clap.specs.Kinds.{IsAmong, Kinds}
 use Rattle.clap.specs.Words.{Text, fault_of, matches_of, subcommand_of}
 use Rattle.clap.specs.declared.error.kind.ErrorKind.{ErrorKind}
 use Rattle.pm_lines.specs.Faults.{fault_words}
-use Rattle.pm_lines.specs.Lines.{EndsLine}
 use Rattle.pm_lines.specs.Engine.{Engine, IsMade, IsReadSoFar, IsTold, IsUnderWay, Refuses, Run, over}
 use Rattle.pm_lines.specs.Streams.{Held}
 use Rattle.pm_lines.specs.declared.fault.TextFault.{TextFault}
@@ -24,7 +23,7 @@ use Rattle.pm_text.specs.Replay.{replaying}
 use Rattle.pm_text.specs.declared.replay_end.ReplayEnd.{ReplayEnd}
 use Rattle.pm_text.specs.declared.replay_end.ReplayEnd.TheVariants.{Ran as AllTaken, Stopped}
 use Rattle.pm_program.specs.Refusals.{Says, no_words, no_words_status, program_line, text_refusal}
-use Rattle.pm_program.specs.Usage.{usage_status}
+use Rattle.pm_program.specs.Usage.{usage_status, IsSaid}
 use Rattle.pm_tool.specs.Commandline.{Asks, pmb}
 use Rattle.pm_tool.specs.NumberFaults.{refusal_status, refusal_words}
 use Rattle.pm_tool.specs.NumberText.{IsNumberText, RefusesNumber}
@@ -189,13 +188,13 @@ ChoiceEnds remaining old new (NumberChosen format word micro) end = (new ≡ old
     × NumberEnds (asked_by format word micro) end
 
 -- how a command line ends of which the parser finds a fault of this kind: help or the version that was
--- asked for is printed, and what is said of any other fault is the parser's own text; each ends its line
+-- asked for is printed, and what is said of any other fault is the parser's own text; each says something
 abbrev pub UsageEnds : ErrorKind → End → Type 0
-UsageEnds kind (Printed status text) = (status ≡ 0) × (usage_status kind ≡ 0) × EndsLine text
-UsageEnds kind (CutShort text) = (usage_status kind ≡ 0) × EndsLine text
+UsageEnds kind (Printed status text) = (status ≡ 0) × (usage_status kind ≡ 0) × IsSaid text
+UsageEnds kind (CutShort text) = (usage_status kind ≡ 0) × IsSaid text
 UsageEnds kind (Refused status words) = ⊥
 UsageEnds kind (Broken text words) = ⊥
-UsageEnds kind (Misused text) = (usage_status kind ≡ 2) × EndsLine text
+UsageEnds kind (Misused text) = (usage_status kind ≡ 2) × IsSaid text
 
 -- memory for the command line itself was refused
 abbrev pub wants_memory : End

@@ -9,6 +9,8 @@ mod checks;
 #[cfg(test)]
 mod commandline;
 #[cfg(test)]
+mod facts;
+#[cfg(test)]
 mod hear;
 #[cfg(test)]
 mod numbers;

@@ -1,8 +1,9 @@
 //! `decode` with options, from the words of a command line to what is printed.
 
-use crate::checks::is_true;
-use crate::run::run_on;
-use pm_tool::TellTexts;
+use crate::checks::{equal, is_true};
+use crate::run::{run_on, run_with};
+use pm_text_fixtures::{blank_paper, in_pieces};
+use pm_tool::{Source, TellTexts};
 use std::test::Fail;
 
 /// The words, what is read, the status, what is printed and what is said.
@@ -101,7 +102,62 @@ fn options_decide_what_is_told(rt: HostRuntime) {
     for &(words, text, status, output, errors) in &TOLD {
         let found = run_on(rt.alloc(), words, text);
         is_true(&rt, found.is(status, output, errors), &words);
+        let flushes = usize::from(!output.is_empty());
+        equal(&rt, &found.output.flushes, &flushes, &words);
     }
+}
+
+/// The words, lines of one length, how long they are, and by how many writes they are told: one for each, as soon as it came,
+/// and one for the counts.
+static LIVE: [(&[&str], &str, usize, usize); 6] = [
+    (&["pmb", "decode"], LIVE_LINES, 9, 4),
+    (&["pmb", "decode", "--values"], LIVE_LINES, 9, 4),
+    (&["pmb", "decode", "--all"], LIVE_LINES, 9, 4),
+    (&["pmb", "decode", "--long"], LIVE_LINES, 9, 4),
+    (&["pmb", "decode", "--json"], LIVE_LINES, 9, 4),
+    (
+        &["pmb", "decode", "--times"],
+        "7 B0 03 46\n8 B0 03 46\n",
+        11,
+        3,
+    ),
+];
+
+const LIVE_LINES: &str = "B0 03 46\nB0 03 47\nB0 D4 01\n";
+
+#[test]
+fn each_line_is_told_before_the_next_one_is_read(rt: HostRuntime) {
+    for &(words, text, length, writes) in &LIVE {
+        let mut input = Source::new(in_pieces(text.as_bytes(), length));
+        let output = blank_paper(rt.alloc(), 4096);
+        let errors = blank_paper(rt.alloc(), 1);
+        let found = run_with(rt.alloc(), Ok(words), &mut input, output, errors);
+        equal(&rt, &found.status, &0, &words);
+        equal(&rt, &found.output.calls, &writes, &words);
+        equal(&rt, &found.output.flushes, &1, &words);
+    }
+}
+
+/// So many lines that are there at once, and by how many writes they are told: 16 KiB and what a piece says at a time, and
+/// what is left.
+static GATHERED: [(usize, usize); 2] = [(64, 2), (2000, 4)];
+
+#[test]
+fn lines_that_are_there_at_once_are_told_together(rt: HostRuntime) -> Result<(), Fail> {
+    for &(lines, writes) in &GATHERED {
+        let mut text = String::new(rt.alloc());
+        for _ in 0..lines {
+            text.push_str("B0 03 46\n")?;
+        }
+        let mut input = Source::new(in_pieces(text.as_str().as_bytes(), 4096));
+        let output = blank_paper(rt.alloc(), 1_048_576);
+        let errors = blank_paper(rt.alloc(), 1);
+        let words = ["pmb", "decode", "--values"];
+        let found = run_with(rt.alloc(), Ok(&words), &mut input, output, errors);
+        equal(&rt, &found.status, &0, &lines);
+        equal(&rt, &found.output.calls, &writes, &lines);
+    }
+    Ok(())
 }
 
 #[test]

@@ -98,8 +98,35 @@ fn a_failed_stream_has_its_status_and_its_line(rt: HostRuntime) {
     }
 }
 
+const HELP: &str = "\
+A proved model of a PMBus power converter that is spoken to in lines, for firmware and scripts
+
+Usage: pmbpart [OPTIONS]
+
+Options:
+      --setup <FILE>  A scenario whose lines up to `begin` say what the converter is made from
+  -h, --help          Print help
+  -V, --version       Print version
+
+Each line of standard input gets one line at once. A line says:
+  B0 05 04 00 21 CD 34 5A        hear this frame, which a stop ends: taken, refused K5 Protected, silent
+  B0 06 02 00 21 /               hear this request, behind which a repeated start comes: answer B1 02 CD 34 B9
+  restart                        start again with the stored words: restarted
+  reading 0 READ_VOUT 34CD       what a READ code answers from now on; reading - READ_VIN D300
+  output 0                       output 0 on commanded 13517/4096 3300048 uV
+  word 0 VOUT_COMMAND            word 34CD stored 1000; word - WRITE_PROTECT is answered by word 00
+  status 0                       status 00 0000 00 cml 00: STATUS_BYTE, _WORD, _VOUT of the output, STATUS_CML
+  page                           page 0
+A faulty line changes nothing: refused X1 Syntax, X2 BadHex, X3 TooLong, H4 UnknownOutput
+
+  $ echo 'B0 05 04 00 21 CD 34 5A' | pmbpart
+  taken
+";
+
 #[test]
 fn bad_options_have_their_status_and_their_line(rt: HostRuntime) {
+    let help = ["pmbpart", "--help"];
+    expect_run(&rt, ran(rt.alloc(), Ok(&help), HEAD, (0, 0)), 0, HELP, "");
     let version = ["pmbpart", "--version"];
     expect_run(
         &rt,

@@ -71,9 +71,50 @@ fn ends(
 }
 
 // The arguments, the status, and what is written on standard output and on standard error.
-static ENDS: [(&[&[u8]], u8, &str, &str); 7] = [
+static ENDS: [(&[&[u8]], u8, &str, &str); 9] = [
     (
         &[b"pmbhost", b"--address=58", b"--outputs=2", b"--passes=2"],
+        0,
+        "seen no\n",
+        "",
+    ),
+    // Five words and more, up to all that a host may have: a limit for each of eight outputs.
+    (
+        &[
+            b"pmbhost",
+            b"--address=58",
+            b"--outputs=2",
+            b"--passes=2",
+            b"--limit=0:3200000:3465000",
+            b"--limit=1:-5:5",
+        ],
+        0,
+        "seen no\n",
+        "",
+    ),
+    (
+        &[
+            b"pmbhost",
+            b"--address=58",
+            b"--outputs=8",
+            b"--passes=2",
+            b"--limit",
+            b"0:1:2",
+            b"--limit",
+            b"1:1:2",
+            b"--limit",
+            b"2:1:2",
+            b"--limit",
+            b"3:1:2",
+            b"--limit",
+            b"4:1:2",
+            b"--limit",
+            b"5:1:2",
+            b"--limit",
+            b"6:1:2",
+            b"--limit",
+            b"7:1:2",
+        ],
         0,
         "seen no\n",
         "",

@@ -1,0 +1,254 @@
+//! What is told of lines: faults, codes that the command table doesn't have, times, and the keys and places of JSON.
+
+use super::Row;
+
+/// Rows under each option.
+pub(super) static LINES: [Row; 11] = [
+    (
+        &["pmb", "decode"],
+        1,
+        "
+B0 05 04 01 21 CD 34 5A -> 58 write F5 WrongPec 7
+B0 06 02 00 21 / B1 02 CD -> 58 read F2 Short 3
+B0 06 02 00 21 / B1 02 CD 34 B9 00 -> 58 read F3 Long 5
+B0 06 02 00 21 / B1 03 CD 34 D2 -> 58 read F4 WrongCount 1
+b0 21 / b2 CD -> 58 read F1 NotOurs
+B0 96 / B1 34 12 B1 -> 58 write F6 UnknownCode 1
+B0 78 20 00 -> 58 write F7 WrongDirection 1
+B0 05 02 00 06 4B -> 58 write F8 Nested 4
+B0 21 CD -> 58 write F2 Short 3
+B0 -> 58 write F2 Short 1
+B0 / B1 -> 58 write F2 Short 1
+B0 20 / -> 58 read F1 NotOurs
+0E 05 -> -- write F1 NotOurs
+B1 -> -- write F1 NotOurs
+/ -> -- write F1 NotOurs
+/ B1 05 -> -- write F1 NotOurs
+B0 9 -> X2 BadHex
+B0 / B1 / B2 -> X1 Syntax
+lines 18 accepted 0 faults 16 bad 2
+",
+    ),
+    (
+        &["pmb", "decode", "--values"],
+        1,
+        "
+B0 05 04 01 21 CD 34 5A -> 58 write F5 WrongPec 7 bytes B0 05 04 01 21 CD 34 5A
+B0 06 02 00 21 / B1 02 CD -> 58 read F2 Short 3 bytes B0 06 02 00 21 / B1 02 CD
+B0 06 02 00 21 / B1 02 CD 34 B9 00 -> 58 read F3 Long 5 bytes B0 06 02 00 21 / B1 02 CD 34 B9 00
+B0 06 02 00 21 / B1 03 CD 34 D2 -> 58 read F4 WrongCount 1 bytes B0 06 02 00 21 / B1 03 CD 34 D2
+b0 21 / b2 CD -> 58 read F1 NotOurs bytes B0 21 / B2 CD
+B0 96 / B1 34 12 B1 -> 58 write F6 UnknownCode 1 bytes B0 96 / B1 34 12 B1
+B0 78 20 00 -> 58 write F7 WrongDirection 1 bytes B0 78 20 00
+B0 05 02 00 06 4B -> 58 write F8 Nested 4 bytes B0 05 02 00 06 4B
+B0 21 CD -> 58 write F2 Short 3 bytes B0 21 CD
+B0 -> 58 write F2 Short 1 bytes B0
+B0 / B1 -> 58 write F2 Short 1 bytes B0 / B1
+B0 20 / -> 58 read F1 NotOurs bytes B0 20 /
+0E 05 -> -- write F1 NotOurs bytes 0E 05
+B1 -> -- write F1 NotOurs bytes B1
+/ -> -- write F1 NotOurs bytes /
+/ B1 05 -> -- write F1 NotOurs bytes / B1 05
+B0 9 -> X2 BadHex
+B0 / B1 / B2 -> X1 Syntax
+lines 18 accepted 0 faults 16 bad 2
+",
+    ),
+    (
+        &["pmb", "decode", "--all"],
+        0,
+        "
+B0 96 / B1 34 12 B1 -> 58 code 96 read 34 12, PEC right
+B0 96 / B1 34 12 B0 -> 58 code 96 read 34 12 B0, no PEC
+B0 96 / B1 34 12 -> 58 code 96 read 34 12, no PEC
+B0 96 / B1 -> 58 code 96 read, no PEC
+B0 96 / B1 6B -> 58 code 96 read, PEC right
+B0 86 02 01 02 / B1 03 04 1E -> 58 code 86 write 02 01 02 read 03 04, PEC right
+B0 86 02 01 02 / B1 -> 58 code 86 write 02 01 02 read, no PEC
+B0 D4 01 02 03 -> 58 code D4 write 01 02 03, no PEC
+B0 D4 01 02 03 1C -> 58 code D4 write 01 02 03, PEC right
+B0 D4 -> 58 code D4 send, no PEC
+B0 D4 6D -> 58 code D4 send, PEC right
+B0 21 CD 34 -> 58 code 21 VOUT_COMMAND write CD 34, no PEC
+B0 03 -> 58 code 03 CLEAR_FAULTS send, no PEC
+B0 06 02 00 21 / B1 02 CD 34 -> 58 code 06 PAGE_PLUS_READ write 02 00 21 read 02 CD 34, no PEC
+B0 05 03 00 21 CD 48 -> 58 code 05 PAGE_PLUS_WRITE write 03 00 21 CD, PEC right
+B0 05 03 00 D4 07 65 -> 58 code 05 PAGE_PLUS_WRITE write 03 00 D4 07, PEC right
+B0 21 CD 34 38 01 -> 58 code 21 VOUT_COMMAND write CD 34 38 01, no PEC
+B0 88 / B1 00 D3 -> 58 code 88 READ_VIN read 00 D3, no PEC
+EE D4 -> 77 code D4 send, no PEC
+10 D4 -> 08 code D4 send, no PEC
+count code 03 1
+count code 05 2
+count code 06 1
+count code 21 2
+count code 86 2
+count code 88 1
+count code 96 5
+count code D4 6
+lines 20 accepted 0 other 20 faults 0 bad 0
+",
+    ),
+    (
+        &["pmb", "decode", "--all"],
+        0,
+        "
+B0 03 47 -> 58 write F5 WrongPec 2
+B0 8B CD 34 -> 58 write F5 WrongPec 3
+B0 05 04 00 D4 CD 34 F7 -> 58 write F5 WrongPec 7
+B0 78 20 00 -> 58 write F7 WrongDirection 1
+B0 05 02 00 06 4B -> 58 write F8 Nested 4
+B0 -> 58 write F2 Short 1
+B0 / B1 00 -> 58 write F2 Short 1
+B0 96 / B3 34 12 -> 58 write F6 UnknownCode 1
+B0 96 / -> 58 write F6 UnknownCode 1
+B0 96 / B0 00 -> 58 write F6 UnknownCode 1
+B0 21 / B3 CD -> 58 read F1 NotOurs
+0E D4 -> -- write F1 NotOurs
+F0 D4 -> -- write F1 NotOurs
+lines 13 accepted 0 other 0 faults 13 bad 0
+",
+    ),
+    (
+        &["pmb", "decode", "--all"],
+        0,
+        "
+B6 0B -> 5B code 0B send, no PEC
+B0 D4 6D -> 58 code D4 send, PEC right
+B0 21 CD 34 38 -> 58 VOUT_COMMAND write 34CD
+count VOUT_COMMAND 1
+count code 0B 1
+count code D4 1
+lines 3 accepted 1 other 2 faults 0 bad 0
+",
+    ),
+    (
+        &["pmb", "decode", "--all"],
+        0,
+        "
+B0 02 -> 58 code 02 send, no PEC
+B0 FF -> 58 code FF send, no PEC
+B0 FF / B1 FF -> 58 code FF read FF, no PEC
+count code 02 1
+count code FF 2
+lines 3 accepted 0 other 3 faults 0 bad 0
+",
+    ),
+    (
+        &["pmb", "decode", "--times"],
+        1,
+        "
+1234 B0 03 46 -> 1234 us 58 CLEAR_FAULTS send
+0 B0 03 46 -> 0 us 58 CLEAR_FAULTS send
+007 B00346 -> 7 us 58 CLEAR_FAULTS send
+999999999999999999 B0 03 46 -> 999999999999999999 us 58 CLEAR_FAULTS send
+000000000000000001 B0 03 46 -> 1 us 58 CLEAR_FAULTS send
+0000000000000000001 B0 03 46 -> X1 Syntax
+1000000000000000000 B0 03 46 -> X1 Syntax
+1 B0 20 / B1 14 ED -> 1 us 58 VOUT_MODE read 14
+1 -> 1 us -- write F1 NotOurs
+1 / -> 1 us -- write F1 NotOurs
+1/ B0 -> X1 Syntax
+B0 03 46 -> X1 Syntax
+03 46 -> 3 us 23 write F2 Short 1
+-1 B0 03 46 -> X1 Syntax
++1 B0 03 46 -> X1 Syntax
+1.5 B0 03 46 -> X1 Syntax
+B0 9 -> X1 Syntax
+x zz -> X1 Syntax
+5 B0 9 -> X2 BadHex
+5 # B0 -> X2 BadHex
+5 B0 / B1 / B2 -> X1 Syntax
+5 x -> X2 BadHex
+count CLEAR_FAULTS 5
+count VOUT_MODE 1
+lines 22 accepted 6 faults 3 bad 13
+",
+    ),
+    (
+        &["pmb", "decode", "--json"],
+        1,
+        r#"
+B0 05 04 00 21 CD 34 5A -> {"line":1,"address":"58","page":0,"code":"21","name":"VOUT_COMMAND","direction":"write","bytes":"CD 34"}
+B0 06 02 01 21 / B1 02 CD 34 90 -> {"line":2,"address":"58","page":1,"code":"21","name":"VOUT_COMMAND","direction":"read","bytes":"CD 34"}
+B0 03 46 -> {"line":3,"address":"58","code":"03","name":"CLEAR_FAULTS","direction":"send"}
+B0 30 02 21 00 / B1 05 01 00 00 00 03 6B -> {"line":4,"address":"58","code":"30","name":"COEFFICIENTS","of":"21","side":0,"direction":"read","bytes":"01 00 00 00 03","value":"m 1 b 0 r 3"}
+B0 05 04 01 21 CD 34 5A -> {"line":5,"address":"58","direction":"write","fault":"F5 WrongPec","place":7}
+B0 21 / B3 -> {"line":6,"address":"58","direction":"read","fault":"F1 NotOurs"}
+/ -> {"line":7,"direction":"write","fault":"F1 NotOurs"}
+B0 9 -> {"line":8,"fault":"X2 BadHex"}
+B0 / B1 / B2 -> {"line":9,"fault":"X1 Syntax"}
+B0 96 / B1 34 12 -> {"line":10,"address":"58","direction":"write","fault":"F6 UnknownCode","place":1}
+{"count":"VOUT_COMMAND","lines":2}
+{"count":"CLEAR_FAULTS","lines":1}
+{"count":"COEFFICIENTS","lines":1}
+{"lines":10,"accepted":4,"faults":4,"bad":2}
+"#,
+    ),
+    (
+        &["pmb", "decode", "--json", "--values"],
+        0,
+        r#"
+B0 06 02 00 20 / B1 01 14 4E -> {"line":1,"address":"58","page":0,"code":"20","name":"VOUT_MODE","direction":"read","bytes":"14","value":"ULINEAR16 -12"}
+B0 05 04 00 21 CD 34 5A -> {"line":2,"address":"58","page":0,"code":"21","name":"VOUT_COMMAND","direction":"write","bytes":"CD 34","value":"13517/4096","micro":3300048,"unit":"V"}
+B0 88 / B1 00 D3 F6 -> {"line":3,"address":"58","code":"88","name":"READ_VIN","direction":"read","bytes":"00 D3","value":"12/1","unit":"V"}
+B0 8C / B1 FB FF E9 -> {"line":4,"address":"58","code":"8C","name":"READ_IOUT","direction":"read","bytes":"FB FF","value":"-5/2","unit":"A"}
+B0 8D / B1 19 00 65 -> {"line":5,"address":"58","code":"8D","name":"READ_TEMPERATURE_1","direction":"read","bytes":"19 00","value":"25/1","unit":"C"}
+B0 01 94 1A -> {"line":6,"address":"58","code":"01","name":"OPERATION","direction":"write","bytes":"94","value":"on, margin low"}
+B0 01 FF 0C -> {"line":7,"address":"58","code":"01","name":"OPERATION","direction":"write","bytes":"FF"}
+B0 10 80 34 -> {"line":8,"address":"58","code":"10","name":"WRITE_PROTECT","direction":"write","bytes":"80","value":"writes of WRITE_PROTECT"}
+B0 78 / B1 42 3D -> {"line":9,"address":"58","code":"78","name":"STATUS_BYTE","direction":"read","bytes":"42","flags":["OFF","CML"]}
+B0 79 / B1 00 00 D4 -> {"line":10,"address":"58","code":"79","name":"STATUS_WORD","direction":"read","bytes":"00 00","flags":[]}
+B0 7E / B1 04 95 -> {"line":11,"address":"58","code":"7E","name":"STATUS_CML","direction":"read","bytes":"04","flags":["bit 2"]}
+B0 05 04 01 21 CD 34 5A -> {"line":12,"address":"58","direction":"write","bytes":"B0 05 04 01 21 CD 34 5A","fault":"F5 WrongPec","place":7}
+B0 06 02 00 21 / B1 02 CD -> {"line":13,"address":"58","direction":"read","bytes":"B0 06 02 00 21 / B1 02 CD","fault":"F2 Short","place":3}
+B0 21 CD 34 38 -> {"line":14,"address":"58","code":"21","name":"VOUT_COMMAND","direction":"write","bytes":"CD 34"}
+{"count":"VOUT_MODE","lines":1}
+{"count":"VOUT_COMMAND","lines":2}
+{"count":"READ_VIN","lines":1}
+{"count":"READ_IOUT","lines":1}
+{"count":"READ_TEMPERATURE_1","lines":1}
+{"count":"OPERATION","lines":2}
+{"count":"WRITE_PROTECT","lines":1}
+{"count":"STATUS_BYTE","lines":1}
+{"count":"STATUS_WORD","lines":1}
+{"count":"STATUS_CML","lines":1}
+{"lines":14,"accepted":12,"faults":2,"bad":0}
+"#,
+    ),
+    (
+        &["pmb", "decode", "--all", "--json"],
+        0,
+        r#"
+B0 96 / B1 34 12 B1 -> {"line":1,"address":"58","code":"96","direction":"read","bytes":"34 12","pec":true}
+B0 86 02 01 02 / B1 03 04 -> {"line":2,"address":"58","code":"86","direction":"read","written":"02 01 02","bytes":"03 04","pec":false}
+B0 D4 -> {"line":3,"address":"58","code":"D4","direction":"send","pec":false}
+B0 D4 01 03 -> {"line":4,"address":"58","code":"D4","direction":"write","bytes":"01","pec":true}
+B0 21 CD 34 -> {"line":5,"address":"58","code":"21","name":"VOUT_COMMAND","direction":"write","bytes":"CD 34","pec":false}
+B0 96 / B1 -> {"line":6,"address":"58","code":"96","direction":"read","pec":false}
+B0 03 46 -> {"line":7,"address":"58","code":"03","name":"CLEAR_FAULTS","direction":"send"}
+B0 02 -> {"line":8,"address":"58","code":"02","direction":"send","pec":false}
+B0 FF -> {"line":9,"address":"58","code":"FF","direction":"send","pec":false}
+{"count":"CLEAR_FAULTS","lines":1}
+{"code":"02","lines":1}
+{"code":"21","lines":1}
+{"code":"86","lines":1}
+{"code":"96","lines":2}
+{"code":"D4","lines":2}
+{"code":"FF","lines":1}
+{"lines":9,"accepted":1,"other":8,"faults":0,"bad":0}
+"#,
+    ),
+    (
+        &["pmb", "decode", "--times", "--json"],
+        1,
+        r#"
+0012 B0 03 46 -> {"line":1,"time":12,"address":"58","code":"03","name":"CLEAR_FAULTS","direction":"send"}
+13 -> {"line":2,"time":13,"direction":"write","fault":"F1 NotOurs"}
+x -> {"line":3,"fault":"X1 Syntax"}
+14 B0 9 -> {"line":4,"fault":"X2 BadHex"}
+{"count":"CLEAR_FAULTS","lines":1}
+{"lines":4,"accepted":1,"faults":1,"bad":2}
+"#,
+    ),
+];
