@@ -22,7 +22,8 @@
  * isn't noticed: of flipped bits and overwritten bytes about 0.4 %. Damaged memory that still reads as a
  * host is safe to use, and what it says may be wrong, its limits too: keep it from others.
  *
- * A pm_host holds no pointer, so it may be copied, and kept over a sleep or a warm reset. Who keeps one
+ * What stands in a pm_host is a function of what it holds: two hosts that were made and told the same are equal byte for
+ * byte. It holds no pointer, so it may be copied, and kept over a sleep or a warm reset. Who keeps one
  * keeps a checksum with it, as a CRC-32 over all PM_HOST_SIZE bytes: taken before the sleep, or after each
  * call that changes the host where a reset may come at any time, and compared before the first call
  * afterwards. Where the two differ, make a new host by pm_host_new, and narrow its limits again. */
@@ -261,7 +262,7 @@ uint8_t pm_host_standing(const pm_host *host, uint8_t output, uint8_t code, pm_s
 uint8_t pm_host_possible(const pm_host *host, uint8_t output, uint8_t code, pm_words *words);
 uint8_t pm_host_format(const pm_host *host, uint8_t output, pm_format *format);
 
-/* What is known of every cell. PM_NO_HOST; then nothing is written. */
+/* What is known of every cell. What stands behind `count` cells stays as it was. PM_NO_HOST; then nothing is written. */
 uint8_t pm_host_known(const pm_host *host, pm_known *known);
 
 /* 1 where a restart of the device was seen since the host started, 0 where none was. PM_NO_HOST, which isn't
