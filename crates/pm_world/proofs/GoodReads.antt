@@ -195,8 +195,8 @@ check-there laws {config = config} {passes = passes} {events = events} {cell = c
     subst (λ (u : host.Setup). IsCell u.outputs cell) (now-setup config passes events)
     (subst (IsStage (now config passes events).host) stage (now-sound laws config passes events lived).stage).there
 
--- and that of an order that is read back
-order-there : Below → {config : Config} {passes : ℕ} {events : List Event} {cell : Cell} {word pass : ℕ} → IsLived config passes events →
+-- the cell of an order that is read back is there
+pub order-there : Below → {config : Config} {passes : ℕ} {events : List Event} {cell : Cell} {word pass : ℕ} → IsLived config passes events →
     (now config passes events).host.stage ≡ Some (Reads cell word pass) → IsCell config.count cell
 order-there laws {config = config} {passes = passes} {events = events} {cell = cell} lived stage =
     subst (λ (u : host.Setup). IsCell u.outputs cell) (now-setup config passes events)

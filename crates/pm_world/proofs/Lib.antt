@@ -19,6 +19,8 @@ mod GoodFrames
 mod GoodLearns
 mod GoodPasses
 mod GoodReads
+mod GoodTurns
+mod GoodWrites
 mod HeldWords
 mod HonestOrders
 mod JobSpans

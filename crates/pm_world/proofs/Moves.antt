@@ -107,7 +107,7 @@ unfolding now state_of
 now-stored laws config passes events = laws.pasts_are_followed.store config (life config passes events).past
 
 -- what takes is the open job, heard whole and allowed
-takes-by : (config : Config) (passes : ℕ) (before : List Event) (arrival : Arrival) (job : PendingJob) →
+pub takes-by : (config : Config) (passes : ℕ) (before : List Event) (arrival : Arrival) (job : PendingJob) →
     taken_at config passes before (Deliver arrival) ≡ Some job → JobTakes config passes before arrival job
 unfolding taken_at
 takes-by config passes before arrival job is = go (open_pending config passes before) refl is where
