@@ -1,5 +1,5 @@
 -- Why an event is taken, and the job that it asks for.
-use Rattle.std.proofs.Common.{◌≡◌, ℕ, ℤ, false, Option, Some, None, refl, ap, subst}
+use Rattle.std.proofs.Common.{◌≡◌, ℕ, ℤ, true, false, not, Option, Some, None, refl, ap, subst}
 use Rattle.std.specs.Prelude.{nat_le, option_map, IsSome}
 use Rattle.std.specs.Option.{option_and_then, option_map_or}
 pub use Rattle.std.proofs.lemmas.Bool.{not-false}
@@ -7,6 +7,8 @@ use Rattle.std.proofs.lemmas.Option.{same_Some}
 use Rattle.pm_table.specs.declared.cell.Cell.{Cell}
 use Rattle.pm_table.specs.Cell.{output_of}
 pub use Rattle.pm_table.specs.RuleLemmas.{or-none, rule-none}
+use Rattle.pm_frame.specs.declared.message.Message.{Message}
+use Rattle.pm_frame.specs.Layout.{is_read_message}
 use Rattle.pm_host.specs.declared.fault.HostFault.{HostFault}
 use Rattle.pm_host.specs.declared.job.Job.{Job}
 use Rattle.pm_host.specs.declared.job.Job.TheVariants as job
@@ -16,10 +18,12 @@ use Rattle.pm_host.specs.Summary.{Summary, format_at}
 use Rattle.pm_host.specs.Transcript as host
 use Rattle.pm_world.specs.declared.event.Event.{Event}
 use Rattle.pm_world.specs.declared.event.Event.TheVariants.{Deliver, Exchange, Finish, OrderMicro, RestartDevice}
-use Rattle.pm_world.specs.declared.cause.Cause.TheVariants.{Full}
+use Rattle.pm_world.specs.declared.cause.Cause.TheVariants.{Full, WrongKind}
+use Rattle.pm_world.specs.declared.arrival.Arrival.{Arrival}
+use Rattle.pm_world.specs.declared.back.Back.{Back}
 use Rattle.pm_world.specs.Confirmed.{restarts_converter}
 use Rattle.pm_world.specs.Job.{asked_by, refusal_of}
-use Rattle.pm_world.specs.State.{State, asked, share_of, share_beside, tells, shared, counted, next, rule, refused, event_cause, HasWord}
+use Rattle.pm_world.specs.State.{HasWord, State, asked, counted, event_cause, exchange_cause, next, refused, rule, share_beside, share_of, shared, tells}
 use Rattle.pm_world.specs.State.{cause_beside, cause_of, event_limit, IsTaken}
 
 -- what the host doesn't refuse has no fault
@@ -103,3 +107,10 @@ beside-next s event is =
 pub asked-restarts : (s : State) (event : Event) (job : host.Job) → asked s event ≡ Some job → restarts_converter event ≡ false
 asked-restarts s RestartDevice job is = cc
 asked-restarts s event job is = refl
+
+-- an exchange that nothing is against is of a request
+pub exchange-reads : (s : State) (arrival : Arrival) (back : Back) (message : Message) →
+    exchange_cause s arrival back (Some message) ≡ None → is_read_message message ≡ true
+exchange-reads s arrival back message free =
+    not-false (is_read_message message)
+    (rule-none (not (is_read_message message)) WrongKind (or-none (rule (not (is_read_message message)) WrongKind) _ free).0)

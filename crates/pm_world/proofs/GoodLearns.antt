@@ -152,10 +152,12 @@ mode-learned laws {config = config} {passes = passes} {before = before} {after =
         (sym (ap (λ r. option_and_then (λ (m : VoutMode). result_ok (shape_in m config.coefficients)) (result_ok r)) e)
         ∙ lived.sound.formats output below))
     go (Ok (Linear exponent)) e =
-        inl ((λ direct. let bad : Ok (Linear exponent) ≡ Ok Direct = sym e ∙ direct in cc),
-        learned-so laws (InUlinear16 exponent) a.answer lived below
-        (mode-shape config output (Linear exponent) (InUlinear16 exponent) (lived.sound.formats output below) e refl)
-        a.summary a.end (turn ∙ ap (mode_taken (idle h) output) e))
+        inl (
+          (λ direct. let bad : Ok (Linear exponent) ≡ Ok Direct = sym e ∙ direct in cc),
+          learned-so laws (InUlinear16 exponent) a.answer lived below
+              (mode-shape config output (Linear exponent) (InUlinear16 exponent) (lived.sound.formats output below) e refl)
+              a.summary a.end (turn ∙ ap (mode_taken (idle h) output) e),
+        )
     go (Ok Direct) e = inr (
       e,
       ap (λ (t : Summary). t.stage) a.summary ∙ ap (λ (t : Change). t.after.stage) (turn ∙ ap (mode_taken (idle h) output) e),

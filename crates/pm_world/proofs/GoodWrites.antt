@@ -152,7 +152,7 @@ unacked-turn laws {config = config} {passes = passes} {before = before} {command
     let so = hosts-beside laws before w.between (earlier whole) w.beside in
     let same = now-next laws config passes middle (Finish false) whole in
     let turn : finished (idle (now config passes middle).host) (now config passes middle).host.stage false
-        ≡ sent_again (now config passes before).host command tries = ap (λ (h : Summary). finished (idle h) h.stage false) so.summary
+    ≡ sent_again (now config passes before).host command tries = ap (λ (h : Summary). finished (idle h) h.stage false) so.summary
     ∙ ap (λ o. finished (idle (now config passes before).host) o false) stage in
     subst (IsUnacked config passes command tries before) (sym w.is) (record {
       summary = ap (λ (t : State). t.host) same ∙ ap (λ (c : Change). c.after) turn;

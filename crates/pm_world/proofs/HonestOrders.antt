@@ -24,6 +24,7 @@ use Rattle.pm_world.specs.Legal.{frame_of, is_restart}
 use Rattle.pm_world.specs.Life.{now}
 use Rattle.pm_world.specs.State.{State, answer_to, asked}
 use Rattle.pm_world.proofs.GoodPasses.{pass-done, written-lived}
+use Rattle.pm_world.proofs.WholeFrames.{whole-cell}
 use Rattle.pm_world.proofs.Lives.{IsLived, earlier, now-next}
 use Rattle.pm_world.proofs.Undisturbed.{order-device, order-entries, order-stage, read-restart}
 
@@ -37,23 +38,6 @@ any-whole : (frame : List ℕ) (arrivals : List Arrival) →
     list_any (delivers_whole frame) (map (λ arrival. Deliver arrival) arrivals) ≡ list_any (is_whole frame) arrivals
 any-whole frame [] = refl
 any-whole frame (arrival ∷ arrivals) = ap (λ b. is_whole frame arrival || b) (any-whole frame arrivals)
-
--- an exchange of both whole comes whole
-whole-read : (config : Config) (passes : ℕ) (cell : Cell) (before : List Event) →
-    IsRead config passes (cell_read cell) before (Exchange Whole back.Whole ∷ before)
-whole-read config passes cell before =
-    let s = now config passes before in
-    let frame = frame_of s.host.setup.addr (cell_read cell) in
-    let answer = answer_to s.device s.host.setup.addr (cell_read cell) Whole in
-    record {
-      arrival = Whole;
-      back = back.Whole;
-      readings = [];
-      is = refl;
-      beside = refl;
-      whole = ap (λ e. is_restart e && bytes_eq frame frame && bytes_eq answer answer) (read-restart cell)
-          ∙ ap₂ (λ a b. true && a && b) ((bytes_eq-Decides frame frame).1 refl) ((bytes_eq-Decides answer answer).1 refl);
-    }
 
 -- an undisturbed order goes through
 pub went-through : Below → {config : Config} {passes : ℕ} (before : List Event) (order : Event) {cell : Cell} {word : ℕ}
@@ -78,7 +62,7 @@ went-through laws {config = config} {passes = passes} before order {cell = cell}
     (ap (λ (t : State). t.host.stage) begun ∙ order-stage (now config passes before) order cell word asks)
     (ap (λ (h : Held). is_allowed (word_at h.words Protect) (cell_code cell))
     (ap (λ (t : State). t.device) begun ∙ order-device (now config passes before) order cell word asks) ∙ allowed)
-    written (whole-read config passes cell middle) in
+    written (whole-cell config passes cell middle) in
     record {
       answer = e.answer;
       good = e.good;

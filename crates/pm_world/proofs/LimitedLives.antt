@@ -181,7 +181,7 @@ stays-limited laws {config = config} lived output bounds later before here is wi
     let value = value_for config output in
     let cut = cut-of config output lived.sound here own.selected own.least own.most in
     let selected = selected-within own.operation bounds (value own.selected)
-      (within (selected_register own.operation) own.selected (selected-voltage own.operation) own.own_selected) in
+    (within (selected_register own.operation) own.selected (selected-voltage own.operation) own.own_selected) in
     subst (λ (v : Ratio). IsWithin bounds v) (sym own.cut) (record {
       from_least = cut-lower cut (micros bounds.least) selected.from_least (within VoutMax own.most refl own.own_most);
       to_greatest = cut-upper cut (micros bounds.most) selected.to_greatest (within VoutMin own.least refl own.own_least);

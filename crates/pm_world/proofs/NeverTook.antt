@@ -38,7 +38,8 @@ use Rattle.pm_world.specs.Life.{life, now, state_of}
 use Rattle.pm_world.specs.Retelling.{open_pending, pending_of, taken_at}
 use Rattle.pm_world.specs.Setup.{setup_of}
 use Rattle.pm_world.specs.State.{State, share_of, exchanged, exchange_cause, next, rule}
-use Rattle.pm_world.proofs.Causes.{or-none, rule-none, not-false}
+use Rattle.pm_world.proofs.Causes.{exchange-reads}
+use Rattle.pm_world.proofs.Hearings.{write-kind}
 use Rattle.pm_world.proofs.HeldWords.{knows, reads-true}
 use Rattle.pm_world.proofs.JobSpans.{IsOrOver, TellsFrame, any-parts, beside-tells, by-acceptance, by-frame, by-silence, open-end, or-parts}
 use Rattle.pm_world.proofs.KeptFormats.{none-other, open-is}
@@ -120,18 +121,13 @@ order-moves laws config passes before event cell word lived steady is = go (take
       ∙ (laws.settings_are_a_map.read s.device.words cell cell word known.are there there
       ∙ ap (λ b. cond b word (word_at s.device.words cell)) ((laws.cells_are_told_apart cell cell).1 refl)))
 
--- a write is no read
-writes-cell : (cell : Cell) (word : ℕ) → is_read_message (cell_write cell word) ≡ false
-writes-cell (Out output register) word = refl
-writes-cell Protect word = refl
-
 -- where a read is sent, it is the turn of one
 turn-reads : (cell : Cell) (word : ℕ) (turn : Bool) (message : Message)
     → Some message ≡ Some (cond turn (cell_write cell word) (cell_read cell)) →
     is_read_message message ≡ true → cond turn None (Some cell) ≡ Some cell
 turn-reads cell word false message is reads = refl
 turn-reads cell word true message is reads =
-    absurd (false≢true (sym (ap is_read_message (same_Some message (cell_write cell word) is) ∙ writes-cell cell word) ∙ reads))
+    absurd (false≢true (sym (ap is_read_message (same_Some message (cell_write cell word) is) ∙ write-kind cell word) ∙ reads))
 
 -- the cell that an open order reads, while a request is being sent
 asks-cell : Below → (setup : host.Setup) (entries : List host.Entry) (cell : Cell) (word : ℕ) (message : Message) →
@@ -143,13 +139,6 @@ asks-cell laws setup entries cell word message is sends reads =
     ∙ turn-reads cell word (host.is_write_turn (host.told_since entries)) message
     (sym sends ∙ (laws.transcripts_are_followed.sending setup entries
     ∙ ap (option_map (λ job. host.job_message setup job (host.told_since entries))) is)) reads
-
--- an exchange is of a request
-exchange-reads : (s : State) (arrival : Arrival) (back : Back) (message : Message) →
-    exchange_cause s arrival back (Some message) ≡ None → is_read_message message ≡ true
-exchange-reads s arrival back message free =
-    not-false (is_read_message message)
-    (rule-none (not (is_read_message message)) WrongKind (or-none (rule (not (is_read_message message)) WrongKind) _ free).0)
 
 -- a good answer of an order's cell has the word that the cell has
 exchange-read : Below → (config : Config) (passes : ℕ) (before : List Event) (arrival : Arrival) (back : Back) (cell : Cell)

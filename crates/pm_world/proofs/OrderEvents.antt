@@ -49,6 +49,7 @@ use Rattle.pm_world.proofs.Causes.{or-none, rule-none, not-false}
 use Rattle.pm_world.proofs.Frames.{heard_ending-write}
 use Rattle.pm_world.proofs.Hearings.{frame-write, hears-write, hears-request, payload-number}
 use Rattle.pm_world.proofs.OpenOrders.{stage_pending, Goes, answered-order}
+use Rattle.pm_world.proofs.Sending.{stop-is}
 
 -- the message that exists
 some-is : (a b : Message) → Some a ≡ Some b → a ≡ b
@@ -142,11 +143,6 @@ question-reads : (question : Question) → is_read_message (question_message que
 question-reads (Word (Out output register)) = refl
 question-reads _ = refl
 
--- an ending is a stop by the test
-stop-so : (ending : Ending) → not (is_restart ending) ≡ true → ending ≡ Stop
-stop-so Stop h = refl
-stop-so Restart h = cc
-
 -- a write that was heard whole is so by the test
 whole-so : (frame bytes : List ℕ) (ending : Ending) → ending ≡ Stop → bytes ≡ frame →
     (bytes_eq bytes frame && not (is_restart ending)) ≡ true
@@ -183,7 +179,7 @@ heard-kept laws held message arrival job writes fits legal makes = go (is_whole 
       ≡ kept_taken held (where_so b job)
   go true e =
       let parts = and_parts (bytes_eq bytes frame) (not (is_restart (ending_of Stop arrival))) e in
-      ap₂ (λ b s. kept_after held (Hearing b s)) ((bytes_eq-Decides bytes frame).0 parts.0) (stop-so (ending_of Stop arrival) parts.1)
+      ap₂ (λ b s. kept_after held (Hearing b s)) ((bytes_eq-Decides bytes frame).0 parts.0) (stop-is (ending_of Stop arrival) parts.1)
       ∙ (makes frame is_frame ∙ ap (kept_taken held) (sym (some job)))
   go false e = elim (hears-write laws held message bytes (ending_of Stop arrival) writes fits legal) [
     | inl same ↦ same ∙ ap (kept_taken held) (sym (none job))

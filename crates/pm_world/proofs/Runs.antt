@@ -4,17 +4,13 @@ use Rattle.std.proofs.lemmas.List.{length-reverse, length-take}
 use Rattle.pm_device.specs.declared.config.Config.{Config}
 use Rattle.pm_world.specs.declared.event.Event.{Event}
 use Rattle.pm_world.specs.declared.stop.Stop.{Stop}
-use Rattle.pm_world.specs.Life.{now, state_of, taken_events}
+use Rattle.pm_world.specs.Life.{now, taken_events}
 use Rattle.pm_world.specs.State.{State}
+use Rattle.pm_world.proofs.TakenWhole.{now-taken}
 
 -- the first events of a list, newest first
 abbrev pub past : ℕ → List Event → List Event
 past n events = reverse (take n events)
-
--- a world took as many as there were
-pub now-taken : (config : Config) (passes : ℕ) (events : List Event) → (now config passes events).taken ≡ length events
-unfolding now state_of
-now-taken config passes events = refl
 
 -- those before a stop are no more than all
 taken-few : (events : List Event) (stop : Option Stop) → length (taken_events events stop) ≤ length events

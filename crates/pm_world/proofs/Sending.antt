@@ -102,7 +102,7 @@ pub write-ending : (cell : Cell) (word : ℕ) (arrival : Arrival) → heard_endi
 write-ending cell word arrival = sym (heard_ending-write (cell_write cell word) arrival (write-kind cell word))
 
 -- an ending is a stop by the test
-stop-is : (ending : Ending) → not (is_restart ending) ≡ true → ending ≡ Stop
+pub stop-is : (ending : Ending) → not (is_restart ending) ≡ true → ending ≡ Stop
 stop-is Stop h = refl
 stop-is Restart h = cc
 

@@ -36,10 +36,7 @@ use Rattle.pm_world.proofs.Lives.{IsLived, earlier, lived-by, now-next}
 use Rattle.pm_world.proofs.ReadBack.{reads-cell}
 use Rattle.pm_world.proofs.Undisturbed.{finish-stage, order-stage, read-restart}
 use Rattle.pm_world.proofs.Sending.{next-deliver-host}
-
--- bytes are themselves by the test
-same_bytes : (bytes : List ℕ) → bytes_eq bytes bytes ≡ true
-same_bytes bytes = (bytes_eq-Decides bytes bytes).1 refl
+use Rattle.pm_world.proofs.WholeFrames.{same_bytes}
 
 -- a rule that doesn't apply names no cause
 off : (applies : Bool) (cause : Cause) → applies ≡ false → rule applies cause ≡ None

@@ -26,7 +26,7 @@ use Rattle.pm_world.specs.Way.{WasSent, WasUndisturbed}
 use Rattle.pm_world.proofs.ReadBack.{reads-cell}
 
 -- bytes are themselves by the test
-same_bytes : (bytes : List ℕ) → bytes_eq bytes bytes ≡ true
+pub same_bytes : (bytes : List ℕ) → bytes_eq bytes bytes ≡ true
 same_bytes bytes = (bytes_eq-Decides bytes bytes).1 refl
 
 -- a whole arrival is heard whole

@@ -47,11 +47,12 @@ pub use event::Event;
 pub use laws::{
     answers_come_in_bytes, bands_are_exact, bands_are_held, betrayed_damage_is_legal,
     betrayed_damage_is_taken, causes_decide, confirmed_settings_are_held,
-    differing_orders_never_took, frames_are_few, good_frames_end_jobs, honest_orders_go_through,
-    learned_formats_are_true, lists_say_enough, lives_are_followed,
-    lives_are_orders, lives_stay_limited, newest_events_are_parts, open_jobs_end, open_lists_are_followed,
-    own_requests_are_answered, possible_words_are_exact, possible_words_are_held,
-    settings_move_by_the_open_job, spell, events_are_lived, ways_are_followed, whole_frames_are_undisturbed,
+    differing_orders_never_took, events_are_lived, frames_are_few, good_frames_end_jobs,
+    honest_orders_go_through, learned_formats_are_true, lists_say_enough, lives_are_followed,
+    lives_are_orders, lives_stay_limited, newest_events_are_parts, open_jobs_end,
+    open_lists_are_followed, own_requests_are_answered, possible_words_are_exact,
+    possible_words_are_held, settings_move_by_the_open_job, spell, ways_are_followed,
+    whole_frames_are_undisturbed,
 };
 pub use legal::{
     answer_in, back_bytes, heard_bytes, heard_ending, is_heard_whole, is_legal_hearing,

@@ -26,9 +26,9 @@ use crate::cause::Cause;
 use crate::event::Event;
 use crate::laws::{
     answers_come_in_bytes, confirmed_settings_are_held, differing_orders_never_took,
-    frames_are_few, good_frames_end_jobs, honest_orders_go_through, learned_formats_are_true,
-    lives_are_followed, lives_are_orders, lives_stay_limited, possible_words_are_held,
-    settings_move_by_the_open_job, spell, events_are_lived,
+    events_are_lived, frames_are_few, good_frames_end_jobs, honest_orders_go_through,
+    learned_formats_are_true, lives_are_followed, lives_are_orders, lives_stay_limited,
+    possible_words_are_held, settings_move_by_the_open_job, spell,
 };
 use crate::stop::Stop;
 use pm_device::{Config, Converter};
