@@ -13,6 +13,7 @@ mod Ends
 mod Exact
 mod Exchanges
 mod FirstWords
+mod Found
 mod Frames
 mod Hearings
 mod GoodFrames
@@ -35,7 +36,6 @@ mod NearestExists
 mod NeverTook
 mod OpenMarks
 mod OpenOrders
-mod OpenRuns
 mod OpenSteps
 mod OrderEvents
 mod OwnRequests
@@ -59,6 +59,5 @@ mod TrueHost
 mod Undisturbed
 mod Unread
 mod WayForms
-mod WayRuns
 mod WholeFrames
 mod Witness

@@ -50,8 +50,9 @@ pub fn lives_are_followed()
 }
 
 /// What the other laws ask of events: that a world lived through them, however many there are. A world that can be made
-/// lived through no event (`none`), through one more that nothing is against (`more`), through what came before any of them
-/// (`earlier`), and through those that it took (`taken`). The events of a caller's own loop are had by the first two.
+/// lived through no event (`none`), through one more that nothing is against (`more`) or that a step takes (`step`), through
+/// what came before any of them (`earlier`), and through those that it took (`taken`). [`World::run`](crate::World::run)
+/// hands it out (`lived`), and the events of a caller's own loop are had by `none` and `more`.
 pub fn events_are_lived()
     ensures { EventsAreLived }
 {}

@@ -37,6 +37,7 @@ mod legal;
 mod openness;
 mod short;
 mod stop;
+mod watch;
 mod way;
 mod world;
 
