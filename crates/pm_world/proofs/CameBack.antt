@@ -1,8 +1,7 @@
 -- What came back to the host since its last restart, answer by answer.
-use Rattle.std.proofs.Common.{◌≡◌, ℕ, Bool, true, false, not, cond, ◌||◌, List, [], ◌∷◌, ◌++◌, Option, Some, None, option_map, refl, sym}
+use Rattle.std.proofs.Common.{◌≡◌, ℕ, Bool, true, false, cond, ◌||◌, List, [], ◌∷◌, ◌++◌, Option, Some, None, option_map, refl, sym}
 use Rattle.std.proofs.Common.{◌∙◌, ap, subst, inl, inr}
 use Rattle.std.specs.Prelude.{option_to_list}
-use Rattle.std.specs.Option.{option_map_or, option_or}
 use Rattle.std.proofs.lemmas.Bool.{cases_Bool, or_parts, true≢false}
 use Rattle.std.proofs.lemmas.Option.{none-some, same_Some}
 use Rattle.pm_table.specs.declared.cell.Cell.{Cell}
@@ -30,15 +29,13 @@ use Rattle.pm_world.specs.Below.{Below}
 use Rattle.pm_world.specs.declared.arrival.Arrival.{Arrival}
 use Rattle.pm_world.specs.declared.back.Back.{Back}
 use Rattle.pm_world.specs.declared.event.Event.{Event}
-use Rattle.pm_world.specs.declared.event.Event.TheVariants.{Deliver, Exchange}
-use Rattle.pm_world.specs.declared.cause.Cause.TheVariants.{WrongKind}
 use Rattle.pm_world.specs.Confirmed.{restarts_converter, restarted_since}
 use Rattle.pm_world.specs.Legal.{answer_in, back_bytes, frame_of, heard_bytes, heard_ending, is_heard_whole, is_legal_return}
 use Rattle.pm_world.specs.Life.{life, now, state_of}
 use Rattle.pm_world.specs.Possible.{has_read, restarts_host, restarted_since_host}
 use Rattle.pm_world.specs.Setup.{setup_of}
-use Rattle.pm_world.specs.State.{Share, State, answer_to, asked, event_cause, exchange_cause, exchanged, hearing_cause, return_cause, rule}
-use Rattle.pm_world.specs.State.{share_beside, share_of, tells}
+use Rattle.pm_world.specs.State.{Share, State, answer_to, event_cause, exchange_cause, exchanged}
+use Rattle.pm_world.specs.State.{share_of}
 use Rattle.pm_world.specs.Uncertainty.{since_restart}
 use Rattle.pm_world.proofs.Answered.{is_lost, lost-by, stage-answers, stage_cell, stage_cell-is}
 use Rattle.pm_world.proofs.Causes.{exchange-reads}

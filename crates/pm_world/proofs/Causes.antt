@@ -65,7 +65,7 @@ fault-none : (s : Summary) (asked : Option Job) (accepted : host.Job) → option
 fault-none s None accepted is h = cc
 fault-none s (Some asked) accepted is h = accepted-free s asked accepted is h
 
--- and so of each event
+-- the job that an event without a cause asks for has no fault
 pub job-free : (s : State) (event : Event) (job : host.Job) → asked s event ≡ Some job → event_cause s event ≡ None →
     job_fault s.host job ≡ None
 job-free s event job is h = fault-none s.host (asked_by event) job is
@@ -78,7 +78,7 @@ asked-beside s (Finish acked) job is = cc
 asked-beside s (Exchange arrival back) job is = cc
 asked-beside s event job is = refl
 
--- and an order in microvolts with a job has a word
+-- an order in microvolts with a job has a word
 pub asked-word : (s : State) (event : Event) (job : host.Job) → asked s event ≡ Some job → HasWord s event
 asked-word s (OrderMicro cell x) job is = go (micro_word s.host cell x) is where
   go : (word : Option ℕ) → option_map (λ w. host.Order cell w) word ≡ Some job → IsSome word
@@ -91,13 +91,13 @@ pub asked-share : (s : State) (event : Event) (job : host.Job) → asked s event
     share_of s event ≡ tells (host.Accepted job)
 asked-share s event job is = ap (λ o. option_map_or (λ j. tells (host.Accepted j)) o (share_beside s event)) is
 
--- and this is all that it does
+-- an event that asks for a job does nothing else
 pub asked-next : (s : State) (event : Event) (job : host.Job) → asked s event ≡ Some job →
     next s event ≡ counted (shared s (tells (host.Accepted job)))
 unfolding next
 asked-next s event job is = ap (λ share. counted (shared s share)) (asked-share s event job is)
 
--- and any other tells the ends what it does
+-- an event that asks for none tells the ends what it does
 pub beside-next : (s : State) (event : Event) → asked s event ≡ None → next s event ≡ counted (shared s (share_beside s event))
 unfolding next
 beside-next s event is =

@@ -7,8 +7,6 @@ use Rattle.pm_host.specs.Marks.{marks}
 use Rattle.pm_host.specs.Refusals.{IsSetup}
 use Rattle.pm_host.specs.Summary.{possible_at}
 use Rattle.pm_world.specs.declared.event.Event.{Event}
-use Rattle.pm_world.specs.declared.openness.Openness.{Openness}
-use Rattle.pm_world.specs.declared.way.Way.{Way}
 use Rattle.pm_world.specs.declared.way.Way.TheVariants.{Off}
 use Rattle.pm_world.specs.Laws.{LivesAreFollowed, OpenListsAreFollowed}
 use Rattle.pm_world.specs.Life.{AreTakenFrom, after_all, found_by, life}
@@ -35,7 +33,7 @@ open-found lives lived opens config passes (event ∷ before) sound made (taken,
     ∙ (ap (λ (s : State). stays_open (left_by config passes before) event (possible_at s.host Protect)) (sym from.1)
     ∙ sym (opens.more config passes before event (lived.taken config passes (event ∷ before) sound made from.0)))
 
--- so does one that looks for an order on its way
+-- a run that looks for an order on its way finds it
 pub way-found : LivesAreFollowed → WaysAreFollowed → (config : Config) (passes : ℕ) (events : List Event) →
     IsSound config → IsSetup (setup_of config passes) → AreTakenFrom (start config passes) events →
     found_by (λ way event world. way_after world event way) Off (start config passes) events ≡ way_of config passes events

@@ -83,7 +83,7 @@ more-beside laws {config = config} {passes = passes} {before = before} {events =
     }
 more-beside laws event fixed lived is so_far = cc
 
--- and one after another
+-- events beside it, one after another
 all-beside : Below → {config : Config} {passes : ℕ} (before : List Event) {cell : Cell} {word pass : ℕ} (between : List Event) →
     ((events : List Event) → Fixed (now config passes events) cell word) →
     IsLived config passes (between ++ before) → list_all is_beside between ≡ true →
@@ -191,7 +191,7 @@ host-beside laws events (Reading output code value) lived is =
     record { summary = quiet.host; entries = quiet.entries }
 host-beside laws events event lived is = cc
 
--- and one after another
+-- events beside it, one after another
 pub hosts-beside : Below → {config : Config} {passes : ℕ} (before between : List Event) → IsLived config passes (between ++ before) →
     list_all is_beside between ≡ true → LeavesHost config passes before (between ++ before)
 hosts-beside laws before [] lived all = record { summary = refl; entries = refl }

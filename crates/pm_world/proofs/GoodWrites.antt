@@ -81,7 +81,7 @@ deliver-keeps laws {config = config} {passes = passes} {events = events} {cell =
         ∙ ap (words_taken (words_at config passes events) (store_at config passes events))
         (none (taken_at config passes events (Deliver arrival)) refl)
 
--- so does no event beside it
+-- an event beside such a write moves no word
 beside-keeps : Below → {config : Config} {passes : ℕ} {events : List Event} {cell : Cell} {word pass : ℕ} (event : Event) →
     IsLived config passes (event ∷ events) → is_beside event ≡ true → (now config passes events).host.stage ≡ Some (Writes cell word pass) →
     is_allowed (held_after config passes events Protect) (cell_code cell) ≡ false →

@@ -12,18 +12,15 @@ use Rattle.pm_device.specs.History.{now as device_now}
 use Rattle.pm_device.specs.Start.{IsSound}
 use Rattle.pm_host.specs.declared.job_end.JobEnd.{JobEnd}
 use Rattle.pm_host.specs.Now.{now as host_now, AreTold}
-use Rattle.pm_host.specs.Refusals.{IsSetup, job_fault, may_come, sends_write}
+use Rattle.pm_host.specs.Refusals.{IsSetup, may_come, sends_write}
 use Rattle.pm_host.specs.Summary.{Summary, step_by, sending_in}
 use Rattle.pm_host.specs.Transcript as host
 use Rattle.pm_world.specs.Below.{Below}
 use Rattle.pm_world.specs.declared.event.Event.{Event}
-use Rattle.pm_world.specs.declared.event.Event.TheVariants.{Deliver, Finish, Exchange, RestartHost}
-use Rattle.pm_world.specs.declared.arrival.Arrival.{Arrival}
-use Rattle.pm_world.specs.declared.back.Back.{Back}
 use Rattle.pm_world.specs.declared.cause.Cause.TheVariants.{WrongKind}
 use Rattle.pm_world.specs.Setup.{setup_of, start}
-use Rattle.pm_world.specs.State.{State, Share, asked, share_of, share_beside, tells, delivered, exchanged, shared, counted, next, end_by}
-use Rattle.pm_world.specs.State.{end_after, host_after, device_after, rule, event_cause, finish_cause, exchange_cause, IsTaken}
+use Rattle.pm_world.specs.State.{State, Share, share_of, shared, counted, next, end_by}
+use Rattle.pm_world.specs.State.{end_after, host_after, device_after, event_cause, finish_cause, exchange_cause, IsTaken}
 use Rattle.pm_world.proofs.Causes.{exchange-reads, rule-none, taken-free, job-free}
 use Rattle.pm_world.proofs.Ends.{state}
 use Rattle.pm_world.proofs.Shares.{IsShare, begins, exchanges, finishes, restarts_host as host_restarts, share-is}
@@ -37,7 +34,7 @@ are-legal config passes [] taken = tt
 are-legal config passes (event ∷ before) (taken, all) =
     (record { free = taken-free (now config passes before) event taken; word = taken.word }, are-legal config passes before all)
 
--- so events that were taken were lived through
+-- events that were taken were lived through
 pub lived-by : (config : Config) (passes : ℕ) (events : List Event) → IsSound config → IsSetup (setup_of config passes) →
     AreTaken config passes events → IsLived config passes events
 lived-by config passes events sound made taken = record { sound = sound; made = made; legal = are-legal config passes events taken }
@@ -178,7 +175,7 @@ pub now-config : (config : Config) (passes : ℕ) (events : List Event) → (now
 unfolding now state_of device_now
 now-config config passes events = refl
 
--- and the setup
+-- no event changes the host's setup
 pub now-setup : (config : Config) (passes : ℕ) (events : List Event) → (now config passes events).host.setup ≡ setup_of config passes
 unfolding now state_of host_now
 now-setup config passes events = refl

@@ -1,13 +1,12 @@
 -- An order that differs never took: while it is open its cell has the word of before, or the ordered one, which it
 -- then keeps; and the word that was read is the cell's.
-use Rattle.std.proofs.Common.{◌≡◌, ◌≢◌, ◌⊎◌, inl, inr, ℕ, Bool, true, false, cond, not, List, [], ◌∷◌, ◌++◌, Option, Some, None}
+use Rattle.std.proofs.Common.{◌≡◌, ◌≢◌, ◌⊎◌, inl, inr, ℕ, Bool, true, false, cond, List, [], ◌∷◌, ◌++◌, Option, Some, None}
 use Rattle.std.proofs.Common.{is_some, option_map, option_and_then, refl, sym, ◌∙◌, ap, subst}
 use Rattle.std.specs.Prelude.{IsSomeAnd}
 use Rattle.std.specs.List.{list_any}
 use Rattle.std.proofs.lemmas.Bool.{false≢true}
 use Rattle.std.proofs.lemmas.Option.{same_Some}
 use Rattle.pm_table.specs.declared.cell.Cell.{Cell}
-use Rattle.pm_table.specs.declared.cell.Cell.TheVariants.{Out, Protect}
 use Rattle.pm_frame.specs.declared.message.Message.{Message}
 use Rattle.pm_frame.specs.Layout.{is_read_message}
 use Rattle.pm_model.specs.declared.pending_job.PendingJob.{PendingJob}
@@ -29,7 +28,6 @@ use Rattle.pm_host.specs.Transcript as host
 use Rattle.pm_world.specs.Below.{Below}
 use Rattle.pm_world.specs.declared.arrival.Arrival.{Arrival}
 use Rattle.pm_world.specs.declared.back.Back.{Back}
-use Rattle.pm_world.specs.declared.cause.Cause.TheVariants.{WrongKind}
 use Rattle.pm_world.specs.declared.event.Event.{Event}
 use Rattle.pm_world.specs.declared.event.Event.TheVariants.{Deliver, Finish, Exchange, RestartDevice, Reading}
 use Rattle.pm_world.specs.Confirmed.{restarts_converter}
@@ -37,7 +35,7 @@ use Rattle.pm_world.specs.Ended.{begins_other, DiffersNeverTook}
 use Rattle.pm_world.specs.Life.{life, now, state_of}
 use Rattle.pm_world.specs.Retelling.{open_pending, pending_of, taken_at}
 use Rattle.pm_world.specs.Setup.{setup_of}
-use Rattle.pm_world.specs.State.{State, share_of, exchanged, exchange_cause, next, rule}
+use Rattle.pm_world.specs.State.{State, share_of, exchanged, exchange_cause, next}
 use Rattle.pm_world.proofs.Causes.{exchange-reads}
 use Rattle.pm_world.proofs.Hearings.{write-kind}
 use Rattle.pm_world.proofs.HeldWords.{knows, reads-true}
@@ -258,7 +256,7 @@ goes-once laws config passes before event cell word lived alone steady so_far =
           goes-frame laws config passes before event cell word entry lived alone is
           (open-is (host.Order cell word) _ told.open' (goes-open cell word (now config passes before) so_far)) _ refl told.tells
 
--- and over any number of them
+-- an order that didn't take goes on so over any number of events
 goes-on : Below → (config : Config) (passes : ℕ) (span before : List Event) (cell : Cell) (word : ℕ) →
     IsLived config passes (span ++ before) → list_any begins_other span ≡ false → list_any restarts_converter span ≡ false →
     OrderGoes cell word (now config passes before) → OrderGoes cell word (now config passes (span ++ before))
@@ -280,7 +278,7 @@ moves-once laws config passes before event cell word lived alone steady (inl is)
 moves-once laws config passes before event cell word lived alone steady (inr (over, differs)) =
     inl (idle-moves laws config passes before event cell lived steady over)
 
--- so where it has another at the end, it had that throughout
+-- where the cell has another word at the end, it had that throughout
 had-before : Below → (config : Config) (passes : ℕ) (later before : List Event) (cell : Cell) (word read : ℕ) →
     IsLived config passes (later ++ before) → list_any begins_other later ≡ false → list_any restarts_converter later ≡ false →
     OrderGoes cell word (now config passes before) → read ≢ word →

@@ -1,5 +1,5 @@
 -- The events of a run, as far as it has come, and how many of them were taken.
-use Rattle.std.proofs.Common.{arith, ◌≡◌, ◌≤◌, ℕ, List, length, reverse, take, Option, Some, None, refl, ◌∙◌, ap}
+use Rattle.std.proofs.Common.{arith, ◌≡◌, ◌≤◌, ℕ, List, length, reverse, take, Option, Some, None, ◌∙◌, ap}
 use Rattle.std.proofs.lemmas.List.{length-reverse, length-take}
 use Rattle.pm_device.specs.declared.config.Config.{Config}
 use Rattle.pm_world.specs.declared.event.Event.{Event}
@@ -26,7 +26,7 @@ pub run-room : (config : Config) (passes : ℕ) (events : List Event) (stop : Op
 run-room config passes events stop =
     let all = now-taken config passes (taken_events events stop) in let few = taken-few events stop in omega arith
 
--- and of the world that it gives
+-- the world that a run gives took as many events as there were
 pub run-taken : (config : Config) (passes : ℕ) (events : List Event) (world : State) → world ≡ now config passes events →
     world.taken ≡ length events
 run-taken config passes events world is = ap (λ (s : State). s.taken) is ∙ now-taken config passes events
