@@ -3,9 +3,7 @@
 
 ghost use Rattle.std.specs.Prelude.{◌≡◌, ◌∷◌, ◌<◌, ℕ, Some, false, IfOk, OnOk, OnSome, reverse};
 ghost use Rattle.std.specs.List.{list_any};
-ghost use Rattle.pm_device.specs.Start.{IsSound};
 ghost use Rattle.pm_host.specs.Marks.{marks};
-ghost use Rattle.pm_host.specs.Refusals.{IsSetup};
 ghost use Rattle.pm_limits.specs.declared.band.Band.{Band};
 ghost use Rattle.pm_limits.specs.declared.side.Side.{Side};
 ghost use Rattle.pm_limits.specs.Band.{InBand, band_at, side_end};
@@ -13,7 +11,8 @@ ghost use Rattle.pm_world.specs.Bands.{AreShort, BandStands, end_choices};
 ghost use Rattle.pm_laws.specs.ByName.{IsReached};
 ghost use Rattle.pm_world.specs.Confirmed.{restarts_converter};
 ghost use Rattle.pm_world.specs.Honest.{IsSpelled};
-ghost use Rattle.pm_world.specs.Life.{AreTaken, life, now};
+ghost use Rattle.pm_world.specs.Life.{life, now};
+ghost use Rattle.pm_world.specs.Lived.{IsLived};
 ghost use Rattle.pm_world.specs.Limited.{commands};
 ghost use Rattle.pm_world.specs.Setup.{setup_of};
 ghost use Rattle.pm_world.specs.Uncertainty.{AreOpen, Leaves, due_before, since_restart, witness_events, witness_start};
@@ -51,8 +50,8 @@ fn short_after_a_run(
     output: u8,
 ) -> Result<Option<World>, SetupFault>
     requires { output < c.count }
-    ensures all { IfOk result (λ found. OnSome found (AreTaken c passes (reverse events.now))) }
-    ensures sound { OnOk result (IsSound c × IsSetup (setup_of c passes) × IsSpelled c) }
+    ensures lived { IfOk result (λ found. OnSome found (IsLived c passes (reverse events.now))) }
+    ensures spelled { OnOk result (IsSpelled c) }
     ensures short { IfOk result (λ found. OnSome found
         (AreShort (now c passes (reverse events.now)).device.words output)) }
 {

@@ -1,15 +1,14 @@
-//! Damage that the packet error code betrays stops no run.
+//! Damage that the packet error code betrays is legal, and stops no run.
 
 ghost use Rattle.std.specs.Prelude.{◌≡◌, ◌∷◌, ◌<◌, ℕ, List, Some, false, true, IfOk, IfSome, OnSome, OnOk, reverse};
 ghost use Rattle.pm_frame.specs.declared.message.Message.{Message};
 ghost use Rattle.pm_frame.specs.Damage.{DifferWithinEight};
-ghost use Rattle.pm_frame.specs.Layout.{AreBytes, is_read_message};
+ghost use Rattle.pm_frame.specs.Fault.{whole_answer};
+ghost use Rattle.pm_frame.specs.Layout.{AreBytes, IsAnswer, IsRequest, IsWrite, is_read_message};
 ghost use Rattle.pm_device.specs.declared.ending.Ending.{Ending};
 ghost use Rattle.pm_device.specs.declared.ending.Ending.TheVariants.{Restart};
 ghost use Rattle.pm_device.specs.Reply.{reply_of};
-ghost use Rattle.pm_device.specs.Start.{IsSound};
 ghost use Rattle.pm_host.specs.Messages.{cell_read};
-ghost use Rattle.pm_host.specs.Refusals.{IsSetup};
 ghost use Rattle.pm_host.specs.Summary.{sending_in};
 ghost use Rattle.pm_table.specs.declared.cell.Cell.{Cell};
 ghost use Rattle.pm_world.specs.declared.arrival.Arrival.TheVariants as arrival;
@@ -17,13 +16,14 @@ ghost use Rattle.pm_world.specs.declared.back.Back.TheVariants as back;
 ghost use Rattle.pm_world.specs.declared.event.Event.TheVariants.{Deliver, Exchange};
 ghost use Rattle.pm_world.specs.Damage.{AreOthers, IsBetrayedDamage};
 ghost use Rattle.pm_world.specs.Legal.{answer_in as spec_answer_in, frame_of};
-ghost use Rattle.pm_world.specs.Life.{AreTaken, now};
-ghost use Rattle.pm_world.specs.Setup.{setup_of};
+ghost use Rattle.pm_world.specs.Life.{now};
+ghost use Rattle.pm_world.specs.Lived.{IsLived};
 ghost use Rattle.pm_world.specs.State.{IsTaken, answer_to, event_limit};
 
 use pm_device::{Config, Converter, Ending as End};
 use pm_world::{
-    Event, SetupFault, World, answer_in, betrayed_damage_is_taken, lives_are_followed,
+    Event, SetupFault, World, answer_in, betrayed_damage_is_legal, betrayed_damage_is_taken,
+    events_are_lived, is_legal_hearing, is_legal_return, lives_are_followed,
     own_requests_are_answered,
 };
 
@@ -144,12 +144,56 @@ pub fn answers_in_bytes(device: &Converter, bytes: &[u8])
     let _ = answer_in(&device.reply(bytes, End::Restart));
 }
 
+/// A write that is damaged so is a legal hearing, however it ends.
+pub fn a_damaged_hearing(frame: &[u8], bytes: &[u8], ending: End) -> bool
+    ensures { (addr : ℕ) (message : Message) → IsWrite addr message frame.now →
+        IsBetrayedDamage frame.now bytes.now → result ≡ true }
+{
+    // Hands its law to the prover.
+    betrayed_damage_is_legal();
+    is_legal_hearing(frame, bytes, ending)
+}
+
+/// An answer to the host's own request that is damaged so is a legal return.
+pub fn a_damaged_return(
+    request: &[u8],
+    needed: usize,
+    whole: bool,
+    answer: &[u8],
+    bytes: &[u8],
+) -> bool
+    ensures { (addr : ℕ) (asked : Message) (payload : List ℕ) → needed ≡ whole_answer asked →
+        IsRequest addr asked request.now → IsAnswer addr asked payload answer.now →
+        IsBetrayedDamage answer.now bytes.now → result ≡ true }
+{
+    // Hands its law to the prover.
+    betrayed_damage_is_legal();
+    is_legal_return(request, needed, whole, answer, bytes)
+}
+
+/// Whatever a converter answers to a request that is damaged within eight neighbouring bits is a legal return.
+pub fn an_answer_to_a_damaged_request(
+    device: &Converter,
+    request: &[u8],
+    needed: usize,
+    whole: bool,
+    heard: &[u8],
+) -> bool
+    ensures { (asked : Message) → needed ≡ whole_answer asked → AreOthers request.now heard.now →
+        DifferWithinEight request.now heard.now → result ≡ true }
+{
+    // Hands its law to the prover.
+    betrayed_damage_is_legal();
+    let reply = device.reply(heard, End::Restart);
+    let answer = answer_in(&reply);
+    is_legal_return(request, needed, whole, answer, answer)
+}
+
 // The world after these events, all of which were taken, and which aren't a million.
 fn ran(c: Config, passes: u8, events: &[Event]) -> Result<Option<World>, SetupFault>
     ensures now { IfOk result (λ found. IfSome found (λ world. world ≡ now c passes (reverse events.now))) }
-    ensures all { IfOk result (λ found. OnSome found (AreTaken c passes (reverse events.now))) }
+    ensures lived { IfOk result (λ found. OnSome found (IsLived c passes (reverse events.now))) }
     ensures room { IfOk result (λ found. OnSome found ((now c passes (reverse events.now)).taken < event_limit)) }
-    ensures sound { OnOk result (IsSound c × IsSetup (setup_of c passes)) }
 {
     let (world, stop) = World::run(c, passes, events)?;
     if stop.is_some() || events.len() >= 1_000_000 {
@@ -166,13 +210,13 @@ fn ran_and_stepped(
     more: &Event,
 ) -> Result<Option<World>, SetupFault>
     ensures now { IfOk result (λ found. IfSome found (λ world. world ≡ now c passes (more.now ∷ reverse events.now))) }
-    ensures all { IfOk result (λ found. OnSome found (AreTaken c passes (more.now ∷ reverse events.now))) }
+    ensures lived { IfOk result (λ found. OnSome found (IsLived c passes (more.now ∷ reverse events.now))) }
     ensures room { IfOk result (λ found. OnSome found
         ((now c passes (more.now ∷ reverse events.now)).taken < event_limit)) }
-    ensures sound { OnOk result (IsSound c × IsSetup (setup_of c passes)) }
 {
-    // Hands the prover what a step makes of a life.
+    // These hand their laws to the prover.
     lives_are_followed();
+    events_are_lived();
     let (mut world, stop) = World::run(c, passes, events)?;
     if stop.is_some() || events.len() >= 1_000_000 {
         return Ok(None);

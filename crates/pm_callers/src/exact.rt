@@ -20,8 +20,8 @@ use pm_host::Possible;
 use pm_laws::laws_by_name;
 use pm_table::Cell;
 use pm_world::{
-    Event, SetupFault, World, answers_come_in_bytes, lists_say_enough, lives_are_followed,
-    open_lists_are_followed, possible_words_are_exact, run_open,
+    Event, SetupFault, World, answers_come_in_bytes, events_are_lived, lists_say_enough,
+    lives_are_followed, open_lists_are_followed, possible_words_are_exact, run_open,
 };
 
 /// Let the converter not restart in these events, and WRITE_PROTECT be ordered and read as 00h alone. Then words that
@@ -185,6 +185,7 @@ pub fn a_list_that_stays_open(
 {
     // These hand their laws to the prover.
     lives_are_followed();
+    events_are_lived();
     open_lists_are_followed();
     let (mut world, stop, open) = run_open(c, passes, events)?;
     if stop.is_some() || !open {

@@ -20,6 +20,7 @@ ghost use Rattle.pm_world.specs.GoodBus.{GoodFrames};
 ghost use Rattle.pm_world.specs.Honest.{AreFewFrames, FormatsAgree, IsSpelled, MicrosAreNearest, OrdersGoThrough};
 ghost use Rattle.pm_world.specs.Setup.{setup_fault, setup_of};
 ghost use Rattle.pm_world.specs.Life.{AreTaken, now};
+ghost use Rattle.pm_world.specs.Lived.{IsLived};
 ghost use Rattle.pm_world.specs.Limited.{StaysLimited, commands};
 ghost use Rattle.pm_world.specs.Moves.{MovesByTheOpenJob};
 ghost use Rattle.pm_world.specs.Possible.{PossibleIsHeld, SeenIsTrue};
@@ -29,16 +30,17 @@ use pm_device::Config;
 use pm_host::Standing;
 use pm_table::Cell as Place;
 use pm_world::{
-    Event, SetupFault, World, bands_are_held, confirmed_settings_are_held, frames_are_few,
-    good_frames_end_jobs, honest_orders_go_through, learned_formats_are_true, lives_are_followed,
-    lives_are_orders, lives_stay_limited, possible_words_are_held, settings_move_by_the_open_job,
-    words_are_short,
+    Event, SetupFault, World, bands_are_held, causes_decide, confirmed_settings_are_held,
+    events_are_lived, frames_are_few, good_frames_end_jobs, honest_orders_go_through,
+    learned_formats_are_true, lives_are_followed, lives_are_orders, lives_stay_limited,
+    possible_words_are_held, settings_move_by_the_open_job, words_are_short,
 };
 
 /// Runs the events; `None` where one of them isn't taken.
 pub fn run_all(c: Config, passes: u8, events: &[Event]) -> Result<Option<World>, SetupFault>
     ensures now { IfOk result (λ found. IfSome found (λ world. world ≡ now c passes (reverse events.now))) }
     ensures all { IfOk result (λ found. OnSome found (AreTaken c passes (reverse events.now))) }
+    ensures lived { IfOk result (λ found. OnSome found (IsLived c passes (reverse events.now))) }
     ensures config { IfOk result (λ found. IfSome found (λ world. world.device.config ≡ c)) }
     ensures sound { OnOk result (IsSound c × IsSetup (setup_of c passes) × IsSpelled c) }
     ensures short { OnOk result (StartsShort c) }
@@ -59,13 +61,15 @@ pub fn run_and_step(
 ) -> Result<Option<World>, SetupFault>
     ensures now { IfOk result (λ found. IfSome found (λ world. world ≡ now c passes (more.now ∷ reverse events.now))) }
     ensures all { IfOk result (λ found. OnSome found (AreTaken c passes (more.now ∷ reverse events.now))) }
+    ensures lived { IfOk result (λ found. OnSome found (IsLived c passes (more.now ∷ reverse events.now))) }
     ensures config { IfOk result (λ found. IfSome found (λ world. world.device.config ≡ c)) }
     ensures sound { OnOk result (IsSound c × IsSetup (setup_of c passes) × IsSpelled c) }
     ensures short { OnOk result (StartsShort c) }
     ensures bytes { IfOk result (λ found. OnSome found (CarryBytes (more.now ∷ reverse events.now))) }
 {
-    // Hands the prover what a step makes of a life.
+    // These hand their laws to the prover.
     lives_are_followed();
+    events_are_lived();
     let (mut world, stop) = World::run(c, passes, events)?;
     if stop.is_some() {
         return Ok(None);
@@ -79,14 +83,16 @@ pub fn run_and_step(
 /// Lets one more event happen in a world that is what some events made of it, however these were chosen; whether it was
 /// taken.
 pub fn go_on(world: &mut World, c: Config, passes: u8, more: &Event) -> bool
-    ensures all { (before : List Happening) → IsSound c → IsSetup (setup_of c passes) → AreTaken c passes before →
-        world.old ≡ now c passes before → result ≡ true → AreTaken c passes (more.now ∷ before) }
-    ensures now { (before : List Happening) → IsSound c → IsSetup (setup_of c passes) → AreTaken c passes before →
-        world.old ≡ now c passes before → result ≡ true → world.new ≡ now c passes (more.now ∷ before) }
+    ensures lived { (before : List Happening) → IsLived c passes before → world.old ≡ now c passes before →
+        result ≡ true → IsLived c passes (more.now ∷ before) }
+    ensures now { (before : List Happening) → IsLived c passes before → world.old ≡ now c passes before →
+        result ≡ true → world.new ≡ now c passes (more.now ∷ before) }
     ensures bytes { (before : List Happening) → CarryBytes before → CarryBytes (more.now ∷ before) }
 {
-    // Hands the prover what a step makes of a life.
+    // These hand their laws to the prover.
     lives_are_followed();
+    events_are_lived();
+    causes_decide();
     world.step(more).is_ok()
 }
 
@@ -209,8 +215,8 @@ fn short_after_a_step(
     output: u8,
 ) -> Result<Option<World>, SetupFault>
     requires { output < c.count }
-    ensures all { IfOk result (λ found. OnSome found (AreTaken c passes (more.now ∷ reverse events.now))) }
-    ensures sound { OnOk result (IsSound c × IsSetup (setup_of c passes) × IsSpelled c) }
+    ensures lived { IfOk result (λ found. OnSome found (IsLived c passes (more.now ∷ reverse events.now))) }
+    ensures spelled { OnOk result (IsSpelled c) }
     ensures short { IfOk result (λ found. OnSome found
         (AreShort (now c passes (more.now ∷ reverse events.now)).device.words output)) }
 {

@@ -1,7 +1,7 @@
 //! What frames that nothing disturbs make of an open job, whatever went before: of the newest events by themselves, for
 //! a caller that goes on event by event.
 
-ghost use Rattle.std.specs.Prelude.{◌≡◌, ◌∷◌, ℕ, Bool, List, Some, true, IfOk, OnSome, reverse};
+ghost use Rattle.std.specs.Prelude.{◌≡◌, ◌≤◌, ◌+◌, ◌∷◌, ℕ, Bool, List, None, Some, true, IfOk, OnSome, length, reverse};
 ghost use Rattle.pm_table.specs.declared.cell.Cell.{Cell as AnyCell};
 ghost use Rattle.pm_table.specs.declared.cell.Cell.TheVariants.{Protect};
 ghost use Rattle.pm_table.specs.Cell.{cell_code};
@@ -12,13 +12,17 @@ ghost use Rattle.pm_host.specs.declared.stage.Stage.TheVariants.{Asks, Reads, Se
 ghost use Rattle.pm_host.specs.Messages.{cell_read, cell_write, command_message};
 ghost use Rattle.pm_world.specs.declared.event.Event.{Event as Happening};
 ghost use Rattle.pm_laws.specs.ByName.{CheckEnds, CommandEnds, PassEnds, ReadBackEnds};
+ghost use Rattle.pm_host.specs.Frames.{frames_left};
+ghost use Rattle.pm_host.specs.declared.stage.Stage.{Stage as AnyStage};
+ghost use Rattle.pm_world.specs.GoodTurns.{ComeWhole, ComesWhole, Turns, good_end, turn_of};
+ghost use Rattle.pm_world.specs.Life.{now};
 ghost use Rattle.pm_world.specs.GoodBus.{GoodFrames, IsRead, IsWritten, held_after, stage_after};
 ghost use Rattle.pm_world.specs.Legal.{frame_of};
 
 use crate::further::{run_all, run_and_step};
 use pm_device::Config;
 use pm_laws::laws_by_name;
-use pm_world::{Event, SetupFault, World, good_frames_end_jobs};
+use pm_world::{Event, SetupFault, World, good_frames_end_jobs, open_jobs_end};
 
 /// Where the last events of a run are an undisturbed read of a cell that a check asks for, the check is done. So is an
 /// order that is to be read back, where the converter holds its word.
@@ -120,6 +124,42 @@ pub fn a_write_after_a_step(
         Some(world) => Ok(Some(world)),
         None => Ok(None),
     }
+}
+
+/// Where the last events of a run are a frame of the open job that comes whole, whichever job it is, that ends or goes on
+/// as its stage says.
+pub fn a_frame_that_comes_whole(
+    c: Config,
+    passes: u8,
+    events: &[Event],
+) -> Result<Option<World>, SetupFault>
+    ensures { IfOk result (λ found. OnSome found ((before : List Happening) (stage : AnyStage) (acked : Bool) →
+        stage_after c passes before ≡ Some stage → ComesWhole c passes acked stage before (reverse events.now) →
+        Turns c passes (reverse events.now) (turn_of c passes before acked stage))) }
+{
+    // Hands its law to the prover.
+    open_jobs_end();
+    run_all(c, passes, events)
+}
+
+/// Where they are all its frames, of which each comes whole, there are no more than the job had left, and it ends as its
+/// stage says.
+pub fn frames_that_all_come_whole(
+    c: Config,
+    passes: u8,
+    events: &[Event],
+) -> Result<Option<World>, SetupFault>
+    ensures few { IfOk result (λ found. OnSome found ((before : List Happening) (frames : List Bool) →
+        ComeWhole c passes frames before (reverse events.now) →
+        length frames + frames_left (now c passes (reverse events.now)).host ≤ frames_left (now c passes before).host)) }
+    ensures ends { IfOk result (λ found. OnSome found ((before : List Happening) (stage : AnyStage) (frames : List Bool) →
+        stage_after c passes before ≡ Some stage → ComeWhole c passes frames before (reverse events.now) →
+        stage_after c passes (reverse events.now) ≡ None →
+        (now c passes (reverse events.now)).end ≡ Some (good_end c passes before stage))) }
+{
+    // Hands its law to the prover.
+    open_jobs_end();
+    run_all(c, passes, events)
 }
 
 // What undisturbed frames make of jobs, after a run.

@@ -8,14 +8,15 @@
 //!
 //! - `further`: a world that goes on after a run has each promise of `run` for the longer list of events too.
 //! - `ends`: what the host says when a job begins and ends, and what an order that differs says of the converter.
-//! - `damage`: damage that the packet error code betrays stops no run.
+//! - `damage`: damage that the packet error code betrays is legal, and stops no run.
 //! - `exact`: what the host calls possible is exact, and the words that show it can be had in a world.
 //! - `bands`: an output commands a voltage in the band that the host gives, which is exact where the possible words are.
+//! - `limits`: limits that allow the start words of a usual part, by computing with them.
 //! - `orders`: an order that nothing disturbs goes through, and a run says which one it was.
-//! - `good`: what frames that nothing disturbs make of an open job.
+//! - `good`: what frames that nothing disturbs make of an open job, and how it ends once all its frames come whole.
 //! - `whole`: a job that is open after a run ends by frames that come whole.
 //! - `moves`: what moves a setting or the store.
-//! - `legal`: events that nothing is against, whoever lets them happen.
+//! - `own_loop`: events that a caller's own loop lets happen.
 #![tactic(auto)]
 
 pub mod bands;
@@ -24,7 +25,8 @@ pub mod ends;
 pub mod exact;
 pub mod further;
 pub mod good;
-pub mod legal;
+pub mod limits;
 pub mod moves;
 pub mod orders;
+pub mod own_loop;
 pub mod whole;

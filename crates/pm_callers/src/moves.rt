@@ -4,7 +4,7 @@ ghost use Rattle.std.specs.Prelude.{◌≡◌, ◌⊎◌, ◌∷◌, IfOk, OnSom
 ghost use Rattle.pm_model.specs.Settings.{word_at};
 ghost use Rattle.pm_table.specs.Cell.{IsCell};
 ghost use Rattle.pm_table.specs.declared.cell.Cell.{Cell as AnyCell};
-ghost use Rattle.pm_world.specs.Moves.{MovesBy, StoreIsOfOneMoment, StoresBy, store_at, words_at};
+ghost use Rattle.pm_world.specs.Moves.{MovesBy, MovesByTheOpenJob, StoreIsOfOneMoment, StoresBy, store_at, words_at};
 
 use crate::further::run_and_step;
 use pm_device::Config;
@@ -26,8 +26,21 @@ pub fn what_a_step_moves(
         ⊎ StoresBy c passes (reverse events.now) (store_at c passes (more.now ∷ reverse events.now)) more.now)) }
     ensures moment { IfOk result (λ found. OnSome found (StoreIsOfOneMoment c passes (more.now ∷ reverse events.now))) }
 {
-    // These hand their laws to the prover.
-    settings_move_by_the_open_job();
+    // Hands its law to the prover.
     newest_events_are_parts();
+    moves_after_a_step(c, passes, events, more)
+}
+
+// Settings and the store move by the open job.
+fn moves_after_a_step(
+    c: Config,
+    passes: u8,
+    events: &[Event],
+    more: &Event,
+) -> Result<Option<World>, SetupFault>
+    ensures { IfOk result (λ found. OnSome found (MovesByTheOpenJob c passes (more.now ∷ reverse events.now))) }
+{
+    // Hands its law to the prover.
+    settings_move_by_the_open_job();
     run_and_step(c, passes, events, more)
 }

@@ -11,6 +11,7 @@ ghost use Rattle.pm_world.specs.declared.event.Event.{Event as Happening};
 ghost use Rattle.pm_laws.specs.ByName.{GoesThrough, IsAhead};
 ghost use Rattle.pm_world.specs.Honest.{honest, sent_by};
 ghost use Rattle.pm_world.specs.Life.{AreTaken, now};
+ghost use Rattle.pm_world.specs.Lived.{IsLived};
 ghost use Rattle.pm_world.specs.Setup.{setup_of};
 ghost use Rattle.pm_world.specs.State.{asked, event_limit};
 ghost use Rattle.pm_world.specs.Way.{HasGone, way_of};
@@ -18,7 +19,9 @@ ghost use Rattle.pm_world.specs.Way.{HasGone, way_of};
 use pm_device::Config;
 use pm_laws::laws_by_name;
 use pm_table::Cell;
-use pm_world::{Event, SetupFault, Way, World, lives_are_followed, run_way, ways_are_followed};
+use pm_world::{
+    Event, SetupFault, Way, World, events_are_lived, lives_are_followed, run_way, ways_are_followed,
+};
 
 /// Where the events, whatever they are, end with an order that nothing disturbed, it went through; the run says which.
 pub fn an_order_that_went_through(
@@ -62,11 +65,11 @@ fn way_and_step(
     more: &Event,
 ) -> Result<Option<Way>, SetupFault>
     ensures way { IfOk result (λ found. IfSome found (λ way. way ≡ way_of c passes (more.now ∷ reverse events.now))) }
-    ensures all { IfOk result (λ found. OnSome found (AreTaken c passes (more.now ∷ reverse events.now))) }
-    ensures sound { OnOk result (IsSound c × IsSetup (setup_of c passes)) }
+    ensures lived { IfOk result (λ found. OnSome found (IsLived c passes (more.now ∷ reverse events.now))) }
 {
     // These hand their laws to the prover.
     lives_are_followed();
+    events_are_lived();
     ways_are_followed();
     match run_way(c, passes, events)? {
         (mut world, None, way) => {
@@ -184,8 +187,9 @@ fn ran_and_stepped(
         more.now ∷ reverse events.now ≡ lived → length lived + 2 ≤ event_limit)) }
     ensures sound { OnOk result (IsSound c × IsSetup (setup_of c passes)) }
 {
-    // Hands the prover what a step makes of a life.
+    // These hand their laws to the prover.
     lives_are_followed();
+    events_are_lived();
     let (mut world, stop) = World::run(c, passes, events)?;
     if stop.is_some() || events.len() >= 1_000_000 {
         return Ok(None);

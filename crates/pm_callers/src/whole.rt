@@ -5,8 +5,6 @@ ghost use Rattle.std.specs.Prelude.{◌≡◌, ◌∷◌, Some, true, IfOk, IfSo
 ghost use Rattle.pm_table.specs.declared.cell.Cell.TheVariants.{Protect};
 ghost use Rattle.pm_table.specs.Cell.{cell_code};
 ghost use Rattle.pm_table.specs.Protection.{is_allowed as spec_is_allowed};
-ghost use Rattle.pm_device.specs.Start.{IsSound};
-ghost use Rattle.pm_host.specs.Refusals.{IsSetup};
 ghost use Rattle.pm_host.specs.declared.question.Question.TheVariants.{Word};
 ghost use Rattle.pm_host.specs.declared.stage.Stage.TheVariants.{Asks, Reads, Sends, Writes};
 ghost use Rattle.pm_host.specs.Messages.{cell_read, cell_write, command_message};
@@ -16,8 +14,7 @@ ghost use Rattle.pm_world.specs.declared.event.Event.TheVariants.{Deliver, Excha
 ghost use Rattle.pm_laws.specs.ByName.{CheckEnds, CommandEnds, PassEnds, ReadBackEnds};
 ghost use Rattle.pm_world.specs.GoodBus.{GoodFrames, IsRead, IsWritten, ReadDone, WentInPass, held_after, stage_after};
 ghost use Rattle.pm_world.specs.Legal.{frame_of};
-ghost use Rattle.pm_world.specs.Life.{AreTaken};
-ghost use Rattle.pm_world.specs.Setup.{setup_of};
+ghost use Rattle.pm_world.specs.Lived.{IsLived};
 
 use crate::further::{go_on, run_all};
 use pm_device::Config;
@@ -80,9 +77,8 @@ fn check_undisturbed(
 fn check_read(c: Config, passes: u8, events: &[Event]) -> Result<Option<(Cell, u8)>, SetupFault>
     ensures stage { IfOk result (λ found. IfSome found (λ check.
         stage_after c passes (reverse events.now) ≡ Some (Asks (Word check.0) check.1))) }
-    ensures all { IfOk result (λ found. OnSome found
-        (AreTaken c passes (Exchange arrival.Whole back.Whole ∷ reverse events.now))) }
-    ensures sound { OnOk result (IsSound c × IsSetup (setup_of c passes)) }
+    ensures lived { IfOk result (λ found. OnSome found (IsLived c passes
+        (Exchange arrival.Whole back.Whole ∷ reverse events.now))) }
 {
     let Some(mut world) = run_all(c, passes, events)? else {
         return Ok(None);
@@ -145,9 +141,8 @@ fn order_read_back(
     ensures stage { IfOk result (λ found. IfSome found (λ order.
         stage_after c passes (reverse events.now) ≡ Some (Reads order.0 order.1 order.2))) }
     ensures held { IfOk result (λ found. IfSome found (λ order. held_after c passes (reverse events.now) order.0 ≡ order.1)) }
-    ensures all { IfOk result (λ found. OnSome found
-        (AreTaken c passes (Exchange arrival.Whole back.Whole ∷ reverse events.now))) }
-    ensures sound { OnOk result (IsSound c × IsSetup (setup_of c passes)) }
+    ensures lived { IfOk result (λ found. OnSome found (IsLived c passes
+        (Exchange arrival.Whole back.Whole ∷ reverse events.now))) }
 {
     let Some(mut world) = run_all(c, passes, events)? else {
         return Ok(None);
@@ -236,9 +231,8 @@ fn pass_sent(
         stage_after c passes (reverse events.now) ≡ Some (Writes order.0 order.1 order.2))) }
     ensures allowed { IfOk result (λ found. IfSome found (λ order.
         spec_is_allowed (held_after c passes (reverse events.now) Protect) (cell_code order.0) ≡ true)) }
-    ensures all { IfOk result (λ found. OnSome found (AreTaken c passes
+    ensures lived { IfOk result (λ found. OnSome found (IsLived c passes
         (Exchange arrival.Whole back.Whole ∷ Finish acked ∷ Deliver arrival.Whole ∷ reverse events.now))) }
-    ensures sound { OnOk result (IsSound c × IsSetup (setup_of c passes)) }
 {
     let Some(mut world) = run_all(c, passes, events)? else {
         return Ok(None);
@@ -306,9 +300,8 @@ fn command_sent(
 ) -> Result<Option<(Command, u8)>, SetupFault>
     ensures stage { IfOk result (λ found. IfSome found (λ sent.
         stage_after c passes (reverse events.now) ≡ Some (Sends sent.0 sent.1))) }
-    ensures all { IfOk result (λ found. OnSome found
-        (AreTaken c passes (Finish true ∷ Deliver arrival.Whole ∷ reverse events.now))) }
-    ensures sound { OnOk result (IsSound c × IsSetup (setup_of c passes)) }
+    ensures lived { IfOk result (λ found. OnSome found (IsLived c passes
+        (Finish true ∷ Deliver arrival.Whole ∷ reverse events.now))) }
 {
     let Some(mut world) = run_all(c, passes, events)? else {
         return Ok(None);

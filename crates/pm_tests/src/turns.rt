@@ -1,6 +1,7 @@
 //! The frame that the host sends at each turn of each job, and how each job ends.
 
 mod eight;
+mod whole;
 
 use crate::checks::{equal, is_true};
 use crate::events::{ACKED, CHECK, LOST, NOT_ACKED, ORDER, READ, READ_LOST, WHOLE};

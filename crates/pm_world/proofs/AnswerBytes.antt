@@ -65,7 +65,7 @@ unfolding residue
 residue-byte zero = omega arith
 residue-byte (suc i) = doubled-byte (residue i)
 
--- so is a sum of remainders,
+-- a sum of remainders is one
 residues-byte : (byte after count : ℕ) → residues_of byte after count < 2 ^ 8
 unfolding residues_of
 residues-byte byte after zero = omega arith
@@ -78,7 +78,7 @@ residues-byte byte after (suc j) =
     one-bit (suc zero) r bit small = omega arith
     one-bit (suc (suc p)) r bit small = absurd (omega arith)
 
--- and so the code
+-- the code of bytes is a byte
 pec-byte : (bytes : List ℕ) → pec_of bytes < 2 ^ 8
 unfolding pec_of
 pec-byte [] = omega arith

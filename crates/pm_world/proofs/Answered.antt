@@ -167,7 +167,7 @@ some-bytes false n = lt-ltb 0 (2 + n) (omega arith)
 abbrev pub is_lost : ℕ → Message → List ℕ → Bool
 is_lost addr request bytes = nat_lt (length bytes) (whole_answer request) || is_betrayed (frame_of addr request) bytes
 
--- so are none
+-- no bytes are lost ones
 none-lost : (addr : ℕ) (request : Message) (bytes : List ℕ) → bytes ≡ [] → is_lost addr request bytes ≡ true
 none-lost addr request bytes e =
     or_left (nat_lt (length bytes) (whole_answer request)) _

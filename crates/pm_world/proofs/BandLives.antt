@@ -167,7 +167,7 @@ accepted byte h = go (0x80 == byte) (0xA8 == byte) (0x94 == byte) refl refl refl
       let it : 0x94 ≡ byte = grind (arith, nat_tests) in subst (λ n. is_operation n ≡ true) it refl
   go false false false a b c h' = cc
 
--- so the words of an end are possible
+-- the words of an end are possible
 voltage-held : (side : Side) (shape : Shape) (output : ℕ) (register : Reg) (possible : Possible) → is_voltage register ≡ true →
     PossibleFilled possible →
     may_hold (Out output register) (end_of side shape (shape_value shape) possible) possible ≡ true
@@ -198,7 +198,7 @@ ends-possible laws {config = config} {passes = passes} {events = events} sides l
     (of-filled (marks (setup_of config passes) (life config passes events).entries) (Out output register)) in
     choice-held (sides output) (shape_for config output) output (known_of s output) register full
 
--- and each output commands its end by them
+-- each output commands its end by these words
 side-is : (side : Side) (shape : Shape) (known : Known) (bytes : List ℕ) (band : Band) → band_with shape known bytes ≡ band →
     end_with side shape known bytes ≡ side_end side band
 side-is Lowest shape known bytes band is = ap (λ (b : Band). b.least) is

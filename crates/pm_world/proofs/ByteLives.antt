@@ -52,7 +52,7 @@ found-below test (suc n) word is = go (test n) (found-below test n word) is wher
   go true before h = let same = same_Some n word h in omega arith
   go false before h = let below = before h in omega arith
 
--- so the word of an order in microvolts has two bytes
+-- the word of an order in microvolts has two bytes
 micro-short : (s : Summary) (cell : Cell) (x : ℤ) (word : ℕ) → micro_word s cell x ≡ Some word → word < 2 ^ 16
 unfolding nearest_word
 micro-short s cell x word is = go (format_at s (output_of cell)) is where
@@ -61,7 +61,7 @@ micro-short s cell x word is = go (format_at s (output_of cell)) is where
   go None h = absurd (none-some word h)
   go (Some shape) h = found-below (is_nearest (shape_value shape) (shape_rank shape) (micros x)) (2 ^ 16) word h
 
--- and so has each word that is ordered
+-- each word that is ordered has two bytes
 ordered-word : {cell other : Cell} {word number : ℕ} → Some (host.Order cell word) ≡ Some (host.Order other number) → word ≡ number
 ordered-word is = cc
 
@@ -170,7 +170,7 @@ AreMeasured (device.Hearing bytes ending ∷ past) = AreMeasured past
 AreMeasured (device.Restarted ∷ past) = AreMeasured past
 AreMeasured (device.Reading output code word ∷ past) = (word < 2 ^ 16) × AreMeasured past
 
--- so are the readings after it
+-- the readings after a past have two bytes
 past-short : (config : Config) (past : List device.Event) → AreMeasured past → AreShort (readings_in config past)
 past-short config [] are = none-short
 past-short config (device.Hearing bytes ending ∷ past) are = past-short config past are
@@ -295,7 +295,7 @@ life-bytes laws replies config passes (event ∷ before) numbers lived (carries,
     (event-tells replies (now config passes before) event (holds laws config passes before numbers (earlier lived) carry) carries)
     (life-bytes laws replies config passes before numbers (earlier lived) carry))
 
--- and so since the host's last restart
+-- what came back since the host's last restart are bytes
 since-bytes : (entries : List host.Entry) → AreOfBytes entries → AreOfBytes (since_restart entries)
 since-bytes [] are = tt
 since-bytes (host.Accepted job ∷ before) are = since-bytes before are

@@ -1,8 +1,7 @@
 -- What came back to the host since its last restart, answer by answer.
-use Rattle.std.proofs.Common.{◌≡◌, ℕ, Bool, true, false, not, cond, ◌||◌, List, [], ◌∷◌, ◌++◌, Option, Some, None, option_map, refl, sym}
+use Rattle.std.proofs.Common.{◌≡◌, ℕ, Bool, true, false, cond, ◌||◌, List, [], ◌∷◌, ◌++◌, Option, Some, None, option_map, refl, sym}
 use Rattle.std.proofs.Common.{◌∙◌, ap, subst, inl, inr}
 use Rattle.std.specs.Prelude.{option_to_list}
-use Rattle.std.specs.Option.{option_map_or, option_or}
 use Rattle.std.proofs.lemmas.Bool.{cases_Bool, or_parts, true≢false}
 use Rattle.std.proofs.lemmas.Option.{none-some, same_Some}
 use Rattle.pm_table.specs.declared.cell.Cell.{Cell}
@@ -30,24 +29,23 @@ use Rattle.pm_world.specs.Below.{Below}
 use Rattle.pm_world.specs.declared.arrival.Arrival.{Arrival}
 use Rattle.pm_world.specs.declared.back.Back.{Back}
 use Rattle.pm_world.specs.declared.event.Event.{Event}
-use Rattle.pm_world.specs.declared.event.Event.TheVariants.{Deliver, Exchange}
-use Rattle.pm_world.specs.declared.cause.Cause.TheVariants.{WrongKind}
 use Rattle.pm_world.specs.Confirmed.{restarts_converter, restarted_since}
 use Rattle.pm_world.specs.Legal.{answer_in, back_bytes, frame_of, heard_bytes, heard_ending, is_heard_whole, is_legal_return}
 use Rattle.pm_world.specs.Life.{life, now, state_of}
 use Rattle.pm_world.specs.Possible.{has_read, restarts_host, restarted_since_host}
 use Rattle.pm_world.specs.Setup.{setup_of}
-use Rattle.pm_world.specs.State.{State, answer_to, asked, event_cause, exchange_cause, exchanged, hearing_cause, return_cause, rule}
-use Rattle.pm_world.specs.State.{share_beside, share_of, tells}
+use Rattle.pm_world.specs.State.{Share, State, answer_to, event_cause, exchange_cause, exchanged}
+use Rattle.pm_world.specs.State.{share_of}
 use Rattle.pm_world.specs.Uncertainty.{since_restart}
 use Rattle.pm_world.proofs.Answered.{is_lost, lost-by, stage-answers, stage_cell, stage_cell-is}
-use Rattle.pm_world.proofs.Causes.{not-false, or-none, rule-none}
+use Rattle.pm_world.proofs.Causes.{exchange-reads}
 use Rattle.pm_world.proofs.HeldWords.{Knows, knows, life-known, reads-true}
 use Rattle.pm_world.proofs.Learned.{exchange-legal}
 use Rattle.pm_world.proofs.Lives.{IsLived, earlier, entries-more, life-told, newest, now-config}
 use Rattle.pm_world.proofs.Seen.{got_bytes, since-started}
 use Rattle.pm_world.proofs.Unread.{restart-told, unread-none}
-use Rattle.pm_world.proofs.Sending.{eight, told-nothing}
+use Rattle.pm_world.proofs.Sending.{eight}
+use Rattle.pm_world.proofs.Shares.{IsShare, exchanges, share-is}
 use Rattle.pm_world.proofs.SinceRestart.{since-same}
 use Rattle.pm_world.proofs.Starts.{IsKin}
 use Rattle.pm_world.proofs.TrueHost.{good-same}
@@ -116,14 +114,6 @@ cell-message : (stage : Stage) (read : Cell) → stage_cell (Some stage) ≡ Som
 cell-message (Reads cell word pass) read e = ap cell_read (same_Some cell read e)
 cell-message (Asks (Word cell) tries) read e = ap cell_read (same_Some cell read e)
 cell-message stage read e = absurd (none-some read e)
-
--- an exchange is of a read
-exchange-reads : (s : State) (arrival : Arrival) (back : Back) (message : Message) → exchange_cause s arrival back (Some message) ≡ None →
-    is_read_message message ≡ true
-exchange-reads s arrival back message free =
-    not-false (is_read_message message) (rule-none (not (is_read_message message)) WrongKind
-    (or-none (rule (not (is_read_message message)) WrongKind)
-    (option_or (hearing_cause s.host.setup.addr message arrival) (return_cause s.device s.host.setup.addr message arrival back)) free).0)
 
 -- what an exchange brings back
 came-back : Below → {s : State} {setup : host.Setup} {entries : List host.Entry} (arrival : Arrival) (back : Back) (stage : Stage) →
@@ -196,7 +186,7 @@ came-back laws {s = s} {setup = setup} {entries = entries} arrival back stage me
 -- whichever event brought it
 got-came : Below → {s : State} {setup : host.Setup} {entries : List host.Entry} (event : Event) (bytes : List ℕ) → Meets s setup entries →
     event_cause s event ≡ None → (share_of s event).told ≡ Some (host.Got bytes) → Came s.device.config s.host bytes
-got-came laws {s = s} event bytes meets free told = by_asked (asked s event) told where
+got-came laws {s = s} event bytes meets free told = by (share-is s event) free told where
   by_stage : (arrival : Arrival) (back : Back) (stage : Option Stage) → s.host.stage ≡ stage →
       exchange_cause s arrival back (option_map stage_message stage) ≡ None →
       (exchanged s arrival back (option_map stage_message stage)).told ≡ Some (host.Got bytes) → Came s.device.config s.host bytes
@@ -205,17 +195,12 @@ got-came laws {s = s} event bytes meets free told = by_asked (asked s event) tol
       subst (λ (entry : host.Entry). Came s.device.config s.host (got_bytes entry)) (same_Some _ (host.Got bytes) told)
       (came-back laws arrival back stage meets e free)
 
-  beside : (event : Event) → event_cause s event ≡ None → (share_beside s event).told ≡ Some (host.Got bytes) →
+  by : {event : Event} {share : Share} → IsShare s event share → event_cause s event ≡ None → share.told ≡ Some (host.Got bytes) →
       Came s.device.config s.host bytes
-  beside (Exchange arrival back) free told =
-      by_stage arrival back s.host.stage refl free told
-  beside (Deliver arrival) free told = absurd (none-some _ (sym (told-nothing s arrival (sending_in s.host)) ∙ told))
-  beside event free told = absurd (cc)
-
-  by_asked : (o : Option host.Job) → (option_map_or (λ j. tells (host.Accepted j)) o (share_beside s event)).told ≡ Some (host.Got bytes) →
-      Came s.device.config s.host bytes
-  by_asked None told = beside event free told
-  by_asked (Some job) told = absurd (cc)
+  by (exchanges arrival back message is) free told =
+      by_stage arrival back s.host.stage refl free
+      (subst (λ o. (exchanged s arrival back o).told ≡ Some (host.Got bytes)) (sym is) told)
+  by share free told = cc
 
 -- what is known of a world while an answer comes back
 life-meets : Below → (config : Config) (passes : ℕ) (events : List Event) → IsLived config passes events →

@@ -1,5 +1,5 @@
 -- Why an event is taken, and the job that it asks for.
-use Rattle.std.proofs.Common.{◌≡◌, ℕ, ℤ, false, Option, Some, None, refl, ap, subst}
+use Rattle.std.proofs.Common.{◌≡◌, ℕ, ℤ, true, false, not, Option, Some, None, refl, ap, subst}
 use Rattle.std.specs.Prelude.{nat_le, option_map, IsSome}
 use Rattle.std.specs.Option.{option_and_then, option_map_or}
 pub use Rattle.std.proofs.lemmas.Bool.{not-false}
@@ -7,6 +7,8 @@ use Rattle.std.proofs.lemmas.Option.{same_Some}
 use Rattle.pm_table.specs.declared.cell.Cell.{Cell}
 use Rattle.pm_table.specs.Cell.{output_of}
 pub use Rattle.pm_table.specs.RuleLemmas.{or-none, rule-none}
+use Rattle.pm_frame.specs.declared.message.Message.{Message}
+use Rattle.pm_frame.specs.Layout.{is_read_message}
 use Rattle.pm_host.specs.declared.fault.HostFault.{HostFault}
 use Rattle.pm_host.specs.declared.job.Job.{Job}
 use Rattle.pm_host.specs.declared.job.Job.TheVariants as job
@@ -16,10 +18,12 @@ use Rattle.pm_host.specs.Summary.{Summary, format_at}
 use Rattle.pm_host.specs.Transcript as host
 use Rattle.pm_world.specs.declared.event.Event.{Event}
 use Rattle.pm_world.specs.declared.event.Event.TheVariants.{Deliver, Exchange, Finish, OrderMicro, RestartDevice}
-use Rattle.pm_world.specs.declared.cause.Cause.TheVariants.{Full}
+use Rattle.pm_world.specs.declared.cause.Cause.TheVariants.{Full, WrongKind}
+use Rattle.pm_world.specs.declared.arrival.Arrival.{Arrival}
+use Rattle.pm_world.specs.declared.back.Back.{Back}
 use Rattle.pm_world.specs.Confirmed.{restarts_converter}
 use Rattle.pm_world.specs.Job.{asked_by, refusal_of}
-use Rattle.pm_world.specs.State.{State, asked, share_of, share_beside, tells, shared, counted, next, rule, refused, event_cause, HasWord}
+use Rattle.pm_world.specs.State.{HasWord, State, asked, counted, event_cause, exchange_cause, next, refused, rule, share_beside, share_of, shared, tells}
 use Rattle.pm_world.specs.State.{cause_beside, cause_of, event_limit, IsTaken}
 
 -- what the host doesn't refuse has no fault
@@ -61,7 +65,7 @@ fault-none : (s : Summary) (asked : Option Job) (accepted : host.Job) → option
 fault-none s None accepted is h = cc
 fault-none s (Some asked) accepted is h = accepted-free s asked accepted is h
 
--- and so of each event
+-- the job that an event without a cause asks for has no fault
 pub job-free : (s : State) (event : Event) (job : host.Job) → asked s event ≡ Some job → event_cause s event ≡ None →
     job_fault s.host job ≡ None
 job-free s event job is h = fault-none s.host (asked_by event) job is
@@ -74,7 +78,7 @@ asked-beside s (Finish acked) job is = cc
 asked-beside s (Exchange arrival back) job is = cc
 asked-beside s event job is = refl
 
--- and an order in microvolts with a job has a word
+-- an order in microvolts with a job has a word
 pub asked-word : (s : State) (event : Event) (job : host.Job) → asked s event ≡ Some job → HasWord s event
 asked-word s (OrderMicro cell x) job is = go (micro_word s.host cell x) is where
   go : (word : Option ℕ) → option_map (λ w. host.Order cell w) word ≡ Some job → IsSome word
@@ -87,13 +91,13 @@ pub asked-share : (s : State) (event : Event) (job : host.Job) → asked s event
     share_of s event ≡ tells (host.Accepted job)
 asked-share s event job is = ap (λ o. option_map_or (λ j. tells (host.Accepted j)) o (share_beside s event)) is
 
--- and this is all that it does
+-- an event that asks for a job does nothing else
 pub asked-next : (s : State) (event : Event) (job : host.Job) → asked s event ≡ Some job →
     next s event ≡ counted (shared s (tells (host.Accepted job)))
 unfolding next
 asked-next s event job is = ap (λ share. counted (shared s share)) (asked-share s event job is)
 
--- and any other tells the ends what it does
+-- an event that asks for none tells the ends what it does
 pub beside-next : (s : State) (event : Event) → asked s event ≡ None → next s event ≡ counted (shared s (share_beside s event))
 unfolding next
 beside-next s event is =
@@ -103,3 +107,10 @@ beside-next s event is =
 pub asked-restarts : (s : State) (event : Event) (job : host.Job) → asked s event ≡ Some job → restarts_converter event ≡ false
 asked-restarts s RestartDevice job is = cc
 asked-restarts s event job is = refl
+
+-- an exchange that nothing is against is of a request
+pub exchange-reads : (s : State) (arrival : Arrival) (back : Back) (message : Message) →
+    exchange_cause s arrival back (Some message) ≡ None → is_read_message message ≡ true
+exchange-reads s arrival back message free =
+    not-false (is_read_message message)
+    (rule-none (not (is_read_message message)) WrongKind (or-none (rule (not (is_read_message message)) WrongKind) _ free).0)

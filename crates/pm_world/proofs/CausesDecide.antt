@@ -61,7 +61,7 @@ taken-by s event = (
   λ (room, none). record { free = free s event room none; word = free-word s event none },
 )
 
--- and events are legal exactly where nothing else is against any of them
+-- events are legal exactly where nothing else is against any of them
 pub legal-by : (config : Config) (passes : ℕ) (events : List Event) → AreLegal config passes events ↔
     ((later before : List Event) (event : Event) → events ≡ later ++ event ∷ before →
     event_cause (now config passes before) event ≡ None)

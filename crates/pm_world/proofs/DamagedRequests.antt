@@ -133,7 +133,7 @@ changed-betrayed bursts {frame = frame} {heard = heard} body spelled others with
     (betrayed-last frame body (pec_of (heard ++ body))
     ∙ not-equal (pec_of (heard ++ body)) (pec_of (frame ++ body)) (λ same. codes (sym same)))
 
--- so the answer to a damaged request is a legal return
+-- the answer to a damaged request is a legal return
 pub answered-legal : Below → (held : Held) (request : Message) {frame heard : List ℕ} (whole : Bool) → AreOthers frame heard →
     DifferWithinEight frame heard →
     AreBytes (answer_in (reply_of held heard Restart)) →

@@ -89,7 +89,7 @@ begun-by setup entries sound = go (host.open_job setup entries) refl sound.stage
 front-whole : (frame : List ℕ) → starts_with eqb frame frame ≡ true
 front-whole frame = (starts_is Decides-eqb frame frame (starts_with eqb frame frame) refl).1 [] (sym (append-nil frame))
 
--- so a write that arrives whole is heard legally
+-- a write that arrives whole is heard legally
 write-heard : (frame : List ℕ) → is_legal_hearing frame frame Stop ≡ true
 unfolding is_legal_hearing
 write-heard frame = or_left (starts_with eqb frame frame) (is_betrayed [] frame) (front-whole frame)

@@ -18,7 +18,7 @@ use Rattle.pm_world.proofs.Standings.{same-cells}
 abbrev pub HasDue : List Mark → Choice → Words → Cell → Type 0
 HasDue ms due words cell = is_possible (due cell) (possible_of ms cell) ≡ true → word_at words cell ≡ due cell
 
--- so has each cell of each output
+-- each cell of each output has its due word
 pub record IsDue (count : ℕ) (ms : List Mark) (due : Choice) (words : Words) : Type 0 where
   pub has : (output : ℕ) (register : Reg) → output < count → HasDue ms due words (Out output register)
 
@@ -38,7 +38,7 @@ left-has laws ms put word due words cell (other, so_far) possible =
     go true e h = without _ _ (ne_eqb word (due cell) (λ is. other (ap due (same-cells laws put cell e) ∙ sym is))) h
     go false e h = h
 
--- or where it is due, and taken
+-- a cell has its due word where that is due, and taken
 taken-has : Below → (ms : List Mark) (put : Cell) (word : ℕ) (due : Choice) (words : Words) (cell : Cell) →
     (due put ≡ word)
     × (word_at (with_word words put word) cell ≡ cond (same_cell put cell) word (word_at words cell)) × HasDue ms due words cell →
@@ -52,7 +52,7 @@ taken-has laws ms put word due words cell (is, wrote, so_far) possible =
     go true e h = sym is ∙ ap due (same-cells laws put cell e)
     go false e h = so_far h
 
--- or where a good answer comes, whose word was due before it
+-- a cell has its due word where a good answer comes, whose word was due before it
 good-has : Below → (ms : List Mark) (read : Cell) (word : ℕ) (due : Choice) (words : Words) (cell : Cell) →
     (is_possible word (possible_of ms read) ≡ true) × HasDue ms (with_due due read word) words cell →
     HasDue (Good read word ∷ ms) due words cell
@@ -97,7 +97,7 @@ put-protect laws {ms = ms} {due = due} word so_far = record {
       (sym (laws.possible_words_are_followed.put ms Protect (Out output register) word (due (Out output register))) ∙ possible);
 }
 
--- and a good answer
+-- the due words before a good answer
 pub good-due : Below → {count : ℕ} {ms : List Mark} {due : Choice} {words : Words} (read : Cell) (word : ℕ) →
     is_possible word (possible_of ms read) ≡ true → IsDue count ms (with_due due read word) words →
     IsDue count (Good read word ∷ ms) due words

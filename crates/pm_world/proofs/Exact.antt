@@ -44,7 +44,7 @@ goods-accepted config passes before bytes new ms (came, no_good) accepted = acce
 goods-accepted config passes before bytes new ms (came, one_good read word asked good) accepted =
     ((came.read read word (stage_cell-is (setup_of config passes) before ∙ asked) good).accepted, accepted)
 
--- so have all
+-- all answers have accepted words
 come-accepted : (config : Config) (passes : ℕ) (entries : List host.Entry) → AreCome config (setup_of config passes) entries →
     AreAccepted (marks (setup_of config passes) entries)
 come-accepted config passes [] come = tt

@@ -52,7 +52,7 @@ arrives-request s arrival frame heard ending needed shown so = go (sending_in s.
     needed_is = long;
   }
 
--- and of what comes back
+-- what is asked of what comes back
 pub record Returns (s : State) (arrival : Arrival) (back : Back) : Type 0 where
   pub frame : List ℕ
   pub heard : List ℕ
@@ -102,12 +102,12 @@ returns-answer {s = s} {arrival = arrival} r =
     let a = r.asks.arrives in
     r.answer_is ∙ ap₂ (λ b e. answer_in (reply_of s.device b e)) (a.heard_is ∙ ap (λ f. heard_bytes f arrival) a.frame_is) a.ending_is
 
--- and of what comes back
+-- what comes back is that of the definition
 returns-came : {s : State} {arrival : Arrival} {back : Back} → (r : Returns s arrival back) →
     r.came ≡ back_bytes (answer_to s.device s.host.setup.addr r.asks.arrives.message arrival) back
 returns-came {back = back} r = r.came_is ∙ ap (λ a. back_bytes a back) (returns-answer r)
 
--- and of the test of a return
+-- the test of a return is that of the definition
 returns-legal : {s : State} {arrival : Arrival} {back : Back} → (r : Returns s arrival back) →
     let sent = frame_of s.host.setup.addr r.asks.arrives.message in
     let answer = answer_to s.device s.host.setup.addr r.asks.arrives.message arrival in

@@ -65,7 +65,7 @@ first-bytes (suc n) [] place are = lit< tt
 first-bytes (suc n) (x ∷ xs) zero are = are 0
 first-bytes (suc n) (x ∷ xs) (suc place) are = first-bytes n xs place (λ p. are (suc p))
 
--- so are those of a part
+-- the bytes of a part are bytes
 part-bytes : (bytes : List ℕ) (first last place : ℕ) → AreBytes bytes → get_or (slice_range bytes first last) place 0 < 2 ^ 8
 part-bytes bytes first last place are =
     first-bytes (last - first) (drop first bytes) place
@@ -77,7 +77,7 @@ word-small [] are = omega arith
 word-small (byte ∷ []) are = let low = are 0 in omega arith
 word-small (low ∷ high ∷ rest) are = let l = are 0 in let h = are 1 in omega arith
 
--- so has that of a good answer
+-- the word of a good answer has two bytes
 good-small : (addr : ℕ) (cell : Cell) (bytes : List ℕ) (word : ℕ) → AreBytes bytes → good_word addr cell bytes ≡ Some word → word < 2 ^ 16
 unfolding good_payload
 good-small addr cell bytes word are good = go (is_none (answer_fault addr (cell_read cell) bytes)) good where

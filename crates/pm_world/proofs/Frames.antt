@@ -23,7 +23,7 @@ pub heard_ending-write : (message : Message) (arrival : Arrival) → is_read_mes
     ending_of Stop arrival ≡ heard_ending message arrival
 heard_ending-write message arrival writes = ap (λ b. ending_of (cond b Restart Stop) arrival) (sym writes)
 
--- and of a request
+-- the ending of a request
 pub heard_ending-request : (message : Message) (arrival : Arrival) → is_read_message message ≡ true →
     ending_of Restart arrival ≡ heard_ending message arrival
 heard_ending-request message arrival reads = ap (λ b. ending_of (cond b Restart Stop) arrival) (sym reads)

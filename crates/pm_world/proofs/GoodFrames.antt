@@ -7,6 +7,7 @@ use Rattle.pm_world.specs.GoodBus.{GoodFrames}
 use Rattle.pm_world.proofs.GoodLearns.{coefficients-learned, mode-learned}
 use Rattle.pm_world.proofs.GoodPasses.{pass-done, send-done, three-done, written-lived}
 use Rattle.pm_world.proofs.GoodReads.{check-done, order-done, order-last, read-lived}
+use Rattle.pm_world.proofs.GoodWrites.{again-done, resent, unacked-end, write-done}
 use Rattle.pm_world.proofs.Lives.{IsLived, lived-before}
 use Rattle.pm_world.proofs.Sweeps.{shows, swept}
 
@@ -35,10 +36,18 @@ frames-good laws {config = config} {passes = passes} {events = events} lived = r
       let half = read-lived all read in
       let one = written-lived half written in
       three-done laws (read-lived one again) one half all stage (differs, left) allowed again written read;
+  write = λ later before after cell word pass acked is stage written.
+      let all = up-to later after lived is in
+      write-done laws (written-lived all written) all stage written;
+  again = λ later before after cell word pass is stage differs left read.
+      let all = up-to later after lived is in
+      again-done laws (read-lived all read) all stage read differs left;
   last = λ later before after cell word pass is stage differs end read.
       let all = up-to later after lived is in
       order-last laws (read-lived all read) all stage read differs end;
   send = λ later before after command tries is stage written. send-done laws (up-to later after lived is) stage written;
+  resend = λ later before after command tries is stage left written. resent laws (up-to later after lived is) stage left written;
+  unacked = λ later before after command tries is stage last written. unacked-end laws (up-to later after lived is) stage last written;
   mode = λ later before after output tries is spelled stage read.
       let all = up-to later after lived is in
       mode-learned laws (read-lived all read) all spelled stage read;

@@ -1,5 +1,5 @@
 -- A learn whose requests nothing disturbs.
-use Rattle.std.proofs.Common.{◌≡◌, ◌⊎◌, inl, inr, ℕ, ◌<◌, true, List, Some, None, Ok, refl, sym, ◌∙◌, ap, subst}
+use Rattle.std.proofs.Common.{◌≢◌, ◌≡◌, ◌⊎◌, inl, inr, ℕ, ◌<◌, true, List, Some, None, Ok, refl, sym, ◌∙◌, ap, subst}
 use Rattle.std.proofs.Common.{option_map, arith}
 use Rattle.std.specs.Prelude.{Result, Err}
 use Rattle.std.specs.Option.{option_and_then}
@@ -113,11 +113,16 @@ abbrev AsksOn : Config → ℕ → ℕ → List Event → Type 0
 AsksOn config passes output after = (mode_of (mode_for config output) ≡ Ok Direct)
     × (stage_after config passes after ≡ Some (Asks (Coefficients output) 0))
 
+-- a learn that read VOUT_MODE has learned a format, or asks on
+abbrev pub LearnsMode : Config → ℕ → ℕ → List Event → Type 0
+LearnsMode config passes output after = ((mode_of (mode_for config output) ≢ Ok Direct) × WasLearned config passes output after)
+    ⊎ AsksOn config passes output after
+
 -- a learn that reads VOUT_MODE
 pub mode-learned : Below → {config : Config} {passes : ℕ} {before after : List Event} {output tries : ℕ} →
     IsLived config passes before → IsLived config passes after → IsSpelled config →
     (now config passes before).host.stage ≡ Some (Asks (Mode output) tries) → IsRead config passes (mode_read output) before after →
-    WasLearned config passes output after ⊎ AsksOn config passes output after
+    LearnsMode config passes output after
 unfolding host_next
 mode-learned laws {config = config} {passes = passes} {before = before} {after = after} {output = output} {tries = tries} lived all spelled
     stage read = go (mode_of (mode_for config output)) refl
@@ -142,15 +147,17 @@ mode-learned laws {config = config} {passes = passes} {before = before} {after =
         (now-setup config passes before)
         ∙ (ap (question_asked (idle h) (Mode output) tries) answer.good ∙ ap (λ n. mode_taken (idle h) output (mode_of n)) answer.byte))
 
-    go : (mode : Result VoutMode TableFault) → mode_of (mode_for config output) ≡ mode →
-        WasLearned config passes output after ⊎ AsksOn config passes output after
+    go : (mode : Result VoutMode TableFault) → mode_of (mode_for config output) ≡ mode → LearnsMode config passes output after
     go (Err fault) e = absurd (none-some (shape_for config output)
         (sym (ap (λ r. option_and_then (λ (m : VoutMode). result_ok (shape_in m config.coefficients)) (result_ok r)) e)
         ∙ lived.sound.formats output below))
     go (Ok (Linear exponent)) e =
-        inl (learned-so laws (InUlinear16 exponent) a.answer lived below
-        (mode-shape config output (Linear exponent) (InUlinear16 exponent) (lived.sound.formats output below) e refl)
-        a.summary a.end (turn ∙ ap (mode_taken (idle h) output) e))
+        inl (
+          (λ direct. let bad : Ok (Linear exponent) ≡ Ok Direct = sym e ∙ direct in cc),
+          learned-so laws (InUlinear16 exponent) a.answer lived below
+              (mode-shape config output (Linear exponent) (InUlinear16 exponent) (lived.sound.formats output below) e refl)
+              a.summary a.end (turn ∙ ap (mode_taken (idle h) output) e),
+        )
     go (Ok Direct) e = inr (
       e,
       ap (λ (t : Summary). t.stage) a.summary ∙ ap (λ (t : Change). t.after.stage) (turn ∙ ap (mode_taken (idle h) output) e),

@@ -83,7 +83,7 @@ more-beside laws {config = config} {passes = passes} {before = before} {events =
     }
 more-beside laws event fixed lived is so_far = cc
 
--- and one after another
+-- events beside it, one after another
 all-beside : Below → {config : Config} {passes : ℕ} (before : List Event) {cell : Cell} {word pass : ℕ} (between : List Event) →
     ((events : List Event) → Fixed (now config passes events) cell word) →
     IsLived config passes (between ++ before) → list_all is_beside between ≡ true →
@@ -97,19 +97,19 @@ all-beside laws before (event ∷ between) fixed lived all first =
     (all-beside laws before between fixed (earlier lived) parts.1 first)
 
 -- the end of the write begins its read
-finish-reads : (s : State) (acked : Bool) (cell : Cell) (word pass : ℕ) → s.host.stage ≡ Some (Writes cell word pass) →
+pub finish-reads : (s : State) (acked : Bool) (cell : Cell) (word pass : ℕ) → s.host.stage ≡ Some (Writes cell word pass) →
     (next s (Finish acked)).host.stage ≡ Some (Reads cell word pass)
 unfolding next host_next
 finish-reads s acked cell word pass stage = ap (λ o. (finished (idle s.host) o acked).after.stage) stage
 
 -- after a write that was heard whole the host reads the cell, which has the word
-record IsReading (config : Config) (passes : ℕ) (cell : Cell) (word pass : ℕ) (acked : Bool) (before events : List Event) : Type 0 where
-  stage : (now config passes events).host.stage ≡ Some (Reads cell word pass)
-  held : held_after config passes events cell ≡ word
-  entries : (life config passes events).entries ≡ host.Finished acked ∷ (life config passes before).entries
+pub record IsReading (config : Config) (passes : ℕ) (cell : Cell) (word pass : ℕ) (acked : Bool) (before events : List Event) : Type 0 where
+  pub stage : (now config passes events).host.stage ≡ Some (Reads cell word pass)
+  pub held : held_after config passes events cell ≡ word
+  pub entries : (life config passes events).entries ≡ host.Finished acked ∷ (life config passes before).entries
 
 -- by its turn
-written-turn : Below → {config : Config} {passes : ℕ} {before events : List Event} {cell : Cell} {word pass : ℕ} {acked : Bool} →
+pub written-turn : Below → {config : Config} {passes : ℕ} {before events : List Event} {cell : Cell} {word pass : ℕ} {acked : Bool} →
     IsLived config passes before → IsLived config passes events →
     (now config passes before).host.stage ≡ Some (Writes cell word pass) →
     is_allowed (held_after config passes before Protect) (cell_code cell) ≡ true →
@@ -174,9 +174,9 @@ three-done laws {cell = cell} lived one half all stage (differs, left) allowed r
     )
 
 -- what leaves the host
-record LeavesHost (config : Config) (passes : ℕ) (before events : List Event) : Type 0 where
-  summary : (now config passes events).host ≡ (now config passes before).host
-  entries : (life config passes events).entries ≡ (life config passes before).entries
+pub record LeavesHost (config : Config) (passes : ℕ) (before events : List Event) : Type 0 where
+  pub summary : (now config passes events).host ≡ (now config passes before).host
+  pub entries : (life config passes events).entries ≡ (life config passes before).entries
 
 -- one event beside a write
 host-beside : Below → {config : Config} {passes : ℕ} (events : List Event) (event : Event) → IsLived config passes (event ∷ events) →
@@ -191,8 +191,8 @@ host-beside laws events (Reading output code value) lived is =
     record { summary = quiet.host; entries = quiet.entries }
 host-beside laws events event lived is = cc
 
--- and one after another
-hosts-beside : Below → {config : Config} {passes : ℕ} (before between : List Event) → IsLived config passes (between ++ before) →
+-- events beside it, one after another
+pub hosts-beside : Below → {config : Config} {passes : ℕ} (before between : List Event) → IsLived config passes (between ++ before) →
     list_all is_beside between ≡ true → LeavesHost config passes before (between ++ before)
 hosts-beside laws before [] lived all = record { summary = refl; entries = refl }
 hosts-beside laws before (event ∷ between) lived all =

@@ -147,7 +147,7 @@ at-once laws {config = config} {passes = passes} before request arrival back liv
       entries = share-entries config passes before event _ told;
     }
 
--- and by readings before it
+-- an exchange after readings tells the same
 pub was-answered : Below → {config : Config} {passes : ℕ} (request : Message) {before after : List Event} →
     IsLived config passes after → sending_in (now config passes before).host ≡ Some request →
     IsRead config passes request before after → WasAnswered config passes request before after
@@ -195,8 +195,8 @@ check-there laws {config = config} {passes = passes} {events = events} {cell = c
     subst (λ (u : host.Setup). IsCell u.outputs cell) (now-setup config passes events)
     (subst (IsStage (now config passes events).host) stage (now-sound laws config passes events lived).stage).there
 
--- and that of an order that is read back
-order-there : Below → {config : Config} {passes : ℕ} {events : List Event} {cell : Cell} {word pass : ℕ} → IsLived config passes events →
+-- the cell of an order that is read back is there
+pub order-there : Below → {config : Config} {passes : ℕ} {events : List Event} {cell : Cell} {word pass : ℕ} → IsLived config passes events →
     (now config passes events).host.stage ≡ Some (Reads cell word pass) → IsCell config.count cell
 order-there laws {config = config} {passes = passes} {events = events} {cell = cell} lived stage =
     subst (λ (u : host.Setup). IsCell u.outputs cell) (now-setup config passes events)
@@ -210,7 +210,7 @@ check-change h cell word tries bytes stage good =
     ap (λ o. answered (idle h) o bytes) stage
     ∙ (ap (question_asked (idle h) (Word cell) tries) found.1 ∙ ap (λ n. ends (marked (idle h) (Good cell n)) Done) found.2)
 
--- and an order that is read back
+-- an order that is read back and has its answer
 pub order-change : (h : Summary) (cell : Cell) (word read pass : ℕ) (bytes : List ℕ) → h.stage ≡ Some (Reads cell word pass) →
     good_word h.setup.addr cell bytes ≡ Some read →
     change h (host.Got bytes) ≡ read_another (marked (idle h) (Good cell read)) cell word pass read
@@ -228,7 +228,7 @@ any-length : length all_any ≡ places
 unfolding all_any
 any-length = refl
 
--- so any is possible
+-- where nothing is known any word is possible
 any-at : (place : ℕ) → place < places → slice_index_or all_any place Any ≡ Any
 unfolding all_any
 any-at place below = get_or-replicate places place Any Any below
@@ -278,7 +278,7 @@ knows-of laws known cell word here possibles standings =
     rest true other there = refl
     rest false other there = any-at (place_of other) (laws.cells_have_places.below other there)
 
--- so a cell was read, where the good answer is all that was learned
+-- a cell was read where the good answer is all that was learned
 pub was-read : Below → {config : Config} {passes : ℕ} {before after : List Event} {cell : Cell} → IsLived config passes before →
     IsCell config.count cell → (a : WasAnswered config passes (cell_read cell) before after) →
     (now config passes after).host.known
@@ -318,7 +318,7 @@ check-done laws {config = config} {passes = passes} {before = before} {after = a
       done = a.end ∙ ap (λ (t : Change). end_by t.step) turn;
     }
 
--- and so is an order whose word the converter holds
+-- an order whose word the converter holds is done by one good answer
 pub order-done : Below → {config : Config} {passes : ℕ} {before after : List Event} {cell : Cell} {word pass : ℕ} →
     IsLived config passes before → IsLived config passes after →
     (now config passes before).host.stage ≡ Some (Reads cell word pass) → IsRead config passes (cell_read cell) before after →
@@ -363,7 +363,7 @@ order-again laws {config = config} {passes = passes} {before = before} {after = 
     ∙ cond-false (eqb (pass + 1) h.setup.passes) _ _ (ne_eqb (pass + 1) h.setup.passes more)) in
     (ap (λ (t : Summary). t.stage) a.summary ∙ ap (λ (t : Change). t.after.stage) turn, a)
 
--- and in the last pass it differs
+-- an order whose word it doesn't hold differs in the last pass
 pub order-last : Below → {config : Config} {passes : ℕ} {before after : List Event} {cell : Cell} {word pass : ℕ} →
     IsLived config passes before → IsLived config passes after →
     (now config passes before).host.stage ≡ Some (Reads cell word pass) → IsRead config passes (cell_read cell) before after →

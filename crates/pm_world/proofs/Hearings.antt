@@ -35,7 +35,7 @@ pub frame-write : (addr : ℕ) (message : Message) → is_read_message message �
 unfolding frame_of
 frame-write addr message writes = ap (λ b. cond b (sent addr message) (with_pec [] (sent addr message))) writes
 
--- and of a request
+-- the frame of a request
 pub frame-request : (addr : ℕ) (message : Message) → is_read_message message ≡ true → frame_of addr message ≡ sent addr message
 unfolding frame_of
 frame-request addr message reads = ap (λ b. cond b (sent addr message) (with_pec [] (sent addr message))) reads

@@ -2,7 +2,7 @@
 use Rattle.std.proofs.Common.{◌≡◌, ℕ, Bool, true, false, cond, ◌||◌, List, [], ◌∷◌, ◌++◌, Option, Some, None}
 use Rattle.std.proofs.Common.{option_map, refl, sym, ◌∙◌, ap, subst}
 use Rattle.std.specs.Prelude.{option_to_list}
-use Rattle.std.specs.Option.{option_and_then, option_map_or}
+use Rattle.std.specs.Option.{option_and_then}
 use Rattle.std.proofs.lemmas.Option.{none-some, same_Some}
 use Rattle.pm_table.specs.declared.reg.Reg.{Reg}
 use Rattle.pm_table.specs.declared.cell.Cell.{Cell}
@@ -36,14 +36,15 @@ use Rattle.pm_world.specs.Below.{Below}
 use Rattle.pm_world.specs.declared.arrival.Arrival.{Arrival}
 use Rattle.pm_world.specs.declared.back.Back.{Back}
 use Rattle.pm_world.specs.declared.event.Event.{Event}
-use Rattle.pm_world.specs.declared.event.Event.TheVariants.{Deliver, Finish, Exchange, RestartDevice, RestartHost, Reading}
+use Rattle.pm_world.specs.declared.event.Event.TheVariants.{Deliver}
 use Rattle.pm_world.specs.Confirmed.{reads_cell, restarts_converter, restarted_since, ConfirmedIsHeld}
 use Rattle.pm_world.specs.Legal.{back_bytes}
 use Rattle.pm_world.specs.Life.{life, now, state_of}
 use Rattle.pm_world.specs.Retelling.{command_pending, pending_of, taken_by}
 use Rattle.pm_world.specs.Setup.{setup_of}
-use Rattle.pm_world.specs.State.{State, asked, share_of, share_beside, tells, exchanged, delivered, device_after, next, event_cause}
+use Rattle.pm_world.specs.State.{Share, State, share_of, exchanged, delivered, device_after, next, event_cause}
 use Rattle.pm_world.specs.State.{exchange_cause, answer_to}
+use Rattle.pm_world.proofs.Shares.{IsShare, begins, delivers, exchanges, finishes, measures, restarts_device, restarts_host as host_restarts, share-is, tells_none}
 use Rattle.pm_world.proofs.Causes.{asked-restarts}
 use Rattle.pm_world.proofs.Learned.{from_some}
 use Rattle.pm_world.proofs.Lives.{IsLived, earlier, newest, entries-more, life-told, now-next}
@@ -187,7 +188,7 @@ took-known laws (Some pending.Store) knows there is so_far = so_far
 took-known laws {cell = cell} (Some pending.Restore) knows there is so_far =
     restored-known laws cell knows (knows.pending pending.Restore is) so_far
 
--- or nothing does
+-- what is known stays true by a delivery, whichever job takes or none
 taken-known : Below → {s : State} {setup : host.Setup} {entries : List host.Entry} {cell : Cell} {restarted : Bool}
     (arrival : Arrival) (new : Held) → Knows s setup entries → IsCell 8 cell →
     TookJob s.device new (taken_by s.device.config.addr s.device.words arrival (stage_pending s.host.stage)) →
@@ -215,28 +216,6 @@ deliver-known laws {s = s} {setup = setup} {entries = entries} {cell = cell} {re
     (taken-known laws arrival (device_after s.device (delivered s arrival (sending_in s.host)).heard) knows there
     (delivered-takes laws s arrival (sending_in s.host) knows.sends refl free) so_far)
 
--- one event that asks for no job
-beside-known : Below → {s : State} (event : Event) {setup : host.Setup} {entries : List host.Entry} {cell : Cell} {restarted : Bool} →
-    Knows s setup entries → IsCell 8 cell →
-    event_cause s event ≡ None → IsKnown (marks setup entries) cell restarted s.device.words →
-    IsKnownAfter setup entries cell (restarts_converter event || restarted) (share_beside s event).told
-    (device_after s.device (share_beside s event).heard).words
-beside-known laws (Deliver arrival) knows there free so_far =
-    deliver-known laws arrival knows there free so_far
-beside-known laws {s = s} (Exchange arrival back) knows there free so_far =
-    exchange-known laws arrival back (sending_in s.host) knows refl free so_far
-beside-known laws {s = s} (Finish acked) {setup = setup} {entries = entries} {cell = cell} {restarted = restarted} knows there free so_far =
-    finished-known laws setup entries cell restarted s.device.words acked so_far
-beside-known laws RestartDevice knows there free so_far =
-    record { held = λ word confirmed fresh. cc; among = λ fresh. cc }
-beside-known laws {s = s} RestartHost {setup = setup} {entries = entries} {cell = cell} {restarted = restarted} knows there free so_far =
-    host_restarted-known setup entries cell restarted s.device.words
-beside-known laws {s = s} (Reading output code word) {setup = setup} {entries = entries} {cell = cell} {restarted = restarted} knows
-    there free so_far =
-    subst (IsKnown (marks setup entries) cell restarted)
-    (sym (event-stays laws s.device (device.Reading output code.0 word) refl).words) so_far
-beside-known laws _ knows there free so_far = so_far
-
 -- one event
 event-known : Below → {s : State} (event : Event) {setup : host.Setup} {entries : List host.Entry} {cell : Cell} {restarted : Bool} →
     Knows s setup entries → IsCell 8 cell →
@@ -244,14 +223,29 @@ event-known : Below → {s : State} (event : Event) {setup : host.Setup} {entrie
     IsKnownAfter setup entries cell (restarts_converter event || restarted) (share_of s event).told (next s event).device.words
 unfolding next
 event-known laws {s = s} event {setup = setup} {entries = entries} {cell = cell} {restarted = restarted} knows there free so_far =
-    go (asked s event) refl where
-      go : (o : Option host.Job) → asked s event ≡ o →
-          let share = option_map_or (λ j. tells (host.Accepted j)) o (share_beside s event) in
+    by (share-is s event) free where
+      silent : (restarts : Bool) → IsKnown (marks setup entries) cell (restarts || restarted) s.device.words
+      silent true = record { held = λ word confirmed fresh. cc; among = λ fresh. cc }
+      silent false = so_far
+
+      by : {event : Event} {share : Share} → IsShare s event share → event_cause s event ≡ None →
           IsKnownAfter setup entries cell (restarts_converter event || restarted) share.told (device_after s.device share.heard).words
-      go None is = beside-known laws event knows there free so_far
-      go (Some job) is =
+      by (begins event job is) free =
           subst (λ b. IsKnownAfter setup entries cell (b || restarted) (Some (host.Accepted job)) s.device.words)
           (sym (asked-restarts s event job is)) (accepted-known laws setup entries cell restarted s.device.words job so_far)
+      by (delivers arrival message sends) free =
+          subst (λ o. IsKnownAfter setup entries cell restarted (delivered s arrival o).told
+          (device_after s.device (delivered s arrival o).heard).words) sends
+          (deliver-known laws arrival knows there free so_far)
+      by (exchanges arrival back message sends) free =
+          exchange-known laws arrival back (Some message) knows sends (sym (ap (exchange_cause s arrival back) sends) ∙ free) so_far
+      by (finishes acked) free = finished-known laws setup entries cell restarted s.device.words acked so_far
+      by restarts_device free = record { held = λ word confirmed fresh. cc; among = λ fresh. cc }
+      by host_restarts free = host_restarted-known setup entries cell restarted s.device.words
+      by (measures output code word) free =
+          subst (IsKnown (marks setup entries) cell restarted)
+          (sym (event-stays laws s.device (device.Reading output code.0 word) refl).words) so_far
+      by (tells_none event) free = silent (restarts_converter event)
 
 -- the read that an open job sends
 read-sent : (setup : host.Setup) (s : Summary) (job : Option host.Job) (told : List host.Entry) (read : Cell) →

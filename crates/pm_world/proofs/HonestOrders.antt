@@ -1,8 +1,6 @@
 -- An order whose write is delivered whole, and whose read nothing disturbs: its first pass.
-use Rattle.std.proofs.Common.{◌≡◌, ℕ, Bool, true, ◌&&◌, ◌||◌, List, [], ◌∷◌, map, Some, refl, ◌∙◌, ap, ap₂}
-use Rattle.std.specs.Prelude.{bytes_eq}
+use Rattle.std.proofs.Common.{◌≡◌, ℕ, Bool, true, ◌||◌, List, [], ◌∷◌, map, Some, refl, ◌∙◌, ap}
 use Rattle.std.specs.List.{list_all, list_any}
-use Rattle.std.proofs.lemmas.Slice.Eq.{bytes_eq-Decides}
 use Rattle.pm_table.specs.declared.cell.Cell.{Cell}
 use Rattle.pm_table.specs.declared.cell.Cell.TheVariants.{Protect}
 use Rattle.pm_table.specs.Cell.{cell_code}
@@ -10,50 +8,32 @@ use Rattle.pm_table.specs.Protection.{is_allowed}
 use Rattle.pm_model.specs.Settings.{word_at}
 use Rattle.pm_device.specs.declared.config.Config.{Config}
 use Rattle.pm_device.specs.Held.{Held}
-use Rattle.pm_host.specs.Messages.{cell_read, cell_write}
+use Rattle.pm_host.specs.Messages.{cell_write}
 use Rattle.pm_host.specs.Transcript as host
 use Rattle.pm_world.specs.Below.{Below}
 use Rattle.pm_world.specs.declared.event.Event.{Event}
-use Rattle.pm_world.specs.declared.event.Event.TheVariants.{Deliver, Exchange, Finish}
+use Rattle.pm_world.specs.declared.event.Event.TheVariants.{Deliver, Finish}
 use Rattle.pm_world.specs.declared.arrival.Arrival.{Arrival}
-use Rattle.pm_world.specs.declared.arrival.Arrival.TheVariants.{Whole}
-use Rattle.pm_world.specs.declared.back.Back.TheVariants as back
-use Rattle.pm_world.specs.GoodBus.{IsRead, IsWritten, delivers_whole, is_beside}
+use Rattle.pm_world.specs.GoodBus.{IsWritten, delivers_whole, is_beside}
 use Rattle.pm_world.specs.Honest.{WentThrough, honest, is_whole, sent_by}
-use Rattle.pm_world.specs.Legal.{frame_of, is_restart}
+use Rattle.pm_world.specs.Legal.{frame_of}
 use Rattle.pm_world.specs.Life.{now}
-use Rattle.pm_world.specs.State.{State, answer_to, asked}
+use Rattle.pm_world.specs.State.{State, asked}
 use Rattle.pm_world.proofs.GoodPasses.{pass-done, written-lived}
+use Rattle.pm_world.proofs.WholeFrames.{whole-cell}
 use Rattle.pm_world.proofs.Lives.{IsLived, earlier, now-next}
-use Rattle.pm_world.proofs.Undisturbed.{order-device, order-entries, order-stage, read-restart}
+use Rattle.pm_world.proofs.Undisturbed.{order-device, order-entries, order-stage}
 
 -- deliveries alone stand beside a write
 all-deliver : (arrivals : List Arrival) → list_all is_beside (map (λ arrival. Deliver arrival) arrivals) ≡ true
 all-deliver [] = refl
 all-deliver (arrival ∷ arrivals) = all-deliver arrivals
 
--- and one hears it whole where one of them does
+-- some delivery hears the frame whole where one of the arrivals does
 any-whole : (frame : List ℕ) (arrivals : List Arrival) →
     list_any (delivers_whole frame) (map (λ arrival. Deliver arrival) arrivals) ≡ list_any (is_whole frame) arrivals
 any-whole frame [] = refl
 any-whole frame (arrival ∷ arrivals) = ap (λ b. is_whole frame arrival || b) (any-whole frame arrivals)
-
--- an exchange of both whole comes whole
-whole-read : (config : Config) (passes : ℕ) (cell : Cell) (before : List Event) →
-    IsRead config passes (cell_read cell) before (Exchange Whole back.Whole ∷ before)
-whole-read config passes cell before =
-    let s = now config passes before in
-    let frame = frame_of s.host.setup.addr (cell_read cell) in
-    let answer = answer_to s.device s.host.setup.addr (cell_read cell) Whole in
-    record {
-      arrival = Whole;
-      back = back.Whole;
-      readings = [];
-      is = refl;
-      beside = refl;
-      whole = ap (λ e. is_restart e && bytes_eq frame frame && bytes_eq answer answer) (read-restart cell)
-          ∙ ap₂ (λ a b. true && a && b) ((bytes_eq-Decides frame frame).1 refl) ((bytes_eq-Decides answer answer).1 refl);
-    }
 
 -- an undisturbed order goes through
 pub went-through : Below → {config : Config} {passes : ℕ} (before : List Event) (order : Event) {cell : Cell} {word : ℕ}
@@ -78,7 +58,7 @@ went-through laws {config = config} {passes = passes} before order {cell = cell}
     (ap (λ (t : State). t.host.stage) begun ∙ order-stage (now config passes before) order cell word asks)
     (ap (λ (h : Held). is_allowed (word_at h.words Protect) (cell_code cell))
     (ap (λ (t : State). t.device) begun ∙ order-device (now config passes before) order cell word asks) ∙ allowed)
-    written (whole-read config passes cell middle) in
+    written (whole-cell config passes cell middle) in
     record {
       answer = e.answer;
       good = e.good;

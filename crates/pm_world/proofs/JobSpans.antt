@@ -192,7 +192,7 @@ event-job laws config passes before event job lived alone so_far =
       go (Some entry) is frame =
           frame-job job _ _ entry _ (by-frame laws config passes before event entry lived is frame).tells so_far
 
--- so while no other job begins, the job stays open or is over
+-- while no other job begins, the job stays open or is over
 pub span-job : Below → (config : Config) (passes : ℕ) (later before : List Event) (event : Event) (job : host.Job) →
     IsLived config passes (later ++ event ∷ before) → asked (now config passes before) event ≡ Some job →
     list_any begins_other later ≡ false → IsOrOver job (now config passes (later ++ event ∷ before)).host

@@ -58,7 +58,7 @@ kept-once laws config passes before event formats lived alone other so_far =
           let told = by-frame laws config passes before event entry lived is frame in
           ends-keep _ _ entry _ told.tells other ∙ so_far (none-other (now config passes before).end told.going)
 
--- so while no other job begins
+-- formats stay while no other job begins
 pub formats-kept : Below → (config : Config) (passes : ℕ) (later before : List Event) (event : Event) (job : host.Job) →
     IsLived config passes (later ++ event ∷ before) → asked (now config passes before) event ≡ Some job →
     list_any begins_other later ≡ false → (now config passes (later ++ event ∷ before)).end ≢ Some Learned →
@@ -101,7 +101,7 @@ left-once laws config passes before event output lived alone ended job so_far =
           told.tells)
           (open-is (host.Learn output) _ told.open' job)
 
--- and while no other job begins
+-- a format that was left stays while no other job begins
 pub format-left : Below → (config : Config) (passes : ℕ) (later before : List Event) (event : Event) (output : ℕ) →
     IsLived config passes (later ++ event ∷ before) → asked (now config passes before) event ≡ Some (host.Learn output) →
     list_any begins_other later ≡ false → (now config passes (later ++ event ∷ before)).end ≡ Some Learned →
@@ -172,7 +172,7 @@ some-agrees : (format : Option Shape) (shape : Shape) → IsSome format → ((fo
 some-agrees None shape some agrees = cc
 some-agrees (Some found) shape some agrees = ap Some (agrees found refl)
 
--- so what a learn left is there until the host restarts
+-- what a learn left is there until the host restarts
 pub format-ended : Below → (config : Config) (passes : ℕ) (newer later before : List Event) (event : Event) (output : ℕ) →
     IsLived config passes (newer ++ (later ++ event ∷ before)) →
     asked (now config passes before) event ≡ Some (host.Learn output) → list_any begins_other later ≡ false →

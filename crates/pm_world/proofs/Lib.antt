@@ -13,12 +13,15 @@ mod Ends
 mod Exact
 mod Exchanges
 mod FirstWords
+mod Found
 mod Frames
 mod Hearings
 mod GoodFrames
 mod GoodLearns
 mod GoodPasses
 mod GoodReads
+mod GoodTurns
+mod GoodWrites
 mod HeldWords
 mod HonestOrders
 mod JobSpans
@@ -33,7 +36,6 @@ mod NearestExists
 mod NeverTook
 mod OpenMarks
 mod OpenOrders
-mod OpenRuns
 mod OpenSteps
 mod OrderEvents
 mod OwnRequests
@@ -57,6 +59,5 @@ mod TrueHost
 mod Undisturbed
 mod Unread
 mod WayForms
-mod WayRuns
 mod WholeFrames
 mod Witness

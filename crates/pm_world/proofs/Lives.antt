@@ -12,20 +12,18 @@ use Rattle.pm_device.specs.History.{now as device_now}
 use Rattle.pm_device.specs.Start.{IsSound}
 use Rattle.pm_host.specs.declared.job_end.JobEnd.{JobEnd}
 use Rattle.pm_host.specs.Now.{now as host_now, AreTold}
-use Rattle.pm_host.specs.Refusals.{IsSetup, job_fault, may_come, sends_write}
+use Rattle.pm_host.specs.Refusals.{IsSetup, may_come, sends_write}
 use Rattle.pm_host.specs.Summary.{Summary, step_by, sending_in}
 use Rattle.pm_host.specs.Transcript as host
 use Rattle.pm_world.specs.Below.{Below}
 use Rattle.pm_world.specs.declared.event.Event.{Event}
-use Rattle.pm_world.specs.declared.event.Event.TheVariants.{Deliver, Finish, Exchange, RestartHost}
-use Rattle.pm_world.specs.declared.arrival.Arrival.{Arrival}
-use Rattle.pm_world.specs.declared.back.Back.{Back}
 use Rattle.pm_world.specs.declared.cause.Cause.TheVariants.{WrongKind}
 use Rattle.pm_world.specs.Setup.{setup_of, start}
-use Rattle.pm_world.specs.State.{State, Share, asked, share_of, share_beside, tells, delivered, exchanged, shared, counted, next, end_by}
-use Rattle.pm_world.specs.State.{end_after, host_after, device_after, rule, event_cause, finish_cause, exchange_cause, IsTaken}
-use Rattle.pm_world.proofs.Causes.{or-none, rule-none, not-false, taken-free, job-free}
+use Rattle.pm_world.specs.State.{State, Share, share_of, shared, counted, next, end_by}
+use Rattle.pm_world.specs.State.{end_after, host_after, device_after, event_cause, finish_cause, exchange_cause, IsTaken}
+use Rattle.pm_world.proofs.Causes.{exchange-reads, rule-none, taken-free, job-free}
 use Rattle.pm_world.proofs.Ends.{state}
+use Rattle.pm_world.proofs.Shares.{IsShare, begins, exchanges, finishes, restarts_host as host_restarts, share-is}
 use Rattle.pm_world.specs.Uncertainty.{AreLegal}
 pub use Rattle.pm_world.specs.Lived.{IsLived}
 use Rattle.pm_world.specs.Life.{Life, state_of, lived, life, now, AreTaken, after_all, AreTakenFrom}
@@ -36,7 +34,7 @@ are-legal config passes [] taken = tt
 are-legal config passes (event ∷ before) (taken, all) =
     (record { free = taken-free (now config passes before) event taken; word = taken.word }, are-legal config passes before all)
 
--- so events that were taken were lived through
+-- events that were taken were lived through
 pub lived-by : (config : Config) (passes : ℕ) (events : List Event) → IsSound config → IsSetup (setup_of config passes) →
     AreTaken config passes events → IsLived config passes events
 lived-by config passes events sound made taken = record { sound = sound; made = made; legal = are-legal config passes events taken }
@@ -62,40 +60,17 @@ finish-may s None e h = cc
 finish-may s (Some message) e h =
     ap (λ o. option_map_or (λ m. not (is_read_message m)) o false) e ∙ ap not (rule-none (is_read_message message) WrongKind h)
 
--- an exchange
-exchange-may : (s : State) (arrival : Arrival) (back : Back) (sending : Option Message) → sending_in s.host ≡ sending →
-    exchange_cause s arrival back sending ≡ None →
-    MayBeTold s.host (exchanged s arrival back sending).told
-exchange-may s arrival back None e h = tt
-exchange-may s arrival back (Some message) e h =
-    ap (λ o. option_map_or is_read_message o false) e
-    ∙ not-false (is_read_message message)
-    (rule-none (not (is_read_message message)) WrongKind (or-none (rule (not (is_read_message message)) WrongKind) _ h).0)
-
--- a delivery
-deliver-may : (s : State) (arrival : Arrival) (sending : Option Message) → MayBeTold s.host (delivered s arrival sending).told
-deliver-may s arrival None = tt
-deliver-may s arrival (Some message) = tt
-
--- a job without a fault may be accepted
-job-may : (s : Summary) (job : host.Job) → job_fault s job ≡ None → may_come s (host.Accepted job) ≡ true
-job-may s job h = ap is_none h
-
--- the host may be told what an event without a cause tells it: by the events that ask for no job,
-beside-may : (s : State) (event : Event) → event_cause s event ≡ None → MayBeTold s.host (share_beside s event).told
-beside-may s (Deliver arrival) h = deliver-may s arrival (sending_in s.host)
-beside-may s (Finish acked) h = finish-may s.host (sending_in s.host) refl h
-beside-may s (Exchange arrival back) h = exchange-may s arrival back (sending_in s.host) refl h
-beside-may s RestartHost h = refl
-beside-may s _ h = tt
-
--- and by the job that is asked for
+-- the host may be told what an event without a cause tells it
 may-be-told : (s : State) (event : Event) → event_cause s event ≡ None → MayBeTold s.host (share_of s event).told
-may-be-told s event h = go (asked s event) refl where
-  go : (o : Option host.Job) → asked s event ≡ o →
-      MayBeTold s.host (option_map_or (λ job. tells (host.Accepted job)) o (share_beside s event)).told
-  go None e = beside-may s event h
-  go (Some job) e = job-may s.host job (job-free s event job e h)
+may-be-told s event h = by (share-is s event) h where
+  by : {event : Event} {share : Share} → IsShare s event share → event_cause s event ≡ None → MayBeTold s.host share.told
+  by (begins event job is) h = ap is_none (job-free s event job is h)
+  by (finishes acked) h = finish-may s.host (sending_in s.host) refl h
+  by (exchanges arrival back message is) h =
+      ap (λ o. option_map_or is_read_message o false) is
+      ∙ exchange-reads s arrival back message (sym (ap (exchange_cause s arrival back) is) ∙ h)
+  by host_restarts h = refl
+  by share h = tt
 
 -- a transcript with what the host was told
 told-more : (setup : host.Setup) (entries : List host.Entry) (told : Option host.Entry) → AreTold setup entries →
@@ -200,7 +175,7 @@ pub now-config : (config : Config) (passes : ℕ) (events : List Event) → (now
 unfolding now state_of device_now
 now-config config passes events = refl
 
--- and the setup
+-- no event changes the host's setup
 pub now-setup : (config : Config) (passes : ℕ) (events : List Event) → (now config passes events).host.setup ≡ setup_of config passes
 unfolding now state_of host_now
 now-setup config passes events = refl

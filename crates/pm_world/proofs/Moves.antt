@@ -96,7 +96,7 @@ went laws config passes before event lived =
         (sym (asked-takes config passes before event job is))
         (stayed _ _ (ap (λ (s : State). s.device) (asked-next (now config passes before) event job is))))
 
--- nor does a restart of the converter
+-- a restart of the converter lets no job take
 restart-takes : (config : Config) (passes : ℕ) (before : List Event) → taken_at config passes before RestartDevice ≡ None
 unfolding taken_at
 restart-takes config passes before = refl
@@ -107,7 +107,7 @@ unfolding now state_of
 now-stored laws config passes events = laws.pasts_are_followed.store config (life config passes events).past
 
 -- what takes is the open job, heard whole and allowed
-takes-by : (config : Config) (passes : ℕ) (before : List Event) (arrival : Arrival) (job : PendingJob) →
+pub takes-by : (config : Config) (passes : ℕ) (before : List Event) (arrival : Arrival) (job : PendingJob) →
     taken_at config passes before (Deliver arrival) ≡ Some job → JobTakes config passes before arrival job
 unfolding taken_at
 takes-by config passes before arrival job is = go (open_pending config passes before) refl is where
@@ -128,7 +128,7 @@ takes-by config passes before arrival job is = go (open_pending config passes be
       (is_allowed (word_at words Protect) (pending_code job)) so in
       record { opened = e ∙ ap (λ j. Some j) found.1; whole = parts.0; allowed = parts.1 }
 
--- and such a job takes
+-- a job that is open, heard whole and allowed takes
 pub takes-back : (config : Config) (passes : ℕ) (before : List Event) (arrival : Arrival) (job : PendingJob) →
     JobTakes config passes before arrival job → taken_at config passes before (Deliver arrival) ≡ Some job
 unfolding taken_at
@@ -198,7 +198,7 @@ moves-taken laws {config = config} {passes = passes} {before = before} (Deliver 
     cell-moves laws lived here (taken_at config passes before (Deliver arrival)) refl e
 moves-taken laws event lived here e = inl e
 
--- and how the store does
+-- how the store moves by a job that takes
 store-taken : {config : Config} {passes : ℕ} {before : List Event} {arrival : Arrival} {store : Words} →
     (job : Option PendingJob) → taken_at config passes before (Deliver arrival) ≡ job →
     store ≡ store_taken (words_at config passes before) (store_at config passes before) job →
@@ -230,7 +230,7 @@ cell-went laws {config = config} {passes = passes} {before = before} {event = ev
 cell-went laws {event = event} {cell = cell} lived here (inr took) =
     moves-taken laws event lived here (ap (λ w. word_at w cell) took.words)
 
--- and the store likewise
+-- how the store moves at an event
 store-went : {config : Config} {passes : ℕ} {before : List Event} {event : Event} →
     Went config passes before event (now config passes before).device (now config passes (event ∷ before)).device →
     (store_at config passes (event ∷ before) ≡ store_at config passes before)
@@ -245,7 +245,7 @@ other-store words store (Some (Order cell word)) e = refl
 other-store words store (Some Restore) e = refl
 other-store words store (Some Store) e = cc
 
--- and after a store it has the outputs' words
+-- after a store the store has the outputs' words
 own-store : (words store : Words) (job : Option PendingJob) → is_store job ≡ true →
     store_taken words store job ≡ with_outputs store words
 own-store words store None e = cc

@@ -11,10 +11,10 @@ use Rattle.pm_num.specs.Nearest.{Near, gap, linear11_rank, one_rank}
 use Rattle.pm_num.specs.NearestWord.{each_below, found_below, is_at_most, is_near, is_nearest, is_same, nearest_word}
 use Rattle.pm_num.specs.Ratio.{Ratio, AtMost, SameValue}
 use Rattle.pm_num.specs.Value.{direct_value, exponent, linear11_value, ulinear16_value}
-use Rattle.pm_num.specs.Lemmas.Integers.{le-times, le_from_times, times-swap}
 use Rattle.pm_num.specs.Lemmas.Over.{gap-over}
 use Rattle.pm_num.specs.Lemmas.Slope.{direct-has_den}
 use Rattle.pm_num.specs.Lemmas.Unsigned.{lower-positive}
+use Rattle.pm_limits.specs.Lemmas.Order.{through}
 
 -- What is as near as something that is as near as a third is as near as that.
 near-near : (x p q r : Ratio) → 0 < q.den → Near x p q → Near x q r → Near x p r
@@ -23,16 +23,6 @@ near-near x p q r den h k =
     let m : gap x q * r.den * p.den ≤ gap x r * q.den * p.den = mul-le-mul_right p.den k in
     let w : gap x p * r.den * q.den ≤ gap x r * p.den * q.den = omega arith in
     le_of_mul-le-mul_right w den
-
--- So it is with at most.
-at_most-at_most : (p q r : Ratio) → 0 < q.den → AtMost p q → AtMost q r → AtMost p r
-at_most-at_most p q r den h k =
-    let l = le-times (p.num *ℤ pos q.den) (q.num *ℤ pos p.den) r.den h in
-    let m = le-times (q.num *ℤ pos r.den) (r.num *ℤ pos q.den) p.den k in
-    let e = times-swap p.num q.den r.den in
-    let f = times-swap q.num p.den r.den in
-    let g = times-swap r.num q.den p.den in
-    le_from_times (p.num *ℤ pos r.den) (r.num *ℤ pos p.den) q.den den (omega (arith, ints))
 
 -- One value is one distance.
 same-near : (x p q : Ratio) → 0 < p.den → 0 < q.den → SameValue p q → Near x p q
@@ -89,12 +79,12 @@ before-before value rank x den a b c h k =
     ) in
     record {
       near = near-near x (value a) (value b) (value c) (den b) h.near k.near;
-      lower = λ n. let p = low n in at_most-at_most (value a) (value b) (value c) (den b) p.0 p.1;
+      lower = λ n. let p = low n in through (value a) (value b) (value c) (den b) p.0 p.1;
       spelled = λ same.
           let p = low (same-near x (value c) (value a) (den c) (den a) same) in
           let r : AtMost (value c) (value a) = omega (arith, ints) in
-          let s = at_most-at_most (value b) (value c) (value a) (den c) p.1 r in
-          let t = at_most-at_most (value c) (value a) (value b) (den a) r p.0 in
+          let s = through (value b) (value c) (value a) (den c) p.1 r in
+          let t = through (value c) (value a) (value b) (den a) r p.0 in
           let f = h.spelled (both (value b) (value a) s p.0) in
           let g = k.spelled (both (value c) (value b) t p.1) in
           omega arith;
@@ -172,7 +162,7 @@ found-some test (suc n) w below passes = go (test n) refl (λ less. found-some t
     smaller : (n ≡ w → ⊥) → w < n
     smaller ne = omega (arith, below, ne)
 
--- so the word that comes before all is found
+-- the word that comes before all is found
 found-first : (value : ℕ → Ratio) (rank : ℕ → ℕ) (x : Ratio) (w : ℕ) → w < 2 ^ 16 →
     ((u : ℕ) → u < 2 ^ 16 → Before value rank x w u) → IsSome (nearest_word value rank x)
 unfolding nearest_word

@@ -1,13 +1,12 @@
 -- An order that differs never took: while it is open its cell has the word of before, or the ordered one, which it
 -- then keeps; and the word that was read is the cell's.
-use Rattle.std.proofs.Common.{◌≡◌, ◌≢◌, ◌⊎◌, inl, inr, ℕ, Bool, true, false, cond, not, List, [], ◌∷◌, ◌++◌, Option, Some, None}
+use Rattle.std.proofs.Common.{◌≡◌, ◌≢◌, ◌⊎◌, inl, inr, ℕ, Bool, true, false, cond, List, [], ◌∷◌, ◌++◌, Option, Some, None}
 use Rattle.std.proofs.Common.{is_some, option_map, option_and_then, refl, sym, ◌∙◌, ap, subst}
 use Rattle.std.specs.Prelude.{IsSomeAnd}
 use Rattle.std.specs.List.{list_any}
 use Rattle.std.proofs.lemmas.Bool.{false≢true}
 use Rattle.std.proofs.lemmas.Option.{same_Some}
 use Rattle.pm_table.specs.declared.cell.Cell.{Cell}
-use Rattle.pm_table.specs.declared.cell.Cell.TheVariants.{Out, Protect}
 use Rattle.pm_frame.specs.declared.message.Message.{Message}
 use Rattle.pm_frame.specs.Layout.{is_read_message}
 use Rattle.pm_model.specs.declared.pending_job.PendingJob.{PendingJob}
@@ -29,7 +28,6 @@ use Rattle.pm_host.specs.Transcript as host
 use Rattle.pm_world.specs.Below.{Below}
 use Rattle.pm_world.specs.declared.arrival.Arrival.{Arrival}
 use Rattle.pm_world.specs.declared.back.Back.{Back}
-use Rattle.pm_world.specs.declared.cause.Cause.TheVariants.{WrongKind}
 use Rattle.pm_world.specs.declared.event.Event.{Event}
 use Rattle.pm_world.specs.declared.event.Event.TheVariants.{Deliver, Finish, Exchange, RestartDevice, Reading}
 use Rattle.pm_world.specs.Confirmed.{restarts_converter}
@@ -37,8 +35,9 @@ use Rattle.pm_world.specs.Ended.{begins_other, DiffersNeverTook}
 use Rattle.pm_world.specs.Life.{life, now, state_of}
 use Rattle.pm_world.specs.Retelling.{open_pending, pending_of, taken_at}
 use Rattle.pm_world.specs.Setup.{setup_of}
-use Rattle.pm_world.specs.State.{State, share_of, exchanged, exchange_cause, next, rule}
-use Rattle.pm_world.proofs.Causes.{or-none, rule-none, not-false}
+use Rattle.pm_world.specs.State.{State, share_of, exchanged, exchange_cause, next}
+use Rattle.pm_world.proofs.Causes.{exchange-reads}
+use Rattle.pm_world.proofs.Hearings.{write-kind}
 use Rattle.pm_world.proofs.HeldWords.{knows, reads-true}
 use Rattle.pm_world.proofs.JobSpans.{IsOrOver, TellsFrame, any-parts, beside-tells, by-acceptance, by-frame, by-silence, open-end, or-parts}
 use Rattle.pm_world.proofs.KeptFormats.{none-other, open-is}
@@ -120,18 +119,13 @@ order-moves laws config passes before event cell word lived steady is = go (take
       ∙ (laws.settings_are_a_map.read s.device.words cell cell word known.are there there
       ∙ ap (λ b. cond b word (word_at s.device.words cell)) ((laws.cells_are_told_apart cell cell).1 refl)))
 
--- a write is no read
-writes-cell : (cell : Cell) (word : ℕ) → is_read_message (cell_write cell word) ≡ false
-writes-cell (Out output register) word = refl
-writes-cell Protect word = refl
-
 -- where a read is sent, it is the turn of one
 turn-reads : (cell : Cell) (word : ℕ) (turn : Bool) (message : Message)
     → Some message ≡ Some (cond turn (cell_write cell word) (cell_read cell)) →
     is_read_message message ≡ true → cond turn None (Some cell) ≡ Some cell
 turn-reads cell word false message is reads = refl
 turn-reads cell word true message is reads =
-    absurd (false≢true (sym (ap is_read_message (same_Some message (cell_write cell word) is) ∙ writes-cell cell word) ∙ reads))
+    absurd (false≢true (sym (ap is_read_message (same_Some message (cell_write cell word) is) ∙ write-kind cell word) ∙ reads))
 
 -- the cell that an open order reads, while a request is being sent
 asks-cell : Below → (setup : host.Setup) (entries : List host.Entry) (cell : Cell) (word : ℕ) (message : Message) →
@@ -143,13 +137,6 @@ asks-cell laws setup entries cell word message is sends reads =
     ∙ turn-reads cell word (host.is_write_turn (host.told_since entries)) message
     (sym sends ∙ (laws.transcripts_are_followed.sending setup entries
     ∙ ap (option_map (λ job. host.job_message setup job (host.told_since entries))) is)) reads
-
--- an exchange is of a request
-exchange-reads : (s : State) (arrival : Arrival) (back : Back) (message : Message) →
-    exchange_cause s arrival back (Some message) ≡ None → is_read_message message ≡ true
-exchange-reads s arrival back message free =
-    not-false (is_read_message message)
-    (rule-none (not (is_read_message message)) WrongKind (or-none (rule (not (is_read_message message)) WrongKind) _ free).0)
 
 -- a good answer of an order's cell has the word that the cell has
 exchange-read : Below → (config : Config) (passes : ℕ) (before : List Event) (arrival : Arrival) (back : Back) (cell : Cell)
@@ -269,7 +256,7 @@ goes-once laws config passes before event cell word lived alone steady so_far =
           goes-frame laws config passes before event cell word entry lived alone is
           (open-is (host.Order cell word) _ told.open' (goes-open cell word (now config passes before) so_far)) _ refl told.tells
 
--- and over any number of them
+-- an order that didn't take goes on so over any number of events
 goes-on : Below → (config : Config) (passes : ℕ) (span before : List Event) (cell : Cell) (word : ℕ) →
     IsLived config passes (span ++ before) → list_any begins_other span ≡ false → list_any restarts_converter span ≡ false →
     OrderGoes cell word (now config passes before) → OrderGoes cell word (now config passes (span ++ before))
@@ -291,7 +278,7 @@ moves-once laws config passes before event cell word lived alone steady (inl is)
 moves-once laws config passes before event cell word lived alone steady (inr (over, differs)) =
     inl (idle-moves laws config passes before event cell lived steady over)
 
--- so where it has another at the end, it had that throughout
+-- where the cell has another word at the end, it had that throughout
 had-before : Below → (config : Config) (passes : ℕ) (later before : List Event) (cell : Cell) (word read : ℕ) →
     IsLived config passes (later ++ before) → list_any begins_other later ≡ false → list_any restarts_converter later ≡ false →
     OrderGoes cell word (now config passes before) → read ≢ word →

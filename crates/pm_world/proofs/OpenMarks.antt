@@ -24,7 +24,7 @@ pub open-is : (ms : List Mark) → are_open ms ≡ true → AreOpen ms
 open-is [] h = tt
 open-is (mark ∷ ms) h = let parts = and-both (leaves_open mark) (are_open ms) h in (parts.0, open-is ms parts.1)
 
--- and back
+-- marks that are open pass the test
 pub is-open : (ms : List Mark) → AreOpen ms → are_open ms ≡ true
 is-open [] h = refl
 is-open (mark ∷ ms) h = ap (λ b. b && are_open ms) h.0 ∙ is-open ms h.1
@@ -50,7 +50,7 @@ any-filter test keep (x ∷ xs) h =
     go true e rest = e ∙ rest
     go false e rest = rest
 
--- nor where each stands once
+-- no word passes a test where each stands once
 any-once : (test : ℕ → Bool) (xs : List ℕ) → list_any test xs ≡ false → list_any test (once xs) ≡ false
 any-once test [] h = refl
 any-once test (x ∷ xs) h =
@@ -58,7 +58,7 @@ any-once test (x ∷ xs) h =
     ap (λ b. b || list_any test (filter (λ other. not (eqb other x)) (once xs))) parts.0
     ∙ any-filter test (λ other. not (eqb other x)) (once xs) (any-once test xs parts.1)
 
--- nor the other way round
+-- no word passes a test the other way round
 any-reverse : (test : ℕ → Bool) (xs : List ℕ) → list_any test xs ≡ false → list_any test (reverse xs) ≡ false
 any-reverse test [] h = refl
 any-reverse test (x ∷ xs) h =
@@ -101,7 +101,7 @@ open-finds (Good (Out output register) word ∷ ms) h =
 open-finds (Good Protect word ∷ ms) h =
     ap (λ b. b || false) (zero-other word (and-both (eqb word 0) (are_open ms) h).0)
 
--- so none is listed
+-- open marks list no other word
 pub open-lists : (ms : List Mark) → are_open ms ≡ true → lists_other (possible_of ms Protect) ≡ false
 unfolding possible_of
 open-lists ms h = from-finds (words_since ms Protect) (open-finds ms h)

@@ -60,7 +60,7 @@ pending-of_stage setup entries = go (host.open_job setup entries) where
   go (Some (host.Check cell)) = refl
   go job = refl
 
--- and so that of a life
+-- the order, store or restore that is open in a life
 pub open_pending-is : (config : Config) (passes : ℕ) (events : List Event) →
     open_pending config passes events ≡ stage_pending (now config passes events).host.stage
 unfolding open_pending now state_of
@@ -87,7 +87,7 @@ another-order s question tries = go (eqb (tries + 1) s.setup.passes) where
   go true = refl
   go false = refl
 
--- nor is what follows a good answer
+-- what follows a good answer to a question is no order
 taken-order : (s : Summary) (question : Question) (payload : List ℕ) → stage_pending (answer_taken s question payload).after.stage ≡ None
 taken-order s (Word cell) payload = refl
 taken-order s (Mode output) payload = go (mode_of (word_in payload)) where

@@ -229,7 +229,7 @@ asks-stays : (s : State) (event : Event) (job : host.Job) → asked s event ≡ 
 asks-stays s RestartHost job is = cc
 asks-stays s event job is = refl
 
--- and one that asks for none closes nothing
+-- an event that asks for no job closes nothing
 asks-none : (s : State) (event : Event) → asked s event ≡ None → closes event ≡ false
 asks-none s (Order cell word) is = cc
 asks-none s Restore is = cc
@@ -362,7 +362,7 @@ life-opens laws config passes [] lived all = refl
 life-opens laws config passes (event ∷ before) lived all =
     (opens-step laws config passes before event lived (life-opens laws config passes before (earlier lived))).job all
 
--- so whether it is left open goes by one event after another
+-- whether WRITE_PROTECT is left open goes by one event after another
 pub open-more : Below → (config : Config) (passes : ℕ) (before : List Event) (event : Event) → IsLived config passes (event ∷ before) →
     left_open config passes (event ∷ before)
     ≡ stays_open (left_open config passes before) event (possible_at (now config passes (event ∷ before)).host Protect)

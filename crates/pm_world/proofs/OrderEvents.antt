@@ -19,7 +19,7 @@ use Rattle.pm_model.specs.declared.pending_job.PendingJob.TheVariants as pending
 use Rattle.pm_model.specs.OrderMachine.{words_taken, store_taken}
 use Rattle.pm_model.specs.Settings.{Words, with_outputs, with_word, word_at}
 use Rattle.pm_device.specs.declared.ending.Ending.{Ending}
-use Rattle.pm_device.specs.declared.ending.Ending.TheVariants.{Stop, Restart}
+use Rattle.pm_device.specs.declared.ending.Ending.TheVariants.{Stop}
 use Rattle.pm_device.specs.Held.{Held}
 use Rattle.pm_device.specs.Effect as device
 use Rattle.pm_device.specs.Effect.{Hearing, Kept, kept_in, kept_after}
@@ -49,6 +49,7 @@ use Rattle.pm_world.proofs.Causes.{or-none, rule-none, not-false}
 use Rattle.pm_world.proofs.Frames.{heard_ending-write}
 use Rattle.pm_world.proofs.Hearings.{frame-write, hears-write, hears-request, payload-number}
 use Rattle.pm_world.proofs.OpenOrders.{stage_pending, Goes, answered-order}
+use Rattle.pm_world.proofs.Sending.{stop-is}
 
 -- the message that exists
 some-is : (a b : Message) → Some a ≡ Some b → a ≡ b
@@ -59,7 +60,7 @@ reads : (request message : Message) → is_read_message request ≡ true → Som
 reads request message is e writes =
     let both : true ≡ false = sym is ∙ (ap is_read_message (some-is request message e) ∙ writes) in cc
 
--- nor is the read of a cell
+-- the read of a cell is no write
 reads-cell : (cell : Cell) (message : Message) → Some (cell_read cell) ≡ Some message → is_read_message message ≡ false → ⊥
 reads-cell (Out output register) message e writes = reads (cell_read (Out output register)) message refl e writes
 reads-cell Protect message e writes = reads (cell_read Protect) message refl e writes
@@ -142,11 +143,6 @@ question-reads : (question : Question) → is_read_message (question_message que
 question-reads (Word (Out output register)) = refl
 question-reads _ = refl
 
--- an ending is a stop by the test
-stop-so : (ending : Ending) → not (is_restart ending) ≡ true → ending ≡ Stop
-stop-so Stop h = refl
-stop-so Restart h = cc
-
 -- a write that was heard whole is so by the test
 whole-so : (frame bytes : List ℕ) (ending : Ending) → ending ≡ Stop → bytes ≡ frame →
     (bytes_eq bytes frame && not (is_restart ending)) ≡ true
@@ -183,7 +179,7 @@ heard-kept laws held message arrival job writes fits legal makes = go (is_whole 
       ≡ kept_taken held (where_so b job)
   go true e =
       let parts = and_parts (bytes_eq bytes frame) (not (is_restart (ending_of Stop arrival))) e in
-      ap₂ (λ b s. kept_after held (Hearing b s)) ((bytes_eq-Decides bytes frame).0 parts.0) (stop-so (ending_of Stop arrival) parts.1)
+      ap₂ (λ b s. kept_after held (Hearing b s)) ((bytes_eq-Decides bytes frame).0 parts.0) (stop-is (ending_of Stop arrival) parts.1)
       ∙ (makes frame is_frame ∙ ap (kept_taken held) (sym (some job)))
   go false e = elim (hears-write laws held message bytes (ending_of Stop arrival) writes fits legal) [
     | inl same ↦ same ∙ ap (kept_taken held) (sym (none job))
@@ -313,7 +309,7 @@ delivered-takes laws s arrival (Some message) is e h =
         (ap (is_legal_hearing (frame_of s.host.setup.addr message) (heard_bytes (frame_of s.host.setup.addr message) arrival)) ending
         ∙ not-false _ (rule-none _ NotBetrayed parts.1))
 
--- and leaves the host
+-- a delivery leaves the host
 pub delivered-stage : (s : State) (arrival : Arrival) (sending : Option Message) →
     stage_pending (host_after s.host (delivered s arrival sending).told).stage ≡ stage_pending s.host.stage
 delivered-stage s arrival None = refl
@@ -336,7 +332,7 @@ exchanged-stays laws s arrival back (Some message) fits h =
     (not-false (is_read_message message) (rule-none (not (is_read_message message)) WrongKind kinds.0), fits message refl)
     (not-false _ (rule-none _ NotBetrayed hears.0)))
 
--- and keeps a job open, or ends it
+-- an exchange keeps a job open, or ends it
 pub exchanged-order : (s : State) (arrival : Arrival) (back : Return) (sending : Option Message) →
     Goes (stage_pending s.host.stage) (stage_pending (host_after s.host (exchanged s arrival back sending).told).stage)
 unfolding host_next
@@ -354,7 +350,7 @@ idle-order s free = go s.stage free where
 asking-order : (s : Summary) (there : Bool) → asking_fault s there ≡ None → stage_pending s.stage ≡ None
 asking-order s there h = idle-order s (rule-none (is_busy s) _ (or-none (rule (is_busy s) _) _ h).0)
 
--- and of each job
+-- the order of each job that is accepted
 pub job-order : (s : Summary) (job : host.Job) → job_fault s job ≡ None → stage_pending s.stage ≡ None
 job-order s (host.Order cell word) h = asking-order s _ (or-none (cell_fault s cell) _ h).0
 job-order s (host.Check cell) h = asking-order s _ h

@@ -36,7 +36,7 @@ answered-reads config (PagePlusRead page code) h = refl
 answered-reads config (ReadCoefficients code side) h = refl
 answered-reads config request h = cc
 
--- and a repeated start ends it
+-- a repeated start ends a whole request
 whole-restart : (request : Message) → is_read_message request ≡ true → whole_ending request ≡ Restart
 whole-restart = search rules
 

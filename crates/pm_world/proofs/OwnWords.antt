@@ -140,7 +140,7 @@ life-own laws config passes events cell lived here =
     (laws.orders_stay_in_their_cells.own (start_settings config) (retold config passes events) cell lived.sound.few (full laws config) r.run
     here))
 
--- and of the store
+-- each cell has a word of its own in the store
 pub life-stored : Below → (config : Config) (passes : ℕ) (events : List Event) (cell : Cell) → IsLived config passes events →
     IsCell config.count cell →
     IsOwnWord config passes events cell (word_at (now config passes events).device.store cell)
@@ -151,7 +151,7 @@ life-stored laws config passes events cell lived here =
     (laws.orders_stay_in_their_cells.stored (start_settings config) (retold config passes events) cell lived.sound.few (full laws config)
     r.run here))
 
--- so each output commands a value of its own
+-- each output commands a value of its own
 pub life-commands : Below → (config : Config) (passes : ℕ) (events : List Event) (output : ℕ) → IsLived config passes events →
     output < config.count →
     CommandsOwn config passes events output

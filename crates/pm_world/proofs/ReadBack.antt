@@ -22,7 +22,7 @@ pub reads-cell : (cell : Cell) → is_read_message (cell_read cell) ≡ true
 reads-cell (Out output register) = refl
 reads-cell Protect = refl
 
--- and it is a request
+-- the read of a cell is a request
 is_request : (addr : ℕ) (cell : Cell) → fits_layout (cell_read cell) ≡ true →
     IsRequest addr (cell_read cell) (frame_of addr (cell_read cell))
 is_request addr cell fits =

@@ -115,7 +115,7 @@ record Leaves (config : Config) (passes : ℕ) (events : List Event) (steps : Li
   store_is : (machine_of (start_settings config) steps).store ≡ (now config passes events).device.store
   job_is : (machine_of (start_settings config) steps).pending ≡ open_pending config passes events
 
--- and they retell the events
+-- a run of these steps retells the events
 runs-by : {config : Config} {passes : ℕ} {events : List Event} {steps : List Step} → retold config passes events ≡ steps →
     Leaves config passes events steps → Runs config passes events
 runs-by {config = config} e l = record {
@@ -256,7 +256,7 @@ gone-on config passes before event f is_told same (inr over) = go (open_pending 
       (ap is_some e))
       same over
 
--- and over a delivery
+-- a run goes on over a delivery
 delivered-on : {config : Config} {passes : ℕ} {before : List Event} {arrival : Arrival} →
     (f : Follows config passes before (Deliver arrival)) →
     TookJob (now config passes before).device (next (now config passes before) (Deliver arrival)).device
@@ -331,7 +331,7 @@ one-asked laws config passes before event job f is = go job is where
   go (host.Send RestoreUserAll) is = begins (host.Send RestoreUserAll) pending.Restore is refl refl tt
   go job is = leaves job is refl refl
 
--- and which asks for none
+-- one event that asks for no job
 one-beside : Below → (config : Config) (passes : ℕ) (before : List Event) (event : Event) →
     IsLived config passes before →
     (f : Follows config passes before event) → asked (now config passes before) event ≡ None →
@@ -362,7 +362,7 @@ one-beside laws config passes before event lived f is =
     (record { words = ap (λ (t : State). t.device.words) alone; store = ap (λ (t : State). t.device.store) alone })
     (ap (λ (t : State). stage_pending t.host.stage) alone)
 
--- and any event
+-- any event
 one : Below → (config : Config) (passes : ℕ) (before : List Event) (event : Event) → IsLived config passes before →
     (f : Follows config passes before event) → Runs config passes (event ∷ before)
 one laws config passes before event lived f = go (asked (now config passes before) event) refl where

@@ -53,7 +53,7 @@ pub retold-lived : {config : Config} {passes : ℕ} {first : Choice} {entries : 
     IsLived (witness_start config first) passes events
 retold-lived is r = record { sound = is.sound; made = is.made; legal = r.legal }
 
--- and the host holds what it would after these entries
+-- the retold host holds what it would after these entries
 pub retold-host : {config : Config} {passes : ℕ} {first : Choice} {entries : List host.Entry} {ms : List Mark} {due : Choice}
     {events : List Event} → IsRetold config passes first entries ms due events →
     (now (witness_start config first) passes events).host ≡ host_now (setup_of config passes) entries

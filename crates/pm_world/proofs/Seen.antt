@@ -159,7 +159,7 @@ goods-seen laws {setup = setup} {entries = entries} (one_good read word asked go
       | inr older ↦ inl older
     ]
 
--- so does an entry
+-- a restart is seen after an entry where it was before it, or where the entry surprises
 told-seen : Below → {s : State} {setup : host.Setup} {entries : List host.Entry} (told : Option host.Entry) → Knows s setup entries →
     restart_seen_of (marks setup (option_to_list told ++ entries)) ≡ true →
     (restart_seen_of (marks setup entries) ≡ true) ⊎ SurprisedBy s setup entries told
@@ -244,7 +244,7 @@ life-seen laws config passes (event ∷ before) lived seen =
           | inr by ↦ newest e by
         ]
 
--- and so since the host started
+-- a restart since a cell was read is one since the host started
 pub since-started : (config : Config) (passes : ℕ) (cell : Cell) (events : List Event) → has_read config passes cell events ≡ true →
     restarted_since config passes cell events ≡ true → restarted_since_host events ≡ true
 unfolding has_read restarted_since restarted_since_host

@@ -45,7 +45,7 @@ wrote-held : Below → (words : Words) (cell : Cell) (word : ℕ) → AreWords w
 wrote-held laws words cell word are there = laws.settings_are_a_map.read words cell cell word are there there
     ∙ cond-true (same_cell cell cell) word (word_at words cell) (same_cell-itself cell)
 
--- and its code stays allowed
+-- the code of a cell that was written stays allowed
 wrote-allowed : Below → (words : Words) (cell : Cell) (word : ℕ) → AreWords words → IsCell 8 cell → cell_accepts cell word ≡ true →
     is_allowed (word_at words Protect) (cell_code cell) ≡ true →
     is_allowed (word_at (with_word words cell word) Protect) (cell_code cell) ≡ true
@@ -63,7 +63,7 @@ write-fits laws setup (Out output register) word there accepted =
     laws.frames_are_named.fits setup _ (writes_output output register word there accepted)
 write-fits laws setup Protect word there accepted = laws.frames_are_named.fits setup _ (writes_protect word accepted)
 
--- and so does its read
+-- the read of a cell fits its layout
 pub read-fits : Below → (setup : host.Setup) (cell : Cell) → IsCell setup.outputs cell → fits_layout (cell_read cell) ≡ true
 read-fits laws setup (Out output register) there = laws.frames_are_named.fits setup _ (reads_output output register there)
 read-fits laws setup Protect there = laws.frames_are_named.fits setup _ reads_protect
@@ -85,7 +85,7 @@ pub told-nothing : (s : State) (arrival : Arrival) (sending : Option Message) �
 told-nothing s arrival None = refl
 told-nothing s arrival (Some message) = refl
 
--- and leaves it
+-- a delivery leaves the host
 pub next-deliver-host : (s : State) (arrival : Arrival) → (next s (Deliver arrival)).host ≡ s.host
 unfolding next
 next-deliver-host s arrival = ap (host_after s.host) (told-nothing s arrival (sending_in s.host))
@@ -102,7 +102,7 @@ pub write-ending : (cell : Cell) (word : ℕ) (arrival : Arrival) → heard_endi
 write-ending cell word arrival = sym (heard_ending-write (cell_write cell word) arrival (write-kind cell word))
 
 -- an ending is a stop by the test
-stop-is : (ending : Ending) → not (is_restart ending) ≡ true → ending ≡ Stop
+pub stop-is : (ending : Ending) → not (is_restart ending) ≡ true → ending ≡ Stop
 stop-is Stop h = refl
 stop-is Restart h = cc
 

@@ -51,7 +51,7 @@ since-short (host.Finished acked ∷ before) = let rest = since-short before in 
 since-short (host.Got bytes ∷ before) = let rest = since-short before in omega arith
 since-short (host.Restarted ∷ before) = omega arith
 
--- and one thing for each event at most
+-- each event tells the host one thing at most
 told-short : (told : Option host.Entry) (entries : List host.Entry) → length (option_to_list told ++ entries) ≤ suc (length entries)
 told-short None entries = omega arith
 told-short (Some entry) entries = omega arith
@@ -66,7 +66,7 @@ life-short config passes (event ∷ before) =
     let all = ap length (entries-more config passes before event) in
     omega arith
 
--- so twice as many events at most
+-- the retelling has twice as many events at most
 pub short-witness : (config : Config) (passes : ℕ) (events : List Event) (chosen : Choice) →
     length (witness_events (setup_of config passes) chosen (since_restart (life config passes events).entries)) ≤ 2 * length events
 short-witness config passes events chosen =
@@ -88,7 +88,7 @@ never-since config passes cell (event ∷ before) steady =
     go true c d e f = refl
     go false c d e f = ap (λ x. x || d) e ∙ f
 
--- nor since the host's start
+-- without a restart of the converter none is since the host's start
 pub never-host : (events : List Event) → list_any restarts_converter events ≡ false → restarted_since_host events ≡ false
 unfolding restarted_since_host
 never-host [] steady = refl

@@ -31,7 +31,7 @@ unfolding next now
 restarted-same laws setup entries made told =
     laws.transcripts_are_followed.more setup entries Restarted made told ∙ sym (laws.transcripts_are_followed.none setup made)
 
--- so only the entries since the last restart count
+-- only the entries since the last restart count
 pub since-same : Below → (setup : Setup) (entries : List Entry) → IsSetup setup → AreTold setup entries →
     SinceSame setup entries (since_restart entries)
 since-same laws setup [] made told = record { same = refl; told = tt }

@@ -56,7 +56,7 @@ put-confirms : (b : Bool) (rest : Standing) (word : ℕ) → cond b Unknown rest
 put-confirms true rest word h = cc
 put-confirms false rest word h = h
 
--- so what is known stays true
+-- what is known stays true
 put-known : Below → (ms : List Mark) (c : Cell) (w : ℕ) (cell : Cell) (restarted : Bool) (words : Words) →
     IsKnown ms cell restarted words → IsKnown (Put c w ∷ ms) cell restarted words
 put-known laws ms c w cell restarted words known = record {
@@ -72,7 +72,7 @@ restored-possible laws ms cell x h = laws.possible_words_are_followed.restored m
   go true = refl
   go false = h
 
--- so what is known stays true
+-- what is known stays true
 begun-known : Below → (ms : List Mark) (cell : Cell) (restarted : Bool) (words : Words) →
     IsKnown ms cell restarted words → IsKnown (Restored ∷ ms) cell restarted words
 begun-known laws ms cell restarted words known = record {
@@ -104,7 +104,7 @@ are-puts setup entries = go (open_job setup entries) where
   go (Some (Order cell word)) = by_turn (is_write_turn (told_since entries)) cell word
   go (Some job) = no_put
 
--- and stays true after each of them
+-- what is known stays true after each of several marks
 puts-known : Below → (new ms : List Mark) → ArePuts new → (cell : Cell) (restarted : Bool) (words : Words) →
     IsKnown ms cell restarted words → IsKnown (new ++ ms) cell restarted words
 puts-known laws new ms no_put cell restarted words known = known
@@ -137,7 +137,7 @@ ReadsTrue setup before bytes words =
     (read : Cell) (word : ℕ) → read_by (open_job setup before) (told_since before) ≡ Some read →
     good_word setup.addr read bytes ≡ Some word → word_at words read ≡ word
 
--- so what is known stays true
+-- what is known stays true
 confirmed-is : (w word : ℕ) → Confirmed w ≡ Confirmed word → w ≡ word
 confirmed-is w word h = cc
 

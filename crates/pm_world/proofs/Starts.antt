@@ -54,13 +54,13 @@ witness-made config words output below =
     ap (λ m. option_and_then (λ mode. result_ok (shape_in mode config.coefficients)) (result_ok (mode_of m)))
     (witness-mode config words output below)
 
--- and what stands for it
+-- the format of what stands for a configuration
 witness-shape : (config : Config) (words : Choice) (output : ℕ) → output < 8 →
     shape_for (witness_start config words) output ≡ shape_for config output
 unfolding shape_for
 witness-shape config words output below = ap (λ o. unwrap_or o InLinear11) (witness-made config words output below)
 
--- so it is like the configuration
+-- what stands for a configuration is like it
 pub witness-like : (config : Config) (words : Choice) → IsSound config → IsLike config (witness_start config words)
 witness-like config words sound = record {
   addr = refl;
@@ -68,7 +68,7 @@ witness-like config words sound = record {
   shapes = λ output below. witness-shape config words output (let few = sound.few in omega arith);
 }
 
--- and sound, where each word is one that its cell accepts
+-- it is sound where each word is one that its cell accepts
 pub witness-sound : (config : Config) (words : Choice) → IsSound config →
     ((output : ℕ) (register : Reg) → output < config.count → cell_accepts (Out output register) (words (Out output register)) ≡ true) →
     IsSound (witness_start config words)

@@ -134,7 +134,7 @@ settled-after laws {config = config} {passes = passes} {before = before} {after 
     go true same = alone (itself-alone laws other c same)
     go false differ = left (is_surprising config passes before cell) (c.others other there differ) settled
 
--- and one that is alone stays so where the check doesn't surprise
+-- a word that is alone stays so where the check doesn't surprise
 alone-after : Below → {config : Config} {passes : ℕ} {before after : List Event} {cell : Cell} (other : Cell) →
     Checked config passes cell before after → IsCell 8 other → is_surprising config passes before cell ≡ false →
     IsAlone config passes before other → IsAlone config passes after other
@@ -162,7 +162,7 @@ among-cases : (other cell : Cell) (cells : List Cell) → is_among other (cell �
     (same_cell cell other ≡ true) ⊎ (is_among other cells ≡ true)
 among-cases other cell cells among = or_cases (same_cell cell other) (is_among other cells) among
 
--- and so is what is among the rest
+-- a cell among the rest is among all
 among-more : (other cell : Cell) (cells : List Cell) → is_among other cells ≡ true → is_among other (cell ∷ cells) ≡ true
 among-more other cell cells among = or_right (same_cell cell other) (is_among other cells) among
 

@@ -1,10 +1,9 @@
 -- The end of an order's write and its undisturbed read have no cause against them.
 use Rattle.std.proofs.Common.{◌≡◌, ℕ, ◌+◌, ◌<◌, ◌≤◌, Bool, true, false, not, ◌&&◌, ◌||◌, List, [], ◌∷◌, length, Some, None, option_map}
 use Rattle.std.proofs.Common.{refl, ◌∙◌, ap, ap₂, arith}
-use Rattle.std.specs.Prelude.{bytes_eq, nat_lt}
+use Rattle.std.specs.Prelude.{nat_lt}
 use Rattle.std.specs.Option.{option_or}
 use Rattle.std.proofs.lemmas.Bool.{lt-leb}
-use Rattle.std.proofs.lemmas.Slice.Eq.{bytes_eq-Decides}
 use Rattle.pm_table.specs.declared.cell.Cell.{Cell}
 use Rattle.pm_frame.specs.declared.message.Message.{Message}
 use Rattle.pm_frame.specs.Fault.{whole_answer}
@@ -36,10 +35,7 @@ use Rattle.pm_world.proofs.Lives.{IsLived, earlier, lived-by, now-next}
 use Rattle.pm_world.proofs.ReadBack.{reads-cell}
 use Rattle.pm_world.proofs.Undisturbed.{finish-stage, order-stage, read-restart}
 use Rattle.pm_world.proofs.Sending.{next-deliver-host}
-
--- bytes are themselves by the test
-same_bytes : (bytes : List ℕ) → bytes_eq bytes bytes ≡ true
-same_bytes bytes = (bytes_eq-Decides bytes bytes).1 refl
+use Rattle.pm_world.proofs.WholeFrames.{same_bytes}
 
 -- a rule that doesn't apply names no cause
 off : (applies : Bool) (cause : Cause) → applies ≡ false → rule applies cause ≡ None
@@ -57,7 +53,7 @@ unfolding is_legal_return
 whole-return frame answer needed = ap₂ (λ b c. (true && b) && c || (nat_lt (length answer) needed || is_betrayed frame answer))
     (same_bytes frame) (same_bytes answer)
 
--- so an undisturbed exchange has no cause
+-- an undisturbed exchange has no cause
 exchange-free : (s : State) (message : Message) → is_read_message message ≡ true → heard_ending message Whole ≡ Restart →
     exchange_cause s Whole back.Whole (Some message) ≡ None
 exchange-free s message reads ending =
@@ -106,7 +102,7 @@ pub record HasRoom (config : Config) (passes : ℕ) (events : List Event) : Type
   pub taken : AreTaken config passes events
   pub room : length events + 2 ≤ event_limit
 
--- so the end of the write and the read are taken
+-- the end of an undisturbed write and its read are taken
 pub taken-whole : Below → {config : Config} {passes : ℕ} {cell : Cell} {word : ℕ} (before : List Event) (order : Event)
     (arrivals : List Arrival) (acked : Bool) → HasRoom config passes (sent_by order arrivals before) →
     asked (now config passes before) order ≡ Some (host.Order cell word) → AreTaken config passes (honest order arrivals acked before)

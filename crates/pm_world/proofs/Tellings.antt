@@ -51,7 +51,7 @@ job-asked : (s : State) (job : host.Job) → asked s (job_event job) ≡ Some jo
 job-asked s (host.Send RestoreUserAll) = refl
 job-asked s _ = refl
 
--- and refuses it as it refuses the job
+-- the host refuses the event as it refuses the job
 job-refusal : (s : State) (job : host.Job) → refusal_of s.host (job_event job) ≡ job_fault s.host job
 job-refusal s (host.Send RestoreUserAll) = refl
 job-refusal s _ = refl
@@ -68,7 +68,7 @@ job-cause s job may =
     ∙ (ap (option_or (refused (job_fault s.host job))) (asked-beside s (job_event job) job (job-asked s job))
     ∙ unrefused (job_fault s.host job) may)
 
--- and restarts nothing
+-- an event that asks for a job restarts nothing
 job-steady : (job : host.Job) → (restarts_host (job_event job) || restarts_converter (job_event job)) ≡ false
 job-steady (host.Send RestoreUserAll) = refl
 job-steady _ = refl
@@ -91,7 +91,7 @@ finish-free (Some message) h = go (is_read_message message) h where
   go true h = cc
   go false h = refl
 
--- so it may come
+-- the end of a write that may come tells the host just that
 pub finish-tells : (s : State) (acked : Bool) → may_come s.host (host.Finished acked) ≡ true → Tells s (Finish acked) (host.Finished acked)
 unfolding next
 finish-tells s acked may = record {
@@ -131,7 +131,7 @@ good-returned {config = config} s {bytes = bytes} payload came kin has good =
     ∙ (ap (is_legal_return frame needed (is_heard_whole frame frame Restart) answer) (came.good s.device payload kin good has)
     ∙ whole-return frame answer needed)
 
--- or lost bytes
+-- lost bytes are a legal return
 lost-returned : (addr : ℕ) (request : Message) (whole : Bool) (answer bytes : List ℕ) → is_lost addr request bytes ≡ true →
     is_legal_return (frame_of addr request) (whole_answer request) whole answer bytes ≡ true
 unfolding is_legal_return

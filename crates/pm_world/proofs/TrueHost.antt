@@ -36,22 +36,20 @@ use Rattle.pm_host.specs.Question.{question_message, IsQuestion}
 use Rattle.pm_host.specs.Summary.{Summary, Change, next as host_next, begins, finished, answered, answer_taken, read_back, learned}
 use Rattle.pm_host.specs.Summary.{mode_taken}
 use Rattle.pm_host.specs.Summary.{asked as asks_again, another, sends, ends, goes_on, writes, idle, marked, no_formats}
-use Rattle.pm_host.specs.Summary.{sending_in, stage_message}
+use Rattle.pm_host.specs.Summary.{stage_message}
 use Rattle.pm_host.specs.Marks.{Good}
 use Rattle.pm_host.specs.Transcript as host
 use Rattle.pm_world.specs.Below.{Below}
 use Rattle.pm_world.specs.declared.event.Event.{Event}
-use Rattle.pm_world.specs.declared.event.Event.TheVariants.{Deliver, Finish, Exchange, RestartHost}
 use Rattle.pm_world.specs.declared.arrival.Arrival.{Arrival}
 use Rattle.pm_world.specs.declared.back.Back.{Back}
 use Rattle.pm_world.specs.Honest.{IsSpelled}
 use Rattle.pm_world.specs.Legal.{frame_of, heard_bytes, heard_ending, answer_in, back_bytes}
-use Rattle.pm_world.specs.State.{State, asked, share_beside, exchanged, host_after, next, event_cause, exchange_cause, answer_to}
+use Rattle.pm_world.specs.State.{Share, State, exchanged, host_after, next, event_cause, exchange_cause, answer_to}
+use Rattle.pm_world.proofs.Shares.{IsShare, begins as begins_job, exchanges, finishes, restarts_host as host_restarts, share-is}
 use Rattle.pm_world.proofs.Learned.{SaysTrue, GoodTrue, ToldTrue, AsksFor, AsksSo, Agree, IsTrueHost, good-faultless, legal-good}
 use Rattle.pm_world.proofs.Learned.{exchange-legal, mode-true}
 use Rattle.pm_world.proofs.Learned.{coefficients-true}
-use Rattle.pm_world.proofs.Causes.{asked-next, beside-next}
-use Rattle.pm_world.proofs.Sending.{told-nothing}
 
 -- one more format
 agree-set : (config : Config) (formats : List (Option Shape)) (output : ℕ) (shape : Shape) → Agree config formats →
@@ -264,30 +262,17 @@ exchange-true laws {s = s} arrival back (Some stage) stands is e free =
     (answered-true s.device.config (idle s.host) (Some stage) bytes (stands.sound, stands.host.formats) is.formats (asks, inside)
     (subst (λ a. ToldTrue s.device.config a (Some stage) bytes) (sym stands.addr) told))
 
--- one event: a job that it asks for is accepted, or it asks for none
-begun-true : (s : State) (event : Event) (job : host.Job) → IsTrueHost s.device.config s.host → asked s event ≡ Some job →
-    IsTrueHost s.device.config (next s event).host
-unfolding host_next
-begun-true s event job is e =
-    subst (λ (t : State). IsTrueHost s.device.config t.host) (sym (asked-next s event job e))
-    (begins-true s.device.config s.host job is.formats)
-
--- an event that asks for no job
-beside-true : Below → (s : State) (event : Event) → Stands s → IsTrueHost s.device.config s.host → event_cause s event ≡ None →
-    IsTrueHost s.device.config (host_after s.host (share_beside s event).told)
-unfolding host_next
-beside-true laws s (Deliver arrival) stands is free =
-    subst (λ told. IsTrueHost s.device.config (host_after s.host told)) (sym (told-nothing s arrival (sending_in s.host))) is
-beside-true laws s (Finish acked) stands is free = finished-true s.device.config (idle s.host) s.host.stage acked is.formats is.asks
-beside-true laws s (Exchange arrival back) stands is free = exchange-true laws arrival back s.host.stage stands is refl free
-beside-true laws s RestartHost stands is free = record { formats = agree-none s.device.config; asks = tt }
-beside-true laws s _ stands is free = is
-
 -- any event
 pub next-true : Below → (s : State) (event : Event) → Stands s → IsTrueHost s.device.config s.host → event_cause s event ≡ None →
     IsTrueHost s.device.config (next s event).host
-next-true laws s event stands is free = go (asked s event) refl where
-  go : (o : Option host.Job) → asked s event ≡ o → IsTrueHost s.device.config (next s event).host
-  go None e = subst (λ (t : State). IsTrueHost s.device.config t.host) (sym (beside-next s event e))
-      (beside-true laws s event stands is free)
-  go (Some job) e = begun-true s event job is e
+unfolding next host_next
+next-true laws s event stands is free = by (share-is s event) free where
+  by : {event : Event} {share : Share} → IsShare s event share → event_cause s event ≡ None →
+      IsTrueHost s.device.config (host_after s.host share.told)
+  by (begins_job event job asks) free = begins-true s.device.config s.host job is.formats
+  by (finishes acked) free = finished-true s.device.config (idle s.host) s.host.stage acked is.formats is.asks
+  by (exchanges arrival back message sends) free =
+      subst (λ o. IsTrueHost s.device.config (host_after s.host (exchanged s arrival back o).told)) sends
+      (exchange-true laws arrival back s.host.stage stands is refl free)
+  by host_restarts free = record { formats = agree-none s.device.config; asks = tt }
+  by share free = is

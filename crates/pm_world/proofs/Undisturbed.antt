@@ -64,7 +64,7 @@ pub order-stage : (s : State) (order : Event) (cell : Cell) (word : ℕ) → ask
 unfolding host_next
 order-stage s order cell word asks = ap (λ (t : State). t.host.stage) (asked-next s order (host.Order cell word) asks)
 
--- and leaves the converter
+-- an order leaves the converter
 pub order-device : (s : State) (order : Event) (cell : Cell) (word : ℕ) → asked s order ≡ Some (host.Order cell word) →
     (next s order).device ≡ s.device
 order-device s order cell word asks = ap (λ (t : State). t.device) (asked-next s order (host.Order cell word) asks)

@@ -43,7 +43,7 @@ puts-none new ms one_restore cell none = go (is_output_cell cell) where
   go true = refl
   go false = none
 
--- so does a good answer of another cell
+-- a good answer of another cell leaves a cell unread
 goods-none : {setup : host.Setup} {before : List host.Entry} {bytes : List ℕ} {new : List Mark} (ms : List Mark) →
     AreGoods setup before bytes new →
     (cell : Cell) →
@@ -59,7 +59,7 @@ goods-none ms (one_good read w asked good) cell unread none = go (same_cell read
   go true h = cc
   go false h = by_surprise (is_possible w (possible_from (words_since ms read)))
 
--- so does an entry that reads another cell, or none
+-- an entry that reads another cell, or none, leaves a cell unread
 told-none : (setup : host.Setup) (entries : List host.Entry) (cell : Cell) (told : Option host.Entry) →
     reads setup entries cell told ≡ false →
     NoWords (marks setup entries) cell → NoWords (marks setup (option_to_list told ++ entries)) cell
@@ -79,7 +79,7 @@ first-none : (config : Config) (passes : ℕ) (cell : Cell) → NoWords (marks (
 unfolding life
 first-none config passes cell = refl
 
--- and so a life that doesn't read the cell
+-- a life that doesn't read the cell leaves it unread
 pub unread-none : (config : Config) (passes : ℕ) (cell : Cell) (events : List Event) → has_read config passes cell events ≡ false →
     NoWords (marks (setup_of config passes) (life config passes events).entries) cell
 unfolding has_read
@@ -101,7 +101,7 @@ unread-none config passes cell (event ∷ before) unread =
         told-none (setup_of config passes) (life config passes before).entries cell (share_of (now config passes before) event).told
         both.0 (older both.1)
 
--- so where words are listed, the cell was read
+-- where words are listed, the cell was read
 pub listed-read : (config : Config) (passes : ℕ) (cell : Cell) (events : List Event) →
     possible_of (marks (setup_of config passes) (life config passes events).entries) cell ≢ Any → has_read config passes cell events ≡ true
 unfolding possible_of

@@ -181,7 +181,7 @@ module _ (laws : Below) (config : Config) (passes : ℕ) where
       let found = asked-some (now config passes before) event refl lived.legal.0.word in
       begun-form before event found.0 lived found.1
 
-  -- so of each life
+  -- each life has such a form
   formed : (events : List Event) → IsLived config passes events →
       FormOf config passes events (way_of config passes events)
   unfolding way_of
@@ -219,7 +219,7 @@ module _ (laws : Below) (config : Config) (passes : ℕ) where
       (sent-heard events cell word arrival lived (sent-stage laws before order arrivals (earlier lived) asks))
       (way-sent before order arrivals cell word (earlier lived) asks allowed)
 
-  -- and through after its end and its read
+  -- an order is through after its end and its read
   way-through : (events : List Event) (cell : Cell) (word : ℕ) (acked : Bool) →
       way_of config passes events ≡ Sent cell word true →
       way_of config passes (Exchange Whole back.Whole ∷ Finish acked ∷ events) ≡ Through cell word

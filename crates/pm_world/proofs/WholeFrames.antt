@@ -26,7 +26,7 @@ use Rattle.pm_world.specs.Way.{WasSent, WasUndisturbed}
 use Rattle.pm_world.proofs.ReadBack.{reads-cell}
 
 -- bytes are themselves by the test
-same_bytes : (bytes : List ℕ) → bytes_eq bytes bytes ≡ true
+pub same_bytes : (bytes : List ℕ) → bytes_eq bytes bytes ≡ true
 same_bytes bytes = (bytes_eq-Decides bytes bytes).1 refl
 
 -- a whole arrival is heard whole
@@ -75,7 +75,7 @@ whole-sent config passes before cell word allowed = record {
   heard = heard-whole (frame_of config.addr (cell_write cell word));
 }
 
--- and undisturbed
+-- such an order is undisturbed
 pub whole-order : (config : Config) (passes : ℕ) (before : List Event) (cell : Cell) (word : ℕ) (acked : Bool) →
     is_allowed (word_at (now config passes before).device.words Protect) (cell_code cell) ≡ true →
     WasUndisturbed config passes cell word (Exchange Whole back.Whole ∷ Finish acked ∷ Deliver Whole ∷ Order cell word ∷ before)

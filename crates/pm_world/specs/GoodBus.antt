@@ -13,7 +13,7 @@ use Rattle.pm_model.specs.Settings.{word_at}
 use Rattle.pm_device.specs.declared.config.Config.{Config}
 use Rattle.pm_device.specs.Held.{mode_for, shape_for}
 use Rattle.pm_host.specs.declared.command.Command.{Command}
-use Rattle.pm_host.specs.declared.job_end.JobEnd.TheVariants.{Done, Differs, Learned}
+use Rattle.pm_host.specs.declared.job_end.JobEnd.TheVariants.{Done, Differs, Learned, Unknown}
 use Rattle.pm_host.specs.declared.possible.Possible.TheVariants.{Any}
 use Rattle.pm_host.specs.declared.question.Question.TheVariants.{Word, Mode, Coefficients}
 use Rattle.pm_host.specs.declared.stage.Stage.{Stage}
@@ -143,6 +143,25 @@ is_among cell cells = list_any (λ one. same_cell one cell) cells
 abbrev pub AreThere : ℕ → List Cell → Type 0
 AreThere count cells = (cell : Cell) → is_among cell cells ≡ true → IsCell count cell
 
+-- The write of an order came whole, in this pass: the host had its end and reads the cell next. Where WRITE_PROTECT
+-- allows the code, the converter holds the word, and otherwise all words that it held.
+pub record WasWritten (config : Config) (passes : ℕ) (cell : Cell) (word pass : ℕ) (acked : Bool) (before after : List Event) : Type 0 where
+  pub stage : stage_after config passes after ≡ Some (Reads cell word pass)
+  pub one_frame : (life config passes after).entries ≡ Finished acked ∷ (life config passes before).entries
+  pub taken : is_allowed (held_after config passes before Protect) (cell_code cell) ≡ true →
+      held_after config passes after cell ≡ word
+  pub kept : is_allowed (held_after config passes before Protect) (cell_code cell) ≡ false →
+      (now config passes after).device.words ≡ (now config passes before).device.words
+
+-- A cell was read back that holds another word than the order's: the host had one good answer, whose word the converter
+-- holds, and writes again in the next pass. The converter's words stay.
+pub record WritesAgain (config : Config) (passes : ℕ) (cell : Cell) (word pass : ℕ) (before after : List Event) : Type 0 where
+  pub answer : List ℕ
+  pub good : good_word config.addr cell answer ≡ Some (held_after config passes before cell)
+  pub one_frame : (life config passes after).entries ≡ Got answer ∷ (life config passes before).entries
+  pub stage : stage_after config passes after ≡ Some (Writes cell word (pass + 1))
+  pub kept : (now config passes after).device.words ≡ (now config passes before).device.words
+
 -- What frames that nothing disturbs make of an open job among these events, whatever went before. Each clause has
 -- the events before such frames and after them.
 pub record GoodFrames (config : Config) (passes : ℕ) (events : List Event) : Type 0 where
@@ -161,8 +180,19 @@ pub record GoodFrames (config : Config) (passes : ℕ) (events : List Event) : T
       stage_after config passes before ≡ Some (Reads cell word pass) →
       held_after config passes before cell ≡ word →
       IsRead config passes (cell_read cell) before after → ReadDone config passes cell before after
-  -- one whose word it doesn't hold is done by three frames where a pass is left: by that read, and by the write and the
-  -- read of the next pass
+  -- The write of an order that comes whole is followed by a read of its cell, in each pass, acknowledged or not: the
+  -- converter holds the word exactly where WRITE_PROTECT allows it.
+  pub write : (later before after : List Event) (cell : Cell) (word pass : ℕ) (acked : Bool) →
+      events ≡ later ++ after → stage_after config passes before ≡ Some (Writes cell word pass) →
+      IsWritten (frame_of config.addr (cell_write cell word)) acked before after →
+      WasWritten config passes cell word pass acked before after
+  -- an order that is to be read back, and whose word the converter doesn't hold, is written again where a pass is left
+  pub again : (later before after : List Event) (cell : Cell) (word pass : ℕ) → events ≡ later ++ after →
+      stage_after config passes before ≡ Some (Reads cell word pass) →
+      held_after config passes before cell ≢ word → pass + 1 < passes →
+      IsRead config passes (cell_read cell) before after → WritesAgain config passes cell word pass before after
+  -- such an order is done by three frames where WRITE_PROTECT allows it: by that read, and by the write and the read of
+  -- the next pass
   pub three : (later before first middle after : List Event) (cell : Cell) (word pass : ℕ) (acked : Bool) →
       events ≡ later ++ after → stage_after config passes before ≡ Some (Reads cell word pass) →
       held_after config passes before cell ≢ word → pass + 1 < passes →
@@ -185,11 +215,22 @@ pub record GoodFrames (config : Config) (passes : ℕ) (events : List Event) : T
       IsWritten (frame_of config.addr (command_message command)) true before after →
       ((now config passes after).end ≡ Some Done)
       × ((life config passes after).entries ≡ Finished true ∷ (life config passes before).entries)
+  -- where its write isn't acknowledged it is sent again, and in the last try it is unknown whether it was carried out
+  pub resend : (later before after : List Event) (command : Command) (tries : ℕ) → events ≡ later ++ after →
+      stage_after config passes before ≡ Some (Sends command tries) → tries + 1 < passes →
+      IsWritten (frame_of config.addr (command_message command)) false before after →
+      (stage_after config passes after ≡ Some (Sends command (tries + 1)))
+      × ((life config passes after).entries ≡ Finished false ∷ (life config passes before).entries)
+  pub unacked : (later before after : List Event) (command : Command) (tries : ℕ) → events ≡ later ++ after →
+      stage_after config passes before ≡ Some (Sends command tries) → tries + 1 ≡ passes →
+      IsWritten (frame_of config.addr (command_message command)) false before after →
+      ((now config passes after).end ≡ Some Unknown)
+      × ((life config passes after).entries ≡ Finished false ∷ (life config passes before).entries)
   -- a learn ends Learned by one read of VOUT_MODE, or where that is DIRECT by it and one of the coefficients
   pub mode : (later before after : List Event) (output tries : ℕ) → events ≡ later ++ after →
       IsSpelled config → stage_after config passes before ≡ Some (Asks (Mode output) tries) →
       IsRead config passes (mode_read output) before after →
-      WasLearned config passes output after
+      ((mode_of (mode_for config output) ≢ Ok Direct) × WasLearned config passes output after)
       ⊎ ((mode_of (mode_for config output) ≡ Ok Direct)
       × (stage_after config passes after ≡ Some (Asks (Coefficients output) 0)))
   pub coefficients : (later before after : List Event) (output tries : ℕ) → events ≡ later ++ after →

@@ -21,6 +21,7 @@ pub mod LimitLaws
 pub mod FaultWords
 pub mod Moves
 pub mod GoodBus
+pub mod GoodTurns
 pub mod Way
 pub mod WholeFrames
 pub mod Newest

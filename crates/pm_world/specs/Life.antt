@@ -58,6 +58,12 @@ abbrev pub AreTakenFrom : State → List Event → Type 0
 AreTakenFrom s [] = Unit {0}
 AreTakenFrom s (event ∷ before) = IsTaken (after_all s before) event × AreTakenFrom s before
 
+-- what is found of events that come upon a world, one after another, by the world after each
+abbrev pub found_by : {W : Type 0} → (W → Event → State → W) → W → State → List Event → W
+found_by follows first s [] = first
+found_by follows first s (event ∷ before) =
+    follows (found_by follows first s before) event (after_all s (event ∷ before))
+
 -- the events of a run that were taken, newest first: those before its stop, or all
 abbrev pub taken_events : List Event → Option Stop → List Event
 taken_events events None = reverse events

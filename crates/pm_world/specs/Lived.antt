@@ -6,7 +6,7 @@ use Rattle.pm_host.specs.Refusals.{IsSetup}
 use Rattle.pm_world.specs.declared.event.Event.{Event}
 use Rattle.pm_world.specs.Life.{AreTaken, now}
 use Rattle.pm_world.specs.Setup.{setup_of}
-use Rattle.pm_world.specs.State.{event_cause}
+use Rattle.pm_world.specs.State.{IsTaken, event_cause}
 use Rattle.pm_world.specs.Uncertainty.{AreLegal}
 
 -- A world of this configuration lived through these events: nothing but their number may be against one.
@@ -15,13 +15,16 @@ pub record IsLived (config : Config) (passes : ℕ) (events : List Event) : Type
   pub made : IsSetup (setup_of config passes)
   pub legal : AreLegal config passes events
 
--- A world that can be made lived through no event (`none`), through one more that nothing is against (`more`), through
--- what came before (`earlier`), and through all that it took (`taken`).
+-- A world that can be made lived through no event (`none`), through one more that nothing is against (`more`), or that a
+-- step takes (`step`), through what came before (`earlier`), and through all that it took (`taken`).
 pub record EventsAreLived : Type 0 where
   pub none : (config : Config) (passes : ℕ) → IsSound config → IsSetup (setup_of config passes) →
       IsLived config passes []
   pub more : (config : Config) (passes : ℕ) (events : List Event) (event : Event) →
       IsLived config passes events → event_cause (now config passes events) event ≡ None →
+      IsLived config passes (event ∷ events)
+  pub step : (config : Config) (passes : ℕ) (events : List Event) (event : Event) →
+      IsLived config passes events → IsTaken (now config passes events) event →
       IsLived config passes (event ∷ events)
   pub earlier : (config : Config) (passes : ℕ) (later events : List Event) →
       IsLived config passes (later ++ events) → IsLived config passes events

@@ -5,7 +5,10 @@ use Rattle.pm_table.specs.declared.cell.Cell.TheVariants.{Out, Protect}
 use Rattle.pm_host.specs.declared.possible.Possible.{Possible}
 use Rattle.pm_host.specs.declared.possible.Possible.TheVariants.{Any, Words}
 use Rattle.pm_host.specs.Marks.{Mark}
+use Rattle.pm_host.specs.Summary.{possible_at}
 use Rattle.pm_world.specs.declared.event.Event.{Event}
+use Rattle.pm_world.specs.declared.openness.Openness.{Openness}
+use Rattle.pm_world.specs.State.{State}
 use Rattle.pm_world.specs.declared.event.Event.TheVariants.{Order, Restore}
 use Rattle.pm_world.specs.Possible.{restarts_host}
 use Rattle.pm_world.specs.Uncertainty.{leaves_open}
@@ -33,3 +36,7 @@ closes _ = false
 -- whether it is left open after one more event, by what is possible for WRITE_PROTECT then
 abbrev pub stays_open : Bool → Event → Possible → Bool
 stays_open before event possible = restarts_host event || before && not (closes event || lists_other possible)
+
+-- the same of what a run found so far, by the world after the event
+abbrev pub follows_open : Openness → Event → State → Openness
+follows_open found event s = record { left = stays_open found.left event (possible_at s.host Protect) }

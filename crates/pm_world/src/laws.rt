@@ -10,6 +10,7 @@ ghost use Rattle.pm_world.specs.Laws.{BetrayedDamageIsLegal, BetrayedDamageIsTak
 ghost use Rattle.pm_world.specs.LimitLaws.{BandsAreExact, BandsAreHeld, LivesStayLimited};
 ghost use Rattle.pm_world.specs.Lived.{EventsAreLived};
 ghost use Rattle.pm_world.specs.GoodBus.{GoodFramesEndJobs};
+ghost use Rattle.pm_world.specs.GoodTurns.{OpenJobsEnd};
 ghost use Rattle.pm_world.specs.Moves.{SettingsMoveByTheOpenJob};
 ghost use Rattle.pm_world.specs.Newest.{NewestEventsAreParts};
 ghost use Rattle.pm_world.specs.Way.{WaysAreFollowed};
@@ -49,8 +50,9 @@ pub fn lives_are_followed()
 }
 
 /// What the other laws ask of events: that a world lived through them, however many there are. A world that can be made
-/// lived through no event (`none`), through one more that nothing is against (`more`), through what came before any of them
-/// (`earlier`), and through those that it took (`taken`). The events of a caller's own loop are had by the first two.
+/// lived through no event (`none`), through one more that nothing is against (`more`) or that a step takes (`step`), through
+/// what came before any of them (`earlier`), and through those that it took (`taken`). [`World::run`](crate::World::run)
+/// hands it out (`lived`), and the events of a caller's own loop are had by `none` and `more`.
 pub fn events_are_lived()
     ensures { EventsAreLived }
 {}
@@ -273,10 +275,24 @@ pub fn own_requests_are_answered()
 /// one read ends an open check Done, its cell confirmed and its word alone possible; where that word wasn't possible
 /// before, the host says from then on that it saw a restart (`check`). The write and the read of one pass end an order
 /// that WRITE_PROTECT allows Done, whichever pass it is (`order`); where it is to be read back first, that read does, or
-/// that and the next pass (`read_back`, `three`). A clear, a store or a restore ends Done by one write that is
-/// acknowledged (`send`), a learn ends Learned by one read or by two (`mode`, `coefficients`).
+/// that and the next pass (`read_back`, `again`, `three`), and in the last pass it ends Differs with the word that the
+/// converter holds (`last`). A write that WRITE_PROTECT forbids is followed by a read like any other, and changes no word
+/// (`write`). A clear, a store or a restore ends Done by one write that is acknowledged (`send`); where that isn't, it is
+/// sent again, and ends Unknown after the last try (`resend`, `unacked`). A learn ends Learned by one read or by two
+/// (`mode`, `coefficients`). [`open_jobs_end`] has it of any job at once.
 pub fn good_frames_end_jobs()
     ensures { GoodFramesEndJobs }
+{
+    lower_laws();
+}
+
+/// Of any open job, and whatever went before: each frame that comes whole makes of it just what its stage says, with what
+/// the converter holds and whether the write was acknowledged (`turn`): its end, or its next stage. Once its frames come
+/// whole, a command's acknowledged, there are no more of them than the job had left (`few`), and it ends as its stage says
+/// (`ends`): a check and a command Done, a learn Learned. An order ends Done where WRITE_PROTECT allows it and a write of
+/// it isn't over, or where the converter holds its word, and otherwise Differs with the word that the converter holds.
+pub fn open_jobs_end()
+    ensures { OpenJobsEnd }
 {
     lower_laws();
 }

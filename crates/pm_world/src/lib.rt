@@ -37,6 +37,7 @@ mod legal;
 mod openness;
 mod short;
 mod stop;
+mod watch;
 mod way;
 mod world;
 
@@ -49,9 +50,10 @@ pub use laws::{
     betrayed_damage_is_taken, causes_decide, confirmed_settings_are_held,
     differing_orders_never_took, events_are_lived, frames_are_few, good_frames_end_jobs,
     honest_orders_go_through, learned_formats_are_true, lists_say_enough, lives_are_followed,
-    lives_are_orders, lives_stay_limited, newest_events_are_parts, open_lists_are_followed,
-    own_requests_are_answered, possible_words_are_exact, possible_words_are_held,
-    settings_move_by_the_open_job, spell, ways_are_followed, whole_frames_are_undisturbed,
+    lives_are_orders, lives_stay_limited, newest_events_are_parts, open_jobs_end,
+    open_lists_are_followed, own_requests_are_answered, possible_words_are_exact,
+    possible_words_are_held, settings_move_by_the_open_job, spell, ways_are_followed,
+    whole_frames_are_undisturbed,
 };
 pub use legal::{
     answer_in, back_bytes, heard_bytes, heard_ending, is_heard_whole, is_legal_hearing,

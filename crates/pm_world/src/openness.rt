@@ -11,14 +11,16 @@ ghost use Rattle.pm_host.specs.Summary.{possible_at};
 ghost use Rattle.pm_world.specs.Bytes.{CarryBytes, StartsShort};
 ghost use Rattle.pm_world.specs.Honest.{IsSpelled};
 ghost use Rattle.pm_world.specs.Life.{AreTaken, StopsAt, life, now, taken_events};
-ghost use Rattle.pm_world.specs.OpenLists.{is_other, closes as spec_closes, lists_other as spec_lists_other, stays_open as spec_stays_open};
+ghost use Rattle.pm_world.specs.Lived.{IsLived};
+ghost use Rattle.pm_world.specs.OpenLists.{is_other, closes as spec_closes, lists_other as spec_lists_other, follows_open, stays_open as spec_stays_open};
 ghost use Rattle.pm_world.specs.Possible.{restarts_host as spec_restarts_host};
 ghost use Rattle.pm_world.specs.Setup.{setup_fault, setup_of};
 ghost use Rattle.pm_world.specs.Uncertainty.{AreOpen, since_restart};
 
 use crate::event::Event;
-use crate::laws::{lives_are_followed, open_lists_are_followed};
+use crate::laws::{events_are_lived, lives_are_followed, open_lists_are_followed};
 use crate::stop::Stop;
+use crate::watch::Watch;
 use crate::world::World;
 use pm_device::Config;
 use pm_host::Possible;
@@ -36,6 +38,7 @@ pub fn run_open(
     ensures fault { result_err result ≡ setup_fault c passes }
     ensures now { IfOk result (λ run. run.0 ≡ now c passes (taken_events events.now run.1)) }
     ensures all { IfOk result (λ run. AreTaken c passes (taken_events events.now run.1)) }
+    ensures lived { IfOk result (λ run. IsLived c passes (taken_events events.now run.1)) }
     ensures stop { IfOk result (λ run. StopsAt c passes events.now run.1) }
     ensures sound { OnOk result (IsSound c × IsSetup (setup_of c passes) × IsSpelled c) }
     ensures short { OnOk result (StartsShort c) }
@@ -45,16 +48,27 @@ pub fn run_open(
 {
     // These hand their laws to the prover.
     lives_are_followed();
+    events_are_lived();
     open_lists_are_followed();
     let mut world = World::new(c, passes)?;
-    let mut left = true;
-    for (at, event) in events.iter().enumerate() {
-        if let Err(cause) = world.step(event) {
-            return Ok((world, Some(Stop { at, cause }), left));
+    let (stop, found) = world.run_up(events, Openness { left: true });
+    Ok((world, stop, found.left))
+}
+
+// Whether WRITE_PROTECT is left open so far.
+#[derive(Clone, Copy)]
+struct Openness {
+    left: bool,
+}
+
+impl Watch for Openness {
+    ghost follows = { follows_open };
+
+    fn follow(self, event: &Event, world: &World) -> Openness {
+        Openness {
+            left: stays_open(world, event, self.left),
         }
-        left = stays_open(&world, event, left);
     }
-    Ok((world, None, left))
 }
 
 // Whether it is left open after this event, by the world then.

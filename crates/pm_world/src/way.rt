@@ -7,15 +7,17 @@ ghost use Rattle.pm_host.specs.Refusals.{IsSetup};
 ghost use Rattle.pm_world.specs.Bytes.{CarryBytes, StartsShort};
 ghost use Rattle.pm_world.specs.Honest.{IsSpelled, is_whole as spec_is_whole};
 ghost use Rattle.pm_world.specs.Life.{AreTaken, StopsAt, now, taken_events};
+ghost use Rattle.pm_world.specs.Lived.{IsLived};
 ghost use Rattle.pm_world.specs.Setup.{setup_fault, setup_of};
 ghost use Rattle.pm_world.specs.Way.{begun as spec_begun, delivered_on, exchanged_on, finished_on, hears_whole as spec_hears_whole, way_after, way_of};
 
 use crate::arrival::Arrival;
 use crate::back::Back;
 use crate::event::Event;
-use crate::laws::{lives_are_followed, ways_are_followed};
+use crate::laws::{events_are_lived, lives_are_followed, ways_are_followed};
 use crate::legal::{heard_bytes, heard_ending};
 use crate::stop::Stop;
+use crate::watch::Watch;
 use crate::world::World;
 use pm_device::{Config, Ending};
 use pm_host::{Host, Stage, Turn};
@@ -39,7 +41,7 @@ pub enum Way {
 }
 
 impl Way {
-    /// How far it has come after an event that the world has taken, by the world then.
+    /// The way after `event`, which `world` has just taken.
     pub fn after(self, event: &Event, world: &World) -> Way
         ensures { result ≡ way_after world.now event.now self }
     {
@@ -128,6 +130,7 @@ pub fn run_way(
     ensures fault { result_err result ≡ setup_fault c passes }
     ensures now { IfOk result (λ run. run.0 ≡ now c passes (taken_events events.now run.1)) }
     ensures all { IfOk result (λ run. AreTaken c passes (taken_events events.now run.1)) }
+    ensures lived { IfOk result (λ run. IsLived c passes (taken_events events.now run.1)) }
     ensures stop { IfOk result (λ run. StopsAt c passes events.now run.1) }
     ensures sound { OnOk result (IsSound c × IsSetup (setup_of c passes) × IsSpelled c) }
     ensures short { OnOk result (StartsShort c) }
@@ -138,14 +141,17 @@ pub fn run_way(
 {
     // These hand their laws to the prover.
     lives_are_followed();
+    events_are_lived();
     ways_are_followed();
     let mut world = World::new(c, passes)?;
-    let mut way = Way::Off;
-    for (at, event) in events.iter().enumerate() {
-        if let Err(cause) = world.step(event) {
-            return Ok((world, Some(Stop { at, cause }), way));
-        }
-        way = way.after(event, &world);
+    let (stop, way) = world.run_up(events, Way::Off);
+    Ok((world, stop, way))
+}
+
+impl Watch for Way {
+    ghost follows = { λ way event world. way_after world event way };
+
+    fn follow(self, event: &Event, world: &World) -> Way {
+        self.after(event, world)
     }
-    Ok((world, None, way))
 }

@@ -8,8 +8,9 @@ ghost use Rattle.pm_world.specs.Ended.{DiffersNeverTook};
 ghost use Rattle.pm_world.specs.GoodBus.{GoodFrames};
 ghost use Rattle.pm_world.specs.Honest.{AreFewFrames, FormatsAgree, IsSpelled, MicrosAreNearest, OrdersGoThrough};
 ghost use Rattle.pm_world.specs.Possible.{PossibleIsHeld, SeenIsTrue};
+ghost use Rattle.pm_world.specs.Lived.{IsLived};
 ghost use Rattle.pm_world.specs.Setup.{setup_of, start, setup_fault};
-ghost use Rattle.pm_world.specs.Life.{life, now, taken_events, after_all, AreTaken, AreTakenFrom, StopsAt, StopsFrom};
+ghost use Rattle.pm_world.specs.Life.{AreTaken, AreTakenFrom, StopsAt, StopsFrom, after_all, found_by, life, now, taken_events};
 ghost use Rattle.pm_world.specs.Job.{asked_by};
 ghost use Rattle.pm_world.specs.Limited.{StaysLimited};
 ghost use Rattle.pm_world.specs.Moves.{MovesByTheOpenJob};
@@ -31,6 +32,7 @@ use crate::laws::{
     possible_words_are_held, settings_move_by_the_open_job, spell,
 };
 use crate::stop::Stop;
+use crate::watch::{Unwatched, Watch};
 use pm_device::{Config, Converter};
 use pm_host::{Host, JobEnd, transcripts_are_followed};
 use pm_setup::SetupFault;
@@ -112,20 +114,21 @@ impl World {
     ///   them, unless the converter restarted since the host's last good answer for the cell.
     /// - `seen`: a good answer that the host didn't think possible comes only where the converter restarted since the
     ///   one before it for the same cell. So where the host saw a restart, there was one since the host started.
-    /// - `limited`: at each moment of the taken events an output commands a voltage within limits that all of its
-    ///   own words lie within, and no more than the most of all words of its VOUT_MAX; words that a guard let be
-    ///   ordered lie within its limits.
+    /// - `limited`: at each moment of the taken events an output commands a voltage within limits that allow all of its
+    ///   own words, and no more than the most of all words of its VOUT_MAX; words that a guard let be ordered lie within
+    ///   its limits.
     /// - `few`: no job sends more than twice as many frames as it has passes.
     /// - `through`: an undisturbed order that WRITE_PROTECT allows ends done, confirmed and held.
-    /// - `good`: at any moment, whatever went before, frames that nothing disturbs end the open job as it is meant to,
-    ///   an allowed order in any pass; and a read shows a word that wasn't possible.
+    /// - `good`: at any moment, whatever went before, what a frame that nothing disturbs makes of an open job: an order
+    ///   that WRITE_PROTECT allows is done by the write and the read of one pass, whichever it is; and a read shows a word
+    ///   that wasn't possible.
     /// - `formats`, `nearest`: a format that the host learned is the converter's, and an order in
     ///   microvolts is that of the nearest word in it. A learn that learned leaves a format until the host restarts,
     ///   and no other job changes one.
     /// - `never`: an order that differs never took, where the converter didn't restart since it was accepted.
     /// - `taken`, `room`: how many events the world took, no more than there are.
-    /// - `now`, `all`, `stop`: the world is what its definition says of the taken events, each of them was
-    ///   taken, and the first other one has a cause, which is the stop's.
+    /// - `now`, `all`, `lived`, `stop`: the world is what its definition says of the taken events, each of them was
+    ///   taken, so that a world lived through them, and the first other one has a cause, which is the stop's.
     /// - `config`, `setup`: the converter has this configuration, the host its address, its outputs and these passes.
     /// - `came`: what came back since the host's last restart were bytes, as `words` of
     ///   [`possible_words_are_exact`](crate::possible_words_are_exact) asks. By
@@ -139,6 +142,7 @@ impl World {
         ensures now { IfOk result (λ run.
             run.0 ≡ now c passes (taken_events events.now run.1)) }
         ensures all { IfOk result (λ run. AreTaken c passes (taken_events events.now run.1)) }
+        ensures lived { IfOk result (λ run. IsLived c passes (taken_events events.now run.1)) }
         ensures orders { IfOk result (λ run.
             IsOrderRun c passes (taken_events events.now run.1)
             run.0.device.words run.0.device.store) }
@@ -218,7 +222,7 @@ impl World {
         // Hands its law to the prover.
         lives_are_followed();
         let mut world = World::new(c, passes)?;
-        let stop = world.run_up(events);
+        let (stop, Unwatched) = world.run_up(events, Unwatched);
         Ok((world, stop))
     }
 
@@ -267,21 +271,24 @@ impl World {
         self.end
     }
 
-    // One event after another, up to the first that isn't taken.
-    fn run_up(&mut self, events: &[Event]) -> Option<Stop>
-        ensures after { self.new ≡ after_all self.old (taken_events events.now result) }
-        ensures all { AreTakenFrom self.old (taken_events events.now result) }
-        ensures bytes { CarryBytes (taken_events events.now result) }
-        ensures stop { StopsFrom self.old events.now result }
+    // One event after another, up to the first that isn't taken, and what is found of those that are.
+    pub(crate) fn run_up<W: Watch>(&mut self, events: &[Event], watch: W) -> (Option<Stop>, W)
+        ensures after { self.new ≡ after_all self.old (taken_events events.now result.0) }
+        ensures all { AreTakenFrom self.old (taken_events events.now result.0) }
+        ensures bytes { CarryBytes (taken_events events.now result.0) }
+        ensures stop { StopsFrom self.old events.now result.0 }
         ensures setup { self.new.host.setup ≡ self.old.host.setup }
         ensures config { self.new.device.config ≡ self.old.device.config }
+        ensures found { result.1 ≡ found_by W.follows watch self.old (taken_events events.now result.0) }
     {
+        let mut found = watch;
         for (at, event) in events.iter().enumerate() {
             if let Err(cause) = self.step(event) {
-                return Some(Stop { at, cause });
+                return (Some(Stop { at, cause }), found);
             }
+            found = found.follow(event, self);
         }
-        None
+        (None, found)
     }
 
     // What an event does, in a world that isn't full.

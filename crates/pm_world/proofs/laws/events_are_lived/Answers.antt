@@ -1,3 +1,4 @@
+use Rattle.pm_world.proofs.Causes.{taken-free}
 use Rattle.pm_world.proofs.CausesDecide.{free-word}
 use Rattle.pm_world.proofs.Lives.{lived-before, lived-by}
 use Rattle.pm_world.proofs.laws.events_are_lived.Goals as goal
@@ -10,6 +11,11 @@ returns c = record {
     sound = lived.sound;
     made = lived.made;
     legal = (record { free = free; word = free-word (now config passes events) event free }, lived.legal);
+  };
+  step = λ config passes events event lived taken. record {
+    sound = lived.sound;
+    made = lived.made;
+    legal = (record { free = taken-free (now config passes events) event taken; word = taken.word }, lived.legal);
   };
   earlier = λ config passes later before lived. lived-before config passes later before lived;
   taken = lived-by;

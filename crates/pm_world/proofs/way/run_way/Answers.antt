@@ -1,18 +1,20 @@
-use Rattle.std.proofs.Common.{arith, Some, None}
+use Rattle.std.proofs.Common.{◌∙◌, ap, subst}
+use Rattle.pm_world.specs.declared.way.Way.TheVariants.{Off}
+use Rattle.pm_world.specs.Life.{AreTakenFrom, found_by, taken_events}
+use Rattle.pm_world.specs.State.{State}
+use Rattle.pm_world.specs.Way.{way_after}
+use Rattle.pm_world.proofs.Found.{way-found}
 use Rattle.pm_world.proofs.Runs.{run-room}
-use Rattle.pm_world.proofs.WayRuns.{runs-more}
 use Rattle.pm_world.proofs.way.run_way.Goals as goal
 
-pub returns-in-Err-clause-room : goal.returns-in-Err-clause-room
-returns-in-Err-clause-room c =
-    run-room c.args.c c.args.passes c.args.events.now (Some (record { at = c.loop-at.at; cause = c.in-Err.cause }))
+pub returns-clause-way : goal.returns-clause-way
+returns-clause-way c =
+    let begins = c.in_ok-world.ensures in
+    let events = taken_events c.args.events.now c.run_up-stop.result.0 in
+    let all = subst (λ (s : State). AreTakenFrom s events) begins.made c.run_up-stop.ensures.all in
+    c.run_up-stop.ensures.found
+    ∙ (ap (λ (s : State). found_by (λ way event world. way_after world event way) Off s events) begins.made
+    ∙ way-found c.lives_are_followed.ensures c.ways_are_followed.ensures c.args.c c.args.passes events begins.sound.0 begins.sound.1 all)
 
 pub returns-clause-room : goal.returns-clause-room
-returns-clause-room c = run-room c.args.c c.args.passes c.args.events.now None
-
-pub loop-at-preserved : goal.loop-at-preserved
-loop-at-preserved c =
-    let sound = c.in_ok-world.ensures.sound in
-    runs-more c.lives_are_followed.ensures c.ways_are_followed.ensures c.args.c c.args.passes c.args.events.now c.loop-at.at
-    c.index-events-at.result c.loop-at.world c.step.new.self c.loop-at.way c.after-way.result sound.0 sound.1 c.index-events-at.is
-    (omega arith) c.loop-at.invariant c.in_default.ensures.taken c.in_default.ensures.bytes c.after-way.ensures
+returns-clause-room c = run-room c.args.c c.args.passes c.args.events.now c.run_up-stop.result.0

@@ -1,0 +1,5 @@
+use Rattle.pm_world.proofs.GoodTurns.{jobs-end}
+use Rattle.pm_world.proofs.laws.open_jobs_end.Goals as goal
+
+pub returns : goal.returns
+returns c = jobs-end c.lower_laws.ensures
