@@ -17,6 +17,7 @@ mod dead_bus;
 mod fault;
 mod laws;
 mod patient;
+mod plans;
 mod retrying;
 mod simulated_bus;
 
@@ -27,5 +28,8 @@ pub use laws::{
     patient_orders_go_through, requests_may_be_lost,
 };
 pub use patient::Patient;
+pub use plans::{
+    order_patiently_through, order_through, run_patiently_without_restart, run_without_restart,
+};
 pub use retrying::Retrying;
 pub use simulated_bus::{SimulatedBus, driver_over};

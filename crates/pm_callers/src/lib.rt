@@ -15,11 +15,13 @@
 //! - `good`: what frames that nothing disturbs make of an open job.
 //! - `whole`: a job that is open after a run ends by frames that come whole.
 //! - `moves`: what moves a setting or the store.
+//! - `drivers`: what a driver over a simulated bus, or over a patient one, makes of orders.
 //! - `legal`: events that nothing is against, whoever lets them happen.
 #![tactic(auto)]
 
 pub mod bands;
 pub mod damage;
+pub mod drivers;
 pub mod ends;
 pub mod exact;
 pub mod further;
