@@ -3,9 +3,9 @@ use Rattle.std.proofs.Common.{◌≡◌, arith, eqb, true, Bool, ℕ, zero, suc,
 use Rattle.std.proofs.lemmas.Bool.{eq-eqb}
 use Rattle.pm_driver.specs.Acts.{Read, Wrote}
 use Rattle.pm_driver.specs.Undisturbed.{AreWithoutRestart, JobsRestartNothing}
-use Rattle.pm_buses.specs.NeverRestarts.{NeverRestartsStays, patient_device, patient_gives, patient_restarts}
+use Rattle.pm_buses.specs.NeverRestarts.{NeverRestartsStays, PatientNeverRestartsStays, patient_device, patient_gives, patient_restarts}
 use Rattle.pm_buses.specs.Patience.{asks_patiently, sends_patiently}
-use Rattle.pm_buses.specs.Plan.{GivesPlanned, TriesPlanned, TurnsTo, device_in, restarts_of, restarts_so}
+use Rattle.pm_buses.specs.Plan.{TurnsTo, device_in, gives_so, restarts_of, restarts_so, tries_so}
 use Rattle.pm_buses.specs.declared.fault.Fault.{Fault}
 use Rattle.pm_buses.specs.declared.simulated_bus.SimulatedBus.{SimulatedBus}
 
@@ -38,7 +38,7 @@ count-stays old new turn none =
     )
 
 -- and with all tries of a patient bus
-sends-stays : (tries : ℕ) (frame : List ℕ) (acked : Bool) (old new : SimulatedBus) → sends_patiently TriesPlanned tries frame old acked new →
+sends-stays : (tries : ℕ) (frame : List ℕ) (acked : Bool) (old new : SimulatedBus) → sends_patiently tries_so tries frame old acked new →
     none_in old.plan.now ≡ true → (restarts_so new ≡ restarts_so old) × (none_in new.plan.now ≡ true)
 sends-stays zero frame acked old new gave none =
     (ap restarts_so (sym gave.1), ap (λ (b : SimulatedBus). none_in b.plan.now) (sym gave.1) ∙ none)
@@ -49,7 +49,7 @@ sends-stays (suc left) frame acked old new (inl (middle, tried, rest)) none =
 sends-stays (suc left) frame acked old new (inr (inl tried)) none = count-stays old new tried.0.turn none
 sends-stays (suc left) frame acked old new (inr (inr tried)) none = count-stays old new tried.0.turn none
 
-asks-stays : (tries : ℕ) (request room came : List ℕ) (old new : SimulatedBus) → asks_patiently TriesPlanned tries request room old came new →
+asks-stays : (tries : ℕ) (request room came : List ℕ) (old new : SimulatedBus) → asks_patiently tries_so tries request room old came new →
     none_in old.plan.now ≡ true → (restarts_so new ≡ restarts_so old) × (none_in new.plan.now ≡ true)
 asks-stays zero request room came old new gave none =
     (ap restarts_so (sym gave.1), ap (λ (b : SimulatedBus). none_in b.plan.now) (sym gave.1) ∙ none)
@@ -65,15 +65,14 @@ patient-stays (Wrote frame acked) old new none gave = sends-stays old.tries fram
 patient-stays (Read request room came) old new none gave = asks-stays old.tries request _ came old.adapter new.adapter gave.1 none
 
 -- with each job
-pub never-stays : JobsRestartNothing GivesPlanned device_in restarts_so →
-    JobsRestartNothing patient_gives patient_device patient_restarts → NeverRestartsStays
-never-stays simulated patient = record {
-  simulated = λ job old new result runs never.
-      let all = simulated (λ bus. none_in bus.plan.now) (λ call old new none gave. count-stays old new gave.turn none) job old new result runs
-      (so-none old.bus.plan.now never.none) in
-      record { none = none-so new.bus.plan.now all.0; since = λ cell. all.1 cell (never.since cell) };
-  patient = λ job old new result runs never.
-      let all = patient (λ bus. none_in bus.adapter.plan.now) patient-stays job old new result runs
-      (so-none old.bus.adapter.plan.now never.none) in
-      record { none = none-so new.bus.adapter.plan.now all.0; since = λ cell. all.1 cell (never.since cell) };
-}
+pub never-stays : JobsRestartNothing gives_so device_in restarts_so → NeverRestartsStays
+never-stays law job old new result runs never =
+    let all = law (λ bus. none_in bus.plan.now) (λ call old new none gave. count-stays old new gave.turn none) job old new result runs
+    (so-none old.bus.plan.now never.none) in
+    record { none = none-so new.bus.plan.now all.0; since = λ cell. all.1 cell (never.since cell) }
+
+pub patient-never-stays : JobsRestartNothing patient_gives patient_device patient_restarts → PatientNeverRestartsStays
+patient-never-stays law job old new result runs never =
+    let all = law (λ bus. none_in bus.adapter.plan.now) patient-stays job old new result runs
+    (so-none old.bus.adapter.plan.now never.none) in
+    record { none = none-so new.bus.adapter.plan.now all.0; since = λ cell. all.1 cell (never.since cell) }

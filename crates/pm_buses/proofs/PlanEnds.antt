@@ -1,8 +1,7 @@
 -- Calls of a simulated bus whose plan is at its end.
-use Rattle.std.proofs.Common.{◌≡◌, ◌≤◌, ◌+◌, ◌||◌, ◌&&◌, arith, cond, not, ℕ, zero, suc, Bool, true, false, List, [], Option, Some, None, is_none, is_some, length, inl, inr, refl, sym, ◌∙◌, ap, ap₂, subst}
+use Rattle.std.proofs.Common.{◌≡◌, ◌≤◌, ◌+◌, ◌||◌, ◌&&◌, arith, cond, not, ℕ, zero, suc, Bool, true, false, List, [], Option, Some, None, Ok, Err, is_none, is_some, length, inl, inr, refl, sym, ◌∙◌, ap, ap₂, subst}
 use Rattle.std.specs.Prelude.{bytes_eq, nat_lt, replicate, slice_get}
 use Rattle.std.proofs.lemmas.List.{length-replicate}
-use Rattle.std.proofs.lemmas.Bool.{lt-ltb}
 use Rattle.pm_device.specs.declared.ending.Ending.TheVariants.{Stop, Restart}
 use Rattle.pm_device.specs.Effect as device
 use Rattle.pm_device.specs.History.{next as device_next}
@@ -17,8 +16,9 @@ use Rattle.pm_driver.specs.Undisturbed.{AreUndisturbed, IsUndisturbed, Undisturb
 use Rattle.pm_device.specs.Held.{Held}
 use Rattle.pm_buses.specs.NeverRestarts.{patient_device, patient_gives, patient_restarts}
 use Rattle.pm_buses.specs.Patience.{asks_patiently, sends_patiently}
-use Rattle.pm_buses.specs.Plan.{GivesPlanned, TriesPlanned, TurnsTo, asked, came_by, delivered, device_in, fault_next, gives_by, restarts_so, tries_by}
-use Rattle.pm_buses.specs.PlanEnds.{OrdersGoThrough, is_at_end}
+use Rattle.pm_buses.specs.Plan.{TurnsTo, asked, came_by, delivered, device_in, fault_next, gives_by, gives_so, restarts_so, tries_by, tries_so}
+use Rattle.pm_driver.specs.Driven.{Driving}
+use Rattle.pm_buses.specs.PlanEnds.{OrdersGoThrough, PatientOrdersGoThrough, is_at_end, is_ready}
 use Rattle.pm_buses.specs.declared.fault.Fault.{Fault}
 use Rattle.pm_buses.specs.declared.patient.Patient.{Patient}
 use Rattle.pm_buses.specs.declared.simulated_bus.SimulatedBus.{SimulatedBus}
@@ -62,7 +62,7 @@ came-so legal request needed held came is fits =
     ∙ ap (λ b. cond (not b) [] answer) (legal.answer request needed answer)))
 
 -- so nothing disturbs its calls
-simulated-so : WholeFramesAreLegal → AreUndisturbed GivesPlanned device_in is_at_end
+simulated-so : WholeFramesAreLegal → AreUndisturbed gives_so device_in is_at_end
 simulated-so legal (Wrote frame acked) old new so gave =
     let by = subst (λ o. gives_by o old.device (Wrote frame acked) new.device) (none-next old so) gave.gives in
     ((by.0, delivered-so legal frame old.device new.device by.1), end-stays old new so gave.turn)
@@ -74,7 +74,7 @@ simulated-so legal (Read request room came) old new so gave =
 
 -- nor the first try of a patient bus, which is its last
 sends-so : WholeFramesAreLegal → (left : ℕ) (frame : List ℕ) (acked : Bool) (old new : SimulatedBus) → is_at_end old ≡ true →
-    sends_patiently TriesPlanned (suc left) frame old acked new →
+    sends_patiently tries_so (suc left) frame old acked new →
     ((acked ≡ true) × (wrote_whole old.device frame ≡ new.device)) × (is_at_end new ≡ true)
 sends-so legal left frame acked old new so (inl (middle, tried, rest)) =
     let by = subst (λ o. tries_by o old.device (Sends frame write.Unheard) middle.device) (none-next old so) tried.tries in
@@ -87,7 +87,7 @@ sends-so legal left frame acked old new so (inr (inr (tried, is))) =
     ((is, delivered-so legal frame old.device new.device by.1), end-stays old new so tried.turn)
 
 asks-so : WholeFramesAreLegal → (left : ℕ) (request room came : List ℕ) (old new : SimulatedBus) → is_at_end old ≡ true →
-    asks_patiently TriesPlanned (suc left) request room old came new →
+    asks_patiently tries_so (suc left) request room old came new →
     (length (answer_of old.device request Whole) ≤ length room →
     (answer_of old.device request Whole ≡ came) × (asked_whole old.device request ≡ new.device)) × (is_at_end new ≡ true)
 asks-so legal left request room came old new so (inl (middle, tried, rest)) =
@@ -104,10 +104,6 @@ asks-so legal left request room came old new so (inr (inr (count, tried))) =
       end-stays old new so tried.turn,
     )
 
--- a patient bus that has a try, over a plan at its end
-is_ready : Patient SimulatedBus → Bool
-is_ready bus = nat_lt 0 bus.tries && is_at_end bus.adapter
-
 both-so : (a b : Bool) → (a && b) ≡ true → (a ≡ true) × (b ≡ true)
 both-so true true is = (refl, refl)
 both-so true false is = cc
@@ -118,7 +114,6 @@ tries-so zero is = cc
 tries-so (suc left) is = (left, refl)
 
 patient-so : WholeFramesAreLegal → AreUndisturbed patient_gives patient_device is_ready
-unfolding is_ready
 patient-so legal call old new ready gave = go call gave where
   both : (nat_lt 0 old.tries ≡ true) × (is_at_end old.adapter ≡ true)
   both = both-so (nat_lt 0 old.tries) (is_at_end old.adapter) ready
@@ -132,23 +127,32 @@ patient-so legal call old new ready gave = go call gave where
   go : (call : Call) → patient_gives old call new → IsUndisturbed call old.adapter.device new.adapter.device × (is_ready new ≡ true)
   go (Wrote frame acked) gave =
       let one = sends-so legal more.0 frame acked old.adapter new.adapter both.1
-      (subst (λ n. sends_patiently TriesPlanned n frame old.adapter acked new.adapter) more.1 gave.1) in
+      (subst (λ n. sends_patiently tries_so n frame old.adapter acked new.adapter) more.1 gave.1) in
       (one.0, still gave.0 one.1)
   go (Read request room came) gave =
       let one = asks-so legal more.0 request (replicate (length room) 0) came old.adapter new.adapter both.1
-      (subst (λ n. asks_patiently TriesPlanned n request (replicate (length room) 0) old.adapter came new.adapter) more.1 gave.1) in (
+      (subst (λ n. asks_patiently tries_so n request (replicate (length room) 0) old.adapter came new.adapter) more.1 gave.1) in (
         λ fits. one.0 (subst (λ n. length (answer_of old.adapter.device request Whole) ≤ n) (sym (length-replicate (length room) 0)) fits),
         still gave.0 one.1,
       )
 
 -- so orders go through
-pub go-through : WholeFramesAreLegal → UndisturbedOrdersAreDone GivesPlanned device_in restarts_so →
-    UndisturbedOrdersAreDone patient_gives patient_device patient_restarts → OrdersGoThrough
-unfolding is_ready
-go-through legal simulated patient = record {
-  simulated = simulated is_at_end (simulated-so legal);
-  patient = λ cell word end old new has some at_end allowed runs.
-      let all = patient is_ready (patient-so legal) cell word end old new has
-      (ap₂ (λ a b. a && b) (lt-ltb 0 old.bus.tries some) at_end) allowed runs in
-      (all.0, all.1, (both-so (nat_lt 0 new.bus.tries) (is_at_end new.bus.adapter) all.2).1);
+pub go-through : WholeFramesAreLegal → UndisturbedOrdersAreDone gives_so device_in restarts_so → OrdersGoThrough
+go-through legal law cell word (Err fault) old new has at_end allowed runs = record {
+  done = tt;
+  held = tt;
+  at_end = subst (λ (d : Driving SimulatedBus). is_at_end d.bus ≡ true) (sym runs.err) at_end;
 }
+go-through legal law cell word (Ok end) old new has at_end allowed runs =
+    let all = law is_at_end (simulated-so legal) cell word end old new has at_end allowed runs in
+    record { done = all.0; held = all.1; at_end = all.2 }
+
+pub patient-go-through : WholeFramesAreLegal → UndisturbedOrdersAreDone patient_gives patient_device patient_restarts → PatientOrdersGoThrough
+patient-go-through legal law cell word (Err fault) old new has ready allowed runs = record {
+  done = tt;
+  held = tt;
+  ready = subst (λ (d : Driving (Patient SimulatedBus)). is_ready d.bus ≡ true) (sym runs.err) ready;
+}
+patient-go-through legal law cell word (Ok end) old new has ready allowed runs =
+    let all = law is_ready (patient-so legal) cell word end old new has ready allowed runs in
+    record { done = all.0; held = all.1; ready = all.2 }

@@ -127,6 +127,13 @@ pub record TriesPlanned (old : SimulatedBus) (try : Try) (new : SimulatedBus) : 
   pub turn : TurnsTo old new
   pub tries : tries_by (fault_next old) old.device try new.device
 
+-- what its calls and tries give, as the implementations have it
+abbrev pub gives_so : SimulatedBus → Call → SimulatedBus → Type 0
+gives_so old call new = GivesPlanned old call new
+
+abbrev pub tries_so : SimulatedBus → Try → SimulatedBus → Type 0
+tries_so old try new = TriesPlanned old try new
+
 -- what a simulated bus has at its other end, and how often that restarted by the faults whose turn it was
 abbrev pub device_in : SimulatedBus → Held
 device_in bus = bus.device

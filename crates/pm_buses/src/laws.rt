@@ -1,6 +1,6 @@
 ghost use Rattle.pm_buses.specs.Disturbed.{PartsCompose, RequestsMayBeLost};
-ghost use Rattle.pm_buses.specs.NeverRestarts.{NeverRestartsStays};
-ghost use Rattle.pm_buses.specs.PlanEnds.{OrdersGoThrough};
+ghost use Rattle.pm_buses.specs.NeverRestarts.{NeverRestartsStays, PatientNeverRestartsStays};
+ghost use Rattle.pm_buses.specs.PlanEnds.{OrdersGoThrough, PatientOrdersGoThrough};
 
 use crate::patient::Patient;
 use crate::simulated_bus::SimulatedBus;
@@ -25,6 +25,12 @@ pub fn never_restarts_stays()
     ensures { NeverRestartsStays }
 {
     jobs_restart_nothing::<SimulatedBus<'static>>();
+}
+
+/// So it does over a patient bus, which counts the restarts of its adapter.
+pub fn patient_never_restarts_stays()
+    ensures { PatientNeverRestartsStays }
+{
     jobs_restart_nothing::<Patient<SimulatedBus<'static>>>();
 }
 
@@ -34,5 +40,12 @@ pub fn orders_go_through()
 {
     whole_frames_are_legal();
     undisturbed_orders_are_done::<SimulatedBus<'static>>();
+}
+
+/// So is one over a patient bus that has a try.
+pub fn patient_orders_go_through()
+    ensures { PatientOrdersGoThrough }
+{
+    whole_frames_are_legal();
     undisturbed_orders_are_done::<Patient<SimulatedBus<'static>>>();
 }

@@ -17,12 +17,19 @@ mod dead_bus;
 mod fault;
 mod laws;
 mod patient;
+mod plans;
 mod retrying;
 mod simulated_bus;
 
 pub use dead_bus::DeadBus;
 pub use fault::Fault;
-pub use laws::{never_restarts_stays, orders_go_through, parts_compose, requests_may_be_lost};
+pub use laws::{
+    never_restarts_stays, orders_go_through, parts_compose, patient_never_restarts_stays,
+    patient_orders_go_through, requests_may_be_lost,
+};
 pub use patient::Patient;
+pub use plans::{
+    order_patiently_through, order_through, run_patiently_without_restart, run_without_restart,
+};
 pub use retrying::Retrying;
 pub use simulated_bus::{SimulatedBus, driver_over};

@@ -4,8 +4,8 @@ ghost use Rattle.pm_device.specs.History.{start_of};
 ghost use Rattle.pm_world.specs.Setup.{setup_of};
 ghost use Rattle.pm_buses.specs.NeverRestarts.{NeverRestarts};
 ghost use Rattle.pm_driver.specs.Adapter.{IsUnheard};
-ghost use Rattle.pm_buses.specs.Plan.{GivesPlanned, TriesPlanned, TurnsTo, came_end, device_in, fault_next};
-ghost use Rattle.pm_buses.specs.Plan.{restarts_of, restarts_so, turned_by};
+ghost use Rattle.pm_buses.specs.Plan.{TurnsTo, came_end, device_in, fault_next, gives_so};
+ghost use Rattle.pm_buses.specs.Plan.{restarts_of, restarts_so, tries_so, turned_by};
 
 use crate::converter_end::{ask, deliver, deliver_some, disturb};
 use crate::fault::Fault;
@@ -53,7 +53,7 @@ impl<'a> Adapter for SimulatedBus<'a> {
 
     ghost restarts = { λ bus. restarts_so bus };
 
-    ghost gives = { λ old try new. TriesPlanned old try new };
+    ghost gives = { λ old try new. tries_so old try new };
 
     fn send(&mut self, packet: &[u8]) -> WriteEnd {
         // Hands its law to the prover.
@@ -104,7 +104,7 @@ impl<'a> Bus for SimulatedBus<'a> {
 
     ghost restarts = { λ bus. restarts_so bus };
 
-    ghost gives = { λ old call new. GivesPlanned old call new };
+    ghost gives = { λ old call new. gives_so old call new };
 
     fn write(&mut self, packet: &[u8]) -> bool {
         // Hands its law to the prover.
@@ -148,8 +148,7 @@ pub fn driver_over<'a>(c: Config, passes: u8, plan: &'a [Fault]) -> Option<Drive
     ensures device { IfSome result (λ driver. driver.bus.device ≡ start_of c) }
     ensures plan { IfSome result (λ driver. driver.bus.plan.now ≡ plan.now) }
     ensures next { IfSome result (λ driver. driver.bus.next ≡ 0) }
-    ensures never { restarts_of plan.now ≡ 0 → IfSome result (λ driver.
-        NeverRestarts plan.now driver.guard.host driver.bus.device) }
+    ensures never { restarts_of plan.now ≡ 0 → IfSome result (λ driver. NeverRestarts driver) }
 {
     // These calls hand their laws to the prover.
     spell(c);

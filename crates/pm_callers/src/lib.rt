@@ -17,10 +17,12 @@
 //! - `whole`: a job that is open after a run ends by frames that come whole.
 //! - `moves`: what moves a setting or the store.
 //! - `own_loop`: events that a caller's own loop lets happen.
+//! - `drivers`: what a driver over a simulated bus, or over a patient one, makes of orders.
 #![tactic(auto)]
 
 pub mod bands;
 pub mod damage;
+pub mod drivers;
 pub mod ends;
 pub mod exact;
 pub mod further;

@@ -1,16 +1,17 @@
-use Rattle.std.proofs.Common.{sym, subst, refl}
+use Rattle.std.proofs.Common.{ap, ◌∙◌, sym, subst, refl}
 use Rattle.pm_device.specs.Held.{Held}
 use Rattle.pm_device.specs.History.{start_of}
 use Rattle.pm_host.specs.Refusals.{IsSetup}
 use Rattle.pm_host.specs.Summary.{Summary}
 use Rattle.pm_limits.specs.Guard.{Guarded}
 use Rattle.pm_driver.specs.Driven.{HasNoRestartSince}
+use Rattle.pm_buses.specs.Plan.{restarts_of}
 use Rattle.pm_buses.specs.declared.simulated_bus.SimulatedBus.{SimulatedBus}
 use Rattle.pm_buses.proofs.simulated_bus.driver_over.Goals as goal
 
 pub returns-clause-never : goal.returns-clause-never
 returns-clause-never c = λ none. record {
-  none = none;
+  none = ap (λ (b : SimulatedBus). restarts_of b.plan.now) c.new-3.ensures.bus ∙ none;
   since = λ cell.
       subst (λ (b : SimulatedBus). HasNoRestartSince cell c.new-3.result.guard.host b.device) (sym c.new-3.ensures.bus)
       (subst (λ (g : Guarded). HasNoRestartSince cell g.host c.in-Ok.device) (sym c.new-3.ensures.guard)
