@@ -10,7 +10,7 @@ use Rattle.pm_lines.specs.Lines.{has_bytes, is_line_feed, is_skipped, is_unskipp
 use Rattle.pm_lines.specs.Lines.{without_return}
 use Rattle.pm_trace.specs.Marks.{ended, since}
 use Rattle.pm_trace.specs.OpenLines.{IsAtLineFeed}
-use Rattle.pm_trace.proofs.DecodeLemmas.{no_bytes}
+use Rattle.pm_capture.proofs.PutLemmas.{no_bytes}
 use Rattle.pm_trace.proofs.MarkLemmas.{ended-mark, ended-other, since-mark, since-other, split-ended}
 use Rattle.pm_trace.proofs.SaidLemmas.{enumerate_from-snoc, last_kept, length-map}
 use Rattle.pm_meaning.specs.Taught.{taught_from, untaught}

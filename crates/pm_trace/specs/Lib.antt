@@ -13,4 +13,3 @@ pub mod Marks
 pub mod OpenLines
 pub mod Parts
 pub mod Written
-pub mod Usual

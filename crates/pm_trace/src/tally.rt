@@ -2,7 +2,6 @@ ghost use Rattle.std.specs.Prelude.{◌≡◌, ◌+◌, ◌<◌, ◌^◌, false,
 ghost use Rattle.pm_trace.specs.Counts.{one_more, has_code, total_of};
 
 use crate::shown::Shown;
-use crate::usual::Usual;
 use indexmap::IndexMap;
 use std::alloc::{AllocError, Global};
 use std::marker::Model;
@@ -37,7 +36,6 @@ impl Tally {
     ghost use Rattle.std.specs.Prelude.{[]};
     ghost use Rattle.pm_trace.specs.Counts.{counts_of, lines_in, one_counted, IsNewCode};
     ghost use Rattle.pm_trace.specs.ShownLines.{judged_in};
-    ghost use Rattle.pm_trace.specs.Usual.{usual_judged};
 
     /// No line yet. Takes no memory.
     #[tactic(auto, unfolding(crate::specs::Counts::counts_of))]
@@ -73,20 +71,6 @@ impl Tally {
             Shown::Faulty { .. } => self.faults += 1,
             Shown::BadSyntax | Shown::BadHex => self.bad += 1,
         }
-        Ok(())
-    }
-
-    /// The same of a usual line.
-    #[inline(always)]
-    #[tactic(auto, using(crate::proofs::CountLemmas::total_one_more, crate::proofs::UsualLemmas::usual_counted, crate::proofs::UsualLemmas::usual_new))]
-    pub(crate) fn count_usual(&mut self, usual: Usual) -> Result<(), AllocError>
-        requires { lines_in self.old + 1 < 2 ^ 64 }
-        ensures ok { OnOk result (self.new ≡ one_counted self.old (usual_judged usual)) }
-        ensures err { OnErr result (self.new ≡ self.old) }
-        ensures memory { OnErr result (IsNewCode self.old (usual_judged usual)) }
-    {
-        count_code(&mut self.codes, usual.code)?;
-        self.accepted += 1;
         Ok(())
     }
 
