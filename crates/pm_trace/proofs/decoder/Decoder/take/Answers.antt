@@ -24,4 +24,3 @@ pub returns-else-fed-clause-fed : goal.returns-else-fed-clause-fed
 returns-else-fed-clause-fed c =
     feeds_open c.args.self.now (record { begun_is = c.begin.ensures.begun; taken = c.in_ok-room.ensures.taken })
     c.take_bytes-fed.ensures c.if-fed.false
-
