@@ -15,9 +15,9 @@ use Rattle.pm_trace.specs.OpenLines.{IsAtLineFeed, Passes, line_of, line_takes, 
 use Rattle.pm_trace.specs.declared.decoder.open_line.OpenLine.{OpenLine}
 use Rattle.pm_trace.specs.Parts.{part_of, part_takes}
 use Rattle.pm_trace.specs.Trace.{line_read}
-use Rattle.pm_trace.proofs.OpenLineLemmas.{has_last, line_of-snoc, turned, without_return-snoc}
-use Rattle.pm_trace.proofs.PlainLineLemmas.{part_of-snoc}
-use Rattle.pm_trace.proofs.SaidLemmas.{open_reads, skipped_kind}
+use Rattle.pm_trace.specs.Lemmas.OpenLines.{has_last, line_of-snoc, turned, without_return-snoc}
+use Rattle.pm_trace.specs.Lemmas.PlainLines.{part_of-snoc}
+use Rattle.pm_trace.specs.Lemmas.Said.{open_reads, skipped_kind}
 use Rattle.pm_capture.specs.Readings.{behind_word, first_word, from_first, past_spaces, reading_of, time_in, timed}
 use Rattle.pm_capture.specs.TimedLines.{PassesTimed, begun_with, skips_timed, timed_of, timed_read, timed_takes, word_ended}
 use Rattle.pm_capture.specs.declared.timed_line.TimedLine.{TimedLine}

@@ -1,10 +1,5 @@
-pub mod CountLemmas
 pub mod HoldingLemmas
-pub mod MarkLemmas
-pub mod OpenLineLemmas
 pub mod PairLemmas
 pub mod PartLemmas
 pub mod PieceLemmas
-pub mod PlainLineLemmas
 pub mod RunLemmas
-pub mod SaidLemmas

@@ -13,3 +13,5 @@ pub mod Marks
 pub mod OpenLines
 pub mod Parts
 pub mod Written
+-- What the crates above rest on besides.
+pub mod Lemmas

@@ -55,7 +55,7 @@ impl Tally {
 
     /// Counts a line. Memory is wanted only where its code is new; where it was refused nothing is
     /// counted.
-    #[tactic(auto, using(crate::proofs::CountLemmas::total_one_more))]
+    #[tactic(auto, using(crate::specs::Lemmas::Counts::total_one_more))]
     pub fn count(&mut self, shown: &Shown<'_>) -> Result<(), AllocError>
         requires { lines_in self.old + 1 < 2 ^ 64 }
         ensures ok { OnOk result (self.new ≡ one_counted self.old (judged_in shown.now)) }
@@ -77,7 +77,7 @@ impl Tally {
     }
 
     // Counts a line that was accepted, of this code.
-    #[tactic(auto, using(crate::proofs::CountLemmas::total_one_more))]
+    #[tactic(auto, using(crate::specs::Lemmas::Counts::total_one_more))]
     fn count_accepted(&mut self, code: u8) -> Result<(), AllocError>
         requires { lines_in self.old + 1 < 2 ^ 64 }
         ensures ok { OnOk result (self.new ≡ record self.old {
@@ -114,7 +114,7 @@ impl Tally {
 }
 
 // Counts one more line of a code at this place, if it stands there.
-#[tactic(auto, using(crate::proofs::CountLemmas::at_place, crate::proofs::CountLemmas::place_bound))]
+#[tactic(auto, using(crate::specs::Lemmas::Counts::at_place, crate::specs::Lemmas::Counts::place_bound))]
 fn count_at(codes: &mut IndexMap<u8, u64>, place: usize, code: u8) -> bool
     requires { total_of codes.old.entries + 1 < 2 ^ 64 }
     ensures counted { result ≡ true → codes.new.entries ≡ one_more codes.old.entries code }
@@ -158,7 +158,7 @@ fn count_placed(codes: &mut IndexMap<u8, u64>, code: u8) -> Result<u8, AllocErro
 /// Counts one more line of a code: at its place, or at the end where the code is new, and then
 /// memory may be wanted.
 #[inline(always)]
-#[tactic(auto, using(crate::proofs::CountLemmas::new_is, crate::proofs::CountLemmas::placed_is, crate::proofs::CountLemmas::found_bound, crate::proofs::CountLemmas::absent_code))]
+#[tactic(auto, using(crate::specs::Lemmas::Counts::new_is, crate::specs::Lemmas::Counts::placed_is, crate::specs::Lemmas::Counts::found_bound, crate::specs::Lemmas::Counts::absent_code))]
 pub fn count_code(codes: &mut IndexMap<u8, u64>, code: u8) -> Result<(), AllocError>
     requires { total_of codes.old.entries + 1 < 2 ^ 64 }
     ensures ok { OnOk result (codes.new.entries ≡ one_more codes.old.entries code) }

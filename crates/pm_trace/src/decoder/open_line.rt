@@ -49,7 +49,7 @@ impl OpenLine {
     }
 
     /// A line of these bytes, each of which counts.
-    #[tactic(auto, using(crate::proofs::OpenLineLemmas::none_of))]
+    #[tactic(auto, using(crate::specs::Lemmas::OpenLines::none_of))]
     pub(crate) fn of(line: &[u8]) -> OpenLine
         ensures { open_read result ≡ line_read line.now }
     {

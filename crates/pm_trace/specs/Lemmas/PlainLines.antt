@@ -19,8 +19,8 @@ use Rattle.pm_trace.specs.OpenLines.{kind_of, kind_takes, slashes_of, one_slash_
 use Rattle.pm_trace.specs.OpenLines.{plain_takes, word_ends, word_goes_on}
 use Rattle.pm_trace.specs.declared.decoder.slashes.Slashes.TheVariants as slash
 use Rattle.pm_trace.specs.declared.decoder.line_kind.LineKind.TheVariants.{Blank, Comment, Packet}
-use Rattle.pm_trace.proofs.MarkLemmas.{before_none, after_none, ended-mark, ended-other, since-mark, since-other, split-ended}
-use Rattle.pm_trace.proofs.MarkLemmas.{before-marked, before-unmarked, after-marked, after-unmarked}
+use Rattle.pm_trace.specs.Lemmas.Marks.{before_none, after_none, ended-mark, ended-other, since-mark, since-other, split-ended}
+use Rattle.pm_trace.specs.Lemmas.Marks.{before-marked, before-unmarked, after-marked, after-unmarked}
 
 -- ---- pairs of digits
 
@@ -82,6 +82,7 @@ part_bytes-other part b other =
     ∙ ap (λ l. l ++ pair) (sym (part_bytes-split part))
 
 -- one byte more of a part
+-- Stands for the clause of `Part::take`.
 pub part_of-snoc : (bytes : List ℕ) (b : ℕ) → part_of (bytes ++ b ∷ []) ≡ part_takes (part_of bytes) b
 unfolding part_of part_takes
 part_of-snoc bytes b =

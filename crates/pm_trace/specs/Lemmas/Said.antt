@@ -27,13 +27,14 @@ use Rattle.pm_trace.specs.declared.decoder.line_kind.LineKind.TheVariants.{Blank
 use Rattle.pm_trace.specs.declared.trace_line.TraceLine.{TraceLine}
 use Rattle.hex.specs.Hex.{is_hex_digit}
 use Rattle.pm_frame.specs.View.{message_code}
-use Rattle.pm_trace.proofs.MarkLemmas.{ended-mark, ended-other, since-mark, since-other, split-ended}
-use Rattle.pm_trace.proofs.OpenLineLemmas.{turned, line_of-snoc}
-use Rattle.pm_trace.proofs.PlainLineLemmas.{has_slash-is, has_more-is}
+use Rattle.pm_trace.specs.Lemmas.Marks.{ended-mark, ended-other, since-mark, since-other, split-ended}
+use Rattle.pm_trace.specs.Lemmas.OpenLines.{turned, line_of-snoc}
+use Rattle.pm_trace.specs.Lemmas.PlainLines.{has_slash-is, has_more-is}
 
 -- ---- a line by what is kept of it
 
 -- a line is skipped by its kind
+-- Stands for the clause of `OpenLine::is_skipped`.
 pub skipped_kind : (line : List ℕ) → is_skipped line ≡ is_skipped_kind (kind_of line)
 skipped_kind [] = refl
 skipped_kind (x ∷ xs) =
@@ -71,6 +72,7 @@ short_parts line = record {
 }
 
 -- the law of a line's reading: what is kept of a line reads as the line does
+-- Stands for `parts` and `fault` of `OpenLine::parts`.
 pub open_reads : (line : List ℕ) → open_read (plain_line line) ≡ line_read line
 unfolding open_read plain_line line_read part_of
 open_reads line =
@@ -117,6 +119,7 @@ begun (x ∷ xs) = by (ends_with nat_eq (x ∷ xs) carriage_return) refl
 -- ---- the lines that ended
 
 -- one line more has the next number
+-- Stands for the number that `Decoder::line` gives.
 pub enumerate_from-snoc : (n : ℕ) (ls : List (List ℕ)) (l : List ℕ)
     → enumerate_from n (ls ++ l ∷ []) ≡ enumerate_from n ls ++ (n + length ls, l) ∷ []
 enumerate_from-snoc n [] l = let same : n ≡ n + 0 = omega arith in ap (λ k. (k, l) ∷ []) same
@@ -125,6 +128,7 @@ enumerate_from-snoc n (x ∷ xs) l =
     ap (λ r. (n, x) ∷ r) (enumerate_from-snoc (n + 1) xs l ∙ ap (λ k. enumerate_from (n + 1) xs ++ (k, l) ∷ []) same)
 
 -- no line is lost
+-- Stands for the number that `Decoder::line` gives.
 pub length-map : (ls : List (List ℕ)) → length (map without_return ls) ≡ length ls
 length-map [] = refl
 length-map (l ∷ ls) = let rest = length-map ls in omega arith
@@ -205,6 +209,7 @@ counted_more lines line code some =
     ap counted more ∙ fold-append one_more [] (filter_map code_told lines) (code ∷ [])
 
 -- one line more is counted
+-- Stands for `ok` of `Tally::count`.
 pub counts_of-snoc : (lines : List Told) (line : Told) → counts_of (lines ++ line ∷ []) ≡ one_counted (counts_of lines) line.1
 unfolding counts_of
 counts_of-snoc lines (number, Accepted addr message answer) = λ i. record {
@@ -240,7 +245,8 @@ counts-with lines (Some line) = counts_of-snoc lines line
 -- ---- what is kept
 
 -- one byte more
-length-snoc : (bytes : List ℕ) (b : ℕ) → length (bytes ++ b ∷ []) ≡ length bytes + 1
+-- Stands for the bytes taken in `fed` of `Decoder::feed`.
+pub length-snoc : (bytes : List ℕ) (b : ℕ) → length (bytes ++ b ∷ []) ≡ length bytes + 1
 length-snoc bytes b = length-append bytes (b ∷ [])
 
 -- what is kept with a line feed more
@@ -311,7 +317,8 @@ last_kept (x ∷ []) l = ap (λ r. x ∷ r) (last_kept [] l)
 last_kept (x ∷ y ∷ ls) l = ap (λ r. x ∷ r) (last_kept (y ∷ ls) l)
 
 -- the lines of a text, at its end
-lines_at_end : (text : List ℕ) → lines_of text
+-- Stands for `finished` of `Decoder::finish`.
+pub lines_at_end : (text : List ℕ) → lines_of text
     ≡ map without_return (ended is_line_feed text) ++ map without_return (cond (has_bytes (since is_line_feed text))
     (since is_line_feed text ∷ []) [])
 unfolding lines_of

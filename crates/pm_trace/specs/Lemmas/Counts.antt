@@ -69,6 +69,7 @@ place_bound (e ∷ es) zero count is = let same : e.1 ≡ count = cc in omega (a
 place_bound (e ∷ es) (suc place) count is = omega (arith, place_bound es place count is)
 
 -- one more
+-- Stands for `ok` of `count_code`.
 pub total_one_more : (es : List (ℕ × ℕ)) (code : ℕ) → total_of (one_more es code) ≡ total_of es + 1
 total_one_more [] code = refl
 total_one_more (e ∷ es) code = by (eqb code e.0) refl (total_one_more es code)

@@ -10,7 +10,7 @@ use Rattle.std.proofs.Math.Seq.{drop-append_seam, take-append_seam}
 use Rattle.pm_lines.specs.Lines.{without_return, carriage_return}
 use Rattle.pm_trace.specs.OpenLines.{plain_line, plain_takes, line_of, line_takes, with_return}
 use Rattle.pm_trace.specs.declared.decoder.open_line.OpenLine.{OpenLine}
-use Rattle.pm_trace.proofs.PlainLineLemmas.{plain_line-snoc}
+use Rattle.pm_trace.specs.Lemmas.PlainLines.{plain_line-snoc}
 
 -- a list that isn't empty has a last byte
 pub record HasLast (xs : List ℕ) : Type 0 where
@@ -19,6 +19,7 @@ pub record HasLast (xs : List ℕ) : Type 0 where
   pub is : xs ≡ front ++ last ∷ []
 
 -- a list with an element has a last one
+-- Stands for the clause of `OpenLine::take`.
 pub has_last : (x : ℕ) (xs : List ℕ) → HasLast (x ∷ xs)
 has_last x [] = record { front = []; last = x; is = refl }
 has_last x (y ∷ ys) =
@@ -30,6 +31,7 @@ one_less : (xs : List ℕ) (b : ℕ) → length (xs ++ b ∷ []) - 1 ≡ length 
 one_less xs b = omega (arith, length-append xs (b ∷ []))
 
 -- equality in either order
+-- Stands for the clause of `OpenLine::take`.
 pub turned : (m n : ℕ) → eqb m n ≡ eqb n m
 turned m n = by (eqb m n) refl
   where
@@ -51,6 +53,7 @@ ends-snoc xs b =
     ∙ and-true (eqb 13 b) ∙ turned 13 b
 
 -- the line without a carriage return that comes last
+-- Stands for the clause of `OpenLine::take`.
 pub without_return-snoc : (xs : List ℕ) (b : ℕ) → without_return (xs ++ b ∷ []) ≡ cond (eqb b 13) xs (xs ++ b ∷ [])
 without_return-snoc xs b =
     ap (λ c. cond c (take (length (xs ++ b ∷ []) - 1) (xs ++ b ∷ [])) (xs ++ b ∷ [])) (ends-snoc xs b)
@@ -97,6 +100,7 @@ unfolding line_takes
 line_took xs b = ap (λ l. cond (eqb b 13) (held l true) (plain_takes l b)) (returned xs)
 
 -- the law of the line: one byte more at its end is one step
+-- Stands for the clause of `OpenLine::take`.
 pub line_of-snoc : (xs : List ℕ) (b : ℕ) → line_of (xs ++ b ∷ []) ≡ line_takes (line_of xs) b
 line_of-snoc xs b = line_snoc xs b ∙ by (eqb b 13) ∙ sym (line_took xs b)
   where

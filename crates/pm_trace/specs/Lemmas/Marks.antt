@@ -72,6 +72,7 @@ onto_last mark x xs other = by (list_any mark xs) refl
     by false none = rw (none, ended_none mark xs none, since_none mark xs none) refl
 
 -- a mark ends a piece
+-- Stands for `stops` of `OpenLine::take_line`.
 pub ended-mark : (mark : ℕ → Bool) (xs : List ℕ) (b : ℕ) → mark b ≡ true → ended mark (xs ++ b ∷ []) ≡ ended mark xs ++ since mark xs ∷ []
 ended-mark mark [] b is = rw is refl
 ended-mark mark (x ∷ xs) b is = by (mark x) refl (ended-mark mark xs b is)
@@ -82,17 +83,20 @@ ended-mark mark (x ∷ xs) b is = by (mark x) refl (ended-mark mark xs b is)
     by false other rest = rw (other, rest) (onto_last mark x xs other)
 
 -- another byte ends none
+-- Stands for `stops` of `OpenLine::take_line`.
 pub ended-other : (mark : ℕ → Bool) (xs : List ℕ) (b : ℕ) → mark b ≡ false → ended mark (xs ++ b ∷ []) ≡ ended mark xs
 ended-other mark [] b other = rw other refl
 ended-other mark (x ∷ xs) b other = rw (ended-other mark xs b other) refl
 
 -- nothing stands after a mark yet
+-- Stands for `stops` of `OpenLine::take_line`.
 pub since-mark : (mark : ℕ → Bool) (xs : List ℕ) (b : ℕ) → mark b ≡ true → since mark (xs ++ b ∷ []) ≡ []
 since-mark mark [] b is = rw is refl
 since-mark mark (x ∷ xs) b is = rw (list_any-append mark xs (b ∷ []), is, or-true (list_any mark xs), or-true (mark x))
     (since-mark mark xs b is)
 
 -- another byte goes on
+-- Stands for `stops` of `OpenLine::take_line`.
 pub since-other : (mark : ℕ → Bool) (xs : List ℕ) (b : ℕ) → mark b ≡ false → since mark (xs ++ b ∷ []) ≡ since mark xs ++ b ∷ []
 since-other mark [] b other = rw other refl
 since-other mark (x ∷ xs) b other =
