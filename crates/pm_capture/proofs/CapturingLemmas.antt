@@ -10,9 +10,9 @@ use Rattle.pm_lines.specs.Lines.{has_bytes, is_line_feed, is_skipped, is_unskipp
 use Rattle.pm_lines.specs.Lines.{without_return}
 use Rattle.pm_trace.specs.Marks.{ended, since}
 use Rattle.pm_trace.specs.OpenLines.{IsAtLineFeed}
-use Rattle.pm_trace.proofs.DecodeLemmas.{no_bytes}
-use Rattle.pm_trace.proofs.MarkLemmas.{ended-mark, ended-other, since-mark, since-other, split-ended}
-use Rattle.pm_trace.proofs.SaidLemmas.{enumerate_from-snoc, last_kept, length-map}
+use Rattle.pm_capture.proofs.PutLemmas.{no_bytes}
+use Rattle.pm_trace.specs.Lemmas.Marks.{ended-mark, ended-other, since-mark, since-other}
+use Rattle.pm_trace.specs.Lemmas.Said.{enumerate_from-snoc, length-map, length-snoc, lines_at_end}
 use Rattle.pm_meaning.specs.Taught.{taught_from, untaught}
 use Rattle.pm_capture.specs.CaptureText.{capture_text, counts_text, line_text, lines_text}
 use Rattle.pm_capture.specs.Capturing.{Kept, entry_ended, heard_ended, kept_at_end, kept_of, kept_takes, line_ended, next, said, said_text}
@@ -125,10 +125,6 @@ text_more options bytes =
     lines_text-append options untaught (said options.times bytes) (ended_entries options bytes)
     ∙ ap (λ l. said_text options bytes ++ l) (text_here options bytes)
 
--- a list of bytes with one byte more is longer by one
-length-snoc : (bytes : List ℕ) (b : ℕ) → length (bytes ++ b ∷ []) ≡ length bytes + 1
-length-snoc bytes b = length-append bytes (b ∷ [])
-
 -- what is kept with a line feed more
 kept_of-mark : (options : TellOptions) (bytes : List ℕ) (b : ℕ) → is_line_feed b ≡ true
     → kept_of options (bytes ++ b ∷ []) ≡ record (line_ended (kept_of options bytes)) { taken = length bytes + 1 }
@@ -239,16 +235,6 @@ told-append kept (x ∷ xs) ys = rw (told-append (kept_takes kept x) xs ys)
     (sym (append_assoc _ (told (kept_takes kept x) xs) (told (next (kept_takes kept x) xs) ys)))
 
 -- ---- the end
-
--- the lines of a text, at its end
-lines_at_end : (text : List ℕ) → lines_of text
-    ≡ map without_return (ended is_line_feed text) ++ map without_return (cond (has_bytes (since is_line_feed text))
-    (since is_line_feed text ∷ []) [])
-unfolding lines_of
-lines_at_end text =
-    ap (λ l. map without_return (without_empty_last l)) (split-ended is_line_feed text)
-    ∙ ap (map without_return) (last_kept (ended is_line_feed text) (since is_line_feed text))
-    ∙ map-append without_return (ended is_line_feed text) (cond (has_bytes (since is_line_feed text)) (since is_line_feed text ∷ []) [])
 
 -- a capture is told line by line
 capture_lines : (times : Bool) (text : List ℕ) → entries_of times text ≡ lines_said times (lines_of text)

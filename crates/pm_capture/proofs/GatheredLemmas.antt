@@ -17,7 +17,7 @@ use Rattle.pm_trace.specs.declared.decode_end.DecodeEnd.{DecodeEnd}
 use Rattle.pm_trace.specs.declared.decode_end.DecodeEnd.TheVariants.{Clean}
 use Rattle.pm_capture.specs.Hearing.{heard_of}
 use Rattle.pm_capture.specs.Readings.{entries_of}
-use Rattle.pm_trace.proofs.DecodeLemmas.{AppendsFront-behind, as_all, no_bytes}
+use Rattle.pm_capture.proofs.PutLemmas.{AppendsFront-behind, as_all, no_bytes}
 use Rattle.pm_capture.specs.CaptureText.{capture_end, capture_text, counts_text}
 use Rattle.pm_capture.specs.Capturing.{Kept, kept_at_end, kept_of, most_bytes, next, said, said_text, told, told_at_end}
 use Rattle.pm_capture.specs.LongEngine.{IsWhole}

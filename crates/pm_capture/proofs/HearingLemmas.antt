@@ -8,8 +8,8 @@ use Rattle.std.proofs.lemmas.List.Elements.{filter-append, filter_map-append}
 use Rattle.std.proofs.lemmas.List.Sums.{fold-append}
 use Rattle.pm_trace.specs.Counts.{counted, counts_of, lines_in, one_counted, one_more}
 use Rattle.pm_trace.specs.Trace.{Judged, Told, Accepted, Faulty, BadSyntax, BadHex}
-use Rattle.pm_trace.proofs.CountLemmas.{total_one_more}
-use Rattle.pm_trace.proofs.SaidLemmas.{counts_of-snoc}
+use Rattle.pm_trace.specs.Lemmas.Counts.{total_one_more}
+use Rattle.pm_trace.specs.Lemmas.Said.{counts_of-snoc}
 use Rattle.pm_meaning.specs.Taught.{Taught, taught_by, taught_from, untaught}
 use Rattle.pm_capture.specs.CaptureText.{line_text, lines_text}
 use Rattle.pm_capture.specs.Hearing.{Heard, counted_with, heard_lines, heard_of, heard_with, is_usual, other_code, told_in}

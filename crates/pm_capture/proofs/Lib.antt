@@ -6,4 +6,5 @@ pub mod EndLemmas
 pub mod GatheredLemmas
 pub mod HearingLemmas
 pub mod PlainLemmas
+pub mod PutLemmas
 pub mod TimedLemmas

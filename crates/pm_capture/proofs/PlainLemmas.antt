@@ -1,8 +1,16 @@
 -- What is told without options is what a trace is told as.
-use Rattle.std.proofs.Common.{◌≡◌, ◌∙◌, ℕ, ◌+◌, Bool, false, List, [], ◌∷◌, ◌++◌, map, filter, codes, Option, None, Result, Ok, Err}
+use Rattle.std.proofs.Common.{◌≡◌, ◌∙◌, ℕ, ◌+◌, Bool, false, List, [], ◌∷◌, ◌++◌, map, filter, codes, Option, Some, None, Result, Ok, Err}
 use Rattle.std.proofs.Common.{refl, sym, ap, arith, append_assoc, append-nil}
 use Rattle.std.specs.Prelude.{decimal, flat_map}
-use Rattle.std.specs.List.{filter_map}
+use Rattle.std.specs.List.{filter_map, enumerate_from}
+use Rattle.pm_lines.specs.Lines.{is_line_feed, is_unskipped, without_return}
+use Rattle.pm_trace.specs.Marks.{ended}
+use Rattle.pm_trace.specs.Decoding.{said as trace_said}
+use Rattle.pm_trace.specs.Outcome.{decoding}
+use Rattle.pm_trace.specs.TraceText.{end_of}
+use Rattle.pm_capture.specs.Capturing.{said, said_text}
+use Rattle.pm_capture.specs.CaptureText.{capture_end}
+use Rattle.pm_capture.specs.Outcome.{telling}
 use Rattle.pm_lines.specs.Lines.{Numbered, unskipped_from}
 use Rattle.pm_num.specs.declared.any_format.AnyFormat.{AnyFormat}
 use Rattle.pm_trace.specs.Counts.{counted, counts_of, lines_in}
@@ -86,3 +94,19 @@ module _ (vout : Option AnyFormat) (long : Bool) where
       ap (λ l. l ++ counts_text (plain_options vout long) (heard_of false (map (entry_of false) lines))) (lines_by untaught lines)
       ∙ ap (λ l. told_lines (map told_of lines) ++ l) (counts_by (heard_of false (map (entry_of false) lines)) (others_by lines))
       ∙ ap (λ c. told_lines (map told_of lines) ++ trace_counts c) (heard_by lines)
+
+  -- the lines that ended
+  said_by : (text : List ℕ) → said_text (plain_options vout long) text ≡ told_lines (trace_said text)
+  unfolding said trace_said
+  said_by text = lines_by untaught (filter is_unskipped (enumerate_from 1 (map without_return (ended is_line_feed text))))
+
+  end_by : (text : List ℕ) → capture_end (plain_options vout long) text ≡ end_of (counts_of (trace_of text))
+  unfolding entries_of trace_of
+  end_by text = ap end_of (heard_by (unskipped_from 1 text))
+
+  -- so a telling without options is the engine that decodes
+  pub plain_engine : telling (plain_options vout long) ≡ decoding
+  plain_engine = λ i. record {
+    whole = λ input. Ok (plain_text input i, end_by input i);
+    early = Some (λ front. said_by front i);
+  }

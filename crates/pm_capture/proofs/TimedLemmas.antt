@@ -5,21 +5,21 @@ use Rattle.std.proofs.Common.{refl, sym, ap, subst, ◌∙◌, arith, append_ass
 use Rattle.std.proofs.lemmas.List.Folds.{list_any-append}
 use Rattle.std.proofs.lemmas.List.Sums.{fold-append}
 use Rattle.std.specs.Prelude.{nat_eq, nat_lt, codes}
-use Rattle.std.specs.List.{fold, list_all, starts_with}
+use Rattle.std.specs.List.{fold, list_all, list_any, starts_with}
 use Rattle.std.proofs.lemmas.Bool.Decides.{nat_tests}
 use Rattle.std.proofs.lemmas.List.{take_all, length-take}
 use Rattle.std.proofs.Math.Bool.{or-true, or-false, and-true}
 use Rattle.pm_lines.specs.Lines.{has_bytes, is_line_feed, is_skipped, is_space, without_return}
 use Rattle.pm_trace.specs.Marks.{before}
-use Rattle.pm_trace.specs.OpenLines.{Passes, line_of, line_takes, open_read, plain_line}
+use Rattle.pm_trace.specs.OpenLines.{IsAtLineFeed, Passes, line_of, line_takes, open_read, plain_line}
 use Rattle.pm_trace.specs.declared.decoder.open_line.OpenLine.{OpenLine}
 use Rattle.pm_trace.specs.Parts.{part_of, part_takes}
 use Rattle.pm_trace.specs.Trace.{line_read}
-use Rattle.pm_trace.proofs.OpenLineLemmas.{has_last, line_of-snoc, turned, without_return-snoc}
-use Rattle.pm_trace.proofs.PlainLineLemmas.{part_of-snoc}
-use Rattle.pm_trace.proofs.SaidLemmas.{open_reads, skipped_kind}
+use Rattle.pm_trace.specs.Lemmas.OpenLines.{has_last, line_of-snoc, turned, without_return-snoc}
+use Rattle.pm_trace.specs.Lemmas.PlainLines.{part_of-snoc}
+use Rattle.pm_trace.specs.Lemmas.Said.{open_reads, skipped_kind}
 use Rattle.pm_capture.specs.Readings.{behind_word, first_word, from_first, past_spaces, reading_of, time_in, timed}
-use Rattle.pm_capture.specs.TimedLines.{PassesTimed, skips_timed, timed_of, timed_read, timed_takes, word_ended}
+use Rattle.pm_capture.specs.TimedLines.{PassesTimed, begun_with, skips_timed, timed_of, timed_read, timed_takes, word_ended}
 use Rattle.pm_capture.specs.declared.timed_line.TimedLine.{TimedLine}
 
 -- ---- the first word with one byte more
@@ -246,15 +246,48 @@ packet_fold line (b ∷ front) begun over =
           i) front;
     }
 
--- the packet took bytes
-pub passes_packet : (old : TimedLine) (bytes rest : List ℕ) (packet : OpenLine) → old.is_begun ≡ true → old.is_over ≡ true
-    → Passes old.packet bytes rest packet → PassesTimed old bytes rest (record old { packet = packet })
-passes_packet old bytes rest packet begun over passes = record {
-  front = passes.front;
-  split = passes.split;
-  plain = passes.plain;
-  line = ap (λ p. record old { packet = p }) passes.line ∙ sym (packet_fold old passes.front begun over);
-}
+-- a line all of whose bytes are the packet's own, of which this is one
+packet_begun : (line : TimedLine) (x : ℕ) (front : List ℕ) → line.is_over ≡ true
+    → fold timed_takes line (x ∷ front) ≡ record (begun_with line x) { packet = fold line_takes line.packet (x ∷ front) }
+unfolding timed_takes
+packet_begun line x front over =
+    packet_fold (timed_takes line x) front refl (ap (λ c. c || (is_space x && has_bytes line.word.bytes)) over)
+    ∙ λ i. record {
+      times = line.times;
+      has_mark = cond line.is_begun line.has_mark (eqb x 35);
+      is_begun = true;
+      is_over = (ap (λ c. c || (is_space x && has_bytes line.word.bytes)) over ∙ sym over) i;
+      word = ap (λ c. cond ((c || (is_space x && has_bytes line.word.bytes)) || is_space x) line.word (part_takes line.word x)) over i;
+      packet = fold line_takes (ap (λ c. cond (c || (is_space x && has_bytes line.word.bytes)) (line_takes line.packet x) line.packet) over
+          i) front;
+    }
+
+-- the packet took all bytes up to the first line feed, of which there are some
+pub passes_packet : (old : TimedLine) (bytes rest : List ℕ) (packet : OpenLine) → old.is_over ≡ true → 1 ≤ length bytes
+    → (get_or bytes 0 0 ≡ 10 → ⊥) → Passes old.packet bytes rest packet → IsAtLineFeed rest
+    → PassesTimed old bytes rest (record (begun_with old (get_or bytes 0 0)) { packet = packet })
+passes_packet old bytes rest packet over some other passes stops = by passes.front bytes passes.split passes.plain passes.line some other
+  where
+    none : (rest : List ℕ) → IsAtLineFeed rest → 1 ≤ length rest → (get_or rest 0 0 ≡ 10 → ⊥) → ⊥
+    none [] at some other = omega (arith, some)
+    none (x ∷ xs) at some other = other at
+
+    by : (front bytes : List ℕ) → bytes ≡ front ++ rest → list_any is_line_feed front ≡ false → packet ≡ fold line_takes old.packet front
+        → 1 ≤ length bytes → (get_or bytes 0 0 ≡ 10 → ⊥)
+        → PassesTimed old bytes rest (record (begun_with old (get_or bytes 0 0)) { packet = packet })
+    by [] bytes split plain line some other =
+        let at : IsAtLineFeed bytes = subst (λ l. IsAtLineFeed l) (sym split) stops in
+        absurd (none bytes at some other)
+    by (x ∷ front) bytes split plain line some other =
+        let first : x ≡ get_or bytes 0 0 = sym (ap (λ l. get_or l 0 0) split) in
+        record {
+          front = x ∷ front;
+          split = split;
+          plain = plain;
+          line = ap (λ p. record (begun_with old (get_or bytes 0 0)) { packet = p }) line
+              ∙ ap (λ n. record (begun_with old n) { packet = fold line_takes old.packet (x ∷ front) }) (sym first)
+              ∙ sym (packet_begun old x front over);
+        }
 
 -- no byte
 pub passes_none : (line : TimedLine) (bytes : List ℕ) → PassesTimed line bytes bytes line

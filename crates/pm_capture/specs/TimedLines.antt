@@ -23,6 +23,13 @@ timed_of times line = record {
 abbrev pub is_of_packet : TimedLine → ℕ → Bool
 is_of_packet line byte = line.is_over || (is_space byte && has_bytes line.word.bytes)
 
+-- there is a byte, and this one is the first where there was none. 35 is `#`.
+abbrev pub begun_with : TimedLine → ℕ → TimedLine
+begun_with line byte = record line {
+  has_mark = if line.is_begun then line.has_mark else byte == 35;
+  is_begun = true;
+}
+
 -- one byte more
 unfoldable pub timed_takes : TimedLine → ℕ → TimedLine
 timed_takes line byte = record {

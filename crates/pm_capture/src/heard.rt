@@ -29,7 +29,7 @@ impl Model for Heard {
 }
 
 impl Heard {
-    ghost use Rattle.std.specs.Prelude.{[], ◌+◌, ◌<◌, ◌≤◌, ◌^◌, ◌++◌, false, OnOk, Ok, string_bytes};
+    ghost use Rattle.std.specs.Prelude.{[], ◌+◌, ◌<◌, ◌≤◌, ◌^◌, ◌++◌, codes, false, OnOk, Ok, string_bytes};
     ghost use Rattle.pm_trace.specs.Counts.{lines_in};
     ghost use Rattle.pm_capture.specs.CaptureText.{line_text};
     ghost use Rattle.pm_capture.specs.Hearing.{counted_with, heard_lines, heard_of, heard_with};
@@ -47,7 +47,7 @@ impl Heard {
         }
     }
 
-    /// Appends what a line says to a text, with its number and a line feed, and counts it. Takes memory for the text, and
+    /// Appends what a line says to a text, with its number and without a line feed, and counts it. Takes memory for the text, and
     /// for a code and an output that is new.
     #[tactic(auto, using(crate::proofs::HearingLemmas::heard_one))]
     pub(crate) fn hear(
@@ -58,7 +58,7 @@ impl Heard {
         text: &mut String,
     ) -> Result<(), AllocError>
         requires { heard_lines self.old + 1 < 2 ^ 64 }
-        ensures text { OnOk result (string_bytes text.new ≡ string_bytes text.old
+        ensures text { OnOk result (string_bytes text.new ++ codes "\n" ≡ string_bytes text.old
             ++ line_text options.now self.old.taught (number, reading_in line.now)) }
         ensures heard { OnOk result (self.new ≡ heard_with options.now.all self.old (number, reading_in line.now)) }
         ensures few { heard_lines self.new ≤ heard_lines self.old + 1 }
@@ -83,7 +83,7 @@ impl Heard {
         text: &mut String,
     ) -> Result<(), AllocError>
         requires { heard_lines self.old + 1 < 2 ^ 64 }
-        ensures text { OnOk result (string_bytes text.new ≡ string_bytes text.old
+        ensures text { OnOk result (string_bytes text.new ++ codes "\n" ≡ string_bytes text.old
             ++ line_text options.now self.old.taught (number, record { time = time; parts = Ok (packet_in packet.now) })) }
         ensures heard { OnOk result (self.new
             ≡ heard_with options.now.all self.old (number, record { time = time; parts = Ok (packet_in packet.now) })) }

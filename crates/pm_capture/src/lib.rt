@@ -9,6 +9,7 @@
 
 mod capture;
 mod counts_text;
+mod decoding;
 mod heard;
 mod json_counts;
 mod json_fields;
@@ -22,6 +23,7 @@ mod telling;
 mod timed_line;
 mod told;
 
+pub use decoding::decode;
 pub use laws::plain_captures_are_traces;
 pub use options::TellOptions;
 pub use telling::tell;

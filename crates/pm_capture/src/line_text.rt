@@ -16,7 +16,7 @@ use pm_meaning::{Lessons, Packet, packet_value, push_known, push_otherwise, push
 use pm_trace::{LineFault, Shown, push_shown};
 use std::alloc::AllocError;
 
-/// Appends a line that can't be read to a text, with its number and a line feed.
+/// Appends a line that can't be read to a text, with its number and without a line feed.
 #[tactic(auto, unfolding(crate::specs::CaptureText::line_text))]
 pub(crate) fn push_bad_line(
     text: &mut String,
@@ -24,7 +24,7 @@ pub(crate) fn push_bad_line(
     number: u64,
     fault: LineFault,
 ) -> Result<(), AllocError>
-    ensures { OnOk result ((taught : Taught) (time : Option ℕ) → string_bytes text.new ≡ string_bytes text.old
+    ensures { OnOk result ((taught : Taught) (time : Option ℕ) → string_bytes text.new ++ codes "\n" ≡ string_bytes text.old
         ++ line_text options.now taught (number, record { time = time; parts = Err fault })) }
 {
     if options.json {
@@ -42,13 +42,13 @@ fn push_bad_json(
     number: u64,
     fault: LineFault,
 ) -> Result<(), AllocError>
-    ensures { OnOk result ((taught : Taught) (time : Option ℕ) → string_bytes text.new ≡ string_bytes text.old
+    ensures { OnOk result ((taught : Taught) (time : Option ℕ) → string_bytes text.new ++ codes "\n" ≡ string_bytes text.old
         ++ json_line options.now taught (number, record { time = time; parts = Err fault })) }
 {
     text.push_str("{\"line\":")?;
     push_decimal(text, number)?;
     push_text_field(text, "fault", fault_words(number, fault))?;
-    text.push_str("}\n")
+    text.push_str("}")
 }
 
 // The same as it is told to a person.
@@ -59,13 +59,12 @@ fn push_bad_plain(
     number: u64,
     fault: LineFault,
 ) -> Result<(), AllocError>
-    ensures { OnOk result ((taught : Taught) (time : Option ℕ) → string_bytes text.new ≡ string_bytes text.old
+    ensures { OnOk result ((taught : Taught) (time : Option ℕ) → string_bytes text.new ++ codes "\n" ≡ string_bytes text.old
         ++ plain_line options.now taught (number, record { time = time; parts = Err fault })) }
 {
     push_decimal(text, number)?;
     text.push_str(" ")?;
-    text.push_str(fault_words(number, fault))?;
-    text.push_str("\n")
+    text.push_str(fault_words(number, fault))
 }
 
 // The words of a fault of the line of this number.
@@ -78,7 +77,7 @@ fn fault_words(number: u64, fault: LineFault) -> &'static str
     }
 }
 
-/// Appends a packet's line to a text, with its number and a line feed: as the command table has the packet, or by its
+/// Appends a packet's line to a text, with its number and without a line feed: as the command table has the packet, or by its
 /// address, code and bytes where `other` is its address.
 #[tactic(auto, unfolding(crate::specs::CaptureText::line_text))]
 pub(crate) fn push_packet_line(
@@ -93,7 +92,7 @@ pub(crate) fn push_packet_line(
 ) -> Result<(), AllocError>
     requires shown { judged_in shown.now ≡ parts_judged packet.now.write.now (option_map (λ bytes. bytes.now) packet.now.read) }
     requires other { other ≡ other_address options.now.all (packet_in packet.now) }
-    ensures { OnOk result (string_bytes text.new ≡ string_bytes text.old
+    ensures { OnOk result (string_bytes text.new ++ codes "\n" ≡ string_bytes text.old
         ++ line_text options.now lessons.now (number, record { time = time; parts = Ok (packet_in packet.now) })) }
 {
     if options.json {
@@ -117,7 +116,7 @@ fn push_packet_json(
 ) -> Result<(), AllocError>
     requires shown { judged_in shown.now ≡ parts_judged packet.now.write.now (option_map (λ bytes. bytes.now) packet.now.read) }
     requires other { other ≡ other_address options.now.all (packet_in packet.now) }
-    ensures { OnOk result (string_bytes text.new ≡ string_bytes text.old
+    ensures { OnOk result (string_bytes text.new ++ codes "\n" ≡ string_bytes text.old
         ++ json_line options.now lessons.now (number, record { time = time; parts = Ok (packet_in packet.now) })) }
 {
     text.push_str("{\"line\":")?;
@@ -127,7 +126,7 @@ fn push_packet_json(
         None => push_judged_fields(text, options, lessons, packet, shown)?,
         Some(addr) => push_other_fields(text, addr, packet)?,
     }
-    text.push_str("}\n")
+    text.push_str("}")
 }
 
 // The same as it is told to a person.
@@ -144,7 +143,7 @@ fn push_packet_plain(
 ) -> Result<(), AllocError>
     requires shown { judged_in shown.now ≡ parts_judged packet.now.write.now (option_map (λ bytes. bytes.now) packet.now.read) }
     requires other { other ≡ other_address options.now.all (packet_in packet.now) }
-    ensures { OnOk result (string_bytes text.new ≡ string_bytes text.old
+    ensures { OnOk result (string_bytes text.new ++ codes "\n" ≡ string_bytes text.old
         ++ plain_line options.now lessons.now (number, record { time = time; parts = Ok (packet_in packet.now) })) }
 {
     push_decimal(text, number)?;
@@ -153,11 +152,10 @@ fn push_packet_plain(
     match other {
         None => {
             push_shown(text, number, shown)?;
-            push_extra(text, options, lessons, packet, shown)?;
+            push_extra(text, options, lessons, packet, shown)
         }
-        Some(addr) => push_otherwise(text, addr, packet)?,
+        Some(addr) => push_otherwise(text, addr, packet),
     }
-    text.push_str("\n")
 }
 
 // The time of a packet, where it is known.

@@ -39,7 +39,7 @@ impl Others {
     }
 
     /// Counts a code. Takes memory where it is new.
-    #[tactic(auto, using(pm_trace::proofs::CountLemmas::total_one_more))]
+    #[tactic(auto, using(pm_trace::specs::Lemmas::Counts::total_one_more))]
     pub(crate) fn count(&mut self, code: u8) -> Result<(), AllocError>
         requires { total_of self.old + 1 < 2 ^ 64 }
         ensures ok { OnOk result (self.new ≡ one_more self.old code) }

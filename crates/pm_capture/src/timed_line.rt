@@ -36,7 +36,7 @@ impl TimedLine {
     ghost use Rattle.pm_trace.specs.OpenLines.{open_read};
     ghost use Rattle.pm_trace.specs.OpenLines.{IsAtLineFeed};
     ghost use Rattle.pm_capture.specs.ShownReadings.{parts_in, reading_in};
-    ghost use Rattle.pm_capture.specs.TimedLines.{PassesTimed, skips_timed, timed_of, timed_read, timed_takes, word_ended};
+    ghost use Rattle.pm_capture.specs.TimedLines.{PassesTimed, begun_with, skips_timed, timed_of, timed_read, timed_takes, word_ended};
 
     /// A line without bytes.
     #[tactic(auto, unfolding(crate::specs::TimedLines::timed_of))]
@@ -91,9 +91,16 @@ impl TimedLine {
     fn take_packet<'a>(&mut self, bytes: &'a [u8]) -> &'a [u8]
         ensures { PassesTimed self.old bytes.entry.now result.now self.new }
     {
-        if !self.is_begun || !self.is_over {
+        if !self.is_over {
             return bytes;
         }
+        let [first, ..] = bytes else {
+            return bytes;
+        };
+        if *first == b'\n' {
+            return bytes;
+        }
+        self.begin(*first);
         self.packet.take_line(bytes)
     }
 
@@ -102,10 +109,7 @@ impl TimedLine {
     fn take(&mut self, byte: u8)
         ensures { self.new ≡ timed_takes self.old byte }
     {
-        if !self.is_begun {
-            self.has_mark = byte == b'#';
-            self.is_begun = true;
-        }
+        self.begin(byte);
         if byte == b' ' && !self.word.bytes().is_empty() {
             self.is_over = true;
         }
@@ -113,6 +117,16 @@ impl TimedLine {
             self.packet.take(byte);
         } else if byte != b' ' {
             self.word.take(byte);
+        }
+    }
+
+    // Notes that the line has a byte, of which this is the first one where it had none.
+    fn begin(&mut self, byte: u8)
+        ensures { self.new ≡ begun_with self.old byte }
+    {
+        if !self.is_begun {
+            self.has_mark = byte == b'#';
+            self.is_begun = true;
         }
     }
 

@@ -77,8 +77,10 @@ impl Told {
     {
         self.line.clear();
         heard.hear(options, number, line, &mut self.line)?;
+        self.line.push_str("\n")?;
         self.text.extend_from_slice(self.line.as_str().as_bytes())
     }
+
     /// Gathers the text of the counts.
     pub(crate) fn gather_counts(&mut self, capture: &Capture) -> Result<(), AllocError>
         ensures { OnOk result (self.new ≡ self.old ++ counts_text capture.now.options capture.now.heard) }

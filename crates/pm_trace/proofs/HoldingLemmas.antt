@@ -88,13 +88,12 @@ module _ (start : Holding) {begun mid : Holding} {piece bytes : List ℕ} {fed :
       }
 
   -- a refusal at the line's end stands for the bytes as a whole
-  pub ends_new : {W : Type 0} → fed.ended ≡ true → CarriesNew mid.kept.counts (some_told (line_told mid.kept)) ⊎ W
-      → CarriesNew start.kept.counts (told start.kept (taken_of start piece)) ⊎ W
-  ends_new is (inl new) =
+  pub ends_new : fed.ended ≡ true → CarriesNew mid.kept.counts (some_told (line_told mid.kept))
+      → CarriesNew start.kept.counts (told start.kept (taken_of start piece))
+  ends_new is new =
       let counts : mid.kept.counts ≡ start.kept.counts = ap (λ k. k.counts) kept_mid in
       let P : Counts → Type 0 = λ counts. IsNewCode counts new.line.1 in
-      inl (record { line = new.line; one = ends_told is ∙ new.one; is_new = subst P counts new.is_new })
-  ends_new is (inr wanted) = inr wanted
+      record { line = new.line; one = ends_told is ∙ new.one; is_new = subst P counts new.is_new }
 
 -- a holding with more bytes taken
 abbrev pub taken_more : Holding → ℕ → OpenLine → Holding

@@ -1,15 +1,5 @@
-pub mod BreakLemmas
-pub mod CountLemmas
-pub mod DecodeLemmas
 pub mod HoldingLemmas
-pub mod LineTextLemmas
-pub mod MarkLemmas
-pub mod OpenLineLemmas
-pub mod OutcomeLemmas
 pub mod PairLemmas
 pub mod PartLemmas
 pub mod PieceLemmas
-pub mod PlainLineLemmas
 pub mod RunLemmas
-pub mod SaidLemmas
-pub mod UsualLemmas

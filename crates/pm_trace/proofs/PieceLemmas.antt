@@ -14,7 +14,7 @@ use Rattle.pm_trace.specs.OpenLines.{is_begun}
 use Rattle.pm_trace.specs.Decoding.{Holding, IsFresh, Feeds, Finishes, now, said, next, told, some_told, told_at_end, kept_at_end}
 use Rattle.pm_trace.specs.Decoding.{line_told, line_ended, first_line, taken_by, taken_of, told_by, kept_by}
 use Rattle.pm_trace.specs.Pieces.{Call, Calls, Decodes, TakesWhole, taken_in, Stops, TakesFront}
-use Rattle.pm_trace.proofs.SaidLemmas.{now-append, said-append, trace_of-end, counts-at_end}
+use Rattle.pm_trace.specs.Lemmas.Said.{now-append, said-append, trace_of-end, counts-at_end}
 
 -- the first line is a prefix
 first_front : (bytes : List ℕ) → (rest : List ℕ) × (bytes ≡ first_line bytes ++ rest)

@@ -13,4 +13,5 @@ pub mod Marks
 pub mod OpenLines
 pub mod Parts
 pub mod Written
-pub mod Usual
+-- What the crates above rest on besides.
+pub mod Lemmas

@@ -2,7 +2,6 @@ mod intake;
 mod line_kind;
 pub(crate) mod open_line;
 mod part;
-pub(crate) mod printer;
 mod slashes;
 
 ghost use Rattle.std.specs.Prelude.{◌≡◌};
@@ -10,11 +9,9 @@ ghost use Rattle.std.specs.Prelude.{◌≡◌};
 use crate::decoder::intake::Intake;
 use crate::decoder::open_line::OpenLine;
 pub use crate::decoder::part::{PART_BYTES, Part};
-use crate::decoder::printer::{Printer, Unprinted};
 use crate::fed::Fed;
 use crate::shown::Shown;
 use crate::tally::Tally;
-use crate::usual::Usual;
 use pm_lines::{MAX_TEXT, TextFault};
 use std::alloc::{AllocError, Global};
 use std::marker::Model;
@@ -50,7 +47,7 @@ impl Model for Decoder {
 }
 
 impl Decoder {
-    ghost use Rattle.std.specs.Prelude.{[], ◌⊎◌, ◌+◌, ◌≤◌, ◌<◌, ◌^◌, ◌++◌, length, take, flat_map, None, Some, IfSome, IfOk, IfErr, OnOk, OnErr, option_map, List, ℕ};
+    ghost use Rattle.std.specs.Prelude.{[], ◌⊎◌, ◌+◌, ◌≤◌, ◌<◌, length, take, None, Some, IfSome, IfOk, IfErr, OnOk, OnErr, option_map};
     ghost use Rattle.std.specs.Result.{result_err};
     ghost use Rattle.pm_trace.specs.Counts.{lines_in};
     ghost use Rattle.pm_trace.specs.Decoding.{IsFresh, Feeds, Finishes, Fails, CarriesNew, refusal_of, taken_of};
@@ -58,7 +55,6 @@ impl Decoder {
     ghost use Rattle.pm_trace.specs.Holdings.{IsBounded, Takes, lines_at_end};
     ghost use Rattle.pm_trace.specs.OpenLines.{is_begun as spec_is_begun};
     ghost use Rattle.pm_trace.specs.ShownLines.{told_in};
-    ghost use Rattle.pm_trace.specs.Usual.{usual_judged};
     ghost use Rattle.pm_lines.specs.Streams.{max_text};
 
     /// A decoder that took no byte. Takes no memory.
@@ -107,32 +103,23 @@ impl Decoder {
             ⊎ ((refusal_of self.old piece.now ≡ None) × (fault ≡ TextFault.Memory)
             × CarriesNew self.old.kept.counts (told self.old.kept (taken_of self.old piece.now)))) }
     {
-        let fed = self.take(piece, &mut Unprinted);
+        let fed = self.take(piece);
         if let Err(fault) = fed {
             self.fail(fault);
         }
         fed
     }
 
-    /// As `feed`, and prints what the line says that ends, if it isn't skipped. After a refusal the
-    /// decoder is not used again.
-    pub(crate) fn take<P: Printer>(
-        &mut self,
-        piece: &[u8],
-        printer: &mut P,
-    ) -> Result<Fed, TextFault>
+    // As `feed`. After a refusal nothing is shown, and the decoder has yet to fail.
+    fn take(&mut self, piece: &[u8]) -> Result<Fed, TextFault>
         ensures fed { IfOk result (λ fed. Feeds self.old piece.now fed self.new) }
         ensures within { IfOk result (λ fed. fed.taken ≤ length piece.now) }
         ensures room { self.new.kept.taken ≤ max_text }
         ensures counts { OnErr result (self.new.kept.counts ≡ self.old.kept.counts) }
         ensures taken { OnOk result (refusal_of self.old piece.now ≡ None) }
-        ensures printed { OnOk result (P.text printer.new ≡ P.text printer.old
-            ++ flat_map P.line (told self.old.kept (taken_of self.old piece.now))) }
-        ensures grown { (more : List ℕ) × (P.text printer.new ≡ P.text printer.old ++ more) }
-        ensures refused { IfErr result (λ fault.
-            ((refusal_of self.old piece.now ≡ Some fault) × (P.text printer.new ≡ P.text printer.old))
+        ensures refused { IfErr result (λ fault. (refusal_of self.old piece.now ≡ Some fault)
             ⊎ ((refusal_of self.old piece.now ≡ None) × (fault ≡ TextFault.Memory)
-            × (CarriesNew self.old.kept.counts (told self.old.kept (taken_of self.old piece.now)) ⊎ P.WantsMemory))) }
+            × CarriesNew self.old.kept.counts (told self.old.kept (taken_of self.old piece.now)))) }
     {
         let room = self.room(piece)?;
         self.begin();
@@ -141,7 +128,7 @@ impl Decoder {
         }
         let fed = self.take_bytes(&piece[..room]);
         if fed.ended {
-            self.end_line(printer)?;
+            self.end_line()?;
         }
         Ok(fed)
     }
@@ -192,9 +179,9 @@ impl Decoder {
         Fed { taken, ended }
     }
 
-    // Ends the line: counts, prints and shows it, if it isn't skipped. Memory is wanted only where its
-    // code is new, and by the printer; where it was refused nothing changes.
-    fn end_line<P: Printer>(&mut self, printer: &mut P) -> Result<(), AllocError>
+    // Ends the line: counts and shows it, if it isn't skipped. Memory is wanted only where its code is new; where it was
+    // refused nothing changes.
+    fn end_line(&mut self) -> Result<(), AllocError>
         requires unshown { self.old.shown ≡ None }
         requires bounded { IsBounded (lines_at_end self.old.intake) self.old.kept }
         requires ended { self.old.kept.ended + 1 ≤ self.old.kept.taken + lines_at_end self.old.intake }
@@ -202,70 +189,11 @@ impl Decoder {
           kept = line_ended self.old.kept;
           shown = line_told self.old.kept;
         }) }
-        ensures printed { OnOk result (P.text printer.new ≡ P.text printer.old
-            ++ flat_map P.line (some_told (line_told self.old.kept))) }
-        ensures grown { (more : List ℕ) × (P.text printer.new ≡ P.text printer.old ++ more) }
-        ensures memory { OnErr result (CarriesNew self.old.kept.counts (some_told (line_told self.old.kept)) ⊎ P.WantsMemory) }
-        ensures unchanged { OnErr result (self.new ≡ self.old) }
-    {
-        match self.usual() {
-            Some(usual) => self.end_usual(usual, printer),
-            None => self.end_shown(printer),
-        }
-    }
-
-    // What the line says that ends, where it is a usual one. None says nothing of it.
-    #[inline(always)]
-    fn usual(&self) -> Option<Usual>
-        requires { self.now.shown ≡ None }
-        ensures { IfSome result (λ usual.
-            line_told self.now.kept ≡ Some (self.now.kept.ended + 1, usual_judged usual)) }
-    {
-        self.line.usual()
-    }
-
-    // Ends a usual line.
-    fn end_usual<P: Printer>(&mut self, usual: Usual, printer: &mut P) -> Result<(), AllocError>
-        requires told { line_told self.old.kept ≡ Some (self.old.kept.ended + 1, usual_judged usual) }
-        requires unshown { self.old.shown ≡ None }
-        requires bounded { IsBounded (lines_at_end self.old.intake) self.old.kept }
-        requires ended { self.old.kept.ended + 1 ≤ self.old.kept.taken + lines_at_end self.old.intake }
-        ensures ended { OnOk result (self.new ≡ record self.old {
-          kept = line_ended self.old.kept;
-          shown = line_told self.old.kept;
-        }) }
-        ensures printed { OnOk result (P.text printer.new ≡ P.text printer.old
-            ++ flat_map P.line (some_told (line_told self.old.kept))) }
-        ensures grown { (more : List ℕ) × (P.text printer.new ≡ P.text printer.old ++ more) }
-        ensures memory { OnErr result (CarriesNew self.old.kept.counts (some_told (line_told self.old.kept)) ⊎ P.WantsMemory) }
-        ensures unchanged { OnErr result (self.new ≡ self.old) }
-    {
-        printer.print_usual(self.ended + 1, usual)?;
-        self.tally.count_usual(usual)?;
-        self.is_shown = true;
-        self.ended += 1;
-        Ok(())
-    }
-
-    // Ends any line.
-    #[inline(never)]
-    fn end_shown<P: Printer>(&mut self, printer: &mut P) -> Result<(), AllocError>
-        requires unshown { self.old.shown ≡ None }
-        requires bounded { IsBounded (lines_at_end self.old.intake) self.old.kept }
-        requires ended { self.old.kept.ended + 1 ≤ self.old.kept.taken + lines_at_end self.old.intake }
-        ensures ended { OnOk result (self.new ≡ record self.old {
-          kept = line_ended self.old.kept;
-          shown = line_told self.old.kept;
-        }) }
-        ensures printed { OnOk result (P.text printer.new ≡ P.text printer.old
-            ++ flat_map P.line (some_told (line_told self.old.kept))) }
-        ensures grown { (more : List ℕ) × (P.text printer.new ≡ P.text printer.old ++ more) }
-        ensures memory { OnErr result (CarriesNew self.old.kept.counts (some_told (line_told self.old.kept)) ⊎ P.WantsMemory) }
+        ensures memory { OnErr result (CarriesNew self.old.kept.counts (some_told (line_told self.old.kept))) }
         ensures unchanged { OnErr result (self.new ≡ self.old) }
     {
         match self.line.shown() {
             Some(shown) => {
-                printer.print(self.ended + 1, &shown)?;
                 self.tally.count(&shown)?;
                 self.is_shown = true;
             }
@@ -325,7 +253,7 @@ impl Decoder {
         let ends = is_open && self.is_begun();
         self.intake = Intake::Finished;
         if ends {
-            self.end_line(&mut Unprinted)?;
+            self.end_line()?;
         }
         Ok(ends)
     }
@@ -362,20 +290,5 @@ impl Decoder {
         ) }
     {
         self.tally.lines()
-    }
-
-    /// How many bytes were taken.
-    pub(crate) fn taken(&self) -> usize
-        ensures { result ≡ self.now.kept.taken }
-    {
-        self.taken
-    }
-
-    /// The counts, with those of the codes.
-    pub(crate) fn tally(&self) -> &Tally
-        ensures tally { result.now ≡ self.now.kept.counts }
-        ensures few { lines_in result.now < 2 ^ 64 }
-    {
-        &self.tally
     }
 }

@@ -2,8 +2,7 @@
 //! streaming decoder that is fed the bytes in any pieces.
 //!
 //! A line is the write part of a packet in hexadecimal, and optionally `/` and the read part. A
-//! [`Decoder`] keeps no line as text, and takes memory for the counts of codes alone; [`decode`] runs
-//! it from a reader to a writer. A line by itself, `B0 05 04 00 21 CD 34 5A` of number 1, says
+//! [`Decoder`] keeps no line as text, and takes memory for the counts of codes alone. A line by itself, `B0 05 04 00 21 CD 34 5A` of number 1, says
 //! `1 58 page 0 VOUT_COMMAND write 34CD`:
 //!
 //! ```
@@ -21,16 +20,10 @@ mod decoder;
 mod fed;
 mod laws;
 mod line_fault;
-mod line_text;
-mod numbering;
 mod shown;
 mod shown_text;
 mod tally;
-mod told_lines;
 mod trace_line;
-mod traces;
-mod usual;
-mod usual_packets;
 
 pub use byte_list::ByteList;
 pub use counts_text::push_count;
@@ -44,4 +37,3 @@ pub use shown::{Shown, packet_shown};
 pub use shown_text::{answered, coefficients_in, push_shown};
 pub use tally::{Tally, count_code};
 pub use trace_line::{TraceLine, read_trace_line, render_line};
-pub use traces::decode;

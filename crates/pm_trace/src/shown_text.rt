@@ -3,7 +3,7 @@ ghost use Rattle.std.specs.Prelude.{◌≡◌, ◌++◌, [], OnOk, string_bytes,
 ghost use Rattle.std.specs.Fmt.{signed_decimal};
 ghost use Rattle.pm_frame.specs.FaultWords.{frame_fault_text, place_text};
 ghost use Rattle.pm_trace.specs.ShownLines.{judged_in};
-ghost use Rattle.pm_trace.specs.TraceText.{told_line, told_text, judged_text, address_text, message_text};
+ghost use Rattle.pm_trace.specs.TraceText.{told_text, judged_text, address_text, message_text};
 ghost use Rattle.pm_trace.specs.TraceText.{plain_text, page_text, payload_text, written_text, asked_text, numbers_text};
 ghost use Rattle.pm_table.specs.Coefficients.{coefficients_of};
 
@@ -12,16 +12,6 @@ use pm_frame::{FrameFault, FrameView, Message};
 use pm_lines::{TextFault, push_decimal, push_hex, push_hex_number, push_signed};
 use pm_table::{Code, Coefficients};
 use std::alloc::AllocError;
-
-/// Appends the text of a line to a text, with the line's number, and a line feed.
-#[tactic(auto, using(pm_lines::proofs::Joins::joins))]
-pub(crate) fn push_told(text: &mut String, number: u64, shown: &Shown<'_>) -> Result<(), AllocError>
-    ensures { OnOk result (string_bytes text.new
-        ≡ string_bytes text.old ++ told_line (number, judged_in shown.now)) }
-{
-    push_line(text, number, shown)?;
-    text.push_str("\n")
-}
 
 /// Appends the text of a line to a text, with the line's number and without a line feed.
 #[tactic(auto, using(pm_lines::proofs::Joins::joins), unfolding(crate::specs::TraceText::told_text))]

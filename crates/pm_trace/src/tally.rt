@@ -1,8 +1,7 @@
-ghost use Rattle.std.specs.Prelude.{◌≡◌, ◌+◌, ◌<◌, ◌^◌, false, OnOk, OnErr};
+ghost use Rattle.std.specs.Prelude.{◌≡◌, ◌+◌, ◌<◌, ◌^◌, true, false, option_map, slice_get, OnOk, OnErr};
 ghost use Rattle.pm_trace.specs.Counts.{one_more, has_code, total_of};
 
 use crate::shown::Shown;
-use crate::usual::Usual;
 use indexmap::IndexMap;
 use std::alloc::{AllocError, Global};
 use std::marker::Model;
@@ -15,6 +14,8 @@ pub struct Tally {
     faults: u64,
     bad: u64,
     codes: IndexMap<u8, u64>,
+    // Where each code stands among them, if it does: its place is looked up where another one stands there.
+    places: [u8; 256],
 }
 
 impl Model for Tally {
@@ -37,7 +38,6 @@ impl Tally {
     ghost use Rattle.std.specs.Prelude.{[]};
     ghost use Rattle.pm_trace.specs.Counts.{counts_of, lines_in, one_counted, IsNewCode};
     ghost use Rattle.pm_trace.specs.ShownLines.{judged_in};
-    ghost use Rattle.pm_trace.specs.Usual.{usual_judged};
 
     /// No line yet. Takes no memory.
     #[tactic(auto, unfolding(crate::specs::Counts::counts_of))]
@@ -49,12 +49,13 @@ impl Tally {
             faults: 0,
             bad: 0,
             codes: IndexMap::new(alloc),
+            places: [0; 256],
         }
     }
 
     /// Counts a line. Memory is wanted only where its code is new; where it was refused nothing is
     /// counted.
-    #[tactic(auto, using(crate::proofs::CountLemmas::total_one_more))]
+    #[tactic(auto, using(crate::specs::Lemmas::Counts::total_one_more))]
     pub fn count(&mut self, shown: &Shown<'_>) -> Result<(), AllocError>
         requires { lines_in self.old + 1 < 2 ^ 64 }
         ensures ok { OnOk result (self.new ≡ one_counted self.old (judged_in shown.now)) }
@@ -67,8 +68,7 @@ impl Tally {
                 view,
                 answer: _,
             } => {
-                count_code(&mut self.codes, view.code())?;
-                self.accepted += 1;
+                self.count_accepted(view.code())?;
             }
             Shown::Faulty { .. } => self.faults += 1,
             Shown::BadSyntax | Shown::BadHex => self.bad += 1,
@@ -76,16 +76,21 @@ impl Tally {
         Ok(())
     }
 
-    /// The same of a usual line.
-    #[inline(always)]
-    #[tactic(auto, using(crate::proofs::CountLemmas::total_one_more, crate::proofs::UsualLemmas::usual_counted, crate::proofs::UsualLemmas::usual_new))]
-    pub(crate) fn count_usual(&mut self, usual: Usual) -> Result<(), AllocError>
+    // Counts a line that was accepted, of this code.
+    #[tactic(auto, using(crate::specs::Lemmas::Counts::total_one_more))]
+    fn count_accepted(&mut self, code: u8) -> Result<(), AllocError>
         requires { lines_in self.old + 1 < 2 ^ 64 }
-        ensures ok { OnOk result (self.new ≡ one_counted self.old (usual_judged usual)) }
+        ensures ok { OnOk result (self.new ≡ record self.old {
+          accepted = self.old.accepted + 1;
+          codes = one_more self.old.codes code;
+        }) }
         ensures err { OnErr result (self.new ≡ self.old) }
-        ensures memory { OnErr result (IsNewCode self.old (usual_judged usual)) }
+        ensures absent { OnErr result (has_code self.old.codes code ≡ false) }
     {
-        count_code(&mut self.codes, usual.code)?;
+        let place = self.places[usize::from(code)];
+        if !count_at(&mut self.codes, usize::from(place), code) {
+            self.places[usize::from(code)] = count_placed(&mut self.codes, code)?;
+        }
         self.accepted += 1;
         Ok(())
     }
@@ -108,10 +113,52 @@ impl Tally {
     }
 }
 
+// Counts one more line of a code at this place, if it stands there.
+#[tactic(auto, using(crate::specs::Lemmas::Counts::at_place, crate::specs::Lemmas::Counts::place_bound))]
+fn count_at(codes: &mut IndexMap<u8, u64>, place: usize, code: u8) -> bool
+    requires { total_of codes.old.entries + 1 < 2 ^ 64 }
+    ensures counted { result ≡ true → codes.new.entries ≡ one_more codes.old.entries code }
+    ensures unchanged { result ≡ false → codes.new.entries ≡ codes.old.entries }
+{
+    if code_at(codes, place) != Some(code) {
+        return false;
+    }
+    let Some(count) = codes.get_index_mut(place) else {
+        return false;
+    };
+    *count += 1;
+    true
+}
+
+// The code that stands at a place.
+fn code_at(codes: &IndexMap<u8, u64>, place: usize) -> Option<u8>
+    ensures { result ≡ option_map (λ entry. entry.0) (slice_get codes.now.entries place) }
+{
+    match codes.get_index(place) {
+        Some((code, _)) => Some(*code),
+        None => None,
+    }
+}
+
+// Counts one more line of a code: at its place, or at the end where the code is new, and then memory may be wanted. Gives
+// that place, where it is below 256.
+#[cold]
+#[inline(never)]
+fn count_placed(codes: &mut IndexMap<u8, u64>, code: u8) -> Result<u8, AllocError>
+    requires { total_of codes.old.entries + 1 < 2 ^ 64 }
+    ensures ok { OnOk result (codes.new.entries ≡ one_more codes.old.entries code) }
+    ensures err { OnErr result (codes.new.entries ≡ codes.old.entries) }
+    ensures absent { OnErr result (has_code codes.old.entries code ≡ false) }
+{
+    count_code(codes, code)?;
+    let place = codes.get_index_of(&code).unwrap_or(0);
+    Ok((place % 256) as u8)
+}
+
 /// Counts one more line of a code: at its place, or at the end where the code is new, and then
 /// memory may be wanted.
 #[inline(always)]
-#[tactic(auto, using(crate::proofs::CountLemmas::new_is, crate::proofs::CountLemmas::placed_is, crate::proofs::CountLemmas::found_bound, crate::proofs::CountLemmas::absent_code))]
+#[tactic(auto, using(crate::specs::Lemmas::Counts::new_is, crate::specs::Lemmas::Counts::placed_is, crate::specs::Lemmas::Counts::found_bound, crate::specs::Lemmas::Counts::absent_code))]
 pub fn count_code(codes: &mut IndexMap<u8, u64>, code: u8) -> Result<(), AllocError>
     requires { total_of codes.old.entries + 1 < 2 ^ 64 }
     ensures ok { OnOk result (codes.new.entries ≡ one_more codes.old.entries code) }

@@ -5,8 +5,6 @@ use crate::decoder::part::Part;
 use crate::decoder::slashes::Slashes;
 use crate::line_fault::LineFault;
 use crate::shown::{Shown, packet_shown};
-use crate::usual::Usual;
-use crate::usual_packets::{usual_read, usual_write};
 use pm_lines::{byte_of, is_digit};
 
 /// What is kept of a line of a trace while its bytes come one after another.
@@ -33,7 +31,6 @@ impl OpenLine {
     ghost use Rattle.pm_trace.specs.OpenLines.{is_skipped_kind, open_read, open_told, Passes, IsAtLineFeed};
     ghost use Rattle.pm_trace.specs.ShownLines.{judged_in};
     ghost use Rattle.pm_trace.specs.Trace.{line_read};
-    ghost use Rattle.pm_trace.specs.Usual.{usual_judged};
 
     /// A line without bytes.
     #[tactic(auto, unfolding(crate::specs::OpenLines::line_of, crate::specs::OpenLines::plain_line))]
@@ -52,7 +49,7 @@ impl OpenLine {
     }
 
     /// A line of these bytes, each of which counts.
-    #[tactic(auto, using(crate::proofs::OpenLineLemmas::none_of))]
+    #[tactic(auto, using(crate::specs::Lemmas::OpenLines::none_of))]
     pub(crate) fn of(line: &[u8]) -> OpenLine
         ensures { open_read result ≡ line_read line.now }
     {
@@ -214,25 +211,6 @@ impl OpenLine {
             Err(LineFault::Syntax) => Shown::BadSyntax,
             Err(LineFault::BadHex) => Shown::BadHex,
         })
-    }
-
-    /// What the line says as it stands, where it is a usual one. None says nothing of it.
-    #[inline(always)]
-    #[tactic(auto, unfolding(crate::specs::OpenLines::open_read))]
-    pub(crate) fn usual(&self) -> Option<Usual>
-        ensures { IfSome result (λ usual. open_told self.now ≡ Some (usual_judged usual)) }
-    {
-        if self.kind.is_skipped() || self.is_bad || self.digit.is_some() {
-            return None;
-        }
-        if self.write.is_long() || self.read.is_long() {
-            return None;
-        }
-        match self.slashes {
-            Slashes::None => usual_write(self.write.bytes()),
-            Slashes::One => usual_read(self.write.bytes(), self.read.bytes()),
-            Slashes::More => None,
-        }
     }
 
     /// Whether the line is skipped, as it stands: it has no byte, spaces alone or `#` first.

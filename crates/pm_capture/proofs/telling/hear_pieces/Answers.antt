@@ -2,8 +2,7 @@
 use Rattle.std.proofs.Common.{◌++◌, [], rules, arith}
 use Rattle.std.proofs.lemmas.Result.{err_from_is_err_and}
 use Rattle.pm_lines.specs.Engine.{over}
-use Rattle.pm_trace.proofs.BreakLemmas.{due_at_fault, read_at, why_at}
-use Rattle.pm_trace.proofs.DecodeLemmas.{puts_all}
+use Rattle.pm_capture.proofs.PutLemmas.{due_at_fault, puts_all, read_at, why_at}
 use Rattle.pm_capture.proofs.EndLemmas.{broke_off, hears_at, lines_cut, stops_at}
 use Rattle.pm_capture.proofs.GatheredLemmas.{cut_off, gathered_more, gathered_none, grown_more, most_now, put_more}
 use Rattle.pm_capture.proofs.telling.hear_pieces.Goals as goal

@@ -1,11 +1,10 @@
-use Rattle.std.proofs.Common.{◌∙◌, ◌++◌, ap, sym, refl, inr, append-nil}
-use Rattle.std.specs.Prelude.{flat_map}
+use Rattle.std.proofs.Common.{sym, inr, refl}
 use Rattle.std.proofs.lemmas.Result.{err_from_is_err_and}
-use Rattle.pm_trace.proofs.HoldingLemmas.{feeds_open, feeds_ended, opens_told, ends_told, ends_new}
+use Rattle.pm_trace.proofs.HoldingLemmas.{feeds_open, feeds_ended, ends_new}
 use Rattle.pm_trace.proofs.decoder.Decoder.take.Goals as goal
 
 pub returns-in_err-end_line-clause-refused : goal.returns-in_err-end_line-clause-refused
-returns-in_err-end_line-clause-refused g c =
+returns-in_err-end_line-clause-refused c =
     let p = err_from_is_err_and c.from_residual-in_err-end_line.result c.from_residual-in_err-end_line.ensures.1 in
     rw (p.1, p.2) (inr (
       sym c.in_ok-room.ensures.refused,
@@ -16,26 +15,12 @@ returns-in_err-end_line-clause-refused g c =
     ))
 
 pub returns-in_ok-end_line-clause-fed : goal.returns-in_ok-end_line-clause-fed
-returns-in_ok-end_line-clause-fed g c =
+returns-in_ok-end_line-clause-fed c =
     feeds_ended c.args.self.now (record { begun_is = c.begin.ensures.begun; taken = c.in_ok-room.ensures.taken })
     c.take_bytes-fed.ensures c.if-fed.true _
     c.in_ok-end_line.ensures.ended
 
-pub returns-in_ok-end_line-clause-printed : goal.returns-in_ok-end_line-clause-printed
-returns-in_ok-end_line-clause-printed g c =
-    c.in_ok-end_line.ensures.printed
-    ∙ ap (λ l. g.P.Printer.text c.args.printer.now ++ flat_map g.P.Printer.line l)
-    (sym (ends_told c.args.self.now (record { begun_is = c.begin.ensures.begun; taken = c.in_ok-room.ensures.taken })
-    c.take_bytes-fed.ensures c.if-fed.true))
-
 pub returns-else-fed-clause-fed : goal.returns-else-fed-clause-fed
-returns-else-fed-clause-fed g c =
+returns-else-fed-clause-fed c =
     feeds_open c.args.self.now (record { begun_is = c.begin.ensures.begun; taken = c.in_ok-room.ensures.taken })
     c.take_bytes-fed.ensures c.if-fed.false
-
-pub returns-else-fed-clause-printed : goal.returns-else-fed-clause-printed
-returns-else-fed-clause-printed g c =
-    sym (ap (λ l. g.P.Printer.text c.args.printer.now ++ flat_map g.P.Printer.line l)
-    (opens_told c.args.self.now (record { begun_is = c.begin.ensures.begun; taken = c.in_ok-room.ensures.taken })
-    c.take_bytes-fed.ensures c.if-fed.false)
-    ∙ append-nil (g.P.Printer.text c.args.printer.now))

@@ -1,8 +1,8 @@
 use Rattle.std.proofs.Common.{◌≡◌, ◌∙◌, sym, ap, take, get_or}
 use Rattle.std.proofs.lemmas.List.{take_more, take_all}
 use Rattle.pm_trace.specs.OpenLines.{plain_line, open_read, plain_takes}
-use Rattle.pm_trace.proofs.PlainLineLemmas.{plain_line-snoc}
-use Rattle.pm_trace.proofs.SaidLemmas.{open_reads}
+use Rattle.pm_trace.specs.Lemmas.PlainLines.{plain_line-snoc}
+use Rattle.pm_trace.specs.Lemmas.Said.{open_reads}
 use Rattle.pm_trace.proofs.decoder.open_line.OpenLine.of.Goals as goal
 
 pub loop-byte-preserved : goal.loop-byte-preserved

@@ -1,0 +1,6 @@
+-- Lemmas on the lines of a trace, which the crates above rest on. No public clause cites them.
+pub mod Counts
+pub mod Marks
+pub mod OpenLines
+pub mod PlainLines
+pub mod Said
