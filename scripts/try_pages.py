@@ -7,7 +7,8 @@ answer --help. What is wrong is printed, and the status is then 1.
 
     scripts/try_pages.py
 
-It runs the built program, or the one that the environment variable PMB names.
+It runs the built program, or the one that the environment variable PMB names, and the package over the library that
+PMHOST_LIBRARY names where it isn't built in place.
 """
 import glob
 import os
@@ -47,11 +48,14 @@ def shown(text):
 
 
 class Shell:
-    """Runs commands at the root, with the program as `pmb` and at its built place."""
+    """Runs commands at the root, with the program as `pmb` and at its built place, and the package's command as `pmhost`."""
 
     def __init__(self, pmb, folder):
         self.pmb = pmb
         os.symlink(pmb, os.path.join(folder, "pmb"))
+        with open(os.path.join(folder, "pmhost"), "w", encoding="utf-8") as file:
+            file.write(f'#!/bin/sh\nPYTHONPATH={program.ROOT}/python/src exec {sys.executable} -m pmhost "$@"\n')
+        os.chmod(os.path.join(folder, "pmhost"), 0o755)
         self.around = {**os.environ, "PMB": pmb, "PATH": folder + os.pathsep + os.environ["PATH"], "LC_ALL": "C.UTF-8"}
 
     def run(self, command):

@@ -19,7 +19,7 @@ if IS_THERE:
     from plain.scenario import read_scenario
     from plain.world import World
 
-    __all__ = ["ANY", "MAX", "Plain", "SCRIPTS", "format_of", "millionths", "name_of", "report", "value_of"]
+    __all__ = ["ANY", "IS_THERE", "Plain", "name_of"]
 
 
 class Plain:

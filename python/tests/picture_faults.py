@@ -5,7 +5,7 @@ from decimal import Decimal
 from pmhost.picture import drawing, lane, picture
 from pmhost.status import BITS
 
-from .oracle import ANY, MAX, name_of
+from .oracle import ANY, name_of
 
 # Of a row in 20 to 25 the heads must be on the screen.
 MOST_ROWS = 25

@@ -2,6 +2,7 @@
 and back, and run."""
 import os
 import select
+import signal
 import stat
 import subprocess
 import tempfile
@@ -201,6 +202,16 @@ class Streams(unittest.TestCase):
                 self.assertEqual((ran.returncode, count), (0, times * len(capture("bus.trace").splitlines())))
                 self.assertLessEqual(used.ru_maxrss, MOST_MEMORY)
 
+    def test_an_interrupt_ends_a_live_capture_without_a_word(self):
+        with subprocess.Popen(running.command("capture", "linux"), stdin=subprocess.PIPE, stdout=subprocess.PIPE,
+                              stderr=subprocess.PIPE, text=True, env=running.around()) as ran:
+            ran.stdin.write(capture("bus.linux"))
+            ran.stdin.flush()
+            ran.stdout.readline()
+            ran.send_signal(signal.SIGINT)
+            _, errors = ran.communicate()
+        self.assertEqual((ran.returncode, errors), (130, ""))
+
     def test_closed_and_full_streams_end_it_in_one_line(self):
         for redirections, words, status, errors in STREAMS:
             text = "B0 19 /\n" if "i2ctransfer" in words else capture("bus.linux")
@@ -218,8 +229,8 @@ class Calls(unittest.TestCase):
                 self.assertEqual(pmhost("capture", *words.split()), (2, "", f"pmhost: {said}\n"))
 
     def test_options_of_a_bus_stand_in_front_of_no_capture(self):
-        self.assertEqual(pmhost("-a", "58", "capture", "linux"), (2, "", "pmhost: capture: --address stands in front of it, and it "
-                         "uses no bus; pmhost capture --help has its own options\n"))
+        self.assertEqual(pmhost("-a", "58", "capture", "linux"), (
+            2, "", "pmhost: capture: --address in front of it is an option of a bus, and it uses none\n"))
 
 
 class Frames(unittest.TestCase):

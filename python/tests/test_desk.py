@@ -3,7 +3,10 @@ which come out the same again and count no word of the proved host at a wrong ou
 import os
 import random
 import re
+import signal
+import subprocess
 import tempfile
+import time
 import unittest
 import unittest.mock
 
@@ -82,11 +85,44 @@ class Mishaps(unittest.TestCase):
                                                 "1 times wrongly")
 
 
+@needs("pmbhost", "pmbpart")
+class Signals(unittest.TestCase):
+    def test_an_interrupt_ends_a_desk_in_one_line(self):
+        with subprocess.Popen(running.command("desk", "--runs=100000"), stdout=subprocess.PIPE, stderr=subprocess.PIPE, text=True,
+                              env=running.around(PMBPART=self.told_part())) as ran:
+            self.assertTrue(wait_for(self.begun), "the part was never started")
+            ran.send_signal(signal.SIGINT)
+            out, errors = ran.communicate(timeout=60)
+        self.assertEqual((ran.returncode, out, errors), (130, "", "pmhost: desk: interrupted\n"))
+
+    def told_part(self):
+        """A pmbpart that leaves a file once it was asked something."""
+        folder = tempfile.TemporaryDirectory()
+        self.addCleanup(folder.cleanup)
+        path, self.begun = os.path.join(folder.name, "part"), os.path.join(folder.name, "begun")
+        with open(path, "w", encoding="ascii") as file:
+            file.write(f"#!/bin/bash\nread line; touch {self.begun}; exec {programs.path_of('pmbpart')} < <(echo \"$line\"; exec cat)\n")
+        os.chmod(path, 0o755)
+        return path
+
+
+def wait_for(path, seconds=30):
+    """Whether a file comes in time."""
+    end = time.monotonic() + seconds
+    while not os.path.exists(path) and time.monotonic() < end:
+        time.sleep(0.02)
+    return os.path.exists(path)
+
+
 class Calls(unittest.TestCase):
     def test_wrong_command_lines(self):
         for words, said in REFUSED:
             with self.subTest(words):
                 self.assertEqual(pmhost("desk", *words), (2, "", f"pmhost: desk: {said}\n"))
+
+    def test_options_of_a_bus_stand_in_front_of_no_desk(self):
+        self.assertEqual(pmhost("--passes=2", "desk", "seen"), (
+            2, "", "pmhost: desk: --passes in front of it is an option of a bus, and it uses none\n"))
 
     @needs("pmbhost", "pmbpart")
     def test_a_setup_is_judged_by_the_part(self):

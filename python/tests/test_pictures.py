@@ -9,7 +9,6 @@ import random
 import re
 import resource
 import subprocess
-import sys
 import tempfile
 import unittest
 import unittest.mock
@@ -20,7 +19,6 @@ from pmhost.picture import Life, Picture, Seen, drawing, lived, timeline
 from pmhost.picture.life import Refused
 from pmhost.picture.timeline import facts
 from pmhost.picture.told import OF_TEXTS, Words
-from pmhost.scenario import Cell
 from pmhost.texts import lines_of, numbered
 
 from . import oracle, running
@@ -180,7 +178,8 @@ class ByHand(unittest.TestCase):
 
     def test_stored_pictures_are_those_that_the_examples_give(self):
         for name in STORED:
-            self.assertEqual(picture_of(example(name), f"{name}.scenario"), stored(ROOT, "docs", "pictures", f"{name}.svg"), name)
+            self.assertEqual(picture_of(example(name), f"{name}.scenario"), stored(ROOT, "docs", "pictures", f"{name}.svg"),
+                             f"pmhost picture examples/{name}.scenario > docs/pictures/{name}.svg")
 
     def test_marks_of_the_examples(self):
         for name, marks in MARKS.items():
@@ -256,9 +255,8 @@ class Calls(unittest.TestCase):
                 self.assertEqual(pmhost("picture", path, *words.split()), (2, "", f"pmhost: {said}\n"))
         for command in "picture", "timeline":
             self.assertEqual(pmhost(command), (2, "", f"pmhost: {command}: the scenario is missing\n"))
-            self.assertEqual(pmhost("--limit=0:1V:2V", command, path)[::2], (
-                2, f"pmhost: {command}: --limit stands in front of it, and it uses no bus; pmhost {command} --help has its own "
-                   "options\n"))
+            self.assertEqual(pmhost("--limit=0:1V:2V", command, path), (
+                2, "", f"pmhost: {command}: --limit in front of it is an option of a bus, and it uses none\n"))
 
     @needs("pmb")
     def test_a_refused_text_is_one_line_with_status_1(self):

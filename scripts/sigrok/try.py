@@ -7,7 +7,7 @@ is printed, and the status is then 1.
     scripts/sigrok/try.py [--plain] [SEED [TEXTS]]
 
 It runs the built program, or the one that the environment variable PMB names; with --plain the plain model of scripts/plain.
-Captures are read by the package pmhost, whose library PMHOST_LIBRARY names where it isn't installed.
+Captures are read by the package of python/, whose library `pip install ./python` builds, or PMHOST_LIBRARY names.
 """
 import os
 import random
@@ -19,10 +19,10 @@ import tempfile
 
 sys.dont_write_bytecode = True
 FOLDER = os.path.dirname(os.path.abspath(__file__))
-ROOT = os.path.dirname(os.path.dirname(FOLDER))
-sys.path[:0] = [FOLDER, os.path.dirname(FOLDER), os.path.join(ROOT, "python", "src")]
+sys.path[:0] = [FOLDER, os.path.dirname(FOLDER)]
 
 import make_tables  # noqa: E402
+import package  # noqa: E402, F401
 import program  # noqa: E402
 import told_rows  # noqa: E402
 from plain import draw_captures  # noqa: E402
@@ -31,7 +31,7 @@ from pmhost.capture import trace  # noqa: E402
 from pmhost.capture.vcd import waveform  # noqa: E402
 from try_told_captures import Plain, Program, traces, wanted_of  # noqa: E402
 
-CAPTURES = os.path.join(ROOT, "python/tests/data/captures")
+CAPTURES = os.path.join(program.ROOT, "python/tests/data/captures")
 NAMES = ["bus", "faults", "kernel"]
 # What the decoder says of a packet that isn't good, by the fault that `decode` tells.
 WORDS = {"F1": "another address answers", "F5": "wrong PEC", "F7": "wrong direction", "F8": "PAGE_PLUS doesn't carry this code"}

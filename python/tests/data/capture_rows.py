@@ -92,6 +92,8 @@ WRONG = [
     ("linux -a 58 --address=58", "capture linux: --address: it stands twice"),
     ("linux --times --times", "capture linux: --times: it stands twice"),
     ("linux --times=1", "capture linux: --times: give it alone"),
+    ("linux --address", "capture linux: --address: its value is missing"),
+    ("linux --adress=58", "--adress=58: no such option; --help tells which there are"),
     ("linux --time", "--time: no such option; --help tells which there are"),
     ("linux bus.linux", "bus.linux: a word too many"),
     ("linux --times --samplerate=1000000", "--samplerate=1000000: a word too many"),
@@ -156,8 +158,9 @@ TRANSFERS = [
 STREAMS = [
     ("<&-", ["capture", "i2ctransfer", "7"], 2, "pmhost: standard input is closed\n"),
     (">&-", ["capture", "i2ctransfer", "7"], 2, "pmhost: standard output is closed: nothing was sent\n"),
-    ("> /dev/full", ["capture", "i2ctransfer", "7"], 1, "pmhost: standard output: No space left on device\n"),
-    ("| true; exit ${PIPESTATUS[0]}", ["capture", "i2ctransfer", "7"], 1, ""),
+    ("> /dev/full", ["capture", "i2ctransfer", "7"], 2, "pmhost: standard output: No space left on device\n"),
+    ("| true; exit ${PIPESTATUS[0]}", ["capture", "i2ctransfer", "7"], 2, "pmhost: standard output: Broken pipe\n"),
+    ("> /dev/full", ["capture", "linux"], 1, "pmhost: standard output: No space left on device\n"),
     ("<&-", ["capture", "linux"], 2, "pmhost: standard input is closed\n"),
     (">&-", ["capture", "linux"], 2, "pmhost: standard output is closed: nothing was sent\n"),
 ]

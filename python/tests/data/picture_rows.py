@@ -133,8 +133,8 @@ exchange whole whole
 WRONG = [
     ("--limit=2:1V:2V", "picture: --limit 2: there is no output 2"),
     ("--limit=0:2V:1V", "picture: limit 0:2V:1V: the least is above the most"),
-    ("--limit=0:950000:3465000", "picture: limit 0:950000:3465000: limit 950000: give its unit: 950000V or 950000uV"),
-    ("--limit=0:0.95:3.465V", "picture: limit 0:0.95:3.465V: limit 0.95: give its unit: 0.95V or 0.95mV"),
+    ("--limit=0:950000:3465000", "picture: limit 0:950000:3465000: 950000: give its unit: 950000V, or 950000uV, which is 0.95V"),
+    ("--limit=0:0.95:3.465V", "picture: limit 0:0.95:3.465V: 0.95: give its unit: 0.95V, or 0.95uV"),
     ("--limit=0:1V", "picture: limit 0:1V: give an output, the least and the most with their units, as 0:3.135V:3.465V"),
     ("--limit=0:1V:2V --limit=0:1V:2V", "picture: --limit 0: output 0 has limits already"),
     ("--limits=0:1V:2V", "--limits=0:1V:2V: no such option; --help tells which there are"),

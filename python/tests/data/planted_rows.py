@@ -40,11 +40,10 @@ PLANTED = [
      "test_captures.Frames.test_each_end_of_a_command"),
     ("commands are run before all frames are read", "capture/i2ctransfer.py", "    found = transfers(text)\n    tool",
      "    found = (Transfer(*it) for it in numbered(text))\n    tool", "test_captures.Frames.test_each_end_of_a_command"),
-    ("a read asks for a byte less", "packets.py", "return max(self._sending(0x58).answer - 1, 0)",
-     "return max(self._sending(0x58).answer - 2, 0)", "test_captures.Frames"),
+    ("a read asks for a byte less", "packets.py", "return max(whole_answer - 1, 0)", "return max(whole_answer - 2, 0)", "test_captures.Frames"),
     # ---- The desk ----
     ("a mute bus acknowledges", "desk/bus.py", 'kind in ("lost", "cut", "mute")', 'kind in ("lost", "cut")', "test_desk.Mishaps"),
-    ("a bit of the address is acknowledged", "desk/bus.py", " or sent[:1] != frame[:1]", "", "test_desk.Mishaps"),
+    ("a bit of the address is acknowledged", "desk/bus.py", " or sent[:1] != frame[:1]", "", "test_desk.Arrivals"),
     ("twice is once", "desk/bus.py", '        answer = self.heard(sent, "")\n        if kind == "twice":\n            answer = self.heard(sent, "")\n',
      '        answer = self.heard(sent, "")\n', "test_desk.Arrivals"),
     ("a false acknowledgement reaches the part", "desk/bus.py", 'if kind in ("lost", "false"):', 'if kind == "lost":', "test_desk.Mishaps"),
@@ -87,7 +86,8 @@ PLANTED = [
      "return told(picture.timeline(run))", "test_pictures.Calls.test_a_run_that_stops_has_status_1_and_says_where"),
     ("a reader that left is told", "cli/texts.py", "if not isinstance(fault.__cause__, BrokenPipeError):", "if True:",
      "test_pictures.Calls.test_a_pipe_whose_reader_left_ends_it_without_a_word"),
-    ("options of a bus are dropped in silence", "cli/texts.py", "if getattr(arguments, name, None):", "if False:", "test_pictures.Calls"),
+    ("options of a bus are dropped in silence", "cli/texts.py", "if getattr(arguments, name, None):", "if False:",
+     "test_pictures.Calls.test_wrong_command_lines"),
     # ---- The order of writes of apply, and what it reads before and behind ----
     ("bounds that narrow come first", "apply.py", 'return 0 if rises == (it.key == "max") else 2', 'return 0 if rises != (it.key == "max") else 2',
      "test_boards.Boards.test_no_rail_is_cut_on_its_way"),

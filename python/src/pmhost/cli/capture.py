@@ -120,10 +120,13 @@ def run_frames(arguments: argparse.Namespace) -> int:
     try:
         if arguments.is_run:
             return run_commands(text, bus)
-        return told(i2ctransfer.frames(text) if arguments.back else i2ctransfer.commands(text, bus))
+        lines = i2ctransfer.frames(text) if arguments.back else i2ctransfer.commands(text, bus)
     except i2ctransfer.Refused as refused:
         complain(f"capture i2ctransfer: {refused}")
         return BAD_LINE
+    if lines:
+        streams.write("\n".join(lines))
+    return 0
 
 
 def run_commands(text: bytes, bus: str) -> int:
@@ -133,7 +136,7 @@ def run_commands(text: bytes, bus: str) -> int:
             is_well = is_well and went_well
             streams.write(line)
     except KeyboardInterrupt:
-        complain("interrupted: the last frame may have been taken")
+        complain("capture i2ctransfer: interrupted: the last frame may have been taken")
         return INTERRUPTED
     return 0 if is_well else 1
 

@@ -26,7 +26,12 @@ def words_of(action: argparse.Action) -> str:
 
 
 def flags_of(parser: argparse.ArgumentParser) -> list[str]:
-    return [flag for action in parser._actions for flag in action.option_strings]
+    """The options of a parser, and those of the kinds of a command."""
+    found = [flag for action in parser._actions for flag in action.option_strings]
+    for action in parser._actions:
+        if isinstance(action, argparse._SubParsersAction) and action.dest != "command":
+            found += [flag for kind in action.choices.values() for flag in flags_of(kind)]
+    return [*dict.fromkeys(found)]
 
 
 def reply(words: str) -> str:

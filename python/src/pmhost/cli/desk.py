@@ -10,7 +10,9 @@ from ..desk import bus as desk_bus
 from ..scenario import Setup, read_setup
 from . import streams
 from .call import complain
+from .completion import FILES, completed_by
 from .parser import BadCall, file_of, shown, whole
+from .texts import without_a_bus
 
 ABOUT = """Joins both ends at a desk: the proved host pmbhost and the proved converter pmbpart, over a bus that loses, cuts,
 damages and repeats frames. Each frame is told as it goes, with what the part answered and what came of it.
@@ -50,8 +52,9 @@ def add(commands: Any) -> None:
                         help="how many of a hundred transfers a random mishap befalls, 25 if left out")
     parser.add_argument("--passes", type=whole(1, 15, "passes"), default=3, metavar="N",
                         help="how often a job is tried, 3 if left out", dest="tries")
-    parser.add_argument("--setup", type=file_of, metavar="FILE",
-                        help="a scenario whose head says what the part is made from, two outputs at address 58 if left out")
+    completed_by(parser.add_argument(
+        "--setup", type=file_of, metavar="FILE",
+        help="a scenario whose head says what the part is made from, two outputs at address 58 if left out"), FILES)
     parser.add_argument("--plain-host", action="store_true",
                         help="in place of pmbhost a host that selects by PAGE and believes acknowledgements; it takes orders")
     parser.add_argument("--runs", type=whole(1, 10**9 - 1, "runs"), metavar="N",
@@ -61,6 +64,7 @@ def add(commands: Any) -> None:
 
 
 def judge(arguments: argparse.Namespace) -> None:
+    without_a_bus(arguments)
     try:
         arguments.jobs = desk.read_jobs(arguments.jobs)
     except ValueError as fault:
@@ -97,9 +101,8 @@ def setup_in(path: str | None) -> Setup:
 
 def run(arguments: argparse.Namespace) -> int:
     """Carries the jobs out, or counts over many runs."""
-    tell = (lambda line: None) if arguments.runs else (lambda line: streams.write(f"  {line}"))
     try:
-        both = desk.Desk(arguments.start, arguments.setup, arguments.tries, tell)
+        both = desk.Desk(arguments.start, arguments.setup, arguments.tries, silent if arguments.runs else indented)
         try:
             return counted(both, arguments) if arguments.runs else carried_out(both, arguments)
         finally:
@@ -107,6 +110,18 @@ def run(arguments: argparse.Namespace) -> int:
     except (programs.Missing, programs.NoAnswer) as fault:
         complain(f"desk: {fault}")
         return 1
+    except KeyboardInterrupt:
+        complain("desk: interrupted")
+        return streams.INTERRUPTED
+
+
+def silent(line: str) -> None:
+    """Tells nothing of a transfer."""
+
+
+def indented(line: str) -> None:
+    """Tells of a transfer below its job."""
+    streams.write(f"  {line}")
 
 
 def counted(both: desk.Desk, arguments: argparse.Namespace) -> int:

@@ -8,6 +8,7 @@ from typing import Any
 from .. import picture, programs
 from ..picture.told import in_words
 from .call import complain
+from .completion import FILES, completed_by
 from .parser import LIMIT_EXAMPLE, BadCall, file_of, limit_of
 from .texts import told, without_a_bus
 
@@ -26,10 +27,10 @@ is what they answer. A refused text has status 1."""
 
 def add(commands: Any) -> None:
     timeline = commands.add_parser("timeline", help="a scenario's run, event by event", description=ABOUT_TIMELINE)
-    timeline.add_argument("scenario", type=file_of, metavar="SCENARIO")
+    completed_by(timeline.add_argument("scenario", type=file_of, metavar="SCENARIO"), FILES)
     timeline.set_defaults(run=run_timeline, judge=without_a_bus)
     drawn = commands.add_parser("picture", help="the same as a picture (SVG)", description=ABOUT_PICTURE)
-    drawn.add_argument("scenario", type=file_of, metavar="SCENARIO")
+    completed_by(drawn.add_argument("scenario", type=file_of, metavar="SCENARIO"), FILES)
     drawn.add_argument("--limit", type=limit_of, action="append", default=[], metavar="O:LEAST:MOST", dest="rails",
                        help=f"draws the limits of an output's rail, as {LIMIT_EXAMPLE}; no event is refused by them")
     drawn.set_defaults(run=run_picture, judge=without_a_bus)

@@ -15,8 +15,7 @@ def without_a_bus(arguments: argparse.Namespace) -> None:
     """Refuses options of a bus in front of a command that uses none."""
     for name, (flags, _) in OPTIONS.items():
         if getattr(arguments, name, None):
-            raise BadCall(f"{arguments.command}: {flags[-1]} stands in front of it, and it uses no bus; "
-                          f"pmhost {arguments.command} --help has its own options")
+            raise BadCall(f"{arguments.command}: {flags[-1]} in front of it is an option of a bus, and it uses none")
 
 
 def standard_input() -> BinaryIO:
