@@ -1,11 +1,13 @@
 """The command and the built programs as the tests run them: in a process of its own, over this folder's package."""
 import os
 import shutil
+import signal
 import subprocess
 import sys
 import unittest
 
 from pmhost import programs
+from pmhost.bus.linux import ENDING
 
 HERE = os.path.dirname(os.path.abspath(__file__))
 DATA = os.path.join(HERE, "data")
@@ -19,6 +21,12 @@ def around(**more):
     found = {name: it for name, it in os.environ.items() if name != "PYTHONUNBUFFERED"}
     path = os.pathsep.join([SOURCE, *filter(None, [os.environ.get("PYTHONPATH")])])
     return {**found, "PYTHONPATH": path, "PYTHONDONTWRITEBYTECODE": "1", "COLUMNS": "100", **more}
+
+
+def with_signals():
+    """In a process that is to be interrupted: a shell may have started the tests with signals ignored, which a process goes by."""
+    for each in ENDING:
+        signal.signal(each, signal.SIG_DFL)
 
 
 def command(*words):

@@ -6,6 +6,7 @@ import subprocess
 import sys
 import unittest
 
+from .running import with_signals
 from .runs import called
 
 HERE = os.path.dirname(os.path.abspath(__file__))
@@ -44,7 +45,8 @@ def run(words, redirections="", mishaps="", around=None):
     """A process in a shell's words."""
     given = ["bash", "-c", f'"$@" {redirections}', "bash", sys.executable, "-c", RUNNER, os.path.dirname(HERE), mishaps, *words.split()]
     env = {name: it for name, it in os.environ.items() if name != "PYTHONUNBUFFERED"} | (around or {})
-    return subprocess.run(given, capture_output=True, text=True, env=env, start_new_session=True, check=False)
+    return subprocess.run(given, capture_output=True, text=True, env=env, start_new_session=True, check=False,
+                          preexec_fn=with_signals)
 
 
 class Processes(unittest.TestCase):
