@@ -57,12 +57,14 @@ class Processes(unittest.TestCase):
                 self.assertEqual((ran.stdout, ran.stderr, ran.returncode), (out, err, status))
 
     def test_signals_that_are_ignored_stay_ignored(self):
-        given = ["bash", "-c", 'trap "" INT HUP; "$@"', "bash", sys.executable, "-c", RUNNER, os.path.dirname(HERE), "sighup", *ORDER.split()]
+        given = ["bash", "-c", 'trap "" INT HUP; "$@"', "bash", sys.executable, "-c", RUNNER, os.path.dirname(HERE), "sighup",
+                 *ORDER.split()]
         ran = subprocess.run(given, capture_output=True, text=True, start_new_session=True, check=False)
         self.assertEqual((ran.returncode, ran.stdout, ran.stderr), (0, DONE, ""))
 
     def test_both_names_of_the_command(self):
-        for given in ([sys.executable, "-m", "pmhost"], [sys.executable, "-c", "import sys; from pmhost.cli import main; sys.exit(main())"]):
+        script = "import sys; from pmhost.cli import main; sys.exit(main())"
+        for given in ([sys.executable, "-m", "pmhost"], [sys.executable, "-c", script]):
             ran = subprocess.run([*given, "-b", "desk", "read", "0"], capture_output=True, text=True, check=False)
             self.assertEqual((ran.returncode, ran.stdout), (0, "read 0: VOUT_COMMAND 1000 1V confirmed\n"))
 
