@@ -12,7 +12,7 @@ from pmhost.capture import NoCapture, clock_of, trace
 from pmhost.capture.vcd import waveform
 
 from . import running
-from .data.capture_rows import (CAPTURES, COUNTS, ENDLESS, FAILED, FAULTY, FRAMES, HEADS, LONG, MOST_MEMORY, NO_COMMANDS,
+from .data.capture_rows import (ADDRESSED, CAPTURES, COUNTS, ENDLESS, FAILED, FAULTY, FRAMES, HEADS, LONG, MOST_MEMORY, NO_COMMANDS,
                                 READINGS, REFUSED, SHORT, STAND_IN, STREAMS, TIMES, TRANSFERS, UNTIMED, WRONG)
 from .running import DATA, EXAMPLES, needs, needs_tool, pmhost, stored
 
@@ -71,6 +71,9 @@ class Traces(unittest.TestCase):
         for form, text, wanted in SHORT:
             with self.subTest(text):
                 self.assertEqual(traced(form, text), wanted)
+        for form, text, wanted in ADDRESSED:
+            with self.subTest(text):
+                self.assertEqual(traced(form, text, 0x58), wanted)
 
     def test_without_an_address_all_devices_are_told(self):
         every = traced("linux", capture("faults.linux"))
