@@ -129,15 +129,15 @@ PLANTED = [
     ("an order without outputs", "cli/call.py", "        if self.outputs is None:\n            raise BadCall(f\"{said(arguments)}: give --outputs", "        if False:\n            raise BadCall(f\"{said(arguments)}: give --outputs",
      "test_wrong_lines.WrongLines.test_each_command_line_is_refused_by_its_line"),
     # ---- What reads as success ----
-    ("a cut order reads as success", "cli/orders.py", "    return found.is_well and (found.is_on is False or not selects(found, register) or\n                              wanted is not None and found.is_value(wanted))",
+    ("a cut order reads as success", "cli/outcome.py", "    return found.is_well and (found.is_on is False or not selects(found, register) or\n                              wanted is not None and found.is_value(wanted))",
      "    return found.is_well", "test_runs.Runs.test_what_an_output_commands"),
     ("an output outside its limits reads as success", "survey.py", "(self.limits is None or self.within is True)", "True", "test_runs.Runs.test_what_an_output_commands"),
     ("a register that doesn't answer reads as success", "survey.py", "return not self.missing and self.selected", "return self.selected", "test_runs.Runs.test_what_an_output_commands"),
     ("a margin is told as VOUT_COMMAND", "survey.py", "            found.selected, found.is_on = chosen\n", "            found.selected, found.is_on = \"VOUT_COMMAND\", chosen[1]\n", "test_runs.Runs.test_what_an_output_commands"),
     ("the selected register isn't read", "survey.py", "        word, form = read(part, output, chosen[0], found), part.host.format(output)", "        word, form = part.host.standing(output, chosen[0]), part.host.format(output)",
      "test_runs.Runs.test_mishaps_of_transfers"),
-    ("a later read of another word isn't looked at", "cli/orders.py", "if found.word is not None and found.word != ordered:", "if False:", "test_runs.Runs.test_mishaps_of_transfers"),
-    ("differs has status 0", "cli/orders.py", "found = answer_of(arguments, part, register, step.kind, status=1)", "found = answer_of(arguments, part, register, step.kind, status=0)", "test_runs.Runs.test_mishaps_of_transfers"),
+    ("a later read of another word isn't looked at", "cli/outcome.py", "if found.word is not None and found.word != ordered:", "if False:", "test_runs.Runs.test_mishaps_of_transfers"),
+    ("differs has status 0", "cli/outcome.py", "found = answer_of(arguments, part, register, step.kind, status=1)", "found = answer_of(arguments, part, register, step.kind, status=0)", "test_runs.Runs.test_mishaps_of_transfers"),
     ("an order behind one that failed", "cli/__init__.py", 'if status and not getattr(arguments, "is_question", False):', "if False:", "test_runs.Runs.test_mishaps_of_transfers"),
     # ---- The host's loop and the buses ----
     ("an OSError of a write is an acknowledgement", "host.py", "            transfers.fault(fault)\n            return self.finished(False)", "            transfers.fault(fault)\n            return self.finished(True)",
