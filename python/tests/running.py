@@ -1,4 +1,6 @@
 """The command and the built programs as the tests run them: in a process of its own, over this folder's package."""
+import contextlib
+import io
 import os
 import shutil
 import signal
@@ -6,7 +8,7 @@ import subprocess
 import sys
 import unittest
 
-from pmhost import programs
+from pmhost import cli, programs
 from pmhost.bus.linux import ENDING
 
 HERE = os.path.dirname(os.path.abspath(__file__))
@@ -38,6 +40,14 @@ def pmhost(*words, text="", **more):
     """The status of a call, its standard output and its standard error."""
     ran = subprocess.run(command(*words), input=text, capture_output=True, text=True, env=around(**more))
     return ran.returncode, ran.stdout, ran.stderr
+
+
+def called(*words):
+    """The same in this process, of a call that reads no standard input."""
+    out, errors = io.StringIO(), io.StringIO()
+    with contextlib.redirect_stdout(out), contextlib.redirect_stderr(errors):
+        status = cli.main(list(words))
+    return status, out.getvalue(), errors.getvalue()
 
 
 def in_shell(redirections, *words, text="", **more):

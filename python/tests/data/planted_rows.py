@@ -59,7 +59,7 @@ PLANTED = [
     ("passes aren't those of the call", "cli/desk.py", "arguments.setup, arguments.tries, tell", "arguments.setup, 3, tell", "test_desk.Mishaps"),
     ("the environment's program isn't taken", "programs.py", "    if named is not None:", "    if False:", "test_desk.Programs"),
     # ---- Pictures and timelines ----
-    ("doubt is confirmed", "picture/life.py", '"doubtful" if words is None else "confirmed"', '"confirmed"', "test_pictures.Scenarios"),
+    ("doubt is confirmed", "picture/life.py", '"doubtful" if known.possible is None else "confirmed"', '"confirmed"', "test_pictures.Scenarios"),
     ("a limit that is above the other doesn't win", "picture/life.py", "if rank(least) > rank(most) or rank(selected)", "if rank(selected)",
      "test_pictures.Scenarios"),
     ("the limits of a negative slope change places", "picture/life.py", "return lambda word: sign * (word", "return lambda word: (word",
