@@ -39,13 +39,14 @@ step "C over the archive" 'gcc examples/c/order.c -l:libpm_c.a -o order && ./ord
 step "both ends under faults" 'gcc examples/c/faults.c -l:libpm_c.a -l:libpm_part.a -o faults && ./faults 5000'
 step "Python package" 'python3 -m venv v && PMHOST_ARCHIVES=/usr/lib v/bin/pip install --no-index ./python'
 step "its tests" 'v/bin/python -B -m unittest discover -s python/tests -t python'
-step "its command line" 'v/bin/python -m pmhost --limit=0:3.135:3.465 desk 58 learn 0 + volts 0 3.3 | grep 3.300048'
+step "its command" 'v/bin/pmhost -b desk --outputs 2 --limit 0:3.135V:3.465V set 0 3.3V | grep "the output commands 3.300048V, within"'
+step "a file of rails" 'printf "[rails.core]\noutput = 0\nvolts = \"0.9V\"\nlimits = [\"0.85V\", \"0.95V\"]\n" > rails.toml && v/bin/pmhost -b desk apply rails.toml'
 step "tarball" 'mkdir t && tar -C t --strip-components=1 -xf *.tar.gz && gcc examples/c/order.c -It/include t/lib/libpm_c.a -o order && ./order | cmp - examples/c/order.expected && gcc examples/c/faults.c -It/include t/lib/libpm_c.a t/lib/libpm_part.a -o faults && ./faults 5000'
 if [ -x "$root/usr/bin/pmb" ]; then
     step "README's example" 'pmb replay < examples/answer-lost.scenario | cmp - examples/answer-lost.report'
     step "manual pages and completions" 'for each in pmb pmbhost pmbpart; do test -x /usr/bin/$each && test -f /usr/share/man/man1/$each.1.gz && bash -c ". /usr/share/bash-completion/completions/$each"; done'
     step "a part over pmbpart" 'printf "B0 15 24\nquit\n" | pmbpart | grep -qx taken'
-    step "rails over pmbhost" 'PMBHOST=/usr/bin/pmbhost python3 -B scripts/try_rails.py 1 20'
+    step "an order over pmbhost" 'printf "order 0 VOUT_COMMAND 34CD\n" | PMBHOST=/usr/bin/pmbhost v/bin/python -B examples/pmbhost/drive.py desk 58 2 | grep "ended done"'
 else
     echo "the release has no programs: README's examples aren't tried"
 fi

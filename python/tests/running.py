@@ -1,11 +1,15 @@
 """The command and the built programs as the tests run them: in a process of its own, over this folder's package."""
+import contextlib
+import io
 import os
 import shutil
+import signal
 import subprocess
 import sys
 import unittest
 
-from pmhost import programs
+from pmhost import cli, programs
+from pmhost.bus.linux import ENDING
 
 HERE = os.path.dirname(os.path.abspath(__file__))
 DATA = os.path.join(HERE, "data")
@@ -21,6 +25,12 @@ def around(**more):
     return {**found, "PYTHONPATH": path, "PYTHONDONTWRITEBYTECODE": "1", "COLUMNS": "100", **more}
 
 
+def with_signals():
+    """In a process that is to be interrupted: a shell may have started the tests with signals ignored, which a process goes by."""
+    for each in ENDING:
+        signal.signal(each, signal.SIG_DFL)
+
+
 def command(*words):
     """The words of a call of pmhost."""
     return [sys.executable, "-m", "pmhost", *words]
@@ -30,6 +40,14 @@ def pmhost(*words, text="", **more):
     """The status of a call, its standard output and its standard error."""
     ran = subprocess.run(command(*words), input=text, capture_output=True, text=True, env=around(**more))
     return ran.returncode, ran.stdout, ran.stderr
+
+
+def called(*words):
+    """The same in this process, of a call that reads no standard input."""
+    out, errors = io.StringIO(), io.StringIO()
+    with contextlib.redirect_stdout(out), contextlib.redirect_stderr(errors):
+        status = cli.main(list(words))
+    return status, out.getvalue(), errors.getvalue()
 
 
 def in_shell(redirections, *words, text="", **more):

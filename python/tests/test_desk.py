@@ -15,7 +15,7 @@ from pmhost.scenario import Setup
 
 from . import running
 from .data.desk_rows import ASKED, BELIEVED, JOBS, NO_SETUP, ORDER, PROVED, REFUSED, SETUP, WRITTEN
-from .running import needs, pmhost
+from .running import called, needs, pmhost
 
 FIGURES = re.compile(r"(.+): (\d+) orders, (\d+) words reached the wrong output; success was reported (\d+) times, (\d+) times wrongly")
 
@@ -30,7 +30,7 @@ def told(lines, end, words):
 class Mishaps(unittest.TestCase):
     def order(self, options, lines, end, words):
         with self.subTest(options):
-            self.assertEqual(pmhost("desk", *options, *ORDER), (0 if end == "ended done" else 1, told(lines, end, words), ""))
+            self.assertEqual(called("desk", *options, *ORDER), (0 if end == "ended done" else 1, told(lines, end, words), ""))
 
     def test_the_proved_host_goes_on_until_a_word_is_read_back(self):
         for faults, (*lines, end, held) in PROVED:
@@ -47,7 +47,7 @@ class Mishaps(unittest.TestCase):
     def test_jobs_are_told_with_their_answers(self):
         for words, status, out in JOBS:
             with self.subTest(words):
-                self.assertEqual(pmhost("desk", *words.split()), (status, out, ""))
+                self.assertEqual(called("desk", *words.split()), (status, out, ""))
 
     def test_a_seed_draws_the_same_mishaps_again(self):
         found = pmhost("desk", "--seed=3", "--rate=60", *ORDER)
@@ -89,7 +89,7 @@ class Mishaps(unittest.TestCase):
 class Signals(unittest.TestCase):
     def test_an_interrupt_ends_a_desk_in_one_line(self):
         with subprocess.Popen(running.command("desk", "--runs=100000"), stdout=subprocess.PIPE, stderr=subprocess.PIPE, text=True,
-                              env=running.around(PMBPART=self.told_part())) as ran:
+                              env=running.around(PMBPART=self.told_part()), preexec_fn=running.with_signals) as ran:
             self.assertTrue(wait_for(self.begun), "the part was never started")
             ran.send_signal(signal.SIGINT)
             out, errors = ran.communicate(timeout=60)
@@ -118,10 +118,10 @@ class Calls(unittest.TestCase):
     def test_wrong_command_lines(self):
         for words, said in REFUSED:
             with self.subTest(words):
-                self.assertEqual(pmhost("desk", *words), (2, "", f"pmhost: desk: {said}\n"))
+                self.assertEqual(called("desk", *words), (2, "", f"pmhost: desk: {said}\n"))
 
     def test_options_of_a_bus_stand_in_front_of_no_desk(self):
-        self.assertEqual(pmhost("--passes=2", "desk", "seen"), (
+        self.assertEqual(called("--passes=2", "desk", "seen"), (
             2, "", "pmhost: desk: --passes in front of it is an option of a bus, and it uses none\n"))
 
     @needs("pmbhost", "pmbpart")
@@ -139,7 +139,7 @@ class Calls(unittest.TestCase):
                     self.assertIn("  80 06 02 00 20 read 3  ok: part answer 81 01 40", found[1])
 
     def test_the_help_has_each_mishap(self):
-        status, out, _ = pmhost("desk", "--help")
+        status, out, _ = called("desk", "--help")
         self.assertEqual((status, [it for it in (*desk.bus.DRAWN, "false", "restart", "ok") if it not in out]), (0, []))
 
     def test_a_missing_program_is_one_line(self):

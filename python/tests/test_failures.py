@@ -73,6 +73,22 @@ class WrongBuses(unittest.TestCase):
             self.assertIsNone(pmbus.host.sending())
 
 
+class Telling(Host):
+    """It keeps what it is told."""
+
+    def __init__(self, *words):
+        super().__init__(*words)
+        self.told = []
+
+    def finished(self, acked):
+        self.told.append(acked)
+        return super().finished(acked)
+
+    def got(self, answer):
+        self.told.append(answer)
+        return super().got(answer)
+
+
 class Interruptions(unittest.TestCase):
     def interrupted(self, at, job):
         """A job whose transfer of this number is broken off; whether the part heard it."""
@@ -122,13 +138,15 @@ class Interruptions(unittest.TestCase):
 
     def test_a_host_gives_up_at_each_place(self):
         for passes, told in itertools.product(range(1, 4), range(6)):
-            host = Host(ADDRESS, 2, passes)
+            host = Telling(ADDRESS, 2, passes)
             host.order(1, "VOUT_COMMAND", 0x1234)
             for _ in range(min(told, 2 * passes - 1)):
                 host.got(b"") if host.sending().is_request else host.finished(True)
+            del host.told[:]
             host.give_up()
             self.assertIsNone(host.sending())
             self.assertIsNone(host.standing(1, "VOUT_COMMAND"))
+            self.assertLessEqual(set(host.told), {False, b""}, "no frame that is left is told as acknowledged")
 
 
 class WordsOnTheWire(unittest.TestCase):

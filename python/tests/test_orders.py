@@ -41,6 +41,9 @@ class Orders(unittest.TestCase):
         self.assertEqual((status, err), (0, ""))
         # Rail a: the voltage, then the bounds that narrow; rail b: its bound widens before its voltage.
         self.assertEqual(self.places(part.lines), ["00 21", "00 24", "00 2B", "01 24", "01 21"])
+        # Rail a is surveyed, by its OPERATION, before rail b is written to.
+        first = next(place for place, line in enumerate(part.lines) if line.startswith(WRITE + "01"))
+        self.assertIn("B0 06 02 00 01 /", part.lines[:first])
 
     def test_everything_is_read_before_the_first_write(self):
         part, *_ = self.apply(TWO)

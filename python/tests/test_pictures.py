@@ -23,7 +23,7 @@ from pmhost.texts import lines_of, numbered
 
 from . import oracle, running
 from .data.picture_rows import (BANDS, EIGHT, GOOD, IN_THREE, LIVES, MARKS, RAILS, THREE, TOLD_OF_THREE, WRONG)
-from .running import EXAMPLES, ROOT, needs, pmhost, stored
+from .running import EXAMPLES, ROOT, called, needs, pmhost, stored
 
 if oracle.IS_THERE:
     from . import picture_faults
@@ -252,10 +252,10 @@ class Calls(unittest.TestCase):
         path = self.write(BANDS)
         for words, said in WRONG:
             with self.subTest(words):
-                self.assertEqual(pmhost("picture", path, *words.split()), (2, "", f"pmhost: {said}\n"))
+                self.assertEqual(called("picture", path, *words.split()), (2, "", f"pmhost: {said}\n"))
         for command in "picture", "timeline":
-            self.assertEqual(pmhost(command), (2, "", f"pmhost: {command}: the scenario is missing\n"))
-            self.assertEqual(pmhost("--limit=0:1V:2V", command, path), (
+            self.assertEqual(called(command), (2, "", f"pmhost: {command}: the scenario is missing\n"))
+            self.assertEqual(called("--limit=0:1V:2V", command, path), (
                 2, "", f"pmhost: {command}: --limit in front of it is an option of a bus, and it uses none\n"))
 
     @needs("pmb")
@@ -266,9 +266,9 @@ class Calls(unittest.TestCase):
                                (b"protect 00", b"protect 0", f"X2 BadHex line 4: {OF_TEXTS['X2']}")):
             path = self.write(BANDS.replace(old, new, 1))
             for command in "picture", "timeline":
-                self.assertEqual(pmhost(command, path), (1, "", f"pmhost: {path}: {said}\n"))
+                self.assertEqual(called(command, path), (1, "", f"pmhost: {path}: {said}\n"))
         for command in "picture", "timeline":
-            self.assertEqual(pmhost(command, "/no/such"), (1, "", "pmhost: /no/such: No such file or directory\n"))
+            self.assertEqual(called(command, "/no/such"), (1, "", "pmhost: /no/such: No such file or directory\n"))
 
     @needs("pmb")
     def test_a_run_that_stops_has_status_1_and_says_where(self):

@@ -1,5 +1,5 @@
 /* Puts examples/c/stand_in.c below a program that is there already, by LD_PRELOAD: its calls for /dev/i2c-1 to
- * /dev/i2c-4 go to the stand-in, and all others to the C library. scripts/c/run.sh has scripts/bus.py make its
+ * /dev/i2c-4 go to the stand-in, and all others to the C library. scripts/c/run.sh has the command pmhost make its
  * own calls of the kernel so, with the kernel's own structures on the other side. */
 #define _GNU_SOURCE
 #include "../../examples/c/stand_in.c"

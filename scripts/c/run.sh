@@ -7,14 +7,14 @@
 #
 # With --built the archives of that folder are taken, and nothing is built: libpm_c.a and libpm_part.a of Rattle's own
 # compiler, and llvm_pm_c.a and llvm_pm_part.a of LLVM, if they are there. With --gcc only the programs run, built by gcc:
-# no other compiler, no sanitizer, no package, and not scripts/bus.py.
+# no other compiler, no sanitizer, no package, and not the command pmhost.
 #
 # The examples build with no warning. A program that drops an answer that must be asked builds with one. Random calls of every
 # export (scripts/c/same.c) over the archives of Rattle's own compiler and over LLVM's answer and write the same. Programs
 # of gcc and clang are run once more with their sanitizers, where they have them. The order over a Linux bus runs over a
-# stand-in for the kernel, with all that a user or a bus does wrong, and so does scripts/bus.py, if pmbhost is built or
-# PMBHOST names one. The stack that the archive says it needs must be what the header promises. Says a line for each
-# program, what isn't on this machine, and last how many passed and failed.
+# stand-in for the kernel, with all that a user or a bus does wrong, and so does the command pmhost, where there is a Python.
+# The stack that the archive says it needs must be what the header promises. Says a line for each program, what isn't on this
+# machine, and last how many passed and failed.
 set -u
 case " $* " in *" --help "* | *" -h "*) sed -n '2,/^[^#]/s/^# \{0,1\}//p' "$0"; exit 0 ;; esac
 cd "$(dirname "$0")/../.."
@@ -122,18 +122,18 @@ ok ok empty ok empty ok damaged|/dev/i2c-1 58 0 3300000|1|ended unknown, the out
 END
 }
 
-# The same of scripts/bus.py, which makes its own calls of the kernel; \n parts the lines.
-script_rows() {
+# The same of the command pmhost, which makes its own calls of the kernel; \n parts the lines.
+command_rows() {
     cat << 'END'
-short1 ok short0 short0 ok ok|1 58 learn 0 + volts 0 VOUT_COMMAND 3300000|0|learn 0: ended learned\nvolts 0 VOUT_COMMAND 3300000: ended done|
-short0 short0 short0|1 58 clear 0|1|clear 0: ended unknown|clear 0: 3 transfers failed, the last: 0 of 1 message went
-deaf deaf deaf|1 58 learn 0|1|learn 0: ended unknown|learn 0: 3 transfers failed, the last: No such device or address
-damaged empty damaged|1 58 learn 0|1|learn 0: ended unknown|learn 0: 3 answers weren't good: F4 WrongCount 1
-|1 58 probe|0|PEC yes, PAGE_PLUS yes, 1 output: 0 ULINEAR16 -12|
-|2 58 probe|2||2-0058 is held by a driver of the kernel: unbind it, echo 2-0058 > /sys/bus/i2c/devices/2-0058/driver/unbind, or give --force
-|3 58 probe|2||/dev/i2c-3: Permission denied: be root, or ask for leave to open it (ls -l /dev/i2c-3)
-|4 58 probe|2||/dev/i2c-4: Inappropriate ioctl for device: it is no I2C bus
-|9 58 probe|2||/dev/i2c-9: No such file or directory: load i2c-dev (modprobe i2c-dev), and look for the bus (ls /dev/i2c-*)
+short1 ok short0 short0 ok ok|-b 1 -a 58 --outputs 1 --no-limit set 0 3.3V|0|set 0: VOUT_COMMAND 34CD 3.300048V confirmed; the output commands 3.300048V, without limits|
+short0 short0 short0|-b 1 -a 58 --outputs 1 clear 0|1|clear 0: unknown|clear 0: 3 transfers failed, the last: 0 of 1 message went
+deaf deaf deaf|-b 1 -a 58 learn 0|1|learn 0: unknown|learn 0: 3 transfers failed, the last: No such device or address
+damaged empty damaged|-b 1 -a 58 learn 0|1|learn 0: unknown|learn 0: 3 answers weren't good: F4 WrongCount
+|-b 1 -a 58 probe|0|probe: PEC yes, PAGE_PLUS yes, 1 output: 0 ULINEAR16 -12|
+|-b 2 -a 58 probe|2||2-0058 is held by a driver of the kernel: unbind it, echo 2-0058 > /sys/bus/i2c/devices/2-0058/driver/unbind, or give --force
+|-b 3 -a 58 probe|2||/dev/i2c-3: Permission denied: be root, or ask for leave to open it (ls -l /dev/i2c-3)
+|-b 4 -a 58 probe|2||/dev/i2c-4: Inappropriate ioctl for device: it is no I2C bus
+|-b 9 -a 58 probe|2||/dev/i2c-9: No such file or directory: load i2c-dev (modprobe i2c-dev), and look for the bus (ls /dev/i2c-*)
 END
 }
 
@@ -164,17 +164,20 @@ bus_program() {
     rows "$1 Linux bus" i2c_dev "$folder/program" < "$folder/rows"
 }
 
-# bus_script: scripts/bus.py over the stand-in, where Python, gcc and pmbhost are there
-bus_script() {
-    if ! command -v python3 > /dev/null || ! command -v gcc > /dev/null || ! command -v "$host" > /dev/null; then
-        echo "scripts/bus.py: no python3, no gcc or no pmbhost here"; return
+# bus_command: the command pmhost over the stand-in, where Python and gcc are there
+bus_command() {
+    if ! command -v python3 > /dev/null || ! command -v gcc > /dev/null; then
+        echo "pmhost: no python3 or no gcc here"; return
     fi
     if ! gcc -O2 -Wall -Wextra -Werror -shared -fPIC $headers scripts/c/preload.c "${archives[@]}" \
-        -o "$folder/preload.so" -ldl > "$folder/log" 2>&1; then
-        told "scripts/bus.py" build; return
+        -o "$folder/preload.so" -ldl > "$folder/log" 2>&1 ||
+        ! gcc -shared -Wl,--whole-archive "${archives[@]}" -Wl,--no-whole-archive -Wl,-z,noexecstack \
+            -o "$folder/libpmhost.so" > "$folder/log" 2>&1; then
+        told pmhost build; return
     fi
-    script_rows > "$folder/rows"
-    rows scripts/bus.py bus.py "env PMBHOST=$host LD_PRELOAD=$folder/preload.so scripts/bus.py" < "$folder/rows"
+    command_rows > "$folder/rows"
+    rows pmhost pmhost "env PMHOST_LIBRARY=$folder/libpmhost.so PYTHONPATH=$PWD/python/src LD_PRELOAD=$folder/preload.so python3 -m pmhost" \
+        < "$folder/rows"
 }
 
 # program NAME WANTED COMPILER SOURCES .. -- ARGUMENTS ..
@@ -251,8 +254,7 @@ for each in "${archives[@]}"; do
 done
 headers="-Icrates/pm_c/include -Icrates/pm_part/include"
 for object in "$folder"/objects/*; do bound "$object"; done
-host=${PMBHOST-$PWD/crates/pmbhost/out/pmbhost}
-[ -n "$only_gcc" ] || bus_script
+[ -n "$only_gcc" ] || bus_command
 [ -n "$only_gcc" ] || [ ${#llvm[@]} != 0 ] || echo "LLVM's archives: --built FOLDER has none to compare"
 printf 'first' > "$folder/same.wanted"
 wraps="-Wl,--wrap=open,--wrap=ioctl,--wrap=close"

@@ -46,6 +46,15 @@ SHORT = [
      ["B0 / B1 00"]),
     ("saleae", SALEAE + "address,true,0x58,false,\ndata,true,,,0x03\n", ["# no stop: B0 03"]),
 ]
+# The same with a device's address, of which the first part of a packet decides.
+ADDRESSED = [
+    ("sigrok", "i2c-1: Start\ni2c-1: Address write: B0\ni2c-1: Start repeat\ni2c-1: Address read: B3\ni2c-1: Stop\n",
+     ["# the second part is no read of the device: B0 / B3"]),
+    ("sigrok", "i2c-1: Start\ni2c-1: Address write: B2\ni2c-1: Start repeat\ni2c-1: Address read: B1\ni2c-1: Stop\n",
+     ["# another device: B2 / B1"]),
+    ("sigrok", "i2c-1: Start\ni2c-1: Stop\n", ["# a part with no byte: "]),
+    ("saleae", SALEAE + "address,true,0x58,false,\nerror,,,,\ndata,true,,,0x03\nstop,,,,\n", ["B0 03"]),
+]
 # Texts that are no captures, and why.
 REFUSED = [
     ("sigrok", "", "no packet"), ("linux", "i2c_write: i2c-1 0x58", "line 1: no message of the kernel"),
@@ -113,6 +122,11 @@ WRONG = [
 ]
 # A packet that never ends, and one of too many bytes: neither fills the memory, and no line is too long for `decode`.
 ENDLESS = [("i2c-1: Start\ni2c-1: Address write: B0\n" + "i2c-1: Data write: 00\n" * 5000 + "i2c-1: Stop\n",
+            "# a part of more than 300 bytes: B0 00"),
+           ("i2c-1: Start\ni2c-1: Address write: B0\ni2c-1: Start repeat\ni2c-1: Address read: B1\n" + "i2c-1: Data read: 00\n" * 5000
+            + "i2c-1: Stop\n", "# a part of more than 300 bytes: B0 / B1 00"),
+           ("i2c-1: Start\ni2c-1: Address write: B0\n" + "i2c-1: Data write: 00\n" * 299 + "i2c-1: Stop\n", "B0 00 00"),
+           ("i2c-1: Start\ni2c-1: Address write: B0\n" + "i2c-1: Data write: 00\n" * 300 + "i2c-1: Stop\n",
             "# a part of more than 300 bytes: B0 00"),
            ("i2c-1: Start\ni2c-1: Address write: B0\n" + "i2c-1: Start repeat\ni2c-1: Address read: B1\n" * 5000
             + "i2c-1: Stop\n", "# 5001 parts: B0 / B1 / B1 / B1")]

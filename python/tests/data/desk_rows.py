@@ -73,6 +73,11 @@ REFUSED = [
     (["--plain-host", "order", "2", "VOUT_COMMAND", "34CD"], f"order 2 VOUT_COMMAND 34CD: {BESIDE}"),
     (["--plain-host", "order", "1", "VOUT_COMMAND", "34"], f"order 1 VOUT_COMMAND 34: {BESIDE}"),
     (["--plain-host", "order", "1", "WRITE_PROTECT", "00"], f"order 1 WRITE_PROTECT 00: {BESIDE}"),
+    (["--plain-host", "check", "1", "VOUT_COMMAND", "34CD"], f"check 1 VOUT_COMMAND 34CD: {BESIDE}"),
+    (["--plain-host", "order", "1", "VOUT_COMAND", "34CD"], f"order 1 VOUT_COMAND 34CD: {BESIDE}"),
+    (["--plain-host", "order", "1", "VOUT_COMMAND", "34CG"], f"order 1 VOUT_COMMAND 34CG: {BESIDE}"),
+    (["--plain-host", "order", "x", "VOUT_COMMAND", "34CD"], f"order x VOUT_COMMAND 34CD: {BESIDE}"),
+    (["--plain-host", "order", "1", "VOUT_COMMAND", "34CD", "+", "seen"], f"seen: {BESIDE}"),
     (["seen", "+"], "a job is missing beside a +"), (["+", "seen"], "a job is missing beside a +"),
     (["--seed=one", "seen"], "seed one: give a whole number"),
 ]

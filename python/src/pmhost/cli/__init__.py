@@ -170,6 +170,8 @@ def main(words: list[str] | None = None, kernel: Calls | None = None) -> int:
         during = f" during {call.under_way}" if call and call.under_way else ""
         unsure = f"{call.unsure()}{call.unsaid}" if call and call.under_way else "no command was begun"
         return fail(given, f"interrupted{during}: {unsure}", "interrupted", INTERRUPTED, call)
+    except KeyboardInterrupt:
+        return fail(given, "interrupted", "interrupted", INTERRUPTED, call)
     except streams.NoStream as fault:
         return fail(given, f"{fault}{call.unsaid if call else ''}", "stream", BAD_CALL)
     except NoBus as fault:

@@ -10,7 +10,7 @@ from ..pmbus import Pmbus
 from ..survey import Commanded, judged
 from .answer import Answer, between, in_digits, number
 from .call import Call, said
-from .orders import VOLTAGES, limit_words
+from .outcome import VOLTAGES, limit_words
 from .parser import bus_options, whole
 
 YES = {True: "yes", False: "no"}

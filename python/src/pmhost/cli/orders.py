@@ -6,20 +6,16 @@ import re
 from typing import Any, Callable
 
 from .. import probe, voltages
-from ..errors import SAYINGS, Refused
-from ..host import Step
+from ..errors import Refused
 from ..pmbus import Pmbus
-from ..survey import Commanded, judged, read as read_register, selection, survey
-from ..values import CODES
-from .answer import Answer, between, in_digits
+from ..survey import Commanded, read as read_register
+from .answer import in_digits
 from .call import Call, said
 from .completion import completed_by
+from .outcome import DEVICE, REGISTERS, VOLTAGES, answer_of, cell_words, ended_badly, refused, surveyed
 from .parser import BadCall, bus_options, shown, whole
 
-DEVICE = "WRITE_PROTECT"
-REGISTERS = tuple(name for name in CODES if name != DEVICE)
-VOLTAGES = tuple(name for name in REGISTERS if name.startswith("VOUT_"))
-ON, OFF, MARGIN_HIGH, MARGIN_LOW = 0x80, 0x00, 0xA8, 0x94
+MARGIN_HIGH, MARGIN_LOW = 0xA8, 0x94
 # What each command sends beside reads, for an interruption to say.
 STORES = "the user store may hold the old or the new settings of every output"
 RESTORES = f"{', '.join(REGISTERS)} of every output may hold the old or the stored word"
@@ -144,159 +140,6 @@ def judge_word(arguments: argparse.Namespace) -> None:
         raise BadCall(f"{said(arguments)}: word {arguments.digits}: give {'two' if wanted == 2 else 'four'} "
                             f"hexadecimal digits, as {'80' if wanted == 2 else '34CD'}")
     judge_order(arguments)
-
-
-# ---- What is told ----
-
-def cell_words(arguments: argparse.Namespace, part: Pmbus, register: str, word: int) -> str:
-    """A register with its word, and its volts or meaning."""
-    output = arguments.output
-    words = f"{register} {in_digits(register, word)}"
-    if register == "OPERATION":
-        chosen = selection(word)
-        if chosen is not None:
-            margin = {"VOUT_MARGIN_HIGH": ", margin high", "VOUT_MARGIN_LOW": ", margin low"}.get(chosen[0], "")
-            words += f" {'on' if chosen[1] else 'off'}{margin if chosen[1] else ''}"
-    elif register != DEVICE:
-        form = part.host.format(output)
-        if form is not None:
-            words += f" {voltages.shown(form.microvolts(word))}"
-    return words
-
-
-def answer_of(arguments: argparse.Namespace, part: Pmbus, register: str | None, end: str, **named: Any) -> Answer:
-    """An answer with what is known of a register."""
-    found = Answer(said(arguments), end, output=arguments.output, register=register,
-                   restart_seen=part.host.restart_seen, **named)
-    if arguments.output is not None:
-        found.commanded = judged(part, arguments.output, Commanded())
-    if register is not None:
-        cell = (arguments.output or 0, register)
-        found.word, found.possible = part.host.standing(*cell), part.host.possible(*cell)
-        form = None if arguments.output is None else part.host.format(arguments.output)
-        if found.word is not None and form is not None and register in VOLTAGES:
-            found.microvolts = form.microvolts(found.word)
-    return found
-
-
-def refused(arguments: argparse.Namespace, part: Pmbus, register: str | None, fault: Refused) -> Answer:
-    """The host refused a job: nothing was sent."""
-    return answer_of(arguments, part, register, "refused", status=1, text=f"refused {fault.letter} {fault.name}", refusal=f"{fault.letter} {fault.name}",
-                     why=SAYINGS.get(fault.letter, fault.name))
-
-
-def possible_words(answer: Answer) -> str:
-    """What a register may hold, where no good answer came."""
-    if answer.possible is None:
-        return f"{answer.register} unknown, any word is possible"
-    words = " ".join(str(in_digits(answer.register, word)) for word in answer.possible)
-    return f"{answer.register} unknown, possible {words}"
-
-
-def ended_badly(arguments: argparse.Namespace, part: Pmbus, register: str, step: Step) -> Answer:
-    """An order that differs, or a job without a good answer."""
-    found = answer_of(arguments, part, register, step.kind, status=1)
-    if step.kind == "differs" and step.word is not None:
-        found.text = f"{cell_words(arguments, part, register, step.word)} differs"
-        found.why = (f"the part holds {in_digits(register, step.word)}: the write was lost, refused, limited or rounded"
-                     f"{with_why(part)}")
-    else:
-        found.text, found.why = possible_words(found), part.transfers.why() or "no good answer"
-    return found
-
-
-def with_why(part: Pmbus) -> str:
-    why = part.transfers.why()
-    return f"; {why}" if why else ""
-
-
-def commanded_words(found: Commanded, register: str, microvolts: int | None) -> str:
-    """What the output commands, behind an order of a register whose word has this value."""
-    if found.missing:
-        return "; ".join(f"{name} gave no good answer" for name in found.missing)
-    if found.selected is None or found.least is None or found.greatest is None:
-        return "what the output commands isn't known"
-    band, wanted = between(found.least, found.greatest), wanted_of(found, register, microvolts)
-    if found.is_on is False:
-        words = f"the output is off, and would command {band}"
-    elif not selects(found, register):
-        words = f"OPERATION selects {found.selected}: the output commands {band}"
-    elif wanted is not None and found.is_value(wanted):
-        words = f"the output commands {band}"
-    elif wanted is not None and found.least <= wanted <= found.greatest:
-        words = f"the output commands {band}, and isn't known to command {voltages.shown(wanted)}"
-    else:
-        words = f"CUT: the output commands {band}"
-    return words + limit_words(found)
-
-
-def selects(found: Commanded, register: str) -> bool:
-    """Whether an ordered register decides what the output commands."""
-    return register in (found.selected, "OPERATION")
-
-
-def wanted_of(found: Commanded, register: str, microvolts: int | None) -> int | None:
-    """The value that the output should command: that of the ordered register, or of the one that the ordered OPERATION
-    selects."""
-    return found.value if register == "OPERATION" else microvolts
-
-
-def limit_words(found: Commanded) -> str:
-    if found.limits is None:
-        return ", without limits"
-    pair = f"{voltages.shown(found.limits[0])} to {voltages.shown(found.limits[1])}"
-    return {True: f", within {pair}", False: f", OUTSIDE {pair}", None: f", not known to be within {pair}"}[found.within]
-
-
-def is_well(found: Commanded, register: str, microvolts: int | None) -> bool:
-    """Whether an order reads as success: within the limits, and the output commands just the ordered value, or doesn't
-    select the register, or is off."""
-    wanted = wanted_of(found, register, microvolts)
-    return found.is_well and (found.is_on is False or not selects(found, register) or
-                              wanted is not None and found.is_value(wanted))
-
-
-def surveyed(arguments: argparse.Namespace, part: Pmbus, register: str) -> Answer:
-    """The answer to an order that is confirmed: what the output then commands is read."""
-    output = arguments.output
-    found = answer_of(arguments, part, register, "done")
-    assert found.word is not None
-    words = f"{cell_words(arguments, part, register, found.word)} confirmed"
-    arguments.call.maybe, arguments.call.settled = "", f"{words}; what the output commands wasn't read"
-    if output is None:
-        found.text = words
-        return found
-    if part.host.format(output) is None:
-        found.text = f"{words}; what the output commands isn't known, since its format wasn't learned"
-        return found
-    ordered, micro = found.word, found.microvolts
-    commanded = survey(part, output)
-    found = answer_of(arguments, part, register, "done")
-    found.commanded = commanded
-    if found.word is not None and found.word != ordered:
-        found.status, found.end = 1, "differs"
-        found.text = f"{cell_words(arguments, part, register, found.word)} differs; {commanded_words(commanded, register, micro)}"
-        found.why = (f"{in_digits(register, ordered)} was read back, and then {in_digits(register, found.word)}: the part "
-                     "restarted, or another master wrote")
-    else:
-        found.text = f"{words}; {commanded_words(commanded, register, micro)}"
-        if not is_well(commanded, register, micro):
-            found.status, found.end, found.why = 1, "cut" if commanded.is_well else "unsure", why_not(commanded)
-    if found.restart_seen:
-        found.text += "; restart seen"
-    return found
-
-
-def why_not(found: Commanded) -> str:
-    """Why an order that was confirmed isn't success."""
-    if found.missing:
-        return "; ".join(f"{name}: {why or 'no good answer'}" for name, why in found.missing.items())
-    if found.limits is not None and found.within is not True:
-        return "the output isn't known to command a voltage within its limits" if found.within is None else \
-            "the output commands a voltage outside its limits"
-    if found.selected is None:
-        return "OPERATION holds a word that selects no register"
-    return "the output doesn't command what was ordered: VOUT_MAX or VOUT_MIN cuts it"
 
 
 # ---- The commands ----

@@ -10,7 +10,7 @@ from ..rails import SETTINGS
 from .answer import Answer, in_digits, number
 from .call import Call, said
 from .completion import FILES, completed_by
-from .orders import commanded_words
+from .outcome import commanded_words
 from .parser import BadCall, bus_options, file_of
 
 

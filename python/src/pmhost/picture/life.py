@@ -5,14 +5,14 @@ import subprocess
 from collections.abc import Callable
 from dataclasses import dataclass
 
-from ..errors import PartRefused, PmhostError, Refused as LibraryRefused
-from ..host import Sending, Step
+from ..errors import NumberRefused, PartRefused, PmhostError, Refused as LibraryRefused
+from ..host import Known, Sending, Step
 from ..packets import read_answer, read_request
 from ..part import Output, Part
 from ..programs import path_of
 from ..scenario import DIRECT, REGISTERS, Cell, Event, Setup, code_of_cell, read_scenario
 from ..values import NAMES
-from .told import Words
+from .told import Words, microvolts_of
 
 PROTECT = Cell(None, "WRITE_PROTECT")
 # A VOUT_MODE of ULINEAR16, whose words are 1/4096 V.
@@ -157,22 +157,15 @@ class Life:
     # ---- What both ends are at ----
 
     def state(self) -> State:
-        part, bands = self.part, {output: self._band(output) for output in self.outputs}
+        part, known = self.part, {Cell(it.output, it.register): it for it in self.host.known()}
+        words = {cell: part.word(*code_of_cell(cell)) for cell in self.cells}
         found = {output: self._commanded(output) for output in self.outputs}
         return State(
-            {output: (part.is_on(output), self.words.micro(Cell(output, "VOUT_COMMAND"), word) or 0)
-             for output, (word, _) in found.items()},
-            {cell: part.word(*code_of_cell(cell)) for cell in self.cells},
-            {cell: self._belief(cell) for cell in self.cells},
+            {output: (part.is_on(output), self._microvolts(output, word)) for output, (word, _) in found.items()},
+            words, {cell: belief_of(known[cell]) for cell in self.cells},
             {output: (f"{part.status_word(output):04X}", f"{part.status_vout(output):02X}") for output in self.outputs},
-            f"{part.status_cml:02X}", self.host.restart_seen, self.job, bands,
+            f"{part.status_cml:02X}", self.host.restart_seen, self.job, {output: self._band(output) for output in self.outputs},
             {output: limit for output, (_, limit) in found.items() if limit})
-
-    def _belief(self, cell: Cell) -> Belief:
-        word, words = self.host.standing(*code_of_cell(cell)), self.host.possible(*code_of_cell(cell))
-        if word is not None:
-            return Belief("doubtful" if words is None else "confirmed", (word,))
-        return Belief("any") if words is None else Belief("possible", words)
 
     def _band(self, output: int) -> tuple[int, int] | None:
         """The microvolts between which the host knows an output; None where it doesn't know its format, or one of them is
@@ -182,6 +175,13 @@ class Life:
         except LibraryRefused:
             return None
         return found.least, found.greatest
+
+    def _microvolts(self, output: int, word: int) -> int:
+        """What an output commands, as the part tells it; beyond what the library tells, the value of the word."""
+        try:
+            return int(self.part.volts(output).scaleb(6))
+        except NumberRefused:
+            return microvolts_of(self.words.formats[output], word)
 
     def _commanded(self, output: int) -> tuple[int, str]:
         """The word whose value an output commands, and the name of the limit that cuts it, or an empty text. Each set of words
@@ -220,6 +220,13 @@ class Life:
         if self.words.formats[output].kind == "DIRECT":
             return lambda word: sign * (word - 0x10000 if word >= 0x8000 else word)
         return lambda word: word
+
+
+def belief_of(known: Known) -> Belief:
+    """What the host thinks of a register, by what is known of it."""
+    if known.confirmed is not None:
+        return Belief("doubtful" if known.possible is None else "confirmed", (known.confirmed,))
+    return Belief("any") if known.possible is None else Belief("possible", known.possible)
 
 
 def harm(got: bytes, sent: bytes, name: str) -> str:

@@ -40,23 +40,18 @@ def said(belief: Belief, cell: Cell, words: Words, version: int) -> str:
     return " ".join(["unknown possible", *([words.beside(cell, word) for word in belief.words] or ["any"])])
 
 
-def changes(before: State, after: State, words: Words, version: int) -> list[str]:
-    """The facts that differ, in lines."""
-    old, new = facts(before, words, version), facts(after, words, version)
-    return [f"{name} {old[name]} -> {new[name]}" for name in old if old[name] != new[name]]
-
-
 def timeline(run: Run) -> Iterator[str]:
     """The lines of a run."""
     life = Life(run.setup)
-    before = life.state()
+    old = facts(life.state(), life.words, run.setup.version)
     for event in run.events:
         life.step(event)
-        after = life.state()
+        new = facts(life.state(), life.words, run.setup.version)
         yield f"line {event.number}  {event.words}"
-        for change in changes(before, after, life.words, run.setup.version):
-            yield f"        {change}"
-        before = after
+        for name in old:
+            if old[name] != new[name]:
+                yield f"        {name} {old[name]} -> {new[name]}"
+        old = new
     if run.stopping:
         yield f"line {run.stopping.number}  {run.stopping.words}"
         yield f"        stopped: {run.stop}: {in_words(run.stop)}"

@@ -1,0 +1,55 @@
+"""mypy --strict over the package and over a user's script, and two slips that it has to find."""
+import os
+import shutil
+import subprocess
+import tempfile
+import unittest
+
+from .running import SOURCE
+
+SCRIPT = '''from decimal import Decimal
+
+from pmhost import DeskBus, Differs, LinuxBus, Pmbus, Unknown
+
+
+def order(bus: LinuxBus | DeskBus, volts: str) -> Decimal:
+    part = Pmbus(bus, 0x58, outputs=2, limits={0: ("3.135", "3.465")})
+    part.learn(0)
+    try:
+        return part.order_volts(0, volts)
+    except Unknown as unknown:
+        print(unknown, unknown.__cause__, unknown.possible)
+        raise
+    except Differs as differs:
+        print(f"{differs.word:04X}" if differs.word is not None else "", part.band(0), part.within(0), part.limits(0))
+        raise
+
+
+print(order(DeskBus(0x58), "3.3"), [(it.register, it.confirmed) for it in Pmbus(DeskBus(0x58), 0x58).known()])
+'''
+
+
+@unittest.skipUnless(shutil.which("mypy"), "no mypy here")
+class Types(unittest.TestCase):
+    def mypy(self, *words):
+        with tempfile.TemporaryDirectory() as cache:
+            ran = subprocess.run(["mypy", "--strict", "--cache-dir", cache, *words], capture_output=True, text=True, check=False,
+                                 env={**os.environ, "MYPYPATH": SOURCE})
+        return ran.returncode, ran.stdout
+
+    def test_the_package_and_a_user_s_script(self):
+        with tempfile.NamedTemporaryFile("w", suffix=".py") as script:
+            script.write(SCRIPT)
+            script.flush()
+            status, said = self.mypy(os.path.join(SOURCE, "pmhost"), script.name)
+        self.assertEqual(status, 0, said)
+
+    def test_slips_of_a_script_are_found(self):
+        for right, wrong, said_of in (("volts: str", "volts: float", "order_volts"), ("part.learn(0)", "part.learn()", "learn")):
+            with tempfile.NamedTemporaryFile("w", suffix=".py") as script:
+                script.write(SCRIPT.replace(right, wrong))
+                script.flush()
+                status, said = self.mypy(script.name)
+            with self.subTest(wrong=wrong):
+                self.assertEqual(status, 1, said)
+                self.assertIn(said_of, said)
