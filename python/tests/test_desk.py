@@ -45,9 +45,9 @@ class Mishaps(unittest.TestCase):
         self.order(["--passes=1", "--faults=lost mute"], lines, "ended unknown", ["1000", "1000"])
 
     def test_jobs_are_told_with_their_answers(self):
-        for words, status, out in JOBS:
+        for words, status, out, errors in JOBS:
             with self.subTest(words):
-                self.assertEqual(called("desk", *words.split()), (status, out, ""))
+                self.assertEqual(called("desk", *words.split()), (status, out, errors))
 
     def test_a_seed_draws_the_same_mishaps_again(self):
         found = pmhost("desk", "--seed=3", "--rate=60", *ORDER)
@@ -217,6 +217,7 @@ class Draws(unittest.TestCase):
         found = desk.draw_mishaps(random.Random(1), 100, 2000)
         self.assertEqual({it.partition(":")[0] for it in found}, {*desk.bus.DRAWN})
         self.assertEqual(desk.read_mishaps(" ".join(found)), found)
+        self.assertEqual({*desk.draw_mishaps(random.Random(1), 0, 2000)}, {"ok"})
         share = sum(it != "ok" for it in desk.draw_mishaps(random.Random(1), 25, 4000))
         self.assertTrue(900 < share < 1100, share)
 

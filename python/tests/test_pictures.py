@@ -46,7 +46,7 @@ def eight_rails(lives):
 
 
 def long_rails(count):
-    """So many events: formats are learned first, and then words and volts are ordered."""
+    """A scenario of this many events: formats are learned first, and then words and volts are ordered."""
     dice, volts = random.Random(5), (850000, 1800000, 3300000, 1000000, 1200000, 5000000, 2500000, 900000)
     reads = "exchange whole whole"
     lines = [line for output in range(8) for line in [f"learn {output}", *[reads] * (1 + (output in (2, 5)))]]
