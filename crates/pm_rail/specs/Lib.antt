@@ -1,0 +1,8 @@
+-- What the crate promises.
+pub mod FaultWords
+pub mod Registers
+pub mod Plan
+pub mod Known
+pub mod Orders
+pub mod Laws
+pub mod Lemmas
