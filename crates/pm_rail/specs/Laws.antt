@@ -1,22 +1,24 @@
 -- What the laws of this crate say.
-use Rattle.std.specs.Prelude.{◌≡◌, ◌≢◌, ◌⊎◌, ◌<◌, ℕ, Bool, true, false, Option, Some, None, IsSomeAnd, option_map, Ok}
+use Rattle.std.specs.Prelude.{◌≡◌, ◌≢◌, ◌⊎◌, ◌<◌, ◌+◌, ℕ, Bool, true, false, Option, Some, None, IsSomeAnd, is_none, is_some, option_map, Ok}
 use Rattle.pm_num.specs.AnyFormat.{shape_value}
 use Rattle.pm_num.specs.Ratio.{Ratio}
 use Rattle.pm_table.specs.declared.reg.Reg.{Reg}
 use Rattle.pm_table.specs.declared.reg.Reg.TheVariants.{Operation, VoutMax, VoutMin}
 use Rattle.pm_table.specs.Operation.{selected_register}
 use Rattle.pm_model.specs.Commanded.{Scale, is_outside}
-use Rattle.pm_table.specs.declared.cell.Cell.TheVariants.{Out}
+use Rattle.pm_table.specs.declared.cell.Cell.TheVariants.{Out, Protect}
 use Rattle.pm_host.specs.declared.job.Job.TheVariants.{Order}
 use Rattle.pm_host.specs.Possible.{is_possible}
 use Rattle.pm_host.specs.Summary.{Summary, format_at, possible_at}
 use Rattle.pm_limits.specs.Bounds.{Bounds}
 use Rattle.pm_limits.specs.Guard.{Guarded, guard_fault, limits_at}
 use Rattle.pm_rail.specs.declared.orders.PlanOrder.{PlanOrder}
-use Rattle.pm_rail.specs.Known.{known_of}
+use Rattle.pm_rail.specs.declared.survey.Survey.{Survey}
+use Rattle.pm_rail.specs.Known.{known_at, known_of}
 use Rattle.pm_rail.specs.Orders.{is_needed, order_of, plan_of}
 use Rattle.pm_rail.specs.Plan.{after, commands_by, goal_of, is_cut_by, next_register, stepped}
-use Rattle.pm_rail.specs.Registers.{Held, Wants}
+use Rattle.pm_rail.specs.Registers.{Held, Wants, wants_of}
+use Rattle.pm_rail.specs.Survey.{asking, has_read, is_surveyed, next_job, wanted_in}
 
 -- each word has a value with a positive denominator, as in each format
 abbrev pub HasDens : Scale → Type 0
@@ -89,3 +91,17 @@ PlansAreAccepted = (g : Guarded) (output : ℕ) (wants : Wants) (register : Reg)
     output < g.host.setup.outputs → wants Operation ≡ None →
     plan_of g.host (limits_at g output) output wants ≡ Ok (Some (record { register = register; word = word })) →
     guard_fault g (Order (Out output register) word) ≡ None
+
+-- A survey that has nothing left to ask for has its answers: since it began the format was learned and is known
+-- (`format`), each register that is needed was read and is known (`known`), and for a plan WRITE_PROTECT too
+-- (`protection`). Where it has tries left it asks as long as this isn't so, and each job takes one (`asks`).
+pub record SurveysEndKnown : Type 0 where
+  pub format : (v : Survey) (s : Summary) → is_surveyed v s ≡ true →
+      (v.learned ≡ true) × (is_none (format_at s v.output) ≡ false)
+  pub known : (v : Survey) (s : Summary) (register : Reg) → is_surveyed v s ≡ true →
+      is_needed (known_of s v.output) (wants_of (wanted_in v.plan)) register ≡ true →
+      (has_read v.read register ≡ true) × (is_none (known_at s (Out v.output register)) ≡ false)
+  pub protection : (v : Survey) (s : Summary) → is_surveyed v s ≡ true → is_some v.plan ≡ true →
+      (v.read.protect ≡ true) × (is_none (known_at s Protect) ≡ false)
+  pub asks : (v : Survey) (s : Summary) → is_surveyed v s ≡ false → 0 < v.left →
+      (is_some (next_job v s) ≡ true) × ((asking v (next_job v s)).left + 1 ≡ v.left)

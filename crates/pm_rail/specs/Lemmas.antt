@@ -5,3 +5,4 @@ pub mod Kept
 pub mod Known
 pub mod Accepted
 pub mod Told
+pub mod Surveyed

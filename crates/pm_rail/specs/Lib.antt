@@ -4,5 +4,7 @@ pub mod Registers
 pub mod Plan
 pub mod Known
 pub mod Orders
+pub mod Rail
+pub mod Survey
 pub mod Laws
 pub mod Lemmas

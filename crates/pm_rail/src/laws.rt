@@ -1,6 +1,6 @@
 //! The laws of a plan, over the definitions alone: each is the contract of a function that does nothing.
 
-ghost use Rattle.pm_rail.specs.Laws.{PlansAreAccepted, PlansAreOfWhatIsHeld, PlansAreWithoutGlitch, PlansCutNothing, PlansEnd};
+ghost use Rattle.pm_rail.specs.Laws.{PlansAreAccepted, PlansAreOfWhatIsHeld, PlansAreWithoutGlitch, PlansCutNothing, PlansEnd, SurveysEndKnown};
 
 /// Where the output isn't cut by the words at the end, each order of the plan leaves what it commands, or makes it
 /// what it commands at the end (`one`), and so does any number of them from any moment on (`any`). So it never commands
@@ -31,4 +31,11 @@ pub fn plans_are_of_what_is_held()
 /// An order that a plan gives by a guard's limits is one that the guard lets through and its host accepts.
 pub fn plans_are_accepted()
     ensures { PlansAreAccepted }
+{}
+
+/// A survey that has nothing left to ask for has its answers: since it began the format was learned and is known
+/// (`format`), each register that is needed was read and is known (`known`), and for a plan WRITE_PROTECT too
+/// (`protection`). Where it has tries left it asks as long as this isn't so, and each job takes one (`asks`).
+pub fn surveys_end_known()
+    ensures { SurveysEndKnown }
 {}

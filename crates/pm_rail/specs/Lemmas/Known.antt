@@ -46,7 +46,7 @@ not-second true b h e = h
 not-second false b h e = cc
 
 -- an option that is mapped to none is none
-unmapped : {A B : Type 0} (f : A → B) (o : Option A) → option_map f o ≡ None → o ≡ None
+pub unmapped : {A B : Type 0} (f : A → B) (o : Option A) → option_map f o ≡ None → o ≡ None
 unmapped f None h = refl
 unmapped f (Some a) h = cc
 
@@ -57,11 +57,10 @@ unfound test a rest h = go (test a) refl h where
   go true e n = cc
   go false e n = (e, n)
 
--- where there is no fault of the registers, the test holds of none
-pub none-of : (fault : Reg → PlanFault) (test : Reg → Bool) → first_of registers fault test ≡ None →
-    (register : Reg) → test register ≡ false
-none-of fault test free register =
-    let one = unfound test Operation voltages (unmapped fault (find test registers) free) in
+-- a test that finds no register holds of none,
+pub all-off : (test : Reg → Bool) → find test registers ≡ None → (register : Reg) → test register ≡ false
+all-off test free register =
+    let one = unfound test Operation voltages free in
     let two = unfound test VoutCommand (VoutMax ∷ MarginHigh ∷ MarginLow ∷ VoutMin ∷ []) one.1 in
     let three = unfound test VoutMax (MarginHigh ∷ MarginLow ∷ VoutMin ∷ []) two.1 in
     let four = unfound test MarginHigh (MarginLow ∷ VoutMin ∷ []) three.1 in
@@ -76,7 +75,7 @@ none-of fault test free register =
       | VoutMin ↦ six.0
     ]
 
--- of the voltages alike,
+-- so where there is no fault of the voltages it holds of none of these,
 pub none-voltage : (fault : Reg → PlanFault) (test : Reg → Bool) → first_of voltages fault test ≡ None →
     (register : Reg) → is_voltage register ≡ true → test register ≡ false
 none-voltage fault test free register volt =
@@ -149,7 +148,8 @@ is-planned s limits output wants order is = either (is_busy s) refl is where
 pub known-all : (s : Summary) (output : ℕ) (held : Held) (wants : Wants) → unknown_fault s output held wants ≡ None →
     (register : Reg) → is_needed held wants register ≡ true → is_none (known_at s (Out output register)) ≡ false
 known-all s output held wants free register needed =
-    not-second (is_needed held wants register) _ (none-of _ (is_missing s output held wants) free register) needed
+    not-second (is_needed held wants register) _
+    (all-off (is_missing s output held wants) (unmapped _ (find (is_missing s output held wants) registers) free) register) needed
 
 -- of a cell that is known one word alone is possible
 pub sole-known : (cell : Cell) (word : Option ℕ) →
