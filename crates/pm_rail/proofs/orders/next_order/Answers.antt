@@ -1,0 +1,17 @@
+use Rattle.std.proofs.Common.{◌∙◌, Option, ap}
+use Rattle.pm_host.specs.declared.stage.Stage.{Stage}
+use Rattle.pm_host.specs.Image.{held}
+use Rattle.pm_host.specs.Summary.{Summary}
+use Rattle.pm_limits.specs.Bounds.{Bounds}
+use Rattle.pm_rail.specs.Orders.{plan_of}
+use Rattle.pm_rail.specs.Registers.{wants_of}
+use Rattle.pm_rail.proofs.orders.next_order.Goals as goal
+
+pub returns : goal.returns
+returns c =
+    let wants = wants_of c.args.wanted.now in
+    c.next_order_in.ensures
+    ∙ ap (λ (stage : Option Stage). plan_of (held stage c.state.result.now) c.limits-limits.result c.args.output wants)
+    c.stage.ensures
+    ∙ ap (λ (s : Summary). plan_of s c.limits-limits.result c.args.output wants) (c.state.ensures.state ∙ c.host-host.ensures)
+    ∙ ap (λ (l : Option Bounds). plan_of c.args.guard.now.host l c.args.output wants) c.limits-limits.ensures

@@ -1,0 +1,32 @@
+-- The words that a host knows cells to hold: this project's own choice. A cell is known where one word alone is
+-- possible, and not where one is called confirmed: after a restart that was seen a confirmed word may be stale.
+use Rattle.std.specs.Prelude.{ℕ, List, [], ◌∷◌, Option, Some, None, option_and_then, unwrap_or}
+use Rattle.pm_table.specs.declared.cell.Cell.{Cell}
+use Rattle.pm_table.specs.declared.cell.Cell.TheVariants.{Out}
+use Rattle.pm_table.specs.Cell.{cell_accepts}
+use Rattle.pm_table.specs.Rules.{rule}
+use Rattle.pm_host.specs.declared.possible.Possible.{Possible}
+use Rattle.pm_host.specs.declared.possible.Possible.TheVariants.{Any, Words}
+use Rattle.pm_host.specs.Summary.{Summary, possible_at}
+use Rattle.pm_rail.specs.Registers.{Held}
+
+-- the word that is the only one of a list, and the only one that a cell may hold
+abbrev pub sole_of : List ℕ → Option ℕ
+sole_of (word ∷ []) = Some word
+sole_of words = None
+
+abbrev pub sole : Possible → Option ℕ
+sole Any = None
+sole (Words words) = sole_of words.items
+
+-- the word that a cell is known to hold: the only one that it may hold, where it is one that the cell takes
+abbrev pub known_at : Summary → Cell → Option ℕ
+known_at s cell = option_and_then (λ word. rule (cell_accepts cell word) word) (sole (possible_at s cell))
+
+-- the word of a cell; 0 where it isn't known
+abbrev pub known_or : Summary → Cell → ℕ
+known_or s cell = unwrap_or (known_at s cell) 0
+
+-- the words of an output's registers
+abbrev pub known_of : Summary → ℕ → Held
+known_of s output register = known_or s (Out output register)

@@ -1,0 +1,107 @@
+-- What the laws of this crate say.
+use Rattle.std.specs.Prelude.{◌≡◌, ◌≢◌, ◌⊎◌, ◌<◌, ◌+◌, ℕ, Bool, true, false, Option, Some, None, IsSomeAnd, is_none, is_some, option_map, Ok}
+use Rattle.pm_num.specs.AnyFormat.{shape_value}
+use Rattle.pm_num.specs.Ratio.{Ratio}
+use Rattle.pm_table.specs.declared.reg.Reg.{Reg}
+use Rattle.pm_table.specs.declared.reg.Reg.TheVariants.{Operation, VoutMax, VoutMin}
+use Rattle.pm_table.specs.Operation.{selected_register}
+use Rattle.pm_model.specs.Commanded.{Scale, is_outside}
+use Rattle.pm_table.specs.declared.cell.Cell.TheVariants.{Out, Protect}
+use Rattle.pm_host.specs.declared.job.Job.TheVariants.{Order}
+use Rattle.pm_host.specs.Possible.{is_possible}
+use Rattle.pm_host.specs.Summary.{Summary, format_at, possible_at}
+use Rattle.pm_limits.specs.Bounds.{Bounds}
+use Rattle.pm_limits.specs.Guard.{Guarded, guard_fault, limits_at}
+use Rattle.pm_rail.specs.declared.orders.PlanOrder.{PlanOrder}
+use Rattle.pm_rail.specs.declared.survey.Survey.{Survey}
+use Rattle.pm_rail.specs.Known.{known_at, known_of}
+use Rattle.pm_rail.specs.Orders.{is_needed, order_of, plan_of}
+use Rattle.pm_rail.specs.Plan.{after, commands_by, goal_of, is_cut_by, next_register, stepped}
+use Rattle.pm_rail.specs.Registers.{Held, Wants, wants_of}
+use Rattle.pm_rail.specs.Survey.{asking, has_read, is_surveyed, next_job, wanted_in}
+
+-- each word has a value with a positive denominator, as in each format
+abbrev pub HasDens : Scale → Type 0
+HasDens value = (word : ℕ) → 0 < (value word).den
+
+-- what is commanded stays, or becomes what is wanted
+abbrev pub IsStep : Ratio → Ratio → Ratio → Type 0
+IsStep goal old new = (new ≡ old) ⊎ (new ≡ goal)
+
+-- a register that a byte of OPERATION may select would be cut, were it selected
+abbrev pub would_be_cut : Scale → Held → ℕ → Bool
+would_be_cut value held byte =
+    is_outside (value (held (selected_register byte))) (value (held VoutMin)) (value (held VoutMax))
+
+-- Where the output isn't cut by the words at the end, each order of the plan leaves what it commands, or makes it
+-- what it commands at the end (`one`), and so does any number of them from any moment on (`any`). So it never commands
+-- anything but its first value and its last, and changes once at most.
+pub record PlansAreWithoutGlitch : Type 0 where
+  pub one : (value : Scale) (held : Held) (wants : Wants) → HasDens value → wants Operation ≡ None →
+      is_cut_by value (goal_of held wants) ≡ false →
+      IsStep (commands_by value (goal_of held wants)) (commands_by value held)
+      (commands_by value (stepped value wants held))
+  pub any : (value : Scale) (held : Held) (wants : Wants) (n more : ℕ) → HasDens value → wants Operation ≡ None →
+      is_cut_by value (goal_of held wants) ≡ false →
+      IsStep (commands_by value (goal_of held wants)) (commands_by value (after value wants held n))
+      (commands_by value (after value wants (after value wants held n) more))
+
+-- Each order is of a wanted word that its register doesn't have (`due`); where none is left, each register has its
+-- wanted word (`done`), and that is so after five orders at most (`five`).
+pub record PlansEnd : Type 0 where
+  pub due : (value : Scale) (held : Held) (wants : Wants) (register : Reg) →
+      next_register value held wants ≡ Some register → goal_of held wants register ≢ held register
+  pub done : (value : Scale) (held : Held) (wants : Wants) → wants Operation ≡ None →
+      next_register value held wants ≡ None → (register : Reg) → held register ≡ goal_of held wants register
+  pub five : (value : Scale) (held : Held) (wants : Wants) → wants Operation ≡ None →
+      (register : Reg) → after value wants held 5 register ≡ goal_of held wants register
+
+-- Where an output isn't cut, neither by its words nor by those at the end, no order cuts it; and no order cuts what any
+-- other byte of OPERATION would select, where that isn't cut either.
+pub record PlansCutNothing : Type 0 where
+  pub kept : (value : Scale) (held : Held) (wants : Wants) (byte : ℕ) → HasDens value → wants Operation ≡ None →
+      is_cut_by value held ≡ false → would_be_cut value held byte ≡ false →
+      would_be_cut value (goal_of held wants) byte ≡ false →
+      would_be_cut value (stepped value wants held) byte ≡ false
+
+-- the words of the registers that a plan needs are ones that they may hold
+abbrev pub MayHold : Summary → ℕ → Wants → Held → Type 0
+MayHold s output wants held = (register : Reg) → is_needed (known_of s output) wants register ≡ true →
+    is_possible (held register) (possible_at s (Out output register)) ≡ true
+
+-- What a plan answers by what is known is what it answers for the words that are held, whichever of the possible
+-- ones these are: the next order is theirs (`next`), the output isn't cut by the words at the end (`uncut`), and where
+-- no order is left each wanted word is held (`done`). By these the other laws speak of what a plan answers.
+pub record PlansAreOfWhatIsHeld : Type 0 where
+  pub next : (s : Summary) (limits : Option Bounds) (output : ℕ) (wants : Wants) (order : Option PlanOrder) (held : Held) →
+      wants Operation ≡ None → MayHold s output wants held → plan_of s limits output wants ≡ Ok order →
+      IsSomeAnd (format_at s output)
+      (λ shape. option_map (order_of held wants) (next_register (shape_value shape) held wants) ≡ order)
+  pub uncut : (s : Summary) (limits : Option Bounds) (output : ℕ) (wants : Wants) (order : Option PlanOrder) (held : Held) →
+      wants Operation ≡ None → MayHold s output wants held → plan_of s limits output wants ≡ Ok order →
+      IsSomeAnd (format_at s output) (λ shape. is_cut_by (shape_value shape) (goal_of held wants) ≡ false)
+  pub done : (s : Summary) (limits : Option Bounds) (output : ℕ) (wants : Wants) (held : Held) (register : Reg) (word : ℕ) →
+      wants Operation ≡ None → MayHold s output wants held → plan_of s limits output wants ≡ Ok None →
+      wants register ≡ Some word → held register ≡ word
+
+-- An order that a plan gives by a guard's limits is one that the guard lets through and its host accepts: nothing
+-- refuses it.
+abbrev pub PlansAreAccepted : Type 0
+PlansAreAccepted = (g : Guarded) (output : ℕ) (wants : Wants) (register : Reg) (word : ℕ) →
+    output < g.host.setup.outputs → wants Operation ≡ None →
+    plan_of g.host (limits_at g output) output wants ≡ Ok (Some (record { register = register; word = word })) →
+    guard_fault g (Order (Out output register) word) ≡ None
+
+-- A survey that has nothing left to ask for has its answers: since it began the format was learned and is known
+-- (`format`), each register that is needed was read and is known (`known`), and for a plan WRITE_PROTECT too
+-- (`protection`). Where it has tries left it asks as long as this isn't so, and each job takes one (`asks`).
+pub record SurveysEndKnown : Type 0 where
+  pub format : (v : Survey) (s : Summary) → is_surveyed v s ≡ true →
+      (v.learned ≡ true) × (is_none (format_at s v.output) ≡ false)
+  pub known : (v : Survey) (s : Summary) (register : Reg) → is_surveyed v s ≡ true →
+      is_needed (known_of s v.output) (wants_of (wanted_in v.plan)) register ≡ true →
+      (has_read v.read register ≡ true) × (is_none (known_at s (Out v.output register)) ≡ false)
+  pub protection : (v : Survey) (s : Summary) → is_surveyed v s ≡ true → is_some v.plan ≡ true →
+      (v.read.protect ≡ true) × (is_none (known_at s Protect) ≡ false)
+  pub asks : (v : Survey) (s : Summary) → is_surveyed v s ≡ false → 0 < v.left →
+      (is_some (next_job v s) ≡ true) × ((asking v (next_job v s)).left + 1 ≡ v.left)

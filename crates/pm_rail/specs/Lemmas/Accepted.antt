@@ -1,0 +1,150 @@
+-- An order that the plan gives is one that a guard lets through, and its host accepts.
+use Rattle.std.specs.Prelude.{◌≡◌, ◌≢◌, ◌<◌, ℕ, Bool, true, false, cond, not, ◌||◌, nat_lt, refl, Option, Some, None, is_none, is_some, option_map, unwrap_or, List, [], ◌∷◌, length, Ok}
+use Rattle.std.specs.Option.{option_map_or}
+use Rattle.std.proofs.Common.{sym, ◌∙◌, ap, arith}
+use Rattle.std.proofs.lemmas.Bool.Decides.{nat_tests}
+use Rattle.pm_num.specs.AnyFormat.{Shape, shape_value}
+use Rattle.pm_num.specs.Ratio.{is_above, micros}
+use Rattle.pm_table.specs.declared.cell.Cell.TheVariants.{Out}
+use Rattle.pm_table.specs.declared.reg.Reg.{Reg}
+use Rattle.pm_table.specs.declared.reg.Reg.TheVariants.{Operation}
+use Rattle.pm_table.specs.Cell.{is_voltage, register_accepts}
+use Rattle.pm_table.specs.Operation.{is_operation}
+use Rattle.pm_table.specs.Rules.{first, rule}
+use Rattle.pm_host.specs.declared.job.Job.TheVariants.{Order}
+use Rattle.pm_host.specs.declared.fault.HostFault.{HostFault}
+use Rattle.pm_host.specs.declared.fault.HostFault.TheVariants.{Busy, UnknownOutput, BadWord, TooUncertain}
+use Rattle.pm_host.specs.declared.possible.Possible.{Possible}
+use Rattle.pm_host.specs.declared.possible.Possible.TheVariants.{Any, Words}
+use Rattle.pm_host.specs.Possible.{has_room, is_listed}
+use Rattle.pm_host.specs.Refusals.{cell_fault, is_busy, order_fault}
+use Rattle.pm_host.specs.Summary.{Summary, format_at, possible_at}
+use Rattle.pm_limits.specs.declared.fault.LimitFault.TheVariants as limit
+use Rattle.pm_limits.specs.Bounds.{Bounds}
+use Rattle.pm_limits.specs.Guard.{Guarded, guard_fault, judged, limits_at, of_host, voltage_limit}
+use Rattle.pm_rail.specs.declared.orders.PlanOrder.{PlanOrder}
+use Rattle.pm_rail.specs.Known.{known_of, sole, sole_of}
+use Rattle.pm_rail.specs.Orders.{below_fault, is_wanted_above, is_wanted_below, limits_fault, order_of, plan_of}
+use Rattle.pm_rail.specs.Plan.{goal_of, next_register}
+use Rattle.pm_rail.specs.Registers.{Held, Wants}
+use Rattle.pm_rail.specs.Lemmas.Ends.{due}
+use Rattle.pm_rail.specs.Lemmas.Known.{IsPlanned, head, is-planned, known-all, none-voltage, or-second, sole-known, tail, wanted-needed}
+
+-- there is room for another word beside one that is known
+room-listed : (word : ℕ) (words : List ℕ) → is_none (sole_of words) ≡ false →
+    (is_listed word words || nat_lt (length words) 16) ≡ true
+room-listed word [] h = cc
+room-listed word (x ∷ []) h = or-second (is_listed word (x ∷ [])) _ refl
+room-listed word (x ∷ y ∷ words) h = cc
+
+room : (word : ℕ) (possible : Possible) → is_none (sole possible) ≡ false → has_room word possible ≡ true
+room word Any h = refl
+room word (Words words) h = room-listed word words.items h
+
+-- a rule that doesn't apply
+rule-off : {A : Type 0} (b : Bool) (fault : A) → b ≡ false → rule b fault ≡ None
+rule-off true fault h = cc
+rule-off false fault h = refl
+
+-- a limit says nothing of a wanted word that the plan judged
+limit-says : (limits : Option Bounds) (shape : Shape) (wants : Wants) (register : Reg) (word : ℕ) →
+    limits_fault limits (shape_value shape) wants ≡ None → is_voltage register ≡ true → wants register ≡ Some word →
+    voltage_limit limits (Some shape) word ≡ None
+limit-says None shape wants register word free volt is = refl
+limit-says (Some bounds) shape wants register word free volt is =
+    let below = none-voltage _ (is_wanted_below (micros bounds.least) (shape_value shape) wants) (head _ _ free) register volt in
+    let above = none-voltage _ (is_wanted_above (micros bounds.most) (shape_value shape) wants)
+    (tail (below_fault (micros bounds.least) (shape_value shape) wants) _ free) register volt in
+    by (is_above (micros bounds.least) (shape_value shape word)) (is_above (shape_value shape word) (micros bounds.most))
+    (sym (ap (λ (o : Option ℕ). option_map_or (λ w. is_above (micros bounds.least) (shape_value shape w)) o false) is) ∙ below)
+    (sym (ap (λ (o : Option ℕ). option_map_or (λ w. is_above (shape_value shape w) (micros bounds.most)) o false) is) ∙ above)
+  where
+    by : (below above : Bool) → below ≡ false → above ≡ false →
+        cond below (Some limit.BelowLimit) (cond above (Some limit.AboveLimit) None) ≡ None
+    by true above h k = cc
+    by false true h k = cc
+    by false false h k = refl
+
+-- an order of a wanted word: what was asked for of the register, and it is a voltage
+wanted-word : (o : Option ℕ) (w : ℕ) → unwrap_or o w ≢ w → o ≡ Some (unwrap_or o w)
+wanted-word None w differ = absurd (differ refl)
+wanted-word (Some v) w differ = refl
+
+a-voltage : (wants : Wants) (register : Reg) (word : ℕ) → wants Operation ≡ None → wants register ≡ Some word → is_voltage register ≡ true
+a-voltage wants Operation word none is = absurd (let bad = sym none ∙ is in cc)
+a-voltage wants register word none is = refl
+
+judged-voltage : (limits : Option Bounds) (s : Summary) (output : ℕ) (register : Reg) (word : ℕ) → is_voltage register ≡ true →
+    judged limits s (Out output register) word ≡ voltage_limit limits (format_at s output) word
+judged-voltage limits s output Operation word h = cc
+judged-voltage limits s output register word h = refl
+
+first-none : {A : Type 0} (a b c : Option A) → a ≡ None → b ≡ None → c ≡ None → first (a ∷ b ∷ c ∷ []) ≡ None
+first-none None None None p q r = refl
+first-none None None (Some x) p q r = cc
+first-none None (Some x) c p q r = cc
+first-none (Some x) b c p q r = cc
+
+below-count : (output count : ℕ) → output < count → nat_lt output count ≡ true
+below-count output count h = grind (arith, nat_tests)
+
+pub accepted : (g : Guarded) (output : ℕ) (wants : Wants) (register : Reg) (word : ℕ) →
+    output < g.host.setup.outputs → wants Operation ≡ None →
+    plan_of g.host (limits_at g output) output wants ≡ Ok (Some (record { register = register; word = word })) →
+    guard_fault g (Order (Out output register) word) ≡ None
+accepted g output wants register word here none is =
+    go (next_register (shape_value planned.shape) known wants) refl planned.next
+  where
+    s : Summary
+    s = g.host
+
+    limits : Option Bounds
+    limits = limits_at g output
+
+    known : Held
+    known = known_of s output
+
+    planned : IsPlanned s limits output wants (Some (record { register = register; word = word }))
+    planned = is-planned s limits output wants (Some (record { register = register; word = word })) is
+
+    free-cell : cell_fault s (Out output register) ≡ None
+    free-cell = first-two (is_busy s) (nat_lt output s.setup.outputs) planned.idle (below-count output s.setup.outputs here) where
+      first-two : (busy there : Bool) → busy ≡ false → there ≡ true →
+          first (rule busy Busy ∷ rule (not there) UnknownOutput ∷ []) ≡ None
+      first-two true there h k = cc
+      first-two false true h k = refl
+      first-two false false h k = cc
+
+    of : (a : Option HostFault) → a ≡ None → of_host a ≡ None
+    of None h = refl
+    of (Some f) h = cc
+
+    by : (r : Reg) → next_register (shape_value planned.shape) known wants ≡ Some r → r ≡ register → goal_of known wants r ≡ word →
+        guard_fault g (Order (Out output register) word) ≡ None
+    by r next same goal =
+        let asked : wants register ≡ Some word
+        = ap wants (sym same) ∙ wanted-word (wants r) (known r) (due (shape_value planned.shape) known wants r next)
+        ∙ ap (λ (w : ℕ). Some w) goal in
+        let volt = a-voltage wants register word none asked in
+        let needed = wanted-needed known wants register (ap (λ (o : Option ℕ). is_some o) asked) in
+        let some = sole-known (Out output register) (sole (possible_at s (Out output register)))
+        (known-all s output known wants planned.known register needed) in
+        let here' = limit-says limits planned.shape wants register word planned.within volt asked in
+        first-none (of_host (cell_fault s (Out output register))) (judged limits s (Out output register) word)
+        (of_host (order_fault s (Out output register) word))
+        (of _ free-cell)
+        (judged-voltage limits s output register word volt
+        ∙ ap (λ (f : Option Shape). voltage_limit limits f word) planned.format ∙ here')
+        (of _ (first-none (cell_fault s (Out output register)) _ _ free-cell
+        (rule-off (not (register_accepts register word)) BadWord
+        (ap not (ap (λ (b : Bool). b || is_operation word) volt)))
+        (rule-off (not (has_room word (possible_at s (Out output register)))) TooUncertain
+        (ap not (room word (possible_at s (Out output register)) some)))))
+
+    go : (next : Option Reg) → next_register (shape_value planned.shape) known wants ≡ next →
+        option_map (order_of known wants) next ≡ Some (record { register = register; word = word }) →
+        guard_fault g (Order (Out output register) word) ≡ None
+    go None e n = cc
+    go (Some r) e n =
+        let one : order_of known wants r ≡ record { register = register; word = word } = cc in
+        by r e (ap (λ (o : PlanOrder). o.register) one) (ap (λ (o : PlanOrder). o.word) one)

@@ -1,0 +1,144 @@
+-- The next order by what a host knows, and when none is given: this project's own choice.
+use Rattle.std.specs.Prelude.{◌≡◌, ℕ, Bool, true, false, not, ◌&&◌, ◌||◌, if◌then◌else◌, List, [], ◌∷◌, find, Option, Some, None, is_none, is_some, option_map, Result, Ok, Err}
+use Rattle.std.specs.Option.{option_map_or, option_or}
+use Rattle.pm_num.specs.AnyFormat.{Shape, shape_value}
+use Rattle.pm_num.specs.Ratio.{Ratio, is_above, micros}
+use Rattle.pm_limits.specs.Bounds.{Bounds}
+use Rattle.pm_table.specs.declared.cell.Cell.TheVariants.{Out, Protect}
+use Rattle.pm_table.specs.declared.reg.Reg.{Reg}
+use Rattle.pm_table.specs.declared.reg.Reg.TheVariants.{Operation, VoutCommand, VoutMax, MarginHigh, MarginLow, VoutMin}
+use Rattle.pm_table.specs.Cell.{register_code, registers, same_register}
+use Rattle.pm_table.specs.Operation.{selected_register}
+use Rattle.pm_table.specs.Protection.{is_allowed}
+use Rattle.pm_table.specs.Rules.{first, rule}
+use Rattle.pm_model.specs.Commanded.{Scale}
+use Rattle.pm_host.specs.Refusals.{is_busy}
+use Rattle.pm_host.specs.Summary.{Summary, format_at, next}
+use Rattle.pm_host.specs.Transcript.{Accepted, Order}
+use Rattle.pm_limits.specs.Guard.{Guarded}
+use Rattle.pm_rail.specs.declared.fault.PlanFault.{PlanFault}
+use Rattle.pm_rail.specs.declared.fault.PlanFault.TheVariants.{Busy, FormatUnknown, BelowLimit, AboveLimit, NotKnown, BelowMin, AboveMax, Protected}
+use Rattle.pm_rail.specs.declared.orders.PlanOrder.{PlanOrder}
+use Rattle.pm_rail.specs.Known.{known_at, known_of, known_or}
+use Rattle.pm_rail.specs.Plan.{goal_of, is_due, next_register}
+use Rattle.pm_rail.specs.Registers.{Held, Wants}
+
+-- the register is selected by OPERATION, or a word is wanted of it
+abbrev pub is_meant : Held → Wants → Reg → Bool
+is_meant held wants register = same_register register (selected_register (held Operation)) || is_some (wants register)
+
+-- what is to be known: OPERATION, both limits, and the registers that are meant
+abbrev pub is_needed : Held → Wants → Reg → Bool
+is_needed held wants Operation = true
+is_needed held wants VoutMax = true
+is_needed held wants VoutMin = true
+is_needed held wants register = is_meant held wants register
+
+-- the fault of the first of several registers of which a test holds
+abbrev pub first_of : List Reg → (Reg → PlanFault) → (Reg → Bool) → Option PlanFault
+first_of listed fault test = option_map fault (find test listed)
+
+-- the registers that hold a voltage, in their order
+abbrev pub voltages : List Reg
+voltages = VoutCommand ∷ VoutMax ∷ MarginHigh ∷ MarginLow ∷ VoutMin ∷ []
+
+-- the registers that a byte of OPERATION may select
+abbrev pub selectable : List Reg
+selectable = VoutCommand ∷ MarginHigh ∷ MarginLow ∷ []
+
+-- a wanted word's value lies below another, or above
+abbrev pub is_wanted_below : Ratio → Scale → Wants → Reg → Bool
+is_wanted_below least value wants register = option_map_or (λ word. is_above least (value word)) (wants register) false
+
+abbrev pub is_wanted_above : Ratio → Scale → Wants → Reg → Bool
+is_wanted_above most value wants register = option_map_or (λ word. is_above (value word) most) (wants register) false
+
+-- P2 for a wanted word below the output's limits, P3 for one above
+abbrev pub below_fault : Ratio → Scale → Wants → Option PlanFault
+below_fault least value wants = first_of voltages (λ register. BelowLimit register) (is_wanted_below least value wants)
+
+abbrev pub above_fault : Ratio → Scale → Wants → Option PlanFault
+above_fault most value wants = first_of voltages (λ register. AboveLimit register) (is_wanted_above most value wants)
+
+abbrev pub limits_fault : Option Bounds → Scale → Wants → Option PlanFault
+limits_fault None value wants = None
+limits_fault (Some bounds) value wants =
+    option_or (below_fault (micros bounds.least) value wants) (above_fault (micros bounds.most) value wants)
+
+-- P4 for a register that is needed and isn't known
+abbrev pub is_missing : Summary → ℕ → Held → Wants → Reg → Bool
+is_missing s output held wants register =
+    is_needed held wants register && is_none (known_at s (Out output register))
+
+abbrev pub unknown_fault : Summary → ℕ → Held → Wants → Option PlanFault
+unknown_fault s output held wants =
+    first_of registers (λ register. NotKnown (Out output register)) (is_missing s output held wants)
+
+-- P5 for a word that is meant and is below VOUT_MIN at the end, P6 for one above VOUT_MAX
+abbrev pub is_below_min : Scale → Held → Wants → Reg → Bool
+is_below_min value held wants register = is_meant held wants register
+    && is_above (value (goal_of held wants VoutMin)) (value (goal_of held wants register))
+
+abbrev pub is_above_max : Scale → Held → Wants → Reg → Bool
+is_above_max value held wants register = is_meant held wants register
+    && is_above (value (goal_of held wants register)) (value (goal_of held wants VoutMax))
+
+abbrev pub words_fault : Scale → Held → Wants → Option PlanFault
+words_fault value held wants = first (
+    first_of selectable (λ register. BelowMin register) (is_below_min value held wants) ∷
+    first_of selectable (λ register. AboveMax register) (is_above_max value held wants) ∷
+    [])
+
+-- P4 for WRITE_PROTECT, where an order is due
+abbrev pub protect_fault : Summary → Scale → Held → Wants → Option PlanFault
+protect_fault s value held wants =
+    rule (is_some (next_register value held wants) && is_none (known_at s Protect)) (NotKnown Protect)
+
+-- P7 for a register that is still to get its word, where WRITE_PROTECT doesn't allow it
+abbrev pub is_protected : ℕ → Held → Wants → Reg → Bool
+is_protected protect held wants register =
+    is_due held wants register && not (is_allowed protect (register_code register))
+
+abbrev pub protection_fault : ℕ → Held → Wants → Option PlanFault
+protection_fault protect held wants =
+    first_of voltages (λ register. Protected register) (is_protected protect held wants)
+
+-- a fault, or else the answer
+abbrev pub answer : {X : Type 0} → Option PlanFault → X → Result X PlanFault
+answer None x = Ok x
+answer (Some fault) x = Err fault
+
+-- the order of a register's wanted word
+abbrev pub order_of : Held → Wants → Reg → PlanOrder
+order_of held wants register = record { register = register; word = goal_of held wants register }
+
+-- P2 and P3 by what is wanted alone, then P4, P5, P6 and P7
+abbrev pub planned_fault : Summary → Option Bounds → ℕ → Held → Wants → Scale → Option PlanFault
+planned_fault s limits output held wants value = first (
+    limits_fault limits value wants ∷
+    unknown_fault s output held wants ∷
+    protect_fault s value held wants ∷
+    words_fault value held wants ∷
+    protection_fault (known_or s Protect) held wants ∷
+    [])
+
+-- The next order by the words that are known to be held. None where each register has its wanted word.
+abbrev pub planned : Summary → Option Bounds → ℕ → Held → Wants → Scale → Result (Option PlanOrder) PlanFault
+planned s limits output held wants value = answer (planned_fault s limits output held wants value)
+    (option_map (order_of held wants) (next_register value held wants))
+
+-- P1 before these
+abbrev pub planned_in : Summary → Option Bounds → ℕ → Held → Wants → Option Shape → Result (Option PlanOrder) PlanFault
+planned_in s limits output held wants None = Err FormatUnknown
+planned_in s limits output held wants (Some shape) = planned s limits output held wants (shape_value shape)
+
+-- The next order of an output with these limits, by what a host knows; H3 before all where a job is open.
+abbrev pub plan_of : Summary → Option Bounds → ℕ → Wants → Result (Option PlanOrder) PlanFault
+plan_of s limits output wants = if is_busy s then Err Busy
+    else planned_in s limits output (known_of s output) wants (format_at s output)
+
+-- the order has begun, and the limits stay; where there is none, nothing has
+abbrev pub Begun : Guarded → ℕ → Option PlanOrder → Guarded → Type 0
+Begun old output None new = new ≡ old
+Begun old output (Some order) new =
+    (new.host ≡ next old.host (Accepted (Order (Out output order.register) order.word))) × (new.limits ≡ old.limits)

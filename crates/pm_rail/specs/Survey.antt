@@ -1,0 +1,99 @@
+-- Which registers a survey of an output reads, and when it ends: this project's own choice.
+use Rattle.std.specs.Prelude.{ℕ, ◌-◌, Bool, true, false, not, ◌&&◌, ◌||◌, ◌==◌, if◌then◌else◌, [], ◌∷◌, find, Option, Some, None, is_none, is_some, option_map}
+use Rattle.pm_table.specs.declared.cell.Cell.{Cell}
+use Rattle.pm_table.specs.declared.cell.Cell.TheVariants.{Out, Protect}
+use Rattle.pm_table.specs.declared.reg.Reg.{Reg}
+use Rattle.pm_table.specs.declared.reg.Reg.TheVariants.{Operation, VoutCommand, VoutMax, MarginHigh, MarginLow, VoutMin}
+use Rattle.pm_table.specs.Cell.{registers}
+use Rattle.pm_table.specs.Rules.{first, rule}
+use Rattle.pm_host.specs.declared.job.Job.{Job}
+use Rattle.pm_host.specs.declared.job.Job.TheVariants.{Check, Learn}
+use Rattle.pm_host.specs.declared.job_end.JobEnd.{JobEnd}
+use Rattle.pm_host.specs.declared.job_end.JobEnd.TheVariants.{Done, Learned}
+use Rattle.pm_host.specs.Summary.{Summary, format_at}
+use Rattle.pm_rail.specs.declared.survey.Reads.{Reads}
+use Rattle.pm_rail.specs.declared.survey.Survey.{Survey}
+use Rattle.pm_rail.specs.declared.wanted.Wanted.{Wanted}
+use Rattle.pm_rail.specs.Known.{known_at, known_of}
+use Rattle.pm_rail.specs.Orders.{is_missing, is_needed}
+use Rattle.pm_rail.specs.Registers.{Held, Wants, wants_of}
+
+-- no word is wanted
+abbrev pub nothing : Wanted
+nothing = record { command = None; max = None; margin_high = None; margin_low = None; min = None }
+
+-- the words that are wanted by the plan that a survey is for; none where it is for no plan
+abbrev pub wanted_in : Option Wanted → Wanted
+wanted_in None = nothing
+wanted_in (Some wanted) = wanted
+
+-- whether a cell was read
+abbrev pub has_read : Reads → Reg → Bool
+has_read r Operation = r.operation
+has_read r VoutCommand = r.command
+has_read r VoutMax = r.max
+has_read r MarginHigh = r.margin_high
+has_read r MarginLow = r.margin_low
+has_read r VoutMin = r.min
+
+abbrev pub nothing_read : Reads
+nothing_read = record { operation = false; command = false; max = false; margin_high = false; margin_low = false; min = false; protect = false }
+
+-- one more cell is read
+abbrev pub and_read : Reads → Cell → Reads
+and_read r (Out output Operation) = record r { operation = true }
+and_read r (Out output VoutCommand) = record r { command = true }
+and_read r (Out output VoutMax) = record r { max = true }
+and_read r (Out output MarginHigh) = record r { margin_high = true }
+and_read r (Out output MarginLow) = record r { margin_low = true }
+and_read r (Out output VoutMin) = record r { min = true }
+and_read r Protect = record r { protect = true }
+
+-- a survey begins
+abbrev pub survey_of : ℕ → Option Wanted → ℕ → Survey
+survey_of output plan tries = record {
+  output = output;
+  plan = plan;
+  left = tries;
+  learned = false;
+  read = nothing_read;
+  asked = None;
+}
+
+-- a register is needed, by the word of OPERATION as far as it is known, and wasn't read since the survey began
+abbrev pub is_unread : Reads → Held → Wants → Reg → Bool
+is_unread read held wants register = is_needed held wants register && not (has_read read register)
+
+-- What is still to be asked for: the format, then what wasn't read since the survey began, then what isn't known, as
+-- after an answer that showed a restart. A plan needs WRITE_PROTECT too.
+abbrev pub due_in : Survey → Summary → Held → Wants → Option Job
+due_in v s held wants = first (
+    rule (not v.learned || is_none (format_at s v.output)) (Learn v.output) ∷
+    option_map (λ register. Check (Out v.output register)) (find (is_unread v.read held wants) registers) ∷
+    rule (is_some v.plan && not v.read.protect) (Check Protect) ∷
+    option_map (λ register. Check (Out v.output register)) (find (is_missing s v.output held wants) registers) ∷
+    rule (is_some v.plan && is_none (known_at s Protect)) (Check Protect) ∷
+    [])
+
+abbrev pub due_job : Survey → Summary → Option Job
+due_job v s = due_in v s (known_of s v.output) (wants_of (wanted_in v.plan))
+
+-- nothing is still to be asked for
+abbrev pub is_surveyed : Survey → Summary → Bool
+is_surveyed v s = is_none (due_job v s)
+
+-- what the survey asks for next, while it has tries left
+abbrev pub next_job : Survey → Summary → Option Job
+next_job v s = if v.left == 0 then None else due_job v s
+
+-- the survey once it has asked: each job takes a try
+abbrev pub asking : Survey → Option Job → Survey
+asking v None = record v { asked = None }
+asking v (Some job) = record v { asked = Some job; left = v.left - 1 }
+
+-- The survey once the job that it asked for has ended: a learn that learned a format counts, and a check that is done,
+-- which has a good answer.
+abbrev pub ended : Survey → Option Job → JobEnd → Survey
+ended v (Some (Learn output)) Learned = record v { asked = None; learned = true }
+ended v (Some (Check cell)) Done = record v { asked = None; read = and_read v.read cell }
+ended v job end = record v { asked = None }

@@ -1,0 +1,41 @@
+//! The laws of a plan, over the definitions alone: each is the contract of a function that does nothing.
+
+ghost use Rattle.pm_rail.specs.Laws.{PlansAreAccepted, PlansAreOfWhatIsHeld, PlansAreWithoutGlitch, PlansCutNothing, PlansEnd, SurveysEndKnown};
+
+/// Where the output isn't cut by the words at the end, each order of the plan leaves what it commands, or makes it
+/// what it commands at the end (`one`), and so does any number of them from any moment on (`any`). So it never commands
+/// anything but its first value and its last, and changes once at most.
+pub fn plans_are_without_glitch()
+    ensures { PlansAreWithoutGlitch }
+{}
+
+/// Each order is of a wanted word that its register doesn't have (`due`); where none is left, each register has its
+/// wanted word (`done`), and that is so after five orders at most (`five`).
+pub fn plans_end()
+    ensures { PlansEnd }
+{}
+
+/// Where an output isn't cut, neither by its words nor by those at the end, no order cuts it; and no order cuts what any
+/// other byte of OPERATION would select, where that isn't cut either.
+pub fn plans_cut_nothing()
+    ensures { PlansCutNothing }
+{}
+
+/// What a plan answers by what is known is what it answers for the words that are held, whichever of the possible ones
+/// these are: the next order is theirs (`next`), the output isn't cut by the words at the end (`uncut`), and where no
+/// order is left each wanted word is held (`done`).
+pub fn plans_are_of_what_is_held()
+    ensures { PlansAreOfWhatIsHeld }
+{}
+
+/// An order that a plan gives by a guard's limits is one that the guard lets through and its host accepts.
+pub fn plans_are_accepted()
+    ensures { PlansAreAccepted }
+{}
+
+/// A survey that has nothing left to ask for has its answers: since it began the format was learned and is known
+/// (`format`), each register that is needed was read and is known (`known`), and for a plan WRITE_PROTECT too
+/// (`protection`). Where it has tries left it asks as long as this isn't so, and each job takes one (`asks`).
+pub fn surveys_end_known()
+    ensures { SurveysEndKnown }
+{}

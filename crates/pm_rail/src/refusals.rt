@@ -1,0 +1,284 @@
+//! Why no order of a plan is given.
+
+ghost use Rattle.std.specs.Prelude.{◌≡◌, ◌<◌, ◌≤◌, ◌^◌, None, find, unsigned_abs};
+ghost use Rattle.pm_num.specs.AnyFormat.{any_value};
+ghost use Rattle.pm_num.specs.Ratio.{is_above as spec_is_above, micros};
+ghost use Rattle.pm_table.specs.Cell.{registers};
+ghost use Rattle.pm_host.specs.Image.{held as state_held};
+ghost use Rattle.pm_rail.specs.Known.{known_or as spec_known_or};
+ghost use Rattle.pm_rail.specs.Orders.{above_fault, below_fault, is_above_max as spec_is_above_max, is_below_min as spec_is_below_min, is_meant as spec_is_meant, is_missing as spec_is_missing, is_needed as spec_is_needed, is_protected as spec_is_protected, is_wanted_above as spec_is_wanted_above, is_wanted_below as spec_is_wanted_below, limits_fault, planned_fault, protection_fault, unknown_fault, words_fault};
+ghost use Rattle.pm_rail.specs.Plan.{next_register};
+ghost use Rattle.pm_rail.specs.Registers.{held_by, wants_of};
+
+use crate::fault::PlanFault;
+use crate::known::{known_at, known_or};
+use crate::plan::goal;
+use crate::registers::Registers;
+use crate::wanted::Wanted;
+use pm_host::State;
+use pm_limits::Limits;
+use pm_num::{AnyFormat, Frac, NumFormat, micro};
+use pm_table::{Cell, Operation, Reg, is_allowed};
+use std::cmp::Ordering;
+
+/// P2 to P7, by the words that are known to be held and the register that is next.
+pub(crate) fn refuse(
+    host: &State,
+    limits: &Option<Limits>,
+    output: u8,
+    held: &Registers,
+    wanted: &Wanted,
+    format: &AnyFormat,
+    next: Option<Reg>,
+) -> Option<PlanFault>
+    requires output { output < 8 }
+    requires next { next ≡ next_register (any_value format.now) (held_by held.now) (wants_of wanted.now) }
+    ensures { result ≡ planned_fault (state_held None host.now) limits.now output (held_by held.now) (wants_of wanted.now) (any_value format.now) }
+{
+    if let Some(fault) = refuse_limits(limits, format, wanted) {
+        return Some(fault);
+    }
+    if let Some(fault) = refuse_unknown(host, output, held, wanted) {
+        return Some(fault);
+    }
+    if next.is_some() && known_at(host, Cell::Protect).is_none() {
+        return Some(PlanFault::NotKnown(Cell::Protect));
+    }
+    if let Some(fault) = refuse_words(format, held, wanted) {
+        return Some(fault);
+    }
+    refuse_protected(known_or(host, Cell::Protect), held, wanted)
+}
+
+// P2 and P3.
+fn refuse_limits(limits: &Option<Limits>, format: &AnyFormat, wanted: &Wanted) -> Option<PlanFault>
+    ensures { result ≡ limits_fault limits.now (any_value format.now) (wants_of wanted.now) }
+{
+    match limits {
+        Some(limits) => {
+            let ends = ends_of(limits);
+            refuse_below(&ends.least, format, wanted).or(refuse_above(&ends.most, format, wanted))
+        }
+        None => None,
+    }
+}
+
+// P2: the first register of which a lower word is wanted.
+fn refuse_below(least: &Frac, format: &AnyFormat, wanted: &Wanted) -> Option<PlanFault>
+    ensures { result ≡ below_fault least.now (any_value format.now) (wants_of wanted.now) }
+{
+    if is_wanted_below(least, format, wanted, Reg::VoutCommand) {
+        Some(PlanFault::BelowLimit(Reg::VoutCommand))
+    } else if is_wanted_below(least, format, wanted, Reg::VoutMax) {
+        Some(PlanFault::BelowLimit(Reg::VoutMax))
+    } else if is_wanted_below(least, format, wanted, Reg::MarginHigh) {
+        Some(PlanFault::BelowLimit(Reg::MarginHigh))
+    } else if is_wanted_below(least, format, wanted, Reg::MarginLow) {
+        Some(PlanFault::BelowLimit(Reg::MarginLow))
+    } else if is_wanted_below(least, format, wanted, Reg::VoutMin) {
+        Some(PlanFault::BelowLimit(Reg::VoutMin))
+    } else {
+        None
+    }
+}
+
+// P3: the first register of which a higher word is wanted.
+fn refuse_above(most: &Frac, format: &AnyFormat, wanted: &Wanted) -> Option<PlanFault>
+    ensures { result ≡ above_fault most.now (any_value format.now) (wants_of wanted.now) }
+{
+    if is_wanted_above(most, format, wanted, Reg::VoutCommand) {
+        Some(PlanFault::AboveLimit(Reg::VoutCommand))
+    } else if is_wanted_above(most, format, wanted, Reg::VoutMax) {
+        Some(PlanFault::AboveLimit(Reg::VoutMax))
+    } else if is_wanted_above(most, format, wanted, Reg::MarginHigh) {
+        Some(PlanFault::AboveLimit(Reg::MarginHigh))
+    } else if is_wanted_above(most, format, wanted, Reg::MarginLow) {
+        Some(PlanFault::AboveLimit(Reg::MarginLow))
+    } else if is_wanted_above(most, format, wanted, Reg::VoutMin) {
+        Some(PlanFault::AboveLimit(Reg::VoutMin))
+    } else {
+        None
+    }
+}
+
+// The least and the most of limits as fractions.
+#[derive(Clone, Copy)]
+struct Ends {
+    least: Frac,
+    most: Frac,
+}
+
+fn ends_of(limits: &Limits) -> Ends
+    ensures least { result.least ≡ micros limits.now.least }
+    ensures most { result.most ≡ micros limits.now.most }
+{
+    Ends {
+        least: volts(limits.least()),
+        most: volts(limits.most()),
+    }
+}
+
+// This many microvolts as a fraction.
+fn volts(x: i64) -> Frac
+    requires { unsigned_abs x ≤ 10 ^ 15 }
+    ensures { result ≡ micros x }
+{
+    match micro(x) {
+        Ok(value) => value,
+        Err(_) => unreachable!(),
+    }
+}
+
+// Whether the first value is the greater one.
+fn is_above(p: &Frac, q: &Frac) -> bool
+    ensures { result ≡ spec_is_above p.now q.now }
+{
+    p.cmp_value(q) == Ordering::Greater
+}
+
+// Whether a word is wanted of the register and lies below.
+fn is_wanted_below(least: &Frac, format: &AnyFormat, wanted: &Wanted, register: Reg) -> bool
+    ensures { result ≡ spec_is_wanted_below least.now (any_value format.now) (wants_of wanted.now) register }
+{
+    match wanted.word(register) {
+        Some(word) => is_above(least, &format.value_of(word)),
+        None => false,
+    }
+}
+
+// Whether a word is wanted of the register and lies above.
+fn is_wanted_above(most: &Frac, format: &AnyFormat, wanted: &Wanted, register: Reg) -> bool
+    ensures { result ≡ spec_is_wanted_above most.now (any_value format.now) (wants_of wanted.now) register }
+{
+    match wanted.word(register) {
+        Some(word) => is_above(&format.value_of(word), most),
+        None => false,
+    }
+}
+
+// P4 for a register.
+fn refuse_unknown(host: &State, output: u8, held: &Registers, wanted: &Wanted) -> Option<PlanFault>
+    requires { output < 8 }
+    ensures { result ≡ unknown_fault (state_held None host.now) output (held_by held.now) (wants_of wanted.now) }
+{
+    match first_missing(host, output, held, wanted) {
+        Some(register) => Some(PlanFault::NotKnown(Cell::Out(output, register))),
+        None => None,
+    }
+}
+
+/// The first register that is needed and isn't known.
+pub(crate) fn first_missing(
+    host: &State,
+    output: u8,
+    held: &Registers,
+    wanted: &Wanted,
+) -> Option<Reg>
+    requires { output < 8 }
+    ensures { result ≡ find (spec_is_missing (state_held None host.now) output (held_by held.now) (wants_of wanted.now)) registers }
+{
+    if is_missing(host, output, held, wanted, Reg::Operation) {
+        Some(Reg::Operation)
+    } else if is_missing(host, output, held, wanted, Reg::VoutCommand) {
+        Some(Reg::VoutCommand)
+    } else if is_missing(host, output, held, wanted, Reg::VoutMax) {
+        Some(Reg::VoutMax)
+    } else if is_missing(host, output, held, wanted, Reg::MarginHigh) {
+        Some(Reg::MarginHigh)
+    } else if is_missing(host, output, held, wanted, Reg::MarginLow) {
+        Some(Reg::MarginLow)
+    } else if is_missing(host, output, held, wanted, Reg::VoutMin) {
+        Some(Reg::VoutMin)
+    } else {
+        None
+    }
+}
+
+// Whether a register is needed and isn't known.
+fn is_missing(host: &State, output: u8, held: &Registers, wanted: &Wanted, register: Reg) -> bool
+    requires { output < 8 }
+    ensures { result ≡ spec_is_missing (state_held None host.now) output (held_by held.now) (wants_of wanted.now) register }
+{
+    is_needed(held, wanted, register) && known_at(host, Cell::Out(output, register)).is_none()
+}
+
+/// Whether what a register holds is to be known.
+pub(crate) fn is_needed(held: &Registers, wanted: &Wanted, register: Reg) -> bool
+    ensures { result ≡ spec_is_needed (held_by held.now) (wants_of wanted.now) register }
+{
+    match register {
+        Reg::Operation | Reg::VoutMax | Reg::VoutMin => true,
+        _ => is_meant(held, wanted, register),
+    }
+}
+
+// Whether a register is selected, or a word is wanted of it.
+fn is_meant(held: &Registers, wanted: &Wanted, register: Reg) -> bool
+    ensures { result ≡ spec_is_meant (held_by held.now) (wants_of wanted.now) register }
+{
+    register.code() == Operation::selected_register(held.operation).code()
+        || wanted.word(register).is_some()
+}
+
+// P5 and P6.
+fn refuse_words(format: &AnyFormat, held: &Registers, wanted: &Wanted) -> Option<PlanFault>
+    ensures { result ≡ words_fault (any_value format.now) (held_by held.now) (wants_of wanted.now) }
+{
+    if is_below_min(format, held, wanted, Reg::VoutCommand) {
+        Some(PlanFault::BelowMin(Reg::VoutCommand))
+    } else if is_below_min(format, held, wanted, Reg::MarginHigh) {
+        Some(PlanFault::BelowMin(Reg::MarginHigh))
+    } else if is_below_min(format, held, wanted, Reg::MarginLow) {
+        Some(PlanFault::BelowMin(Reg::MarginLow))
+    } else if is_above_max(format, held, wanted, Reg::VoutCommand) {
+        Some(PlanFault::AboveMax(Reg::VoutCommand))
+    } else if is_above_max(format, held, wanted, Reg::MarginHigh) {
+        Some(PlanFault::AboveMax(Reg::MarginHigh))
+    } else if is_above_max(format, held, wanted, Reg::MarginLow) {
+        Some(PlanFault::AboveMax(Reg::MarginLow))
+    } else {
+        None
+    }
+}
+
+// Whether a register is meant and is to be below VOUT_MIN.
+fn is_below_min(format: &AnyFormat, held: &Registers, wanted: &Wanted, register: Reg) -> bool
+    ensures { result ≡ spec_is_below_min (any_value format.now) (held_by held.now) (wants_of wanted.now) register }
+{
+    let word = goal(held, wanted, register);
+    is_meant(held, wanted, register) && format.is_above(goal(held, wanted, Reg::VoutMin), word)
+}
+
+// Whether a register is meant and is to be above VOUT_MAX.
+fn is_above_max(format: &AnyFormat, held: &Registers, wanted: &Wanted, register: Reg) -> bool
+    ensures { result ≡ spec_is_above_max (any_value format.now) (held_by held.now) (wants_of wanted.now) register }
+{
+    let word = goal(held, wanted, register);
+    is_meant(held, wanted, register) && format.is_above(word, goal(held, wanted, Reg::VoutMax))
+}
+
+// P7.
+fn refuse_protected(protect: u16, held: &Registers, wanted: &Wanted) -> Option<PlanFault>
+    ensures { result ≡ protection_fault protect (held_by held.now) (wants_of wanted.now) }
+{
+    if is_protected(protect, held, wanted, Reg::VoutCommand) {
+        Some(PlanFault::Protected(Reg::VoutCommand))
+    } else if is_protected(protect, held, wanted, Reg::VoutMax) {
+        Some(PlanFault::Protected(Reg::VoutMax))
+    } else if is_protected(protect, held, wanted, Reg::MarginHigh) {
+        Some(PlanFault::Protected(Reg::MarginHigh))
+    } else if is_protected(protect, held, wanted, Reg::MarginLow) {
+        Some(PlanFault::Protected(Reg::MarginLow))
+    } else if is_protected(protect, held, wanted, Reg::VoutMin) {
+        Some(PlanFault::Protected(Reg::VoutMin))
+    } else {
+        None
+    }
+}
+
+// Whether a register is still to get its word, and WRITE_PROTECT doesn't allow it.
+fn is_protected(protect: u16, held: &Registers, wanted: &Wanted, register: Reg) -> bool
+    ensures { result ≡ spec_is_protected protect (held_by held.now) (wants_of wanted.now) register }
+{
+    goal(held, wanted, register) != held.word(register) && !is_allowed(protect, register.code())
+}

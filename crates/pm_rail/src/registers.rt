@@ -1,0 +1,38 @@
+ghost use Rattle.std.specs.Prelude.{◌≡◌};
+
+use pm_table::Reg;
+
+/// The words of an output's registers.
+#[derive(Clone, Copy, Debug, PartialEq, Eq)]
+pub struct Registers {
+    /// OPERATION.
+    pub operation: u16,
+    /// VOUT_COMMAND.
+    pub command: u16,
+    /// VOUT_MAX.
+    pub max: u16,
+    /// VOUT_MARGIN_HIGH.
+    pub margin_high: u16,
+    /// VOUT_MARGIN_LOW.
+    pub margin_low: u16,
+    /// VOUT_MIN.
+    pub min: u16,
+}
+
+impl Registers {
+    ghost use Rattle.pm_rail.specs.Registers.{held_by};
+
+    /// The word of a register.
+    pub fn word(&self, register: Reg) -> u16
+        ensures { result ≡ held_by self.now register }
+    {
+        match register {
+            Reg::Operation => self.operation,
+            Reg::VoutCommand => self.command,
+            Reg::VoutMax => self.max,
+            Reg::MarginHigh => self.margin_high,
+            Reg::MarginLow => self.margin_low,
+            Reg::VoutMin => self.min,
+        }
+    }
+}
