@@ -22,7 +22,12 @@ static ENDS: [(u8, u16, &str, JobEnd); 18] = [
     (2, 0x00, "order lost ack mute whole nack read", JobEnd::Done),
     (2, 0x00, "order lost ack mute lost ack read", DIFFERS),
     (2, 0x40, "order lost ack read whole ack read", DIFFERS),
-    (3, 0x40, "order whole ack mute whole ack mute whole ack read", DIFFERS),
+    (
+        3,
+        0x40,
+        "order whole ack mute whole ack mute whole ack read",
+        DIFFERS,
+    ),
     (1, 0x00, "check read", JobEnd::Done),
     (2, 0x00, "check mute read", JobEnd::Done),
     (2, 0x00, "learn mute read", JobEnd::Learned),
