@@ -12,6 +12,7 @@ import shlex
 import subprocess
 import sysconfig
 import tempfile
+import tomllib
 import zipfile
 
 HOME = os.path.dirname(os.path.dirname(os.path.abspath(__file__)))
@@ -19,13 +20,18 @@ CRATES = ("pm_c", "pm_part")
 LIBRARY = "libpmhost.so"
 # The files of the package that are no programs are data that its modules read.
 KINDS = (".py", ".typed", ".json", ".toml", ".txt")
-COMMANDS = "[console_scripts]\npmhost = pmhost.cli:main\n"
 
 
 def setting(name):
-    """A setting of pyproject.toml, which stands in one line there."""
-    with open(os.path.join(HOME, "pyproject.toml"), encoding="utf-8") as text:
-        return re.search(rf'^{name} = "([^"]*)"$', text.read(), re.MULTILINE)[1]
+    """A setting of the project in pyproject.toml."""
+    with open(os.path.join(HOME, "pyproject.toml"), "rb") as text:
+        return tomllib.load(text)["project"][name]
+
+
+def commands():
+    """The commands of the project, as an installer reads them."""
+    lines = [f"{name} = {call}" for name, call in setting("scripts").items()]
+    return "\n".join(["[console_scripts]", *lines, ""])
 
 
 def stem():
@@ -97,7 +103,7 @@ def add_facts(wheel):
     folder = f"{stem()}.dist-info"
     wheel.add(f"{folder}/METADATA", metadata().encode())
     wheel.add(f"{folder}/WHEEL", wheel_facts().encode())
-    wheel.add(f"{folder}/entry_points.txt", COMMANDS.encode())
+    wheel.add(f"{folder}/entry_points.txt", commands().encode())
     wheel.close(folder)
 
 

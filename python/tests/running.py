@@ -3,11 +3,13 @@ import contextlib
 import io
 import os
 import shutil
+import signal
 import subprocess
 import sys
 import unittest
 
 from pmhost import cli, programs
+from pmhost.bus.linux import ENDING
 
 HERE = os.path.dirname(os.path.abspath(__file__))
 DATA = os.path.join(HERE, "data")
@@ -21,6 +23,12 @@ def around(**more):
     found = {name: it for name, it in os.environ.items() if name != "PYTHONUNBUFFERED"}
     path = os.pathsep.join([SOURCE, *filter(None, [os.environ.get("PYTHONPATH")])])
     return {**found, "PYTHONPATH": path, "PYTHONDONTWRITEBYTECODE": "1", "COLUMNS": "100", **more}
+
+
+def with_signals():
+    """In a process that is to be interrupted: a shell may have started the tests with signals ignored, which a process goes by."""
+    for each in ENDING:
+        signal.signal(each, signal.SIG_DFL)
 
 
 def command(*words):

@@ -2,6 +2,7 @@
 and back, and run."""
 import os
 import select
+import shutil
 import signal
 import stat
 import subprocess
@@ -218,7 +219,7 @@ class Streams(unittest.TestCase):
 
     def test_an_interrupt_ends_a_live_capture_without_a_word(self):
         with subprocess.Popen(running.command("capture", "linux"), stdin=subprocess.PIPE, stdout=subprocess.PIPE,
-                              stderr=subprocess.PIPE, text=True, env=running.around()) as ran:
+                              stderr=subprocess.PIPE, text=True, env=running.around(), preexec_fn=running.with_signals) as ran:
             ran.stdin.write(capture("bus.linux"))
             ran.stdin.flush()
             ran.stdout.readline()
@@ -268,7 +269,11 @@ class Frames(unittest.TestCase):
                 self.assertEqual(pmhost("capture", "i2ctransfer", "--back", text=text)[:2], (1, ""))
 
     def test_each_end_of_a_command(self):
+        installed = shutil.which("i2ctransfer", path="/usr/bin:/bin:/usr/sbin:/sbin")
         for words, frames, tool, *wanted in TRANSFERS:
+            if tool is None and installed:
+                # Without a stand-in the machine's own one would run.
+                continue
             with self.subTest(f"{words} {tool}"), tempfile.TemporaryDirectory() as folder:
                 put(folder, "i2ctransfer", f"#!/bin/sh\n{tool}\n")
                 found = pmhost("capture", "i2ctransfer", *words.split(), text=frames, PATH=f"{folder}:/usr/bin:/bin")

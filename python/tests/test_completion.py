@@ -10,7 +10,8 @@ from .runs import called
 
 # Words behind pmhost, the last of which is completed, and what it becomes.
 ROWS = [(["pro"], "probe"), (["-b", "d"], "desk"), (["-b", "desk", "set", "0", "3V", "VOUT_MARGIN_H"], "VOUT_MARGIN_HIGH"),
-        (["-b", "desk", "set", "0", "3V", "+", "mar"], "margin"), (["margin", "0", "h"], "high"), (["set", "0", "3V", "--no"], "--no-limit"),
+        (["-b", "desk", "set", "0", "3V", "+", "mar"], "margin"), (["margin", "0", "h"], "high"),
+        (["set", "0", "3V", "--no"], "--no-limit"),
         (["apply", "--dry"], "--dry-run"), (["apply", "/etc/pass"], "/etc/passwd"), (["--trace", "/etc/pass"], "/etc/passwd"),
         (["read", "-", "WRITE"], "WRITE_PROTECT"), (["learn", "VOUT"], "")]
 
@@ -21,7 +22,8 @@ class Completion(unittest.TestCase):
         script = bash(*cli.parser())
         for words, wanted in ROWS:
             with self.subTest(words=words):
-                ask = f'COMP_WORDS=(pmhost "$@"); COMP_CWORD=$#; _pmhost; for it in "${{COMPREPLY[@]}}"; do [[ $it == {words[-1]}* ]] && echo "$it"; done'
+                ask = (f'COMP_WORDS=(pmhost "$@"); COMP_CWORD=$#; _pmhost; for it in "${{COMPREPLY[@]}}"; do '
+                       f'[[ $it == {words[-1]}* ]] && echo "$it"; done')
                 ran = subprocess.run(["bash", "-c", f"{script}\n{ask}", "bash", *words], capture_output=True, text=True, check=False)
                 found = [line for line in ran.stdout.splitlines() if not line.startswith("/etc/passwd-")]
                 self.assertEqual((" ".join(found), ran.stderr), (wanted, ""))

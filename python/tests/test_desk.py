@@ -89,7 +89,7 @@ class Mishaps(unittest.TestCase):
 class Signals(unittest.TestCase):
     def test_an_interrupt_ends_a_desk_in_one_line(self):
         with subprocess.Popen(running.command("desk", "--runs=100000"), stdout=subprocess.PIPE, stderr=subprocess.PIPE, text=True,
-                              env=running.around(PMBPART=self.told_part())) as ran:
+                              env=running.around(PMBPART=self.told_part()), preexec_fn=running.with_signals) as ran:
             self.assertTrue(wait_for(self.begun), "the part was never started")
             ran.send_signal(signal.SIGINT)
             out, errors = ran.communicate(timeout=60)

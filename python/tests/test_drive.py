@@ -17,7 +17,8 @@ def drive(*words, text):
 class Drive(unittest.TestCase):
     @needs("pmbhost")
     def test_an_order_and_a_refusal(self):
-        status, out, err = drive("desk", "58", "2", "0:3135000:3465000", text="learn 0\nvolts 0 VOUT_COMMAND 3300000\nstate 0 VOUT_COMMAND\n")
+        status, out, err = drive("desk", "58", "2", "0:3135000:3465000",
+                                 text="learn 0\nvolts 0 VOUT_COMMAND 3300000\nstate 0 VOUT_COMMAND\n")
         self.assertEqual((status, err), (0, ""))
         self.assertEqual(out, "learn 0: ended learned\nvolts 0 VOUT_COMMAND 3300000: ended done\n"
                               "state 0 VOUT_COMMAND: state confirmed 34CD possible 34CD\n")

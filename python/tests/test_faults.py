@@ -43,7 +43,8 @@ class Faults(unittest.TestCase):
         pmbus = faulty(["error"] * 8)
         with self.assertRaises(Unknown) as raised:
             pmbus.check(0)
-        self.assertEqual(str(raised.exception), "check 0 VOUT_COMMAND at 58h: no good answer: 2 transfers failed, the last: Remote I/O error")
+        self.assertEqual(str(raised.exception), "check 0 VOUT_COMMAND at 58h: no good answer: 2 transfers failed, the last: "
+                                                "Remote I/O error")
         self.assertIsInstance(raised.exception.__cause__, OSError)
 
     def test_no_confirmed_word_is_wrong_over_random_lives(self):

@@ -2,6 +2,7 @@
 import ast
 import os
 import sys
+import tomllib
 import unittest
 
 import pmhost
@@ -28,6 +29,17 @@ def imported(path):
             yield from (alias.name.partition(".")[0] for alias in node.names)
         elif isinstance(node, ast.ImportFrom) and node.level == 0 and node.module:
             yield node.module.partition(".")[0]
+
+
+class Project(unittest.TestCase):
+    def test_the_version_and_the_python_are_those_of_pyproject(self):
+        path = os.path.join(os.path.dirname(os.path.dirname(FOLDER)), "pyproject.toml")
+        if not os.path.isfile(path):
+            self.skipTest("the package is installed elsewhere")
+        with open(path, "rb") as text:
+            project = tomllib.load(text)["project"]
+        self.assertEqual((project["version"], project["requires-python"]), (pmhost.__version__, ">=3.11"))
+        self.assertEqual(project["scripts"], {"pmhost": "pmhost.cli:main"})
 
 
 class Imports(unittest.TestCase):

@@ -6,6 +6,7 @@ import subprocess
 import sys
 import unittest
 
+from .running import with_signals
 from .runs import called
 
 HERE = os.path.dirname(os.path.abspath(__file__))
@@ -44,7 +45,8 @@ def run(words, redirections="", mishaps="", around=None):
     """A process in a shell's words."""
     given = ["bash", "-c", f'"$@" {redirections}', "bash", sys.executable, "-c", RUNNER, os.path.dirname(HERE), mishaps, *words.split()]
     env = {name: it for name, it in os.environ.items() if name != "PYTHONUNBUFFERED"} | (around or {})
-    return subprocess.run(given, capture_output=True, text=True, env=env, start_new_session=True, check=False)
+    return subprocess.run(given, capture_output=True, text=True, env=env, start_new_session=True, check=False,
+                          preexec_fn=with_signals)
 
 
 class Processes(unittest.TestCase):
@@ -55,12 +57,23 @@ class Processes(unittest.TestCase):
                 self.assertEqual((ran.stdout, ran.stderr, ran.returncode), (out, err, status))
 
     def test_signals_that_are_ignored_stay_ignored(self):
-        given = ["bash", "-c", 'trap "" INT HUP; "$@"', "bash", sys.executable, "-c", RUNNER, os.path.dirname(HERE), "sighup", *ORDER.split()]
+        given = ["bash", "-c", 'trap "" INT HUP; "$@"', "bash", sys.executable, "-c", RUNNER, os.path.dirname(HERE), "sighup",
+                 *ORDER.split()]
         ran = subprocess.run(given, capture_output=True, text=True, start_new_session=True, check=False)
         self.assertEqual((ran.returncode, ran.stdout, ran.stderr), (0, DONE, ""))
 
+    def test_a_second_signal_is_not_heard(self):
+        """Four signals while a transfer is under way: one line, and one status."""
+        twice = RUNNER.replace("from pmhost import cli\n", "from pmhost import cli\nimport os, signal\nkernel.SIGNALS['twice_int'] = "
+                               "lambda: [os.kill(os.getpid(), each) for each in (signal.SIGINT, signal.SIGTERM, signal.SIGHUP, signal.SIGQUIT)]\n")
+        ran = subprocess.run([sys.executable, "-c", twice, os.path.dirname(HERE), "ok twice_int", *ORDER.split()], capture_output=True,
+                             text=True, check=False, preexec_fn=with_signals)
+        self.assertEqual((ran.returncode, ran.stdout, ran.stderr), (
+            130, "", "pmhost: interrupted during word 0 OPERATION 80: output 0 OPERATION may hold the old or the ordered word\n"))
+
     def test_both_names_of_the_command(self):
-        for given in ([sys.executable, "-m", "pmhost"], [sys.executable, "-c", "import sys; from pmhost.cli import main; sys.exit(main())"]):
+        script = "import sys; from pmhost.cli import main; sys.exit(main())"
+        for given in ([sys.executable, "-m", "pmhost"], [sys.executable, "-c", script]):
             ran = subprocess.run([*given, "-b", "desk", "read", "0"], capture_output=True, text=True, check=False)
             self.assertEqual((ran.returncode, ran.stdout), (0, "read 0: VOUT_COMMAND 1000 1V confirmed\n"))
 

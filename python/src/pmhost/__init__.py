@@ -20,8 +20,8 @@ from .transfers import Transfers
 from .values import CODES, LINEAR11, Format
 
 __all__ = [
-    "__version__", "Band", "Bus", "CODES", "DeskBus", "Differs", "Format", "FrameRefused", "Host", "HostRefused", "Known", "LINEAR11", "LimitRefused",
-    "Limits", "LinuxBus", "MemoryRefused", "NoBus", "NoTransfer", "NotDone", "NumberRefused", "Output", "Packet", "Part", "PartBus", "PartRefused",
-    "PmhostError", "Pmbus", "Refused", "Sending", "SetupRefused", "Smbus2Bus", "Step", "Transfers", "Unknown", "pec", "read_answer",
-    "read_request", "read_write",
+    "Band", "Bus", "CODES", "DeskBus", "Differs", "Format", "FrameRefused", "Host", "HostRefused", "Known", "LINEAR11",
+    "LimitRefused", "Limits", "LinuxBus", "MemoryRefused", "NoBus", "NoTransfer", "NotDone", "NumberRefused", "Output", "Packet",
+    "Part", "PartBus", "PartRefused", "PmhostError", "Pmbus", "Refused", "Sending", "SetupRefused", "Smbus2Bus", "Step",
+    "Transfers", "Unknown", "__version__", "pec", "read_answer", "read_request", "read_write",
 ]

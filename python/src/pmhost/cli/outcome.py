@@ -51,7 +51,8 @@ def answer_of(arguments: argparse.Namespace, part: Pmbus, register: str | None, 
 
 def refused(arguments: argparse.Namespace, part: Pmbus, register: str | None, fault: Refused) -> Answer:
     """The host refused a job: nothing was sent."""
-    return answer_of(arguments, part, register, "refused", status=1, text=f"refused {fault.letter} {fault.name}", refusal=f"{fault.letter} {fault.name}",
+    refusal = f"{fault.letter} {fault.name}"
+    return answer_of(arguments, part, register, "refused", status=1, text=f"refused {refusal}", refusal=refusal,
                      why=SAYINGS.get(fault.letter, fault.name))
 
 
