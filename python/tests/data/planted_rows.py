@@ -56,7 +56,7 @@ PLANTED = [
      "test_desk.Arrivals"),
     ("a refused job went well", "desk/both.py", "return answer, answer.startswith(WELL)", "return answer, True", "test_desk.Mishaps"),
     ("a seed isn't used", "cli/desk.py", "random.Random(arguments.seed)", "random.Random()", "test_desk.Mishaps"),
-    ("passes aren't those of the call", "cli/desk.py", "arguments.setup, arguments.tries, tell", "arguments.setup, 3, tell", "test_desk.Mishaps"),
+    ("passes aren't those of the call", "cli/desk.py", "arguments.setup, arguments.tries, silent", "arguments.setup, 3, silent", "test_desk.Mishaps"),
     ("the environment's program isn't taken", "programs.py", "    if named is not None:", "    if False:", "test_desk.Programs"),
     # ---- Pictures and timelines ----
     ("doubt is confirmed", "picture/life.py", '"doubtful" if known.possible is None else "confirmed"', '"confirmed"', "test_pictures.Scenarios"),
