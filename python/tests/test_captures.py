@@ -2,7 +2,6 @@
 and back, and run."""
 import os
 import select
-import shutil
 import signal
 import stat
 import subprocess
@@ -269,11 +268,7 @@ class Frames(unittest.TestCase):
                 self.assertEqual(pmhost("capture", "i2ctransfer", "--back", text=text)[:2], (1, ""))
 
     def test_each_end_of_a_command(self):
-        installed = shutil.which("i2ctransfer", path="/usr/bin:/bin:/usr/sbin:/sbin")
         for words, frames, tool, *wanted in TRANSFERS:
-            if tool is None and installed:
-                # Without a stand-in the machine's own one would run.
-                continue
             with self.subTest(f"{words} {tool}"), tempfile.TemporaryDirectory() as folder:
                 put(folder, "i2ctransfer", f"#!/bin/sh\n{tool}\n")
                 found = pmhost("capture", "i2ctransfer", *words.split(), text=frames, PATH=f"{folder}:/usr/bin:/bin")

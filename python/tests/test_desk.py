@@ -265,5 +265,6 @@ class Programs(unittest.TestCase):
         self.addCleanup(gone.abandon)
         self.assertRaisesRegex(programs.NoAnswer, "it ended: why", gone.ask, "x")
         well = programs.Coprocess(["/bin/sh", "-c", "read line; echo $line; cat; echo more; echo fault >&2; exit 4"], "it")
+        self.assertNotEqual(os.getpgid(well.process.pid), os.getpgid(0), "a signal to the group reaches it")
         self.assertEqual((well.ask("said"), well.close()), ("said", (4, b"more\n", "fault\n")))
-        self.assertRaisesRegex(programs.NoAnswer, "No such file", programs.Coprocess, ["/no/such/program"], "it")
+        self.assertRaisesRegex(programs.NoAnswer, "No such file", programs.Coprocess, ["/no/such/program", "word"], "it")
