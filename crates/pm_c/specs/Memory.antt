@@ -27,7 +27,7 @@ pub record IsMemory (image : GuardImage) : Type 0 where
 abbrev pub memory_of : Guarded → GuardImage
 memory_of g = record { host = image_of g.host; unused = 0; limits = map limits_image g.limits }
 
--- Memory that is written so is that of the host that it means. So the memories of two hosts that mean the same are equal.
+-- Memory that is written so is that of the host that it means: two hosts that mean the same have equal memories.
 pub record MemoriesAreMeanings : Type 0 where
   pub meant : (image : GuardImage) (g : Guarded) → IsMemory image → guard_of image ≡ Some g → image ≡ memory_of g
   pub equal : (a b : GuardImage) (g : Guarded) → IsMemory a → IsMemory b → guard_of a ≡ Some g → guard_of b ≡ Some g → a ≡ b

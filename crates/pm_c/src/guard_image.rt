@@ -1,11 +1,9 @@
-ghost use Rattle.std.specs.Prelude.{◌≡◌, ◌<◌, true, map, slice_index_or, slice_set, Some, None, IfOk, OnOk, OnErr};
-ghost use Rattle.pm_host.specs.Image.{held, host_of, is_current};
-ghost use Rattle.pm_host.specs.Sound.{IsSound};
+ghost use Rattle.std.specs.Prelude.{◌≡◌, ◌<◌, map, slice_index_or, slice_set, Some, None};
 ghost use Rattle.pm_c.specs.Guard.{job_limits, limits_held, limits_kept, no_limits};
 ghost use Rattle.pm_c.specs.Memory.{limits_image, AreLimits, IsMemory};
 ghost use Rattle.pm_host.specs.Memory.{IsImage};
 
-use pm_host::{Image, Job, NoHost, Stage};
+use pm_host::{Image, Job};
 use pm_limits::{Limits, ordered_output};
 
 /// How many outputs a device has at most.
@@ -70,18 +68,6 @@ impl GuardImage {
             unused: 0,
             limits: [LimitsImage { least: 0, most: 0 }; OUTPUTS],
         }
-    }
-
-    /// Where the open job stands, as `Image::read_stage` says, whose code each call of an order has for itself. All
-    /// other calls ask here, and share it.
-    #[inline(never)]
-    pub(crate) fn open_stage(&self) -> Result<Option<Stage>, NoHost>
-        ensures found { IfOk result (λ stage. host_of self.now.host ≡ Some (held stage self.now.host.state)) }
-        ensures sound { IfOk result (λ stage. IsSound (held stage self.now.host.state)) }
-        ensures current { OnOk result (is_current self.now.host ≡ true) }
-        ensures other { OnErr result (host_of self.now.host ≡ None) }
-    {
-        self.host.read_stage()
     }
 
     /// No output has limits.

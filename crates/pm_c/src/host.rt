@@ -71,17 +71,9 @@ pub extern "C" fn pm_host_new(host: &mut GuardImage, address: u8, outputs: u8, p
     }
 }
 
-// Begins a job; none is asked for by a code that is no cell's. All jobs but an order of a word share this code.
+// Begins a job; none is asked for by a code that is no cell's.
 #[inline(never)]
 fn begin(host: &mut GuardImage, job: Option<Job>) -> u8
-    ensures { BeginsJob host.old job result host.new }
-{
-    begin_inlined(host, job)
-}
-
-// The same. An order of a word, which is asked for most, has this code for itself.
-#[inline(always)]
-fn begin_inlined(host: &mut GuardImage, job: Option<Job>) -> u8
     ensures { BeginsJob host.old job result host.new }
 {
     let Ok(stage) = host.host.read_stage() else {
@@ -142,7 +134,7 @@ pub extern "C" fn pm_host_order(host: &mut GuardImage, output: u8, code: u8, wor
         BeginsJob host.old job result host.new }
 {
     let cell = cell_of(Code(code), output);
-    begin_inlined(host, cell.map(|cell| Job::Order(cell, word)))
+    begin(host, cell.map(|cell| Job::Order(cell, word)))
 }
 
 /// Begins an order of the word nearest to a number of microvolts, in the format that was learned for
@@ -213,7 +205,7 @@ pub extern "C" fn pm_host_restart(host: &mut GuardImage) -> u8
     ensures written { IsMemory host.old → IsMemory host.new }
     ensures refused { result ≢ 0 → host.new ≡ host.old }
 {
-    if host.open_stage().is_err() {
+    if host.host.read_stage().is_err() {
         return NO_HOST;
     }
     host.host.state.restart();

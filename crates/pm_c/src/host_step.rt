@@ -40,7 +40,7 @@ pub fn step_after(step: Step, address: u8, stage: Stage, told: Told<'_>) -> Host
     HostStep { kind, word }
 }
 
-// The number of the fault of what came back for the stage's request.
+// The number of the fault of what came back, 0 for a write.
 #[inline(always)]
 fn fault_told(address: u8, stage: Stage, told: Told<'_>) -> u16
     requires address { IsAddress address }
@@ -54,7 +54,7 @@ fn fault_told(address: u8, stage: Stage, told: Told<'_>) -> u16
     }
 }
 
-// The same of bytes. It is asked where a job ends Unknown alone.
+// The number of the fault of the bytes that came back for a request. It is asked where a job ends Unknown alone.
 #[inline(never)]
 fn answer_fault(address: u8, stage: Stage, bytes: &[u8]) -> u16
     requires address { IsAddress address }

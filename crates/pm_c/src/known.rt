@@ -22,7 +22,7 @@ pub extern "C" fn pm_host_standing(
     ensures said { result ≡ 0 → IsStanding (host_of host.now.host) (cell_at code output) standing.new }
     ensures refused { result ≢ 0 → standing.new ≡ standing.old }
 {
-    if host.open_stage().is_err() {
+    if host.host.read_stage().is_err() {
         return NO_HOST;
     }
     let Some(cell) = cell_of(Code(code), output) else {
@@ -62,7 +62,7 @@ pub extern "C" fn pm_host_possible(
     ensures said { result ≡ 0 → IsPossible (host_of host.now.host) (cell_at code output) words.new }
     ensures refused { result ≢ 0 → words.new ≡ words.old }
 {
-    if host.open_stage().is_err() {
+    if host.host.read_stage().is_err() {
         return NO_HOST;
     }
     let Some(cell) = cell_of(Code(code), output) else {
@@ -95,7 +95,7 @@ pub(crate) fn counted(words: &WordsImage) -> WordsImage
 pub extern "C" fn pm_host_restart_seen(host: &GuardImage) -> u8
     ensures { result ≡ seen_number (host_of host.now.host) }
 {
-    if host.open_stage().is_err() {
+    if host.host.read_stage().is_err() {
         return NO_HOST;
     }
     u8::from(host.host.state.known.restart_seen())

@@ -45,7 +45,7 @@ pub extern "C" fn pm_host_known(host: &GuardImage, known: &mut KnownCells) -> u8
     ensures rest { drop known.new.count known.new.cells ≡ drop known.new.count known.old.cells }
     ensures refused { result ≢ 0 → known.new ≡ known.old }
 {
-    if host.open_stage().is_err() {
+    if host.host.read_stage().is_err() {
         return NO_HOST;
     }
     known.count = fill(&host.host.state, &mut known.cells);

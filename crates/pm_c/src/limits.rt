@@ -32,7 +32,7 @@ pub extern "C" fn pm_host_narrow(host: &mut GuardImage, output: u8, least: i64, 
     ensures written { IsMemory host.old → IsMemory host.new }
     ensures refused { result ≢ 0 → host.new ≡ host.old }
 {
-    if host.open_stage().is_err() {
+    if host.host.read_stage().is_err() {
         return NO_HOST;
     }
     if host.host.state.outputs <= output {
@@ -55,7 +55,7 @@ pub extern "C" fn pm_host_limits(host: &GuardImage, output: u8, limits: &mut Lim
         (λ g. limits_held limits.new ≡ limits_at g output) }
     ensures refused { result ≢ 0 → limits.new ≡ limits.old }
 {
-    if host.open_stage().is_err() {
+    if host.host.read_stage().is_err() {
         return NO_HOST;
     }
     if host.host.state.outputs <= output {
@@ -76,7 +76,7 @@ pub extern "C" fn pm_host_limits(host: &GuardImage, output: u8, limits: &mut Lim
 pub extern "C" fn pm_host_within(host: &GuardImage, output: u8) -> u8
     ensures { result ≡ within_number (guard_of host.now) output }
 {
-    if host.open_stage().is_err() {
+    if host.host.read_stage().is_err() {
         return NO_HOST;
     }
     if host.host.state.outputs <= output {
@@ -105,7 +105,7 @@ pub extern "C" fn pm_host_band(host: &GuardImage, output: u8, band: &mut BandIma
         (λ s. IsSomeAnd (band_at s output) (λ known. IsBand known band.new)) }
     ensures refused { result ≢ 0 → band.new ≡ band.old }
 {
-    if host.open_stage().is_err() {
+    if host.host.read_stage().is_err() {
         return NO_HOST;
     }
     if host.host.state.outputs <= output {

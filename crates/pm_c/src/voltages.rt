@@ -31,7 +31,7 @@ pub extern "C" fn pm_host_format(host: &GuardImage, output: u8, format: &mut For
         (λ s. IsFormat (format_at s output) format.new) }
     ensures refused { result ≢ 0 → format.new ≡ format.old }
 {
-    if host.open_stage().is_err() {
+    if host.host.read_stage().is_err() {
         return NO_HOST;
     }
     if host.host.state.outputs <= output {

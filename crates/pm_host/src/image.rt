@@ -77,7 +77,7 @@ impl Image {
 
     /// Where the open job stands of the host whose image it is, `None` where none is open: each call of its
     /// state wants it. `NoHost` where it isn't the image of a host.
-    #[inline(always)]
+    #[inline(never)]
     #[tactic(auto, unfolding(crate::specs::Image::host_of))]
     pub fn read_stage(&self) -> Result<Option<Stage>, NoHost>
         ensures found { IfOk result (λ stage. host_of self.now ≡ Some (held stage self.now.state)) }

@@ -27,7 +27,7 @@ pub struct Knowledge {
 
 impl Knowledge {
     /// Forgets all.
-    #[tactic(auto, unfolding(crate::specs::Image::known_held, crate::specs::Known::nothing_known, crate::specs::Known::all_any, crate::specs::Known::all_unknown, crate::specs::Memory::IsKnown))]
+    #[tactic(auto, unfolding(crate::specs::Image::known_held, crate::specs::Known::nothing_known, crate::specs::Known::all_any, crate::specs::Known::all_unknown))]
     pub(crate) fn clear(&mut self)
         ensures cleared { known_held self.new ≡ nothing_known }
         ensures written { IsKnown self.new }

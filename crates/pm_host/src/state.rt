@@ -125,7 +125,7 @@ impl State {
 
     /// Forgets all that is known, as `Host::restart`. Of what it held the setup alone has to be sound. No
     /// job is open.
-    #[tactic(auto, unfolding(crate::specs::Summary::next, crate::specs::Image::formats_held, crate::specs::Summary::no_formats, crate::specs::Memory::AreFormats))]
+    #[tactic(auto, unfolding(crate::specs::Summary::next, crate::specs::Image::formats_held, crate::specs::Summary::no_formats))]
     pub fn restart(&mut self)
         requires { IsSetup (held None self.old).setup }
         ensures sound { IsSound (held None self.new) }

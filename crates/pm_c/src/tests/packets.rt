@@ -53,10 +53,11 @@ fn numbers(packet: &Packet) -> (u8, u8, u8, u8, u16) {
 #[test]
 fn packets_are_written_and_read(rt: HostRuntime) {
     for (number, (wanted, bytes)) in PACKETS.iter().enumerate() {
+        let (refusal, length, begins) = written(0x58, &packet(*wanted), bytes);
         equal(
             &rt,
-            &written(0x58, &packet(*wanted), bytes),
-            &(0, bytes.len() as u8, true),
+            &(refusal, usize::from(length), begins),
+            &(0, bytes.len(), true),
             &number,
         );
         let (refusal, read) = if number < WRITES {
@@ -70,17 +71,17 @@ fn packets_are_written_and_read(rt: HostRuntime) {
 
 #[test]
 fn packets_are_refused(rt: HostRuntime) {
-    let bytes = PACKETS[5].1;
-    let word = packet(PACKETS[5].0);
+    let bytes = [0xB0, 0x05, 0x04, 0x00, 0x21, 0xCD, 0x34, 0x5A];
+    let word = packet((4, 0, 0x21, 2, 0x34CD));
     equal(&rt, &pm_pec(&bytes[..7]), &0x5A, &1);
-    equal(&rt, &written(0x07, &word, bytes), &(0xE3, 9, false), &2);
-    equal(&rt, &written(0x58, &PACKET, bytes), &(0xE4, 9, false), &3);
-    equal(&rt, &read_write(0x59, bytes).0, &0x31, &4);
+    equal(&rt, &written(0x07, &word, &bytes), &(0xE3, 9, false), &2);
+    equal(&rt, &written(0x58, &PACKET, &bytes), &(0xE4, 9, false), &3);
+    equal(&rt, &read_write(0x59, &bytes).0, &0x31, &4);
     equal(&rt, &read_write(0x58, &bytes[..7]).0, &0x32, &5);
     equal(&rt, &read_request(0x58, &bytes[..5]).0, &0x37, &6);
     is_true(
         &rt,
-        numbers(&read_write(0x59, bytes).1) == (9, 9, 9, 9, 9),
+        numbers(&read_write(0x59, &bytes).1) == (9, 9, 9, 9, 9),
         &7,
     );
 }

@@ -1,0 +1,9 @@
+-- Where nothing is known, each number is 0.
+use Rattle.std.proofs.Common.{rules}
+use Rattle.pm_host.specs.Image.{known_held}
+use Rattle.pm_host.specs.Memory.{IsKnown}
+use Rattle.pm_host.proofs.knowledge.Knowledge.clear.Goals as goal
+
+pub returns-clause-written : goal.returns-clause-written
+unfolding IsKnown known_held
+returns-clause-written c = search rules

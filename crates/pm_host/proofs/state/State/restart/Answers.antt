@@ -1,0 +1,9 @@
+-- Where no format is known, each number is 0.
+use Rattle.std.proofs.Common.{rules}
+use Rattle.pm_host.specs.Image.{formats_held}
+use Rattle.pm_host.specs.Memory.{AreFormats}
+use Rattle.pm_host.proofs.state.State.restart.Goals as goal
+
+pub returns-clause-written : goal.returns-clause-written
+unfolding AreFormats formats_held
+returns-clause-written c = search rules
