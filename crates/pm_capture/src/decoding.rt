@@ -11,11 +11,20 @@ use pm_trace::DecodeEnd;
 use std::alloc::Global;
 use std::io::{Read, Write};
 
-/// Reads a trace and writes what it says, as [`tell`] does without an option. Neither stream may have failed before.
+/// Reads a trace and writes what it says, as [`tell`] does without an option: a line for each of its lines that isn't
+/// skipped; at the end `count NAME k` for each code that accepted lines carry, in the order of first appearance, and
+/// `lines L accepted A faults F bad B`. Neither stream may have failed before.
+///
+/// At most 512 bytes are read at a time. What the lines say is written as soon as a read brings fewer, or 16 KiB of
+/// it are there. A bad line is written by its letters, and ends nothing: `BadLines` says that there is one. It takes
+/// memory as `tell` does.
 ///
 /// # Errors
 ///
-/// X3, X4, X5 and X6, as `tell`.
+/// X3 where the trace has more than 1,048,576 bytes, and X4 where the reader failed: the lines that ended before were
+/// written, and no counts. X6 where memory was refused, which is wanted only where a byte was read: the first lines were
+/// written. X5 where the writer failed, also as it was to get what was gathered before one of these is told: a prefix of
+/// the text was written.
 pub fn decode<R: Read, W: Write>(
     alloc: Global,
     reader: &mut Source<R>,

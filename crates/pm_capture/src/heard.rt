@@ -47,8 +47,8 @@ impl Heard {
         }
     }
 
-    /// Appends what a line says to a text, with its number and without a line feed, and counts it. Takes memory for the text, and
-    /// for a code and an output that is new.
+    /// Appends what a line says to a text, with its number and without a line feed, and counts it. Takes memory for the
+    /// text, and for a code and an output that is new.
     #[tactic(auto, using(crate::proofs::HearingLemmas::heard_one))]
     pub(crate) fn hear(
         &mut self,

@@ -3,8 +3,8 @@
 //! a limit, as text or as objects of JSON.
 //!
 //! It reads the same lines as `pm_trace` and judges packets by it. What a packet means, and what the
-//! capture itself teaches of the formats of voltages, is as `pm_meaning` has it. With no option what
-//! [`tell`] writes is what `pm_trace::decode` writes.
+//! capture itself teaches of the formats of voltages, is as `pm_meaning` has it. [`decode`] is [`tell`]
+//! without an option: the text of a trace.
 #![tactic(auto)]
 
 mod capture;

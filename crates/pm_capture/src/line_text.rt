@@ -77,8 +77,8 @@ fn fault_words(number: u64, fault: LineFault) -> &'static str
     }
 }
 
-/// Appends a packet's line to a text, with its number and without a line feed: as the command table has the packet, or by its
-/// address, code and bytes where `other` is its address.
+/// Appends a packet's line to a text, with its number and without a line feed: as the command table has the packet, or by
+/// its address, code and bytes where `other` is its address.
 #[tactic(auto, unfolding(crate::specs::CaptureText::line_text))]
 pub(crate) fn push_packet_line(
     text: &mut String,

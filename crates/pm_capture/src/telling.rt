@@ -66,8 +66,7 @@ pub fn tell<R: Read, W: Write>(
     tell_all(reader, writer, options, &mut capture, &mut told)
 }
 
-// The same, whatever the limit, with what is kept and gathered, of which there is nothing yet. It owns neither, so that
-// what drops them has one way out.
+// The body of `tell`. Nothing is kept or gathered yet; both are borrowed so that `tell` drops them on every path.
 fn tell_all<R: Read, W: Write>(
     reader: &mut Source<R>,
     writer: &mut Sink<W>,

@@ -14,7 +14,7 @@ pub struct Tally {
     faults: u64,
     bad: u64,
     codes: IndexMap<u8, u64>,
-    // Where each code stands among them, if it does: its place is looked up where another one stands there.
+    // The place of each code among them. A code that stands elsewhere, or isn't there, is looked up: no place has to be right.
     places: [u8; 256],
 }
 
