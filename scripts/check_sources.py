@@ -50,10 +50,9 @@ HIDES_ONE = re.compile(
 FROM = re.compile(r"^impl(?:<T: Drop>)? From<(AllocError|AllocFailed<T>)> for (\w+) \{$")
 # The files of the programs' helps, which tell refusals by their letters and names.
 HELPS = ("crates/pm_tool/src/commandline/helps.rt", "crates/pm_session/src/options.rt", "crates/pm_part_lines/src/options.rt")
-# A file of numbers that are no codes; and where usual packets are compared by their bytes, which names make slower.
+# A file of numbers that are no codes.
 NUMBERS = ("crates/pm_frame/src/packet_error_code.rt", "crates/pm_lines/src/hex_digit.rt", "crates/pm_c/src/numbers.rt",
-           "crates/pm_c/src/names.rt", "crates/pm_c/specs/Numbers.antt", "crates/pm_trace/src/usual_packets.rt",
-           "crates/pm_trace/proofs/UsualLemmas.antt")
+           "crates/pm_c/src/names.rt", "crates/pm_c/specs/Numbers.antt")
 # Where each register stands for itself, as a field of its own.
 EACH_REGISTER = ("crates/pm_limits/src/ends.rt",)
 
