@@ -13,9 +13,9 @@ ghost use Rattle.pm_buses.specs.NeverRestarts.{NeverRestarts, PatientNeverRestar
 ghost use Rattle.pm_buses.specs.Plan.{restarts_of};
 ghost use Rattle.pm_buses.specs.PlanEnds.{IsAllowed, PatientWentThrough, is_ready};
 
-use pm_buses::{Fault, Patient, SimulatedBus, driver_over};
 use pm_buses::{
-    order_patiently_through, order_through, run_patiently_without_restart, run_without_restart,
+    Fault, Patient, SimulatedBus, driver_over, order_patiently_through, order_through,
+    run_patiently_without_restart, run_without_restart,
 };
 use pm_device::Config;
 use pm_driver::Driver;
@@ -44,16 +44,27 @@ pub fn orders_over_a_plan<'a>(
         standing_at driver.guard.host cell ≡ Confirmed word → word_at driver.bus.device.words cell ≡ word) }
 {
     let mut driver = driver_over(c, passes, plan)?;
-    let _ = run_without_restart(&mut driver, Job::Order(Cell::Out(0, Reg::VoutCommand), word));
+    let _ = run_without_restart(
+        &mut driver,
+        Job::Order(Cell::Out(0, Reg::VoutCommand), word),
+    );
     let _ = run_without_restart(&mut driver, Job::Check(Cell::Out(1, Reg::VoutCommand)));
-    let _ = run_without_restart(&mut driver, Job::Order(Cell::Out(1, Reg::VoutCommand), word));
+    let _ = run_without_restart(
+        &mut driver,
+        Job::Order(Cell::Out(1, Reg::VoutCommand), word),
+    );
     let _ = run_without_restart(&mut driver, Job::Check(Cell::Out(0, Reg::VoutCommand)));
     confirmed_is_held(&driver);
     Some(driver)
 }
 
 /// The first order over an empty plan is done, where WRITE_PROTECT allows it and nothing refuses it.
-pub fn first_order(c: Config, passes: u8, cell: Cell, word: u16) -> Option<Result<JobEnd, LimitFault>>
+pub fn first_order(
+    c: Config,
+    passes: u8,
+    cell: Cell,
+    word: u16,
+) -> Option<Result<JobEnd, LimitFault>>
     requires { IsAllowed cell (start_of c) }
     ensures { IfSome result (λ ended. IfOk ended (λ end. end ≡ Done)) }
 {
