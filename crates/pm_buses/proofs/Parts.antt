@@ -1,5 +1,5 @@
 -- What happens to a converter, in parts.
-use Rattle.std.proofs.Common.{◌≡◌, ◌+◌, arith, ℕ, Bool, true, List, [], ◌∷◌, ◌++◌, refl, sym, ◌∙◌, ap, subst}
+use Rattle.std.proofs.Common.{◌≡◌, ℕ, Bool, true, List, [], ◌∷◌, ◌++◌, refl, sym, ◌∙◌, ap, subst}
 use Rattle.pm_device.specs.declared.ending.Ending.TheVariants.{Restart}
 use Rattle.pm_device.specs.Effect as device
 use Rattle.pm_device.specs.Held.{Held}
@@ -8,7 +8,8 @@ use Rattle.pm_world.specs.declared.event.Event.{Event}
 use Rattle.pm_world.specs.declared.event.Event.TheVariants.{Reading, RestartDevice}
 use Rattle.pm_world.specs.Legal.{back_bytes, ending_of, heard_bytes, is_heard_whole, is_legal_return}
 use Rattle.pm_driver.specs.Adapter.{IsUnheard}
-use Rattle.pm_driver.specs.Bus.{AreAll, IsAsked, IsSent, answer_of, held_after, held_by, is_beside, may_hear, restarts_in}
+use Rattle.pm_driver.specs.Bus.{AreAll, IsAsked, IsSent, answer_of, held_after, held_by, is_beside, may_hear}
+use Rattle.pm_driver.specs.Lemmas.Restarts.{restarts-on}
 use Rattle.pm_buses.specs.Disturbed.{IsSentPart, PartsCompose, RequestsMayBeLost}
 
 -- events and more of them
@@ -29,20 +30,6 @@ beside-may frame (RestartDevice ∷ events) all = (refl, beside-may frame events
 beside-may frame (Reading output code word ∷ events) all = (refl, beside-may frame events all.1)
 beside-may frame (event ∷ events) all = let here = all.0 in cc
 
--- the restarts among events and more of them
-restarts-append : (second first : List Event) → restarts_in (second ++ first) ≡ restarts_in second + restarts_in first
-restarts-append [] first = omega arith
-restarts-append (event ∷ second) first =
-    let earlier = restarts-append second first in
-    omega arith
-
--- so the counts add up
-counts-add : (second first : List Event) (a b c : ℕ) → restarts_in first + a ≡ b → restarts_in second + b ≡ c →
-    restarts_in (second ++ first) + a ≡ c
-counts-add second first a b c one two =
-    let all = restarts-append second first in
-    omega arith
-
 -- where it heard nothing, that is a write that is lost
 lost-write : (frame : List ℕ) (first : Held) (a : ℕ) (second : Held) (b : ℕ) → IsUnheard first a second b →
     IsSent frame first a second b
@@ -61,7 +48,7 @@ sent-parts frame first a second b third c one two = record {
   may = all-append (may_hear frame) two.events one.events two.may one.may;
   after = held-append frame first two.events one.events
       ∙ (ap (λ h. held_after frame h two.events) one.after ∙ two.after);
-  count = counts-add two.events one.events a b c one.count two.count;
+  count = restarts-on two.events one.events a b c one.count two.count;
 }
 
 -- and a request behind a time in which it heard nothing
@@ -82,7 +69,7 @@ before-read request needed came first a second b third c one is =
       came_is = subst (λ h. back_bytes (answer_of h request is.arrival) is.back ≡ came) same is.came_is;
       after = subst (λ h. device_next h (device.Hearing (heard_bytes request is.arrival) (ending_of Restart is.arrival)) ≡ third)
           same is.after;
-      count = counts-add is.before one.events a b c one.count is.count;
+      count = restarts-on is.before one.events a b c one.count is.count;
     }
 
 -- parts compose
@@ -94,7 +81,7 @@ parts-compose lost = record {
     beside = all-append is_beside two.events one.events two.beside one.beside;
     after = λ frame. held-append frame first two.events one.events
         ∙ (ap (λ h. held_after frame h two.events) (one.after frame) ∙ two.after frame);
-    count = counts-add two.events one.events a b c one.count two.count;
+    count = restarts-on two.events one.events a b c one.count two.count;
   };
   before_write = λ frame first a second b third c one two.
       sent-parts frame first a second b third c (lost-write frame first a second b one) two;

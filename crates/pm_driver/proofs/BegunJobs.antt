@@ -7,7 +7,7 @@ use Rattle.pm_device.specs.declared.config.Config.{Config}
 use Rattle.pm_model.specs.Commanded.{commanded}
 use Rattle.pm_model.specs.Settings.{word_at}
 use Rattle.pm_device.specs.Held.{Held, value_for}
-use Rattle.pm_device.specs.History.{now as device_now, start_of}
+use Rattle.pm_device.specs.History.{start_of}
 use Rattle.pm_device.specs.Start.{IsSound}
 use Rattle.pm_host.specs.declared.command.Command.TheVariants.{ClearFaults, StoreUserAll, RestoreUserAll}
 use Rattle.pm_host.specs.declared.job.Job.{Job}
@@ -36,6 +36,7 @@ use Rattle.pm_driver.specs.Ends.{EndSays}
 use Rattle.pm_driver.specs.Laws.{EndsAreTrue, LawsOfLives, LeadsCompose, NewConvertersMayBegin}
 use Rattle.pm_driver.specs.Lives.{Driven, Goes, IsLife, Leads}
 use Rattle.pm_driver.specs.Steps.{JobsLead, RenewalsLead}
+use Rattle.pm_driver.proofs.EndedJobs.{now-config}
 use Rattle.pm_driver.proofs.Composed.{tells-append}
 use Rattle.pm_driver.proofs.Grown.{IsGrown, grown, of-life}
 
@@ -165,11 +166,6 @@ new-begins laws config passes sound spelled made = record {
   made = refl;
 }
 
--- the converter of a life has its configuration
-device-config : (config : Config) (passes : ℕ) (events : List Event) → (now config passes events).device.config ≡ config
-unfolding now state_of device_now
-device-config config passes events = refl
-
 -- an output whose words lie within limits commands a voltage within them
 limited-of : LawsOfLives → (output : ℕ) (bounds : Bounds) (summary : Summary) (held : Held) →
     (lived : HasLifeWithin output bounds summary held) → output < lived.has.config.count →
@@ -180,7 +176,7 @@ limited-of laws output bounds summary held lived there =
     let stays = laws.limited has.config has.passes has.events has.spelled is.lived in
     subst (λ (d : Held). IsWithin bounds (commanded (value_for d.config output) d.words output)) is.held_is
     (subst (λ (c : Config). IsWithin bounds (commanded (value_for c output) (now has.config has.passes has.events).device.words output))
-    (sym (device-config has.config has.passes has.events))
+    (sym (now-config has.config has.passes has.events))
     (stays.limited output bounds [] has.events there refl lived.within))
 
 -- a cell of a host's outputs is one of the converter's

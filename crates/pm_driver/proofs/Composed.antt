@@ -1,5 +1,5 @@
 -- What leads on from where something led; and the acts that are no calls.
-use Rattle.std.proofs.Common.{◌≡◌, ◌+◌, ℕ, arith, List, [], ◌∷◌, ◌++◌, Option, Some, None, refl, sym, ◌∙◌, ap, ap₂, subst, true}
+use Rattle.std.proofs.Common.{◌≡◌, ℕ, arith, List, [], ◌∷◌, ◌++◌, Option, Some, None, refl, sym, ◌∙◌, ap, ap₂, subst, true}
 use Rattle.pm_device.specs.Held.{Held}
 use Rattle.pm_host.specs.declared.job_end.JobEnd.{JobEnd}
 use Rattle.pm_host.specs.Summary.{Summary, next as host_next}
@@ -8,9 +8,9 @@ use Rattle.pm_world.specs.declared.event.Event.TheVariants.{Exchange, Finish}
 use Rattle.pm_world.specs.Job.{asked_by}
 use Rattle.pm_world.specs.Uncertainty.{job_event}
 use Rattle.pm_host.specs.declared.job.Job.{Job as Asked}
-use Rattle.pm_driver.specs.Bus.{restarts_in}
 use Rattle.pm_driver.specs.Acts.{Act, AreCalls, AreDone, Began, Call, Called, MayDo, Renewed, asked_in, host_by, told_by}
 use Rattle.pm_driver.specs.Laws.{LeadsCompose}
+use Rattle.pm_driver.specs.Lemmas.Restarts.{restarts-on}
 use Rattle.pm_driver.specs.Lives.{Driven, EndsTold, Leads, jobs_asked, jobs_begun, newest_tells, with_job}
 use Rattle.pm_driver.proofs.Grown.{goes-on, stays}
 
@@ -73,20 +73,6 @@ begun-append (Began job ∷ second) first =
     ap (with_job (asked_by (job_event job))) (begun-append second first)
     ∙ with-append (asked_by (job_event job)) (jobs_begun second) (jobs_begun first)
 begun-append (Renewed ∷ second) first = begun-append second first
-
--- the restarts among events are those of the later events and those of the earlier ones
-pub restarts-append : (second first : List Event) → restarts_in (second ++ first) ≡ restarts_in second + restarts_in first
-restarts-append [] first = omega arith
-restarts-append (event ∷ second) first =
-    let earlier = restarts-append second first in
-    omega arith
-
--- a count that rose and rose again
-restarts-on : (second first : List Event) (a b c : ℕ) → restarts_in first + a ≡ b → restarts_in second + b ≡ c →
-    restarts_in (second ++ first) + a ≡ c
-restarts-on second first a b c one two =
-    let all = restarts-append second first in
-    omega arith
 
 -- calls compose
 pub leads-compose : {B : Type 0} (gives : B → Call → B → Type 0) (held : B → Held) (restarts : B → ℕ) → LeadsCompose gives held restarts

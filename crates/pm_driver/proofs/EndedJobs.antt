@@ -246,7 +246,7 @@ unfolding now state_of
 now-end config passes events = refl
 
 -- the converter stays that of its configuration
-now-config : (config : Config) (passes : ℕ) (events : List Event) → (now config passes events).device.config ≡ config
+pub now-config : (config : Config) (passes : ℕ) (events : List Event) → (now config passes events).device.config ≡ config
 unfolding now state_of device_now
 now-config config passes events = refl
 

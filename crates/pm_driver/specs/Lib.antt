@@ -9,3 +9,4 @@ pub mod Laws
 pub mod Undisturbed
 -- How it is kept.
 pub mod Steps
+pub mod Lemmas
