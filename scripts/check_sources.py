@@ -54,7 +54,7 @@ HELPS = ("crates/pm_tool/src/commandline/helps.rt", "crates/pm_session/src/optio
 NUMBERS = ("crates/pm_frame/src/packet_error_code.rt", "crates/pm_lines/src/hex_digit.rt", "crates/pm_c/src/numbers.rt",
            "crates/pm_c/src/names.rt", "crates/pm_c/specs/Numbers.antt")
 # Where each register stands for itself, as a field of its own.
-EACH_REGISTER = ("crates/pm_limits/src/ends.rt",)
+EACH_REGISTER = ("crates/pm_limits/src/ends.rt", "crates/pm_rail/")
 
 
 def sources(crates, folders):
@@ -178,7 +178,7 @@ FIELD = re.compile(r"=>? (self|start)\.\w+,?$|^\s*\w+ = word \w+;$")
 def registers(path, lines):
     """Four registers near one another, where no line imports them, or has the field of a start for one."""
     seen, told = [], -NEAR
-    for number, line in enumerate(lines if path not in EACH_REGISTER else (), 1):
+    for number, line in enumerate(lines if not path.startswith(EACH_REGISTER) else (), 1):
         is_field = path.startswith("crates/pm_device/") and FIELD.search(line)
         if is_field or line.lstrip().startswith(("use ", "ghost use ")):
             continue
