@@ -153,13 +153,13 @@ over-so host cell word answer good =
     (eq-eqb word word refl)
 
 -- the laws that say so
-record Laws : Type 0 where
+record Below : Type 0 where
   lives : LawsOfLives
   good : GoodFramesEndJobs
   whole : WholeFramesAreUndisturbed
   calls : CallsGo
 
-through : Laws → (host : Summary) (held : Held) (cell : Cell) (word : ℕ) → (has : HasLife host held) →
+through : Below → (host : Summary) (held : Held) (cell : Cell) (word : ℕ) → (has : HasLife host held) →
     job_fault host (Order cell word) ≡ None → is_allowed (word_at held.words Protect) (cell_code cell) ≡ true →
     (frame request room : List ℕ) → MayDo (host_next host (Accepted (Order cell word))) (Called (Wrote frame true)) →
     MayDo (host_next (host_next host (Accepted (Order cell word))) (Finished true)) (Called (Read request room [])) →
