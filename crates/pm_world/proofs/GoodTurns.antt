@@ -3,7 +3,7 @@ use Rattle.std.proofs.Common.{◌≡◌, ◌≢◌, ◌≤◌, ◌<◌, ◌+◌,
 use Rattle.std.proofs.Common.{ap, ap₂, subst, is_some, is_none, IsSome, inl, inr, option_map, arith}
 use Rattle.std.specs.Prelude.{Result, Ok, Err, length}
 use Rattle.std.specs.Option.{option_map_or}
-use Rattle.std.proofs.lemmas.Bool.{cond-false, cond-true, eq-eqb, eqb-true, false≢true}
+use Rattle.std.proofs.lemmas.Bool.{and_right, cond-false, cond-true, eq-eqb, eqb-true, false≢true}
 use Rattle.pm_table.specs.declared.cell.Cell.{Cell}
 use Rattle.pm_table.specs.declared.cell.Cell.TheVariants.{Protect}
 use Rattle.pm_table.specs.Cell.{cell_code}
@@ -203,11 +203,6 @@ done-anyway false end = refl
 held-done : (takes : Bool) (word held : ℕ) → held ≡ word → order_end takes word held ≡ Done
 held-done takes word held e = cond-true (eqb held word) _ _ (eq-eqb held word e)
 
--- no and anything is no
-and-no : (b : Bool) → (b && false) ≡ false
-and-no true = refl
-and-no false = refl
-
 -- the write of an order
 write-keeps : {config : Config} {passes : ℕ} {cell : Cell} {word pass : ℕ} {acked : Bool} {before after : List Event} →
     WasWritten config passes cell word pass acked before after →
@@ -227,7 +222,8 @@ write-keeps {config = config} {passes = passes} {cell = cell} {word = word} {pas
         ∙ sym (done-anyway (eqb (held_after config passes before cell) word) (Differs (held_after config passes before cell)))
     go false e =
         ap (λ (ws : Words). order_end (left && is_allowed (word_at ws Protect) (cell_code cell)) word (word_at ws cell)) (w.kept e)
-        ∙ ap (λ b. order_end b word (held_after config passes before cell)) (ap (λ b. left && b) e ∙ and-no left)
+        ∙ ap (λ b. order_end b word (held_after config passes before cell))
+        (and_right left (is_allowed (held_after config passes before Protect) (cell_code cell)) e)
 
 -- the read of an order
 read-keeps : (config : Config) (passes : ℕ) (cell : Cell) (word pass : ℕ) (before after : List Event) →

@@ -4,7 +4,7 @@ use Rattle.std.proofs.Common.{is_none, is_some, IsSome, option_map, refl, sym, �
 use Rattle.std.specs.Prelude.{option_and_then, option_to_list}
 use Rattle.std.specs.List.{list_any}
 use Rattle.std.specs.Option.{option_map_or}
-use Rattle.std.proofs.lemmas.Bool.{false≢true}
+use Rattle.std.proofs.lemmas.Bool.{false≢true, or_parts}
 use Rattle.std.proofs.lemmas.Option.{none-some}
 use Rattle.pm_frame.specs.declared.message.Message.{Message}
 use Rattle.pm_frame.specs.Layout.{is_read_message}
@@ -31,17 +31,12 @@ use Rattle.pm_world.proofs.Causes.{asked-next}
 use Rattle.pm_world.proofs.Lives.{IsLived, earlier, entries-more, life-told, now-next}
 use Rattle.pm_world.proofs.Shares.{IsShare, begins, exchanges, finishes, restarts_host as host_restarts, share-is}
 
--- of two tests that both say no
-pub or-parts : (a b : Bool) → (a || b) ≡ false → (a ≡ false) × (b ≡ false)
-or-parts true b h = cc
-or-parts false b h = (refl, h)
-
 -- of two lists
 pub any-parts : {X : Type 0} (test : X → Bool) (xs ys : List X) → list_any test (xs ++ ys) ≡ false →
     (list_any test xs ≡ false) × (list_any test ys ≡ false)
 any-parts test [] ys h = (refl, h)
 any-parts test (x ∷ xs) ys h =
-    let parts = or-parts (test x) (list_any test (xs ++ ys)) h in
+    let parts = or_parts (test x) (list_any test (xs ++ ys)) h in
     let rest = any-parts test xs ys parts.1 in
     (ap (λ b. b || list_any test xs) parts.0 ∙ rest.0, rest.1)
 
@@ -52,7 +47,7 @@ TellsFrame (Some entry) = is_of_frame entry ≡ true
 
 -- an event that asks for a job begins another one
 asks-other : (s : State) (event : Event) (job : host.Job) → asked s event ≡ Some job → begins_other event ≡ false → ⊥
-asks-other s event job is alone = go (asked_by event) is (or-parts (is_some (asked_by event)) (restarts_host event) alone).0 where
+asks-other s event job is alone = go (asked_by event) is (or_parts (is_some (asked_by event)) (restarts_host event) alone).0 where
   go : (o : Option Job) → option_and_then (accepted_job s.host) o ≡ Some job → is_some o ≡ false → ⊥
   go None e h = cc
   go (Some one) e h = cc
@@ -199,6 +194,6 @@ pub span-job : Below → (config : Config) (passes : ℕ) (later before : List E
 span-job laws config passes [] before event job lived asks alone =
     inl (by-acceptance laws config passes before event job lived asks).open'
 span-job laws config passes (newest' ∷ later) before event job lived asks alone =
-    let parts = or-parts (begins_other newest') (list_any begins_other later) alone in
+    let parts = or_parts (begins_other newest') (list_any begins_other later) alone in
     event-job laws config passes (later ++ event ∷ before) newest' job lived parts.0
     (span-job laws config passes later before event job (earlier lived) asks parts.1)

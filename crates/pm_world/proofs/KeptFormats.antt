@@ -3,7 +3,7 @@ use Rattle.std.proofs.Common.{◌≡◌, ◌≢◌, ◌⊎◌, inl, inr, ℕ, fa
 use Rattle.std.proofs.Common.{IsSome, refl, sym, ◌∙◌, ap, subst, get_or}
 use Rattle.std.specs.Prelude.{IsSomeAnd}
 use Rattle.std.specs.List.{list_any}
-use Rattle.std.proofs.lemmas.Bool.{cases_eq}
+use Rattle.std.proofs.lemmas.Bool.{cases_eq, or_parts}
 use Rattle.pm_num.specs.AnyFormat.{Shape}
 use Rattle.pm_device.specs.declared.config.Config.{Config}
 use Rattle.pm_device.specs.Held.{shape_for}
@@ -18,7 +18,7 @@ use Rattle.pm_world.specs.Ended.{begins_other}
 use Rattle.pm_world.specs.Life.{now}
 use Rattle.pm_world.specs.Possible.{restarts_host}
 use Rattle.pm_world.specs.State.{asked, share_of}
-use Rattle.pm_world.proofs.JobSpans.{IsOrOver, TellsFrame, beside-frame, beside-tells, by-acceptance, by-frame, by-silence, or-parts}
+use Rattle.pm_world.proofs.JobSpans.{IsOrOver, TellsFrame, beside-frame, beside-tells, by-acceptance, by-frame, by-silence}
 use Rattle.pm_world.proofs.JobSpans.{span-job}
 use Rattle.pm_world.proofs.Lives.{IsLived, earlier, lived-before}
 
@@ -66,7 +66,7 @@ pub formats-kept : Below → (config : Config) (passes : ℕ) (later before : Li
 formats-kept laws config passes [] before event job lived asks alone other =
     (by-acceptance laws config passes before event job lived asks).formats
 formats-kept laws config passes (newest' ∷ later) before event job lived asks alone other =
-    let parts = or-parts (begins_other newest') (list_any begins_other later) alone in
+    let parts = or_parts (begins_other newest') (list_any begins_other later) alone in
     kept-once laws config passes (later ++ event ∷ before) newest' (now config passes before).host.formats lived parts.0 other
     (λ otherwise. formats-kept laws config passes later before event job (earlier lived) asks parts.1 otherwise)
 
@@ -110,7 +110,7 @@ format-left laws config passes [] before event output lived asks alone ended =
     absurd (none-other (now config passes (event ∷ before)).end
     (by-acceptance laws config passes before event (host.Learn output) lived asks).going ended)
 format-left laws config passes (newest' ∷ later) before event output lived asks alone ended =
-    let parts = or-parts (begins_other newest') (list_any begins_other later) alone in
+    let parts = or_parts (begins_other newest') (list_any begins_other later) alone in
     left-once laws config passes (later ++ event ∷ before) newest' output lived parts.0 ended
     (span-job laws config passes later before event (host.Learn output) (earlier lived) asks parts.1)
     (λ is. format-left laws config passes later before event output (earlier lived) asks parts.1 is)
@@ -162,7 +162,7 @@ pub format-stays : Below → (config : Config) (passes : ℕ) (newer before : Li
     IsSome (format_at (now config passes before).host output) → IsSome (format_at (now config passes (newer ++ before)).host output)
 format-stays laws config passes [] before output lived stays there = there
 format-stays laws config passes (event ∷ newer) before output lived stays there =
-    let parts = or-parts (restarts_host event) (list_any restarts_host newer) stays in
+    let parts = or_parts (restarts_host event) (list_any restarts_host newer) stays in
     stays-once laws config passes (newer ++ before) event output lived parts.0
     (format-stays laws config passes newer before output (earlier lived) parts.1 there)
 

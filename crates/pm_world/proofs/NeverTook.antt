@@ -4,7 +4,7 @@ use Rattle.std.proofs.Common.{◌≡◌, ◌≢◌, ◌⊎◌, inl, inr, ℕ, Bo
 use Rattle.std.proofs.Common.{is_some, option_map, option_and_then, refl, sym, ◌∙◌, ap, subst}
 use Rattle.std.specs.Prelude.{IsSomeAnd}
 use Rattle.std.specs.List.{list_any}
-use Rattle.std.proofs.lemmas.Bool.{false≢true}
+use Rattle.std.proofs.lemmas.Bool.{false≢true, or_parts}
 use Rattle.std.proofs.lemmas.Option.{same_Some}
 use Rattle.pm_table.specs.declared.cell.Cell.{Cell}
 use Rattle.pm_frame.specs.declared.message.Message.{Message}
@@ -39,7 +39,7 @@ use Rattle.pm_world.specs.State.{State, share_of, exchanged, exchange_cause, nex
 use Rattle.pm_world.proofs.Causes.{exchange-reads}
 use Rattle.pm_world.proofs.Hearings.{write-kind}
 use Rattle.pm_world.proofs.HeldWords.{knows, reads-true}
-use Rattle.pm_world.proofs.JobSpans.{IsOrOver, TellsFrame, any-parts, beside-tells, by-acceptance, by-frame, by-silence, open-end, or-parts}
+use Rattle.pm_world.proofs.JobSpans.{IsOrOver, TellsFrame, any-parts, beside-tells, by-acceptance, by-frame, by-silence, open-end}
 use Rattle.pm_world.proofs.KeptFormats.{none-other, open-is}
 use Rattle.pm_world.proofs.Lives.{IsLived, earlier, newest, lived-before, now-next}
 use Rattle.pm_world.proofs.OpenOrders.{open_pending-is, stage_pending}
@@ -262,8 +262,8 @@ goes-on : Below → (config : Config) (passes : ℕ) (span before : List Event) 
     OrderGoes cell word (now config passes before) → OrderGoes cell word (now config passes (span ++ before))
 goes-on laws config passes [] before cell word lived alone steady so_far = so_far
 goes-on laws config passes (event ∷ span) before cell word lived alone steady so_far =
-    let apart = or-parts (begins_other event) (list_any begins_other span) alone in
-    let still = or-parts (restarts_converter event) (list_any restarts_converter span) steady in
+    let apart = or_parts (begins_other event) (list_any begins_other span) alone in
+    let still = or_parts (restarts_converter event) (list_any restarts_converter span) steady in
     goes-once laws config passes (span ++ before) event cell word lived apart.0 still.0
     (goes-on laws config passes span before cell word (earlier lived) apart.1 still.1 so_far)
 
@@ -286,8 +286,8 @@ had-before : Below → (config : Config) (passes : ℕ) (later before : List Eve
     word_at (now config passes before).device.words cell ≡ read
 had-before laws config passes [] before cell word read lived alone steady so_far other has = has
 had-before laws config passes (event ∷ later) before cell word read lived alone steady so_far other has =
-    let apart = or-parts (begins_other event) (list_any begins_other later) alone in
-    let still = or-parts (restarts_converter event) (list_any restarts_converter later) steady in
+    let apart = or_parts (begins_other event) (list_any begins_other later) alone in
+    let still = or_parts (restarts_converter event) (list_any restarts_converter later) steady in
     had-before laws config passes later before cell word read (earlier lived) apart.1 still.1 so_far other
     (elim (moves-once laws config passes (later ++ before) event cell word lived apart.0 still.0
     (goes-on laws config passes later before cell word (earlier lived) apart.1 still.1 so_far)) [

@@ -3,7 +3,7 @@ use Rattle.std.proofs.Common.{◌≡◌, ℕ, Bool, true, false, cond, not, ◌&
 use Rattle.std.proofs.Common.{refl, ◌∙◌, ap, option_map}
 use Rattle.std.specs.List.{list_any, filter}
 use Rattle.std.specs.Option.{option_map_or}
-use Rattle.std.proofs.lemmas.Bool.{false≢true}
+use Rattle.std.proofs.lemmas.Bool.{false≢true, or_parts}
 use Rattle.std.proofs.lemmas.List.{reverse-append}
 use Rattle.std.proofs.lemmas.List.Folds.{list_any-append}
 use Rattle.pm_table.specs.declared.cell.Cell.TheVariants.{Out, Protect}
@@ -11,7 +11,6 @@ use Rattle.pm_host.specs.Marks.{Mark, Put, Good, Restored, Restart}
 use Rattle.pm_host.specs.Possible.{is_possible, once, possible_from, possible_of, words_since}
 use Rattle.pm_world.specs.OpenLists.{are_open, is_other, lists_other}
 use Rattle.pm_world.specs.Uncertainty.{AreOpen, leaves_open}
-use Rattle.pm_world.proofs.JobSpans.{or-parts}
 use Rattle.pm_world.proofs.Standings.{ArePuts, no_put, one_put, one_restore}
 
 -- of two tests that both say yes
@@ -42,7 +41,7 @@ open-append (mark ∷ new) ms =
 any-filter : (test keep : ℕ → Bool) (xs : List ℕ) → list_any test xs ≡ false → list_any test (filter keep xs) ≡ false
 any-filter test keep [] h = refl
 any-filter test keep (x ∷ xs) h =
-    let parts = or-parts (test x) (list_any test xs) h in
+    let parts = or_parts (test x) (list_any test xs) h in
     go (keep x) (ap (λ b. b || list_any test (filter keep xs)) parts.0) (any-filter test keep xs parts.1)
   where
     go : (b : Bool) → (test x || list_any test (filter keep xs)) ≡ list_any test (filter keep xs) →
@@ -54,7 +53,7 @@ any-filter test keep (x ∷ xs) h =
 any-once : (test : ℕ → Bool) (xs : List ℕ) → list_any test xs ≡ false → list_any test (once xs) ≡ false
 any-once test [] h = refl
 any-once test (x ∷ xs) h =
-    let parts = or-parts (test x) (list_any test xs) h in
+    let parts = or_parts (test x) (list_any test xs) h in
     ap (λ b. b || list_any test (filter (λ other. not (eqb other x)) (once xs))) parts.0
     ∙ any-filter test (λ other. not (eqb other x)) (once xs) (any-once test xs parts.1)
 
@@ -62,7 +61,7 @@ any-once test (x ∷ xs) h =
 any-reverse : (test : ℕ → Bool) (xs : List ℕ) → list_any test xs ≡ false → list_any test (reverse xs) ≡ false
 any-reverse test [] h = refl
 any-reverse test (x ∷ xs) h =
-    let parts = or-parts (test x) (list_any test xs) h in
+    let parts = or_parts (test x) (list_any test xs) h in
     ap (list_any test) (reverse-append (x ∷ []) xs)
     ∙ (list_any-append test (reverse xs) (x ∷ [])
     ∙ (ap (λ b. b || (test x || false)) (any-reverse test xs parts.1) ∙ ap (λ b. b || false) parts.0))

@@ -4,7 +4,7 @@ use Rattle.std.proofs.Common.{◌≡◌, ℕ, ℤ, Bool, true, false, cond, not,
 use Rattle.std.proofs.Common.{option_map, refl, sym, ◌∙◌, ap, ap₂, subst}
 use Rattle.std.specs.Prelude.{option_to_list}
 use Rattle.std.specs.Option.{option_or}
-use Rattle.std.proofs.lemmas.Bool.{false≢true}
+use Rattle.std.proofs.lemmas.Bool.{and_right, false≢true}
 use Rattle.std.proofs.lemmas.Option.{same_Some}
 use Rattle.pm_table.specs.declared.cell.Cell.{Cell}
 use Rattle.pm_table.specs.declared.cell.Cell.TheVariants.{Out, Protect}
@@ -45,11 +45,6 @@ since config passes events = since_restart (life config passes events).entries
 -- the marks since the host's last restart leave WRITE_PROTECT open
 abbrev pub left_open : Config → ℕ → List Event → Bool
 left_open config passes events = are_open (marks (setup_of config passes) (since config passes events))
-
--- both a test and false
-and-false : (b : Bool) → (b && false) ≡ false
-and-false true = refl
-and-false false = refl
 
 -- both a test and true
 and-true : (b : Bool) → (b && true) ≡ b
@@ -147,7 +142,7 @@ goods-step setup before bytes new good ms possible (one_good Protect word asks h
       all ∙ sym (ap not (ap lists_other is ∙ open-lists (new ++ (Good Protect word ∷ ms)) all))
   go false e =
       open-append new (Good Protect word ∷ ms)
-      ∙ (ap (λ b. are_open new && (b && are_open ms)) e ∙ and-false (are_open new)
+      ∙ (ap (λ b. are_open new && (b && are_open ms)) e ∙ and_right (are_open new) false refl
       ∙ sym (ap not (ap lists_other is
       ∙ subst (λ n. lists_other (possible_of (n ++ (Good Protect word ∷ ms)) Protect) ≡ true) (sym same)
       (other-lists (puts setup (host.Got bytes ∷ before)) (are-puts setup (host.Got bytes ∷ before)) word ms (ap not e)))))
@@ -164,7 +159,7 @@ frame-step setup before (host.Finished acked) possible true frame old fresh is =
     all ∙ sym (ap not (ap lists_other is ∙ open-lists (new ++ marks setup before) all))
 frame-step setup before (host.Finished acked) possible false frame old fresh is =
     let new = puts setup (host.Finished acked ∷ before) in
-    open-append new (marks setup before) ∙ (ap (λ b. are_open new && b) old ∙ and-false (are_open new))
+    open-append new (marks setup before) ∙ (ap (λ b. are_open new && b) old ∙ and_right (are_open new) false refl)
 frame-step setup before (host.Got bytes) possible true frame old fresh is =
     goods-step setup before bytes (puts setup (host.Got bytes ∷ before)) (goods setup before bytes) (marks setup before) possible
     (are-goods setup before bytes) refl (fresh refl) old is
@@ -172,8 +167,8 @@ frame-step setup before (host.Got bytes) possible false frame old fresh is =
     let new = puts setup (host.Got bytes ∷ before) in
     let good = goods setup before bytes in
     open-append new (good ++ marks setup before)
-    ∙ (ap (λ b. are_open new && b) (open-append good (marks setup before) ∙ (ap (λ b. are_open good && b) old ∙ and-false (are_open good)))
-    ∙ and-false (are_open new))
+    ∙ (ap (λ b. are_open new && b) (open-append good (marks setup before) ∙ (ap (λ b. are_open good && b) old ∙ and_right (are_open good) false refl))
+    ∙ and_right (are_open new) false refl)
 frame-step setup before (host.Accepted job) possible b frame old fresh is = absurd (false≢true frame)
 frame-step setup before host.Restarted possible b frame old fresh is = absurd (false≢true frame)
 
@@ -257,7 +252,7 @@ accepted-marks laws config passes before event job lived asks =
 -- whether it is left open then
 accepted-step : (open' opens closing listed : Bool) (after : Bool) → after ≡ (opens && open') → opens ≡ not closing →
     (after ≡ true → listed ≡ false) → after ≡ (open' && not (closing || listed))
-accepted-step open' opens true listed after is by lists = is ∙ (ap (λ b. b && open') by ∙ sym (and-false open'))
+accepted-step open' opens true listed after is by lists = is ∙ (ap (λ b. b && open') by ∙ sym (and_right open' false refl))
 accepted-step true opens false listed after is by lists =
     let all : after ≡ true = is ∙ ap (λ b. b && true) by in all ∙ sym (ap not (lists all))
 accepted-step false opens false listed after is by lists = is ∙ (ap (λ b. b && false) by)

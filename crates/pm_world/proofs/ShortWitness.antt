@@ -4,6 +4,7 @@ use Rattle.std.proofs.Common.{None}
 use Rattle.std.proofs.Common.{refl, ◌∙◌, ap, length-append}
 use Rattle.std.specs.Prelude.{option_to_list}
 use Rattle.std.specs.List.{list_any}
+use Rattle.std.proofs.lemmas.Bool.{or_parts}
 use Rattle.pm_table.specs.declared.cell.Cell.{Cell}
 use Rattle.pm_table.specs.declared.cell.Cell.TheVariants.{Out, Protect}
 use Rattle.pm_device.specs.declared.config.Config.{Config}
@@ -18,7 +19,6 @@ use Rattle.pm_world.specs.Possible.{restarted_since_host, restarts_host}
 use Rattle.pm_world.specs.Setup.{setup_of}
 use Rattle.pm_world.specs.State.{share_of}
 use Rattle.pm_world.specs.Uncertainty.{Choice, arrivals_of, due_before, event_of, found, since_restart, witness_events}
-use Rattle.pm_world.proofs.JobSpans.{or-parts}
 use Rattle.pm_world.proofs.Lives.{entries-more}
 use Rattle.pm_world.proofs.Standings.{ArePuts, no_put, one_put, one_restore, are-puts}
 
@@ -81,7 +81,7 @@ pub never-since : (config : Config) (passes : ℕ) (cell : Cell) (events : List 
 unfolding restarted_since
 never-since config passes cell [] steady = refl
 never-since config passes cell (event ∷ before) steady =
-    let parts = or-parts (restarts_converter event) (list_any restarts_converter before) steady in
+    let parts = or_parts (restarts_converter event) (list_any restarts_converter before) steady in
     go (reads_cell config passes cell before event) (restarts_converter event) _ parts.0 (never-since config passes cell before parts.1)
   where
     go : (b c d : Bool) → c ≡ false → d ≡ false → cond b false (c || d) ≡ false
@@ -93,7 +93,7 @@ pub never-host : (events : List Event) → list_any restarts_converter events �
 unfolding restarted_since_host
 never-host [] steady = refl
 never-host (event ∷ before) steady =
-    let parts = or-parts (restarts_converter event) (list_any restarts_converter before) steady in
+    let parts = or_parts (restarts_converter event) (list_any restarts_converter before) steady in
     go (restarts_host event) (restarts_converter event) _ parts.0 (never-host before parts.1)
   where
     go : (b c d : Bool) → c ≡ false → d ≡ false → cond b false (c || d) ≡ false
