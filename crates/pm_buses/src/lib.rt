@@ -1,8 +1,9 @@
 //! Buses for a [`Driver`](pm_driver::Driver), each proved to meet the contract of [`Bus`](pm_driver::Bus).
 //!
 //! A [`SimulatedBus`] has the model converter at its other end, and a plan of faults: a firmware's own code is tried
-//! over it under loss, cuts, repeats, damage and restarts. A [`DeadBus`] is one whose line is cut. [`Retrying`]
-//! stands over any bus, and tries a write again that wasn't acknowledged.
+//! over it under loss, cuts, repeats, damage and restarts, and each frame goes just as its plan says. A [`DeadBus`] is one
+//! whose line is cut. [`Retrying`] stands over any bus, and tries a write again that wasn't acknowledged. [`Patient`] stands
+//! over any [`Adapter`](pm_driver::Adapter), and sends again what the converter heard nothing of.
 //!
 //! ```
 //! fn tried(config: Config, plan: &[Fault]) -> Option<JobEnd> {

@@ -30,7 +30,8 @@ pub trait Bus {
     /// read address, which is put first, with them.
     ///
     /// The bytes are this request's own answer, or fewer than a whole one, or so damaged that their packet error
-    /// code betrays it (`asked`). `answer` has as many bytes as a whole answer, at least one, and is all zero.
+    /// code betrays it (`asked`). The loop hands over a room of just a whole answer's length, all zero, as its own contract
+    /// says (`MayDo`); of who else calls this, only that it has a byte is asked.
     fn read(&mut self, request: &[u8], answer: &mut [u8]) -> usize
         requires { 1 ≤ length answer.old }
         ensures fits { result ≤ length answer.new }
