@@ -1,4 +1,5 @@
 """`pmhost probe` over parts that are as they should be, and over those that aren't: what it says of each, and what it sends."""
+import re
 import tempfile
 import unittest
 from unittest import mock
@@ -9,6 +10,7 @@ from pmhost.probe import Probe
 from . import runs
 from .odd_parts import ADDRESS, Late
 from .kernel import FakeKernel
+from .running import ROOT, stored
 from .test_runs import Blocks
 
 BEFORE = "the part may note in STATUS_CML that it was asked for what it lacks, and pull SMBALERT#"
@@ -36,6 +38,25 @@ class Rows(Blocks):
 
     def test_what_probe_says(self):
         self.carry_out("probe.txt")
+
+
+class Page(unittest.TestCase):
+    """What docs/bus.md says of probe."""
+
+    def setUp(self):
+        self.part = stored(ROOT, "docs", "bus.md").partition("\n## Does a part speak this?\n")[2].partition("\nFrames that you")[0]
+
+    def test_the_whole_answer_is_that_of_a_run(self):
+        self.assertEqual(re.findall("```text\n(.*?)```", self.part, re.S), [probed("-b 7 -a 58 probe", "odd.Named").out])
+
+    def test_each_line_of_the_table_is_one_of_a_run(self):
+        printed = "".join(run.out for name in ("probe.txt", "parts.txt", "jobs.txt") for run in runs.blocks(name))
+        lines = re.findall("^\\| `(.*?)` \\|", self.part, re.M)
+        self.assertGreater(len(lines), 10)
+        for line in lines:
+            with self.subTest(line=line):
+                words = re.sub("^[0-9]+ (?=requests)", "", re.sub(",? ?\\.\\.$", "", line))
+                self.assertIn(words, printed)
 
 
 class Frames(unittest.TestCase):
