@@ -76,10 +76,11 @@ class Frames(unittest.TestCase):
         self.assertEqual([frame for frame in frames if not isinstance(frame, tuple) and len(frame) > 1], [])
 
     def test_the_writes_with_a_fault(self):
-        """Each stands behind a good CLEAR_FAULTS and a read of STATUS_CML, and before another read of it."""
+        """Each stands, twice, behind a good CLEAR_FAULTS and a read of STATUS_CML, and before another read of it."""
         frames = asked(probed("-b 7 -a 58 probe --writes", "odd.Proved").trace)
         at = frames.index(b"\x03\x46")
-        self.assertEqual(frames[at:], [b"\x03\x46", b"\x7E", b"\x03", b"\x7E", b"\x03\x46", b"\x7E", b"\x03\xB9", b"\x7E", b"\x03\x46"])
+        without, wrong = ([b"\x03\x46", b"\x7E", faulty, b"\x7E"] * 2 for faulty in (b"\x03", b"\x03\xB9"))
+        self.assertEqual(frames[at:], [*without, *wrong, b"\x03\x46"])
         self.assertEqual(pec(b"\xB0\x03"), 0x46)
 
     def test_what_may_be_noted_is_said_before_the_first_transfer(self):
@@ -93,6 +94,24 @@ class Frames(unittest.TestCase):
         with mock.patch("pmhost.cli.probe.complain", said.append):
             runs.called(["-b", "7", "-a", "58", "probe", "--writes"], Listening(runs.odd_parts.Proved()))
         self.assertEqual(said[:2], [f"probe: {BEFORE}; --writes sends CLEAR_FAULTS, which clears the part's latched faults", "transfer"])
+
+
+class OneFault(unittest.TestCase):
+    """One transfer that goes wrong, each in turn, makes no false verdict."""
+
+    PARTS = ("odd.Proved", "odd.PageBlind", "odd.PecOptional", "odd.AnyPec")
+    MISHAPS = ("lost", "false", "damaged", "restart", "short0", "empty")
+
+    def test_one_fault(self):
+        for part in self.PARTS:
+            whole = probed("-b 7 -a 58 probe --writes", part)
+            for mishap in self.MISHAPS:
+                for at in range(len(whole.trace.splitlines())):
+                    run = runs.Run("probe")
+                    run.words, run.part, run.mishaps = "-b 7 -a 58 probe --writes", part, " ".join(["ok"] * at + [mishap])
+                    with tempfile.TemporaryDirectory() as folder, self.subTest(part=part, mishap=mishap, at=at):
+                        got = runs.ran(run, folder)
+                        self.assertEqual((got.status, got.out.splitlines()[-1]), (whole.status, whole.out.splitlines()[-1]))
 
 
 class Busy(unittest.TestCase):

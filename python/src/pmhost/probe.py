@@ -99,7 +99,7 @@ class Probe:
         return Read(None) if self.given else self.reads.packet(Packet("PAGE_PLUS_READ", VOUT_MODE, page=NO_PAGE))
 
     def write(self) -> Found:
-        """Sends CLEAR_FAULTS without its packet error code, and then with a wrong one. It stands once more, with the right one,
+        """Sends CLEAR_FAULTS without its packet error code, and then with a wrong one, twice each. It is sent with the right one
         before each, so that STATUS_CML is 00h then, and at the end, which takes their notes away."""
         found, frame = self.found, CLEAR.frame(self.address)
         for name, faulty in ("without a PEC", frame[:-1]), ("with a wrong PEC", frame[:-1] + bytes([frame[-1] ^ 0xFF])):
@@ -194,30 +194,37 @@ class Probe:
         return None if read.payload is None else read.payload[0]
 
     def _became_of(self, faulty: bytes) -> tuple[bool, str]:
-        """Whether a write with a fault is known to be refused, and in words what became of it, by STATUS_CML before it and
-        behind it."""
+        """Whether a write with a fault is known to be refused, and in words what became of it. Two of three tries have to say
+        the same, so that one transfer that fails doesn't decide."""
+        seen: list[bool | None] = []
         words = ""
         for _ in range(TRIES):
-            self._sent(CLEAR.frame(self.address))
-            before = self._status()
-            if before is None:
-                words = "not known, STATUS_CML gave no good answer"
-                continue
-            if before:
-                words = f"not known, STATUS_CML is {before:02X} behind a good CLEAR_FAULTS"
-                continue
-            is_acknowledged, after = self._sent(faulty), self._status()
-            if after is None:
-                words = "not known, STATUS_CML gave no good answer"
-            elif after & NOT_TAKEN:
-                return True, f"not taken, STATUS_CML {after:02X}"
-            elif after:
-                words = f"not known, STATUS_CML {after:02X}"
-            elif is_acknowledged:
-                return False, "taken, STATUS_CML 00"
-            else:
-                words = "not known, it wasn't acknowledged, and STATUS_CML is 00"
-        return False, words
+            is_taken, words = self._tried(faulty)
+            if is_taken is not None and is_taken in seen:
+                return not is_taken, words
+            seen.append(is_taken)
+        if True in seen and False in seen:
+            words = "not known, it was taken in one try and not in another"
+        return False, words if words.startswith("not known") else f"not known, two tries of three failed; in the other: {words}"
+
+    def _tried(self, faulty: bytes) -> tuple[bool | None, str]:
+        """Whether a write with a fault is taken, by STATUS_CML before it and behind it, and in words; None where that isn't known."""
+        self._sent(CLEAR.frame(self.address))
+        before = self._status()
+        if before is None:
+            return None, "not known, STATUS_CML gave no good answer"
+        if before:
+            return None, f"not known, STATUS_CML is {before:02X} behind a good CLEAR_FAULTS"
+        is_acknowledged, after = self._sent(faulty), self._status()
+        if after is None:
+            return None, "not known, STATUS_CML gave no good answer"
+        if after & NOT_TAKEN:
+            return False, f"not taken, STATUS_CML {after:02X}"
+        if after:
+            return None, f"not known, STATUS_CML {after:02X}"
+        if is_acknowledged:
+            return True, "taken, STATUS_CML 00"
+        return None, "not known, it wasn't acknowledged, and STATUS_CML is 00"
 
 
 def unfit_words(reads: Reads, revision: Read, first: Transfers) -> str:
