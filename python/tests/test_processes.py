@@ -73,6 +73,15 @@ class Processes(unittest.TestCase):
         ran = subprocess.run(given, capture_output=True, text=True, start_new_session=True, check=False)
         self.assertEqual((ran.returncode, ran.stdout, ran.stderr), (0, DONE, ""))
 
+    def test_a_second_signal_is_not_heard(self):
+        """Four signals while a transfer is under way: one line, and one status."""
+        twice = RUNNER.replace("from pmhost import cli\n", "from pmhost import cli\nimport os, signal\nkernel.SIGNALS['twice_int'] = "
+                               "lambda: [os.kill(os.getpid(), each) for each in (signal.SIGINT, signal.SIGTERM, signal.SIGHUP, signal.SIGQUIT)]\n")
+        ran = subprocess.run([sys.executable, "-c", twice, os.path.dirname(HERE), "ok twice_int", *ORDER.split()], capture_output=True,
+                             text=True, check=False, preexec_fn=with_signals)
+        self.assertEqual((ran.returncode, ran.stdout, ran.stderr), (
+            130, "", "pmhost: interrupted during word 0 OPERATION 80: output 0 OPERATION may hold the old or the ordered word\n"))
+
     def test_both_names_of_the_command(self):
         script = "import sys; from pmhost.cli import main; sys.exit(main())"
         for given in ([sys.executable, "-m", "pmhost"], [sys.executable, "-c", script]):

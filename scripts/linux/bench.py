@@ -37,7 +37,7 @@ import parts  # noqa: E402
 import wire  # noqa: E402
 from counted import ERROR  # noqa: E402
 
-SIGNALS = ("sigint", "sigterm", "group", "held")
+SIGNALS = ("sigint", "sigterm", "sigquit", "sighup", "group", "held")
 MOST_SECONDS = 20
 
 

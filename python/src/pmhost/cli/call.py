@@ -24,9 +24,15 @@ class Interrupted(BaseException):
 
 
 def interrupt(*_: object) -> None:
+    """The first signal ends the program. A further one is heard and dropped: one that came already and is ignored from now on
+    Python would tell of."""
     for each in ENDING:
-        signal.signal(each, signal.SIG_IGN)
+        signal.signal(each, drop)
     raise Interrupted
+
+
+def drop(*_: object) -> None:
+    """A further signal changes nothing."""
 
 
 @contextlib.contextmanager
