@@ -4,7 +4,7 @@ A file has a block for each run, a blank line between them. The lines of a block
 
     words: WORDS         the command line; `FILE` is the file of rails of the block
     mishaps: M M ..      what befalls the transfers (kernel.py)
-    part: KIND [M M ..] [coefficients m b R]     the kind of part, and VOUT_MODEs in hexadecimal
+    part: KIND [M M ..] [coefficients m b R]     the kind of part, and VOUT_MODEs in hexadecimal; `odd.KIND` of odd_parts.py
     cell: O REG WORD     a word that the part holds at first
     fault: WHAT ERRNO    the kernel's error for `open` or `slave`
     functions: HEX       the adapter's functions
@@ -22,12 +22,14 @@ import os
 import shlex
 from dataclasses import dataclass, field
 
-from pmhost import cli
+from pmhost import cli, reads
 from pmhost.bus.linux import I2C_FUNC_I2C, I2C_SLAVE
 from pmhost.values import CODES
 
-from . import kernel
+from . import kernel, odd_parts
 
+# The stand-in needs no time between two tries.
+reads.PAUSE = 0
 DATA = os.path.join(os.path.dirname(os.path.abspath(__file__)), "data")
 
 
@@ -77,7 +79,8 @@ class Run:
             made["coefficients"], rest = tuple(int(each) for each in rest[at + 1:at + 4]), rest[:at]
         if rest:
             made["modes"] = tuple(int(each, 16) for each in rest)
-        part = getattr(kernel, kind)(**made)
+        module = odd_parts if kind.startswith("odd.") else kernel
+        part = getattr(module, kind.removeprefix("odd."))(**made)
         for output, register, word in self.cells:
             part.converter.set((None if output == "None" else int(output), CODES[register]), int(word, 16))
         return part

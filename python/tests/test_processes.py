@@ -20,7 +20,18 @@ PART = "-b 7 -a 58 --outputs 2 --no-limit"
 ORDER = f"{PART} word 0 OPERATION 80"
 DONE = "word 0: OPERATION 80 on confirmed; what the output commands isn't known, since its format wasn't learned\n"
 READ = "read 1: OPERATION 80 on confirmed\n"
-PROBED = "probe: PEC yes, PAGE_PLUS yes, 2 outputs: 0 ULINEAR16 -12, 1 ULINEAR16 -12\n"
+PROBING = "pmhost: probe: the part may note in STATUS_CML that it was asked for what it lacks, and pull SMBALERT#\n"
+PROBED = """probe: PEC yes, PAGE_PLUS yes, 1 output: 0 ULINEAR16 -12
+probe: whether the part looks at the page wasn't asked: page 0 alone was
+probe: PMBUS_REVISION 33, Part II 1.3, no good MFR_ID (Remote I/O error), no good MFR_MODEL (Remote I/O error), \
+no good MFR_REVISION (Remote I/O error)
+probe: WRITE_PROTECT 00
+probe: output 0: OPERATION 80, VOUT_COMMAND 1000, VOUT_MAX 4000, VOUT_MARGIN_HIGH 1100, VOUT_MARGIN_LOW 0F00, VOUT_MIN 0000
+probe: output 0: no good ON_OFF_CONFIG (Remote I/O error): whether OPERATION is listened to isn't known
+probe: whether the part refuses a write without a PEC, or with a wrong one, wasn't tried: probe --writes tries it
+pmhost -b 7 -a 58 --outputs 1 --limit 0:LEAST:MOST
+"""
+PROBE = "-b 7 -a 58 --outputs 1 probe"
 UNSAID = f"unsaid: {DONE}"
 # Words, redirections of a shell, mishaps; standard output, standard error, status.
 ROWS = [
@@ -32,12 +43,12 @@ ROWS = [
     (f"{ORDER} + read 1 OPERATION", "> /dev/full", "", "", f"pmhost: standard output: No space left on device; {UNSAID}", 2),
     (f"{ORDER} + read 1 OPERATION", ">&-", "", "", "pmhost: standard output is closed: nothing was sent\n", 2),
     (f"{ORDER} + read 1 OPERATION", "<&-", "", DONE + READ, "", 0),
-    (f"{PART} probe", "<&- 2>&-", "", PROBED, "", 0),
+    (PROBE, "<&- 2>&-", "", PROBED, "", 0),
     ("frobnicate", "2>&-", "", "", "", 2),
     ("frobnicate", "2> /dev/full", "", "", "", 2),
     (f"{ORDER} + read 1 OPERATION", "| true; exit ${PIPESTATUS[0]}", "", "", f"pmhost: standard output: Broken pipe; {UNSAID}", 2),
     (f"--trace /dev/full {ORDER} + read 1 OPERATION", "", "", DONE, "pmhost: /dev/full: No space left on device\n", 2),
-    (f"--trace=/dev/full {PART} probe", "", "", PROBED, "pmhost: /dev/full: No space left on device\n", 2),
+    (f"--trace=/dev/full {PROBE}", "", "", PROBED, f"{PROBING}pmhost: /dev/full: No space left on device\n", 2),
 ]
 
 

@@ -1,87 +1,243 @@
-"""Whether the host can drive a part: PEC, PAGE_PLUS, its outputs and their formats, by reads alone."""
+"""Whether the host can drive a part: what its answers to reads show, and to two writes with a fault where these are wished."""
 from __future__ import annotations
 
 from dataclasses import dataclass, field
 
-from .errors import FrameRefused
 from .host import Bus, Host
-from .packets import Packet, pec, read_answer
+from .packets import Packet
 from .pmbus import Pmbus
+from .reads import TRIES, Read, Reads
 from .transfers import Transfers
-from .values import Format
+from .values import CODES, Format
 
-TRIES, MOST_OUTPUTS = 3, 8
-REVISION = Packet("read", 0x98)
+MOST_OUTPUTS = 8
+# A page that no part has.
+NO_PAGE = 0x1F
 VOUT_MODE, COEFFICIENTS, DIRECT = 0x20, 0x30, 0x40
+ON_OFF_CONFIG, MFR_BLOCKS = 0x02, {"MFR_ID": 0x99, "MFR_MODEL": 0x9A, "MFR_REVISION": 0x9B}
+REVISION, PROTECT, STATUS_CML = Packet("read", 0x98), Packet("read", CODES["WRITE_PROTECT"]), Packet("read", 0x7E)
+CLEAR = Packet("send byte", 0x03)
+# The bits of STATUS_CML of a wrong packet error code, and of another fault of the bus, as a byte too few.
+NOT_TAKEN = 0x22
+REGISTERS = tuple(name for name in CODES if name != "WRITE_PROTECT")
 SPOKEN = "this host speaks ULINEAR16 and DIRECT"
+BLIND = "the part doesn't look at the page"
 UNFIT = "this host can't drive the part"
 
 
 @dataclass
+class FoundOutput:
+    """An output that answers: its format in words, and whether the host speaks it; the words of those of the six registers
+    that gave a good answer, why the others gave none, and ON_OFF_CONFIG."""
+
+    number: int
+    format: str
+    is_spoken: bool
+    words: dict[str, int] = field(default_factory=dict)
+    missing: dict[str, str] = field(default_factory=dict)
+    on_off: Read = Read(None)
+
+
+@dataclass
 class Found:
-    """What a part has: one line, whether the host can drive it, and the format of each output in words."""
+    """What a part has. `verdict` is why the host can't drive a part whose outputs couldn't be looked at; `page` says whether
+    the part looks at the page, `faults` has every other reason why the host can't drive it, `doubt` why that can't be told,
+    `writes` what became of the two writes with a fault, `late` and `high` are those of `Reads`."""
 
-    words: str
-    is_fit: bool
-    outputs: list[str] = field(default_factory=list)
+    verdict: str = ""
+    revision: int | None = None
+    identity: dict[str, Read] = field(default_factory=dict)
+    outputs: list[FoundOutput] = field(default_factory=list)
+    protect: Read = Read(None)
+    page: str = ""
+    writes: dict[str, str] = field(default_factory=dict)
+    faults: list[str] = field(default_factory=list)
+    doubt: str = ""
+    late: int = 0
+    high: int = 0
+
+    @property
+    def is_fit(self) -> bool:
+        """Whether nothing that was asked speaks against driving the part."""
+        return not (self.verdict or self.faults or self.doubt)
+
+    @property
+    def missing(self) -> list[str]:
+        """The registers that gave no good answer, each with its output."""
+        return [f"{name} of output {each.number}" for each in self.outputs for name in REGISTERS if name in each.missing]
 
 
-def probe(bus: Bus, address: int, most: int = MOST_OUTPUTS) -> Found:
-    """Asks a part for PMBUS_REVISION, and its pages for their formats up to the first that isn't there, at most so many."""
-    revision, host, outputs, is_fit = Revision(bus, address), Host(address, MOST_OUTPUTS, TRIES), [], True
-    for page in range(most):
+class Probe:
+    """The questions to the part at an address: those of `run` are reads alone, `write` sends CLEAR_FAULTS."""
+
+    def __init__(self, bus: Bus, address: int, outputs: int | None = None) -> None:
+        self.reads, self.address, self.given = Reads(bus, address), address, outputs
+        self.host, self.found = Host(address, MOST_OUTPUTS, TRIES), Found()
+
+    def run(self) -> Found:
+        """Asks page 1Fh first, which no part has, then each page up to the first that doesn't answer, page 1Fh once more, and
+        who the part is. With a given number of outputs no page from it on is asked, nor is page 1Fh."""
+        found, reads = self.found, self.reads
+        no_page = self._no_page()
+        revision = reads.packet(REVISION)
+        found.revision = None if revision.payload is None else revision.payload[0]
+        if not no_page.has_answer:
+            self._look_at_outputs(revision)
+            no_page = self._no_page() if found.outputs else no_page
+        if revision.payload is not None or no_page.payload is not None or found.outputs:
+            found.identity = {name: reads.block(code) for name, code in MFR_BLOCKS.items()}
+            found.protect = reads.packet(PROTECT)
+            if no_page.has_answer:
+                found.outputs, found.verdict = [], f"PEC yes, {BLIND} (page 1F answers {spaced(no_page.came)}): {UNFIT}"
+        elif no_page.has_answer:
+            found.verdict = unfit_words(reads, revision, Transfers())
+        found.late, found.high = reads.late, reads.high
+        return found
+
+    def _no_page(self) -> Read:
+        """What page 1Fh answers."""
+        return Read(None) if self.given else self.reads.packet(Packet("PAGE_PLUS_READ", VOUT_MODE, page=NO_PAGE))
+
+    def write(self) -> Found:
+        """Sends CLEAR_FAULTS without its packet error code, and then with a wrong one, twice each. It is sent with the right one
+        before each, so that STATUS_CML is 00h then, and at the end, which takes their notes away."""
+        found, frame = self.found, CLEAR.frame(self.address)
+        for name, faulty in ("without a PEC", frame[:-1]), ("with a wrong PEC", frame[:-1] + bytes([frame[-1] ^ 0xFF])):
+            is_refused, found.writes[name] = self._became_of(faulty)
+            if not is_refused:
+                found.faults.append(f"a write {name} {'is taken' if found.writes[name].startswith('taken') else 'may be taken'}")
+        self._sent(frame)
+        return found
+
+    # ---- The outputs ----
+
+    def _look_at_outputs(self, revision: Read) -> None:
+        found = self.found
+        for number in range(self.given or MOST_OUTPUTS):
+            output, transfers = self._output(number)
+            if output is None:
+                if number == 0:
+                    found.verdict = unfit_words(self.reads, revision, transfers)
+                    return
+                break
+            found.outputs.append(output)
+        found.faults += [f"the format of output {each.number} is {each.format}, and {SPOKEN}" for each in found.outputs if not each.is_spoken]
+        found.faults += [f"output {each.number} has no good VOUT_COMMAND" for each in found.outputs if "VOUT_COMMAND" in each.missing]
+        self._judge_page()
+        if self.reads.packet(Packet("PAGE_PLUS_READ", VOUT_MODE, page=0)).payload is None:
+            found.doubt = "output 0 doesn't answer any more, so that further ones may have been missed: probe again"
+
+    def _output(self, number: int) -> tuple[FoundOutput | None, Transfers]:
+        """An output that answers for its VOUT_MODE, and the transfers that asked."""
         transfers = Transfers()
-        host.learn(page)
-        host.run(bus, transfers)
-        form = host.format(page)
-        if form is None and mode_of(transfers, page) is None:
-            if page == 0:
-                return Found(unfit_words(address, revision, transfers), False)
-            break
-        outputs.append(format_words(form) if form is not None else unspoken_words(transfers, page))
-        is_fit = is_fit and form is not None
-    counted = "1 output" if len(outputs) == 1 else f"{len(outputs)} outputs"
-    formats = ", ".join(f"{page} {words}" for page, words in enumerate(outputs))
-    return Found(f"PEC yes, PAGE_PLUS yes, {counted}: {formats}{'' if is_fit else f': {SPOKEN}'}", is_fit, outputs)
+        self.host.learn(number)
+        self.host.run(self.reads, transfers)
+        form = self.host.format(number)
+        if form is None and mode_of(transfers, number) is None:
+            return None, transfers
+        output = FoundOutput(number, unspoken_words(transfers, number) if form is None else format_words(form), form is not None)
+        for register in REGISTERS:
+            word, why = self._word(number, register)
+            if word is None:
+                output.missing[register] = why
+            else:
+                output.words[register] = word
+        output.on_off = self.reads.byte(number, ON_OFF_CONFIG)
+        return output, transfers
 
+    def _word(self, number: int, register: str) -> tuple[int | None, str]:
+        """A register's word, or why it gave no good answer."""
+        transfers = Transfers()
+        self.host.check(number, register)
+        if self.host.run(self.reads, transfers).kind == "done":
+            return self.host.standing(number, register), ""
+        return None, (transfers.faults or transfers.failed or ["no answer"])[-1]
 
-class Revision:
-    """PMBUS_REVISION in three tries: whether a good answer came, the last bytes that came, and why the last try failed."""
+    def _judge_page(self) -> None:
+        """Whether the part looks at the page: page 1Fh didn't answer, or two outputs hold different words."""
+        found = self.found
+        if not self.given:
+            found.page = "the part looks at the page: page 1F doesn't answer"
+        elif len(found.outputs) == 1:
+            found.page = "whether the part looks at the page wasn't asked: page 0 alone was"
+        elif register := self._different():
+            found.page = f"the part looks at the page: the outputs hold different words of {register}"
+        else:
+            found.page = "whether the part looks at the page isn't known: the outputs hold the same words, and page 1F wasn't asked"
+            found.doubt = "probe it without --outputs, which asks page 1F"
 
-    def __init__(self, bus: Bus, address: int) -> None:
-        self.is_good, self.came, self.why = False, b"", ""
-        self.request = REVISION.frame(address)
+    def _different(self) -> str:
+        """A register of which two outputs hold different words, read in turn to be sure; nothing where there is none."""
+        first, *others = self.found.outputs
+        for other in others:
+            for register, word in first.words.items():
+                held = [(0, word), (other.number, other.words.get(register, word))]
+                if held[0][1] != held[1][1] and all(self._word(page, register)[0] == it for page, it in held * 2):
+                    return register
+        return ""
+
+    # ---- Writes with a fault ----
+
+    def _sent(self, frame: bytes) -> bool:
+        """Whether a write was acknowledged in three tries."""
         for _ in range(TRIES):
             try:
-                came = bus.read(self.request, 2)
-            except OSError as fault:
-                self.why = str(fault.strerror or fault)
-                continue
-            try:
-                read_answer(address, REVISION, bytes([address << 1 | 1]) + came if came else b"")
-            except FrameRefused as wrong:
-                self.came, self.why = came, f"{wrong.letter} {wrong.name}"
-                continue
-            self.is_good = True
-            return
+                if self.reads.write(frame):
+                    return True
+            except OSError:
+                pass
+        return False
 
-    def with_pec(self) -> bytes:
-        """What should have come."""
-        payload = self.came[:-1]
-        return payload + bytes([pec(self.request + bytes([self.request[0] | 1]) + payload)])
+    def _status(self) -> int | None:
+        """STATUS_CML."""
+        read = self.reads.packet(STATUS_CML)
+        return None if read.payload is None else read.payload[0]
+
+    def _became_of(self, faulty: bytes) -> tuple[bool, str]:
+        """Whether a write with a fault is known to be refused, and in words what became of it. Two of three tries have to say
+        the same, so that one transfer that fails doesn't decide."""
+        seen: list[bool | None] = []
+        words = ""
+        for _ in range(TRIES):
+            is_taken, words = self._tried(faulty)
+            if is_taken is not None and is_taken in seen:
+                return not is_taken, words
+            seen.append(is_taken)
+        if True in seen and False in seen:
+            words = "not known, it was taken in one try and not in another"
+        return False, words if words.startswith("not known") else f"not known, two tries of three failed; in the other: {words}"
+
+    def _tried(self, faulty: bytes) -> tuple[bool | None, str]:
+        """Whether a write with a fault is taken, by STATUS_CML before it and behind it, and in words; None where that isn't known."""
+        self._sent(CLEAR.frame(self.address))
+        before = self._status()
+        if before is None:
+            return None, "not known, STATUS_CML gave no good answer"
+        if before:
+            return None, f"not known, STATUS_CML is {before:02X} behind a good CLEAR_FAULTS"
+        is_acknowledged, after = self._sent(faulty), self._status()
+        if after is None:
+            return None, "not known, STATUS_CML gave no good answer"
+        if after & NOT_TAKEN:
+            return False, f"not taken, STATUS_CML {after:02X}"
+        if after:
+            return None, f"not known, STATUS_CML {after:02X}"
+        if is_acknowledged:
+            return True, "taken, STATUS_CML 00"
+        return None, "not known, it wasn't acknowledged, and STATUS_CML is 00"
 
 
-def unfit_words(address: int, revision: Revision, first: Transfers) -> str:
+def unfit_words(reads: Reads, revision: Read, first: Transfers) -> str:
     """Why the host can't drive a part that gives no good answer by PAGE_PLUS."""
     why = (first.faults or first.failed or ["no answer"])[-1]
-    if revision.is_good:
+    if revision.payload is not None:
         return f"PEC yes, no PAGE_PLUS ({why}): {UNFIT}"
     if revision.came:
-        return (f"no PEC (PMBUS_REVISION gave {spaced(revision.came)}, with PEC it is {spaced(revision.with_pec())}): "
-                f"{UNFIT}")
+        wanted = reads.with_pec(REVISION.frame(reads.address), revision.came)
+        return f"no PEC (PMBUS_REVISION gave {spaced(revision.came)}, with PEC it is {spaced(wanted)}): {UNFIT}"
     if first.faults:
         return f"no PMBUS_REVISION ({revision.why}), no PAGE_PLUS ({why}): {UNFIT}"
-    return f"nobody answers at {address:02X} ({why}): {UNFIT}"
+    return f"nobody answers at {reads.address:02X} ({why}): {UNFIT}"
 
 
 def spaced(data: bytes) -> str:

@@ -4,22 +4,151 @@ from __future__ import annotations
 import argparse
 from typing import Any
 
-from .. import probe as probing
-from .answer import Answer
-from .call import DESK_ADDRESS, Call, said
-from .parser import bus_options
+from ..probe import REGISTERS, UNFIT, Found, FoundOutput, Probe, spaced
+from ..reads import Read
+from .answer import Answer, in_digits
+from .call import DESK_ADDRESS, Call, complain, said
+from .parser import DESK, bus_options
+
+MAY_NOTE = "the part may note in STATUS_CML that it was asked for what it lacks, and pull SMBALERT#"
+CLEARS = "--writes sends CLEAR_FAULTS, which clears the part's latched faults"
+MAY_BE_CLEARED = "the part's latched faults may be cleared, and no setting was written"
 
 
 def add(commands: Any) -> None:
     """Adds the subparser."""
-    found = commands.add_parser("probe", help="tells by reads alone whether the host can drive the part, its outputs and formats")
+    help = "tells by reads alone whether the host can drive the part, its outputs, formats and registers"
+    found = commands.add_parser("probe", help=help)
+    found.add_argument("--writes", action="store_true", help="sends CLEAR_FAULTS without and with a wrong PEC, too: "
+                       "a part that takes one can't be driven. It clears faults")
     found.set_defaults(run=run)
     bus_options(found)
 
 
 def run(arguments: argparse.Namespace) -> int:
-    """What the part has."""
+    """What the part has, and in the last line what to give to `pmhost` for it, or why it can't be driven."""
     call: Call = arguments.call
-    found = probing.probe(call.opened(), call.address or DESK_ADDRESS, call.outputs or probing.MOST_OUTPUTS)
-    rows: list[dict[str, object]] = [{"output": output, "format": words} for output, words in enumerate(found.outputs)]
-    return call.say(Answer(said(arguments), "fit" if found.is_fit else "unfit", found.words, 0 if found.is_fit else 1, rows=rows))
+    bus = call.opened()
+    complain(f"{said(arguments)}: {MAY_NOTE}{f'; {CLEARS}' if arguments.writes else ''}")
+    probe = Probe(bus, call.address or DESK_ADDRESS, call.outputs)
+    found = probe.run()
+    if arguments.writes and found.outputs:
+        call.settled = MAY_BE_CLEARED
+        probe.write()
+    lines, give = lines_of(found), give_of(call, found) if found.is_fit else None
+    if not call.is_json:
+        call.say_lines([*(f"probe: {line}" for line in lines), *([give] if give else [])])
+    told = [*(row_of(each) for each in found.outputs), device_row(found, lines, give)]
+    return call.say(Answer(said(arguments), "fit" if found.is_fit else "unfit", status=0 if found.is_fit else 1, rows=told))
+
+
+def give_of(call: Call, found: Found) -> str:
+    """The command line for this part, but for its commands and the limits of its outputs."""
+    place = [DESK] if call.bus == DESK else [str(call.bus), "-a", f"{call.address:02X}"]
+    limits = (f"--limit {each.number}:LEAST:MOST" for each in found.outputs)
+    return " ".join(["pmhost", "-b", *place, *(["--force"] if call.is_forced else []), "--outputs", str(len(found.outputs)), *limits])
+
+
+def lines_of(found: Found) -> list[str]:
+    """What is so, a line each."""
+    lines = []
+    if found.outputs:
+        counted = "1 output" if len(found.outputs) == 1 else f"{len(found.outputs)} outputs"
+        lines.append(f"PEC yes, PAGE_PLUS yes, {counted}: {', '.join(f'{each.number} {each.format}' for each in found.outputs)}")
+        lines.append(found.page)
+    if found.identity:
+        lines.append(", ".join([revision_words(found.revision), *(text_words(*each) for each in found.identity.items())]))
+        lines.append(protect_words(found.protect))
+    for each in found.outputs:
+        lines += [f"output {each.number}: {registers_words(each)}", f"output {each.number}: {on_off_words(each.on_off)}"]
+    lines += [f"a write {name}: {words}" for name, words in found.writes.items()]
+    if found.outputs and not found.writes:
+        lines.append("whether the part refuses a write without a PEC, or with a wrong one, wasn't tried: probe --writes tries it")
+    if found.late or found.high:
+        lines.append(busy_words(found))
+    if found.missing:
+        lines.append(f"registers without a good answer, which the part seems to lack: {', '.join(found.missing)}")
+    if found.verdict:
+        lines.append(found.verdict)
+    elif found.faults:
+        lines.append(f"{UNFIT}: {'; '.join(found.faults)}")
+    elif found.doubt:
+        lines.append(f"whether this host can drive the part isn't known: {found.doubt}")
+    return lines
+
+
+def revision_words(revision: int | None) -> str:
+    """PMBUS_REVISION, whose low digit is the revision of Part II."""
+    if revision is None:
+        return "no good PMBUS_REVISION"
+    named = {0: "1.0", 1: "1.1", 2: "1.2", 3: "1.3", 4: "1.4", 5: "1.5"}.get(revision & 0x0F)
+    return f"PMBUS_REVISION {revision:02X}{f', Part II {named}' if named else ''}"
+
+
+def text_of(payload: bytes) -> str | None:
+    """A block that is a text of ASCII, without the blanks and zeros behind it."""
+    kept = payload.rstrip(b" \0")
+    return kept.decode("ascii") if kept and all(0x20 <= byte < 0x7F for byte in kept) else None
+
+
+def text_words(name: str, read: Read) -> str:
+    """A block, as a text where it is one."""
+    if read.payload is None:
+        return f"no good {name} ({read.why})"
+    text = text_of(read.payload)
+    return f"{name} {f'{chr(34)}{text}{chr(34)}' if text else spaced(read.payload) or 'empty'}"
+
+
+def protect_words(read: Read) -> str:
+    """WRITE_PROTECT."""
+    if read.payload is None:
+        return f"no good WRITE_PROTECT ({read.why})"
+    return f"WRITE_PROTECT {read.payload[0]:02X}{': it refuses writes' if read.payload[0] else ''}"
+
+
+def registers_words(output: FoundOutput) -> str:
+    """Which of the six registers an output has."""
+    has = [f"{name} {in_digits(name, word)}" for name, word in output.words.items()]
+    lacks = [f"no good {name} ({why})" for name, why in output.missing.items()]
+    return ", ".join(has + lacks)
+
+
+def on_off_words(read: Read) -> str:
+    """ON_OFF_CONFIG: bit 4 is 0 where the output is on whenever there is power, bit 3 is 0 where OPERATION's on and off are
+    ignored, bit 2 is 1 where the CONTROL pin counts."""
+    if read.payload is None:
+        return f"no good ON_OFF_CONFIG ({read.why}): whether OPERATION is listened to isn't known"
+    word = read.payload[0]
+    if not word & 0x10:
+        return f"ON_OFF_CONFIG {word:02X}: OPERATION's on and off are ignored, the output is on whenever there is power"
+    if not word & 0x08:
+        return f"ON_OFF_CONFIG {word:02X}: OPERATION's on and off are ignored"
+    return f"ON_OFF_CONFIG {word:02X}: OPERATION is listened to{', and so is the CONTROL pin' if word & 0x04 else ''}"
+
+
+def busy_words(found: Found) -> str:
+    """Requests that needed more than one try."""
+    seen = []
+    if found.late:
+        seen.append(f"{found.late} request{'s were' if found.late > 1 else ' was'} answered at a second or third try alone")
+    if found.high:
+        seen.append(f"{found.high} answer{'s were' if found.high > 1 else ' was'} nothing but FFh, which counts as none")
+    return f"{', '.join(seen)}{': the part is busy, or the bus loses transfers' if found.late else ''}"
+
+
+def row_of(output: FoundOutput) -> dict[str, object]:
+    """An output by names and numbers."""
+    on_off = output.on_off.payload
+    return {"output": output.number, "format": output.format, "registers": list(output.words),
+            "missing": [name for name in REGISTERS if name in output.missing],
+            "on_off_config": None if on_off is None else f"{on_off[0]:02X}"}
+
+
+def device_row(found: Found, lines: list[str], give: str | None) -> dict[str, object]:
+    """The same of the device, with what is said of it and the command line for it."""
+    texts = {name.lower(): None if read.payload is None else text_of(read.payload) or spaced(read.payload)
+             for name, read in found.identity.items()}
+    protect = found.protect.payload
+    return {"output": None, "pmbus_revision": None if found.revision is None else f"{found.revision:02X}", **texts,
+            "write_protect": None if protect is None else f"{protect[0]:02X}", "writes": found.writes,
+            "late": found.late, "high": found.high, "says": lines, "give": give}

@@ -1,0 +1,130 @@
+"""Reads beside the host's jobs: each in three tries, and judged by the library's packet error code.
+
+The host isn't told of them. An answer of nothing but FFh is one that nobody gave: a bus that nobody drives is high, and a busy
+part may answer so. Its last byte can even be the right packet error code, as that of WRITE_PROTECT at 4Ah.
+"""
+from __future__ import annotations
+
+import errno
+import time
+from dataclasses import dataclass
+from typing import Callable
+
+from .errors import FrameRefused
+from .host import Bus
+from .packets import Packet, pec, read_answer
+
+TRIES = 3
+# Seconds before a request is sent again, since the part may be busy.
+PAUSE = 0.01
+PAGE_PLUS_READ, MOST_BLOCK = 0x06, 32
+NOBODY = "nothing but FFh"
+
+
+@dataclass(frozen=True)
+class Read:
+    """What came of a read: its payload, where a good answer came; otherwise the last bytes that came, and why it failed."""
+
+    payload: bytes | None
+    came: bytes = b""
+    why: str = ""
+
+    @property
+    def has_answer(self) -> bool:
+        """Whether anything came, good or not."""
+        return self.payload is not None or bool(self.came)
+
+
+class NotGood(Exception):
+    """What is wrong with an answer."""
+
+
+class Reads:
+    """The bus of a part, over which nothing but FFh is no answer. `late` counts the requests that were answered at a second
+    or third try alone, `high` the answers of nothing but FFh."""
+
+    def __init__(self, bus: Bus, address: int) -> None:
+        self.bus, self.address = bus, address
+        self.late = self.high = 0
+        self._unanswered: bytes | None = None
+
+    def write(self, frame: bytes) -> bool:
+        """Sends a packet. One that wasn't acknowledged waits before it is sent again."""
+        self._wait(frame)
+        is_acknowledged = self.bus.write(frame)
+        if is_acknowledged:
+            self._unanswered = None
+        return is_acknowledged
+
+    def read(self, request: bytes, count: int) -> bytes:
+        """What came back; an OSError where it is nothing but FFh. A request that nobody answered waits before it is sent again."""
+        is_again = self._wait(request)
+        came = self.bus.read(request, count)
+        if came and not came.strip(b"\xFF"):
+            self.high += 1
+            raise OSError(errno.ENXIO, NOBODY)
+        if came:
+            self.late, self._unanswered = self.late + is_again, None
+        return came
+
+    def _wait(self, frame: bytes) -> bool:
+        """Whether a frame is sent again that nobody answered, which waits."""
+        is_again, self._unanswered = frame == self._unanswered, frame
+        if is_again:
+            time.sleep(PAUSE)
+        return is_again
+
+    def packet(self, asked: Packet) -> Read:
+        """A packet of the library's table."""
+        def payload(came: bytes) -> bytes:
+            try:
+                return read_answer(self.address, asked, self._read_address() + came)
+            except FrameRefused as wrong:
+                raise NotGood(f"{wrong.letter} {wrong.name}") from None
+
+        return self._tried(asked.frame(self.address), asked.answer, payload)
+
+    def byte(self, page: int, code: int) -> Read:
+        """A byte of a page by PAGE_PLUS, of any code."""
+        request = bytes([self.address << 1, PAGE_PLUS_READ, 2, page, code])
+        return self._tried(request, 3, lambda came: self._counted(request, came, 1))
+
+    def block(self, code: int) -> Read:
+        """A block of at most 32 bytes, of any code."""
+        request = bytes([self.address << 1, code])
+        return self._tried(request, MOST_BLOCK + 2, lambda came: self._counted(request, came, None))
+
+    def with_pec(self, request: bytes, came: bytes) -> bytes:
+        """Bytes that came, with the packet error code that they should have in their last place."""
+        return came[:-1] + bytes([pec(request + self._read_address() + came[:-1])])
+
+    def _read_address(self) -> bytes:
+        return bytes([self.address << 1 | 1])
+
+    def _counted(self, request: bytes, came: bytes, count: int | None) -> bytes:
+        """The payload of an answer that begins with its count. What was read behind its packet error code is nothing."""
+        if came[0] > MOST_BLOCK or count is not None and came[0] != count:
+            raise NotGood("F4 WrongCount")
+        answer = came[:came[0] + 2]
+        if len(answer) < came[0] + 2:
+            raise NotGood("F2 Short")
+        if answer != self.with_pec(request, answer):
+            raise NotGood("F5 WrongPec")
+        return answer[1:-1]
+
+    def _tried(self, request: bytes, count: int, payload: Callable[[bytes], bytes]) -> Read:
+        last, why = b"", ""
+        for _ in range(TRIES):
+            try:
+                came = self.read(request, count)
+            except OSError as fault:
+                why = str(fault.strerror or fault)
+                continue
+            if not came:
+                why = "no answer"
+                continue
+            try:
+                return Read(payload(came), came)
+            except NotGood as wrong:
+                last, why = came, str(wrong)
+        return Read(None, last, why)

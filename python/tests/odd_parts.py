@@ -1,0 +1,250 @@
+"""Parts that aren't as they should be, as FakeKernel hears them: the proved part, with one thing in front of it that differs."""
+import errno
+
+from pmhost import Output, Part, PartRefused, pec
+
+ADDRESS = 0x58
+CLEAR_FAULTS, PAGE_PLUS_WRITE, PAGE_PLUS_READ, ON_OFF_CONFIG = 0x03, 0x05, 0x06, 0x02
+WRITE_PROTECT, VOUT_MODE, VOUT_COMMAND, VOUT_MIN, STATUS_CML = 0x10, 0x20, 0x21, 0x2B, 0x7E
+# The word of VOUT_COMMAND of each output as it starts.
+COMMANDS = (0x1000, 0x1200)
+
+
+class Proved:
+    """The proved part. An answer is a list of bytes with the read address first, None where the part doesn't acknowledge; a
+    write that it refuses is acknowledged all the same."""
+
+    refusal = errno.EREMOTEIO
+    commands = COMMANDS
+
+    def __init__(self, address=ADDRESS):
+        self.address, self.part = address, Part(address, [Output(command=word) for word in self.commands])
+        self.lines = []
+
+    def restart(self):
+        self.part.restart()
+
+    def hear(self, frame, ending):
+        self.lines.append(" ".join(f"{byte:02X}" for byte in frame) + (" /" if ending == "restart" else ""))
+        frame = bytes(frame)
+        return self.asked(frame) if ending == "restart" else self.written(frame)
+
+    def asked(self, request):
+        """The answer to a request."""
+        try:
+            return list(self.part.hear(request, True)) or None
+        except PartRefused:
+            return None
+
+    def written(self, frame):
+        """What became of a write."""
+        try:
+            self.part.hear(frame)
+        except PartRefused:
+            pass
+        return []
+
+    def word(self):
+        return f"{self.part.word(0, 'VOUT_COMMAND'):04X}"
+
+    def answer(self, request, payload):
+        """An answer of these bytes, with its packet error code."""
+        came = [self.address << 1 | 1, *payload]
+        return [*came, pec(bytes([*request, *came]))]
+
+
+class Named(Proved):
+    """It has MFR_ID, MFR_MODEL and MFR_REVISION, and ON_OFF_CONFIG of each output."""
+
+    blocks = {0x99: b"LTC", 0x9A: b"LTC3880\0 ", 0x9B: b"\x01\x02"}
+    configs = (0x1E, 0x16)
+
+    def asked(self, request):
+        if request[1] in self.blocks:
+            block = self.blocks[request[1]]
+            return self.answer(request, [len(block), *block])
+        if request[1] == PAGE_PLUS_READ and request[4] == ON_OFF_CONFIG and request[3] < len(self.configs):
+            return self.answer(request, [1, self.configs[request[3]]])
+        return super().asked(request)
+
+
+class AlwaysOn(Named):
+    """ON_OFF_CONFIG has the first output on whenever there is power. MFR_ID is damaged, MFR_MODEL empty."""
+
+    configs = (0x00, 0x1A)
+    blocks = {0x9A: b"", 0x9B: b"B"}
+
+    def asked(self, request):
+        if request[1] == 0x99:
+            return [*self.answer(request, [3, *b"LTC"])[:-1], 0]
+        return super().asked(request)
+
+
+class PageBlind(Proved):
+    """PAGE_PLUS reaches output 0, whatever the page."""
+
+    commands = (0x1000,)
+
+    def asked(self, request):
+        if request[1] != PAGE_PLUS_READ:
+            return super().asked(request)
+        found = super().asked(request[:3] + b"\0" + request[4:])
+        return found and self.answer(request, found[1:-1])
+
+
+class PageBlindTwice(PageBlind):
+    """Output 0 answers in the place of each of two outputs."""
+
+    commands = COMMANDS
+
+
+class WithoutPec(Proved):
+    """No answer has a packet error code: the lines are high in its place."""
+
+    def asked(self, request):
+        found = super().asked(request)
+        return found and found[:-1]
+
+
+class PageBlindWithoutPec(PageBlind):
+    """It looks at no page, and sends no packet error code."""
+
+    def asked(self, request):
+        found = super().asked(request)
+        return found and found[:-1]
+
+
+class PecOptional(Proved):
+    """A write without its packet error code is taken."""
+
+    def written(self, frame):
+        return super().written(frame + bytes([pec(frame)]) if frame[1:] == bytes([CLEAR_FAULTS]) else frame)
+
+
+class AnyPec(Proved):
+    """A wrong packet error code is taken."""
+
+    def written(self, frame):
+        return super().written(frame[:-1] + bytes([pec(frame[:-1])]) if len(frame) > 2 else frame)
+
+
+class Unheeding(Proved):
+    """STATUS_CML is 00h, whatever comes: a write with a fault is dropped, and not noted."""
+
+    def asked(self, request):
+        return self.answer(request, [0]) if request[1] == STATUS_CML else super().asked(request)
+
+
+class Refusing(Unheeding):
+    """It doesn't acknowledge a write with a fault, and doesn't note it."""
+
+    def written(self, frame):
+        return super().written(frame) if len(frame) > 2 and frame[-1] == pec(frame[:-1]) else None
+
+
+class OtherBit(Proved):
+    """A write with a fault is noted as another one of STATUS_CML."""
+
+    def asked(self, request):
+        found = super().asked(request)
+        return self.answer(request, [0x80]) if request[1] == STATUS_CML and found[1] else found
+
+
+class Latched(Proved):
+    """A bit of STATUS_CML stays, whatever clears it."""
+
+    def asked(self, request):
+        return self.answer(request, [0x20]) if request[1] == STATUS_CML else super().asked(request)
+
+
+class WithoutStatus(Proved):
+    """STATUS_CML isn't acknowledged."""
+
+    def asked(self, request):
+        return None if request[1] == STATUS_CML else super().asked(request)
+
+
+class Lacking(Proved):
+    """Registers by PAGE_PLUS that aren't acknowledged, each of some outputs."""
+
+    lacks = ()
+
+    def asked(self, request):
+        return None if request[1] == PAGE_PLUS_READ and (request[3], request[4]) in self.lacks else super().asked(request)
+
+
+class WithoutMinimum(Lacking):
+    """It has no VOUT_MIN."""
+
+    lacks = ((0, VOUT_MIN), (1, VOUT_MIN))
+
+
+class WithoutMinimumAsHigh(WithoutMinimum):
+    """It acknowledges VOUT_MIN, and answers nothing but FFh."""
+
+    def asked(self, request):
+        return super().asked(request) or [self.address << 1 | 1]
+
+
+class WithoutCommand(Lacking):
+    """Output 1 has no VOUT_COMMAND."""
+
+    lacks = ((1, VOUT_COMMAND),)
+
+
+class Vid(Proved):
+    """The format of output 1 is VID."""
+
+    def asked(self, request):
+        found = super().asked(request)
+        is_mode = request[1] == PAGE_PLUS_READ and request[3:] == bytes([1, VOUT_MODE])
+        return self.answer(request, [1, 0x21]) if found and is_mode else found
+
+
+class Late(Proved):
+    """It is busy: of two transfers it acknowledges the second."""
+
+    refusal = errno.ENXIO
+    waits = False
+
+    def hear(self, frame, ending):
+        self.waits = not self.waits
+        return None if self.waits else super().hear(frame, ending)
+
+
+class High(Proved):
+    """It is busy: of two requests it answers the first with nothing but FFh."""
+
+    waits = False
+
+    def asked(self, request):
+        self.waits = not self.waits
+        return [self.address << 1 | 1] if self.waits else super().asked(request)
+
+
+class Dying(Proved):
+    """After its output 0 was asked it doesn't acknowledge any more."""
+
+    transfers = 14
+
+    def hear(self, frame, ending):
+        self.transfers -= 1
+        return super().hear(frame, ending) if self.transfers > 0 else None
+
+
+class Gone(Proved):
+    """It acknowledges, and answers nothing but FFh. At 4Ah that is a right answer for WRITE_PROTECT by its packet error code."""
+
+    def __init__(self):
+        super().__init__(0x4A)
+
+    def asked(self, request):
+        return [self.address << 1 | 1]
+
+
+class Protected(Proved):
+    """WRITE_PROTECT is 80h."""
+
+    def __init__(self):
+        super().__init__()
+        self.part = Part(ADDRESS, [Output(command=word) for word in self.commands], protect=0x80)

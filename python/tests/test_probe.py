@@ -1,0 +1,132 @@
+"""`pmhost probe` over parts that are as they should be, and over those that aren't: what it says of each, and what it sends."""
+import re
+import tempfile
+import unittest
+from unittest import mock
+
+from pmhost import PartBus, Part, Output, pec, reads
+from pmhost.probe import Probe
+
+from . import runs
+from .odd_parts import ADDRESS, Late
+from .kernel import FakeKernel
+from .running import ROOT, stored
+from .test_runs import Blocks
+
+BEFORE = "the part may note in STATUS_CML that it was asked for what it lacks, and pull SMBALERT#"
+
+
+def asked(trace):
+    """The page, and the code, of each request by PAGE_PLUS, and each other frame's bytes behind the address."""
+    frames = [bytes.fromhex(line.removeprefix("# failed: ").partition(":")[0].partition(" / ")[0]) for line in trace.splitlines()]
+    return [(frame[3], frame[4]) if frame[1] == 0x06 else frame[1:] for frame in frames]
+
+
+def probed(words, part):
+    """A run with its trace."""
+    run = runs.Run("probe")
+    run.words, run.part = words, part
+    with tempfile.TemporaryDirectory() as folder:
+        return runs.ran(run, folder)
+
+
+class Rows(Blocks):
+    def look_at(self, trace, mishaps, part):
+        """Every answer in the trace is of a request, and no line is a write but CLEAR_FAULTS."""
+        for frame in asked(trace):
+            self.assertTrue(isinstance(frame, tuple) or len(frame) == 1 or frame[0] in (0x03, 0x30), frame)
+
+    def test_what_probe_says(self):
+        self.carry_out("probe.txt")
+
+
+class Page(unittest.TestCase):
+    """What docs/bus.md says of probe."""
+
+    def setUp(self):
+        self.part = stored(ROOT, "docs", "bus.md").partition("\n## Does a part speak this?\n")[2].partition("\nFrames that you")[0]
+
+    def test_the_whole_answer_is_that_of_a_run(self):
+        self.assertEqual(re.findall("```text\n(.*?)```", self.part, re.S), [probed("-b 7 -a 58 probe", "odd.Named").out])
+
+    def test_each_line_of_the_table_is_one_of_a_run(self):
+        printed = "".join(run.out for name in ("probe.txt", "parts.txt", "jobs.txt") for run in runs.blocks(name))
+        lines = re.findall("^\\| `(.*?)` \\|", self.part, re.M)
+        self.assertGreater(len(lines), 10)
+        for line in lines:
+            with self.subTest(line=line):
+                words = re.sub("^[0-9]+ (?=requests)", "", re.sub(",? ?\\.\\.$", "", line))
+                self.assertIn(words, printed)
+
+
+class Frames(unittest.TestCase):
+    def test_page_1f_is_asked_first(self):
+        for part in ("odd.Proved", "odd.PageBlind", "Absent"):
+            with self.subTest(part=part):
+                self.assertEqual(asked(probed("-b 7 -a 58 probe", part).trace)[0], (0x1F, 0x20))
+
+    def test_no_page_from_the_given_number_on_is_asked(self):
+        for outputs in range(1, 4):
+            got = probed(f"-b 7 -a 58 --outputs {outputs} probe", "Part 14 14 14 14")
+            pages = {frame[0] for frame in asked(got.trace) if isinstance(frame, tuple)}
+            self.assertEqual(pages, set(range(outputs)))
+
+    def test_nothing_is_written_by_reads_alone(self):
+        frames = asked(probed("-b 7 -a 58 probe", "odd.Named").trace)
+        self.assertEqual([frame for frame in frames if not isinstance(frame, tuple) and len(frame) > 1], [])
+
+    def test_the_writes_with_a_fault(self):
+        """Each stands, twice, behind a good CLEAR_FAULTS and a read of STATUS_CML, and before another read of it."""
+        frames = asked(probed("-b 7 -a 58 probe --writes", "odd.Proved").trace)
+        at = frames.index(b"\x03\x46")
+        without, wrong = ([b"\x03\x46", b"\x7E", faulty, b"\x7E"] * 2 for faulty in (b"\x03", b"\x03\xB9"))
+        self.assertEqual(frames[at:], [*without, *wrong, b"\x03\x46"])
+        self.assertEqual(pec(b"\xB0\x03"), 0x46)
+
+    def test_what_may_be_noted_is_said_before_the_first_transfer(self):
+        said = []
+
+        class Listening(FakeKernel):
+            def transfer(self, messages):
+                said.append("transfer")
+                return super().transfer(messages)
+
+        with mock.patch("pmhost.cli.probe.complain", said.append):
+            runs.called(["-b", "7", "-a", "58", "probe", "--writes"], Listening(runs.odd_parts.Proved()))
+        self.assertEqual(said[:2], [f"probe: {BEFORE}; --writes sends CLEAR_FAULTS, which clears the part's latched faults", "transfer"])
+
+
+class OneFault(unittest.TestCase):
+    """One transfer that goes wrong, each in turn, makes no false verdict."""
+
+    PARTS = ("odd.Proved", "odd.PageBlind", "odd.PecOptional", "odd.AnyPec")
+    MISHAPS = ("lost", "false", "damaged", "restart", "short0", "empty")
+
+    def test_one_fault(self):
+        for part in self.PARTS:
+            whole = probed("-b 7 -a 58 probe --writes", part)
+            for mishap in self.MISHAPS:
+                for at in range(len(whole.trace.splitlines())):
+                    run = runs.Run("probe")
+                    run.words, run.part, run.mishaps = "-b 7 -a 58 probe --writes", part, " ".join(["ok"] * at + [mishap])
+                    with tempfile.TemporaryDirectory() as folder, self.subTest(part=part, mishap=mishap, at=at):
+                        got = runs.ran(run, folder)
+                        self.assertEqual((got.status, got.out.splitlines()[-1]), (whole.status, whole.out.splitlines()[-1]))
+
+
+class Busy(unittest.TestCase):
+    def test_a_request_that_nobody_answered_waits_before_it_is_sent_again(self):
+        with mock.patch.object(reads, "PAUSE", 0.25), mock.patch("pmhost.reads.time.sleep") as slept:
+            runs.called(["-b", "7", "-a", "58", "probe"], FakeKernel(Late()))
+        self.assertGreater(slept.call_count, 10)
+        self.assertEqual({each.args for each in slept.call_args_list}, {(0.25,)})
+
+    def test_a_part_that_answers_at_once_is_waited_for_only_where_it_lacks_something(self):
+        with mock.patch("pmhost.reads.time.sleep") as slept:
+            found = Probe(PartBus(Part(ADDRESS, [Output()])), ADDRESS, 1).run()
+        # Two waits for each of MFR_ID, MFR_MODEL, MFR_REVISION and ON_OFF_CONFIG.
+        self.assertEqual((found.late, slept.call_count), (0, 8))
+
+
+if __name__ == "__main__":
+    unittest.main()
