@@ -11,7 +11,7 @@ from .transfers import Transfers
 from .values import CODES, Format
 
 MOST_OUTPUTS = 8
-# A page that no part has.
+# A page that no part of at most eight outputs has.
 NO_PAGE = 0x1F
 VOUT_MODE, COEFFICIENTS, DIRECT = 0x20, 0x30, 0x40
 ON_OFF_CONFIG, MFR_BLOCKS = 0x02, {"MFR_ID": 0x99, "MFR_MODEL": 0x9A, "MFR_REVISION": 0x9B}
@@ -75,7 +75,7 @@ class Probe:
         self.host, self.found = Host(address, MOST_OUTPUTS, TRIES), Found()
 
     def run(self) -> Found:
-        """Asks page 1Fh first, which no part has, then each page up to the first that doesn't answer, page 1Fh once more, and
+        """Asks page 1Fh first, which no such part has, then each page up to the first that doesn't answer, page 1Fh once more, and
         who the part is. With a given number of outputs no page from it on is asked, nor is page 1Fh."""
         found, reads = self.found, self.reads
         no_page = self._no_page()
