@@ -14,6 +14,8 @@ from tally import Tally
 
 PLACE = "/run/commands"
 PROBE = "PEC yes, PAGE_PLUS yes, 2 outputs: 0 ULINEAR16 -12, 1 DIRECT 1 0 3\n"
+# What probe tells behind its first line, and says before.
+FURTHER, BEFORE = "(probe: .*\n)+pmhost -b 1 .*\n", "pmhost: probe: the part may note .*\n"
 ORDER = "pmhost -b 1 -a 58 --outputs 2 --limit 0:3.135V:3.465V --trace bus.trace set 0 3.3V"
 ORDERED = "set 0: VOUT_COMMAND 34CD 3.300048V confirmed; the output commands 3.300048V, within 3.135V to 3.465V\n"
 FRAMES = r"printf 'B0 19 /\nB0 06 02 00 20 /\n' | pmhost capture i2ctransfer 1"
@@ -67,7 +69,7 @@ def exactly(text):
 def board(page):
     """From a board to a confirmed voltage, and what went over the wire."""
     page.bench.put("modes 14 40")
-    page.tell("pmhost -b 1 -a 58 probe", exactly(f"probe: {PROBE}"), more=[] if PROBE.strip() in page.text else ["the page has another"])
+    page.tell("pmhost -b 1 -a 58 probe", exactly(f"probe: {PROBE}") + FURTHER, BEFORE, more=[] if PROBE.strip() in page.text else ["the page has another"])
     page.bench.put("proved")
     for words in TRACED[:2]:
         page.tell(words, "")
@@ -101,11 +103,11 @@ def drivers(page):
     held = exactly(f"pmhost: {page.number}-0058 is held by a driver of the kernel: unbind it, echo ") + ".*\n"
     with bound(page.number, "58"):
         page.tell("pmhost -b 1 -a 58 probe", "", held, 2)
-        page.tell("pmhost -b 1 -a 58 --force probe", "probe: PEC yes.*\n", on_page=False)
+        page.tell("pmhost -b 1 -a 58 --force probe", "probe: PEC yes.*\n" + FURTHER, BEFORE, on_page=False)
         busy = page.run(FRAMES + " --run").stdout
         page.tally.tell("i2ctransfer beside a driver", [] if "busy" in busy else [busy])
         page.tell("echo 1-0058 > /sys/bus/i2c/devices/1-0058/driver/unbind", "")
-        page.tell("pmhost -b 1 -a 58 probe", "probe: PEC yes.*\n")
+        page.tell("pmhost -b 1 -a 58 probe", "probe: PEC yes.*\n" + FURTHER, BEFORE)
 
 
 def main(words):
