@@ -2,15 +2,15 @@
 and back, and run."""
 import os
 import select
-import shutil
 import signal
 import stat
 import subprocess
 import sys
 import tempfile
 import unittest
+import unittest.mock
 
-from pmhost.capture import NoCapture, clock_of, trace
+from pmhost.capture import NoCapture, clock_of, i2ctransfer, trace
 from pmhost.capture.vcd import waveform
 
 from . import running
@@ -268,16 +268,19 @@ class Frames(unittest.TestCase):
                 self.assertEqual(pmhost("capture", "i2ctransfer", "--back", text=text)[:2], (1, ""))
 
     def test_each_end_of_a_command(self):
-        installed = shutil.which("i2ctransfer", path="/usr/bin:/bin:/usr/sbin:/sbin")
         for words, frames, tool, *wanted in TRANSFERS:
-            if tool is None and installed:
-                # Without a stand-in the machine's own one would run.
-                continue
             with self.subTest(f"{words} {tool}"), tempfile.TemporaryDirectory() as folder:
-                if tool is not None:
-                    put(folder, "i2ctransfer", f"#!/bin/sh\n{tool}\n")
+                put(folder, "i2ctransfer", f"#!/bin/sh\n{tool}\n")
                 found = pmhost("capture", "i2ctransfer", *words.split(), text=frames, PATH=f"{folder}:/usr/bin:/bin")
                 self.assertEqual(found, tuple(wanted))
+
+    def test_a_machine_without_i2ctransfer_is_told_what_to_install(self):
+        with tempfile.TemporaryDirectory() as folder, unittest.mock.patch.dict(os.environ, PATH="/nowhere"), \
+                unittest.mock.patch.object(i2ctransfer, "MORE_PLACES", ("/no", folder)):
+            with self.assertRaisesRegex(i2ctransfer.Refused, f"no i2ctransfer in PATH, /no or {folder}: install i2c-tools"):
+                [*i2ctransfer.run(b"B0 19 /\n", "7")]
+            put(folder, "i2ctransfer", "#!/bin/sh\n/bin/echo 0x80 0xd3\n")
+            self.assertEqual([*i2ctransfer.run(b"B0 19 /\n", "7")], [("B0 19 / B1 80 D3", True)])
 
     @needs("pmb", "pmbpart")
     def test_commands_are_run_and_decode_takes_their_trace(self):

@@ -45,9 +45,9 @@ class Mishaps(unittest.TestCase):
         self.order(["--passes=1", "--faults=lost mute"], lines, "ended unknown", ["1000", "1000"])
 
     def test_jobs_are_told_with_their_answers(self):
-        for words, status, out in JOBS:
+        for words, status, out, errors in JOBS:
             with self.subTest(words):
-                self.assertEqual(called("desk", *words.split()), (status, out, ""))
+                self.assertEqual(called("desk", *words.split()), (status, out, errors))
 
     def test_a_seed_draws_the_same_mishaps_again(self):
         found = pmhost("desk", "--seed=3", "--rate=60", *ORDER)
@@ -217,6 +217,7 @@ class Draws(unittest.TestCase):
         found = desk.draw_mishaps(random.Random(1), 100, 2000)
         self.assertEqual({it.partition(":")[0] for it in found}, {*desk.bus.DRAWN})
         self.assertEqual(desk.read_mishaps(" ".join(found)), found)
+        self.assertEqual({*desk.draw_mishaps(random.Random(1), 0, 2000)}, {"ok"})
         share = sum(it != "ok" for it in desk.draw_mishaps(random.Random(1), 25, 4000))
         self.assertTrue(900 < share < 1100, share)
 
@@ -264,5 +265,6 @@ class Programs(unittest.TestCase):
         self.addCleanup(gone.abandon)
         self.assertRaisesRegex(programs.NoAnswer, "it ended: why", gone.ask, "x")
         well = programs.Coprocess(["/bin/sh", "-c", "read line; echo $line; cat; echo more; echo fault >&2; exit 4"], "it")
+        self.assertNotEqual(os.getpgid(well.process.pid), os.getpgid(0), "a signal to the group reaches it")
         self.assertEqual((well.ask("said"), well.close()), ("said", (4, b"more\n", "fault\n")))
-        self.assertRaisesRegex(programs.NoAnswer, "No such file", programs.Coprocess, ["/no/such/program"], "it")
+        self.assertRaisesRegex(programs.NoAnswer, "No such file", programs.Coprocess, ["/no/such/program", "word"], "it")

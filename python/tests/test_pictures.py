@@ -23,7 +23,7 @@ from pmhost.texts import lines_of, numbered
 
 from . import oracle, running
 from .data.picture_rows import (BANDS, EIGHT, GOOD, IN_THREE, LIVES, MARKS, RAILS, THREE, TOLD_OF_THREE, WRONG)
-from .running import EXAMPLES, ROOT, called, needs, pmhost, stored
+from .running import DATA, EXAMPLES, ROOT, called, needs, pmhost, stored
 
 if oracle.IS_THERE:
     from . import picture_faults
@@ -46,7 +46,7 @@ def eight_rails(lives):
 
 
 def long_rails(count):
-    """So many events: formats are learned first, and then words and volts are ordered."""
+    """A scenario of this many events: formats are learned first, and then words and volts are ordered."""
     dice, volts = random.Random(5), (850000, 1800000, 3300000, 1000000, 1200000, 5000000, 2500000, 900000)
     reads = "exchange whole whole"
     lines = [line for output in range(8) for line in [f"learn {output}", *[reads] * (1 + (output in (2, 5)))]]
@@ -193,6 +193,17 @@ class ByHand(unittest.TestCase):
     def test_lines_of_a_timeline(self):
         lines = [*timeline(lived(THREE))]
         self.assertEqual([it for it in TOLD_OF_THREE.splitlines() if it not in lines], [])
+
+    def test_stored_timelines(self):
+        """They were told from the reports of `pmb` and the plain model alone, before the package told them by the library."""
+        written = {"eight": EIGHT, "bands": BANDS}
+        names = sorted(name.removesuffix(".txt") for name in os.listdir(os.path.join(DATA, "timelines")))
+        self.assertEqual(names, sorted([*written, *(os.path.basename(path).removesuffix(".scenario") for path in glob.glob(
+            os.path.join(EXAMPLES, "*.scenario")))]))
+        for name in names:
+            with self.subTest(name):
+                found = "".join(f"{line}\n" for line in timeline(lived(written.get(name) or example(name))))
+                self.assertEqual(found, stored(DATA, "timelines", f"{name}.txt"))
 
     @needs_oracle
     def test_a_shift_of_34_millivolts_is_seen(self):

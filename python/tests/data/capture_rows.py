@@ -151,7 +151,7 @@ FAULTY = [("B0 9", f"line 1: {BAD_HEX}"), ("\nB0 20 / 1", f"line 2: {SYNTAX}"), 
 NO_COMMANDS = ["i2ctransfer -y 7 w3@0x58 0x21", "i2cset -y 7 0x58 0x21", "i2ctransfer -y 7 w1@0xb0 0x21"]
 WARNING = "echo 'Warning: only {} messages were sent' >&2"
 READ = "B0 19 /\n"
-# Runs over a shell script that stands in for i2ctransfer, or over none: the words, the frames, the script, and then the
+# Runs over a shell script that stands in for i2ctransfer: the words, the frames, the script, and then the
 # status, standard output and standard error.
 TRANSFERS = [
     ("7 --run", READ, "echo 0x80 0xd3", 0, "B0 19 / B1 80 D3\n", ""),
@@ -166,7 +166,6 @@ TRANSFERS = [
      "# failed: B0 19: Error: Sending messages failed: Remote I/O error\n", ""),
     ("7 --run", READ + "B0 9\n", "echo 0x80 0xd3", 1, "", f"pmhost: capture i2ctransfer: line 2: {BAD_HEX}\n"),
     ("7", "B0 9\n", "true", 1, "", f"pmhost: capture i2ctransfer: line 1: {BAD_HEX}\n"),
-    ("7 --run", READ, None, 1, "", "pmhost: capture i2ctransfer: no i2ctransfer in PATH, /usr/sbin or /sbin: install i2c-tools\n"),
 ]
 # Streams that bash closes or fills: the status and standard error.
 STREAMS = [

@@ -42,19 +42,21 @@ BELIEVED = [
 ]
 ORDER = ["order", "1", "VOUT_COMMAND", "34CD"]
 HELD = "output 0 holds 1000; output 1 holds 1000\n"
-# Jobs beside orders: the words, the status, and what is told.
+# Jobs beside orders: the words, the status, what is told, and what a refusal means.
 JOBS = [
     ("part page + part B0 00 01 ED + part page + seen", 0,
-     "part page\npage 0\npart B0 00 01 ED\ntaken\npart page\npage 1\nseen\nseen no\n" + HELD),
+     "part page\npage 0\npart B0 00 01 ED\ntaken\npart page\npage 1\nseen\nseen no\n" + HELD, ""),
     ("learn 0 + band 0 + limits 0 + state 0 VOUT_COMMAND", 0,
      "learn 0\n  B0 06 02 00 20 read 3  ok: part answer B1 01 14 4E, back B1 01 14 4E\nended learned\nband 0\nband 0 15999756\n"
-     "limits 0\nlimits none\nstate 0 VOUT_COMMAND\nstate unknown possible any\n" + HELD),
+     "limits 0\nlimits none\nstate 0 VOUT_COMMAND\nstate unknown possible any\n" + HELD, ""),
     ("narrow 0 3200000 3465000 + order 0 VOUT_COMMAND 34CD", 1,
-     "narrow 0 3200000 3465000\nnarrowed\norder 0 VOUT_COMMAND 34CD\nrefused L2 FormatUnknown\n" + HELD),
-    ("volts 0 3.3", 1, "volts 0 3.3\nrefused X1 Syntax\n" + HELD),
+     "narrow 0 3200000 3465000\nnarrowed\norder 0 VOUT_COMMAND 34CD\nrefused L2 FormatUnknown\n" + HELD,
+     "pmhost: desk: order 0 VOUT_COMMAND 34CD: the output has limits, and its format isn't known: learn it first\n"),
+    ("volts 0 3.3", 1, "volts 0 3.3\nrefused X1 Syntax\n" + HELD,
+     "pmhost: desk: volts 0 3.3: the line isn't one that may stand here, has a word too many or too few, or is missing\n"),
     ("--plain-host order 0 OPERATION 00 + part word 0 OPERATION", 0,
      "order 0 OPERATION 00\n  B0 00 00 EA  ok: part taken, acknowledged\n  B0 01 00 FF  ok: part taken, acknowledged\n"
-     "ended done\npart word 0 OPERATION\nword 00 stored 80\n" + HELD),
+     "ended done\npart word 0 OPERATION\nword 00 stored 80\n" + HELD, ""),
 ]
 EXAMPLE = "as order 1 VOUT_COMMAND 34CD"
 BESIDE = f"the plain host takes orders alone, {EXAMPLE}"
@@ -73,6 +75,7 @@ REFUSED = [
     (["--plain-host", "order", "2", "VOUT_COMMAND", "34CD"], f"order 2 VOUT_COMMAND 34CD: {BESIDE}"),
     (["--plain-host", "order", "1", "VOUT_COMMAND", "34"], f"order 1 VOUT_COMMAND 34: {BESIDE}"),
     (["--plain-host", "order", "1", "WRITE_PROTECT", "00"], f"order 1 WRITE_PROTECT 00: {BESIDE}"),
+    (["--plain-host", "order", "1", "VOUT_COMMAND"], f"order 1 VOUT_COMMAND: {BESIDE}"),
     (["--plain-host", "check", "1", "VOUT_COMMAND", "34CD"], f"check 1 VOUT_COMMAND 34CD: {BESIDE}"),
     (["--plain-host", "order", "1", "VOUT_COMAND", "34CD"], f"order 1 VOUT_COMAND 34CD: {BESIDE}"),
     (["--plain-host", "order", "1", "VOUT_COMMAND", "34CG"], f"order 1 VOUT_COMMAND 34CG: {BESIDE}"),

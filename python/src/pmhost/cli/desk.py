@@ -7,6 +7,7 @@ from typing import Any
 
 from .. import desk, programs
 from ..desk import bus as desk_bus
+from ..picture.told import in_words
 from ..scenario import Setup, read_setup
 from . import streams
 from .call import complain
@@ -143,6 +144,8 @@ def carried_out(both: desk.Desk, arguments: argparse.Namespace) -> int:
         streams.write(" ".join(job))
         answer, went_well = both.carry_out(host, job)
         streams.write(answer)
+        if answer.startswith("refused "):
+            complain(f"desk: {' '.join(job)}: {in_words(answer)}")
         is_well = is_well and went_well
     streams.write("; ".join(f"output {output} holds {word}" for output, word in enumerate(both.words())))
     return 0 if is_well else 1

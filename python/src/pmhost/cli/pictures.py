@@ -21,8 +21,8 @@ ABOUT_PICTURE = """Draws a scenario's run as a picture (SVG) on standard output,
 between its limits, what the host believes of the registers that the events name, jobs with their ends, status where it
 isn't 0, and what came of each event on the bus. A shade shows between which voltages the host knows an output to be.
 
-pmb takes or refuses the text; the proved host and converter of the library live through its events, and all that is drawn
-is what they answer. A refused text has status 1."""
+pmb takes or refuses the text; the proved host and converter of the library live through its events, and the picture is made of
+what they answer. A refused text has status 1."""
 
 
 def add(commands: Any) -> None:
