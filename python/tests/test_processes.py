@@ -104,6 +104,12 @@ class Processes(unittest.TestCase):
                 self.assertTrue(last.startswith(f"ImportError: {path}"), last)
                 self.assertIn("`pip install ./python` makes this package's library, PMHOST_LIBRARY names another", last)
 
+    def test_the_command_without_a_library_says_so_in_one_line(self):
+        ended = subprocess.run([sys.executable, "-B", "-m", "pmhost", "-b", "desk", "read", "0"], check=False, text=True,
+                               env={**os.environ, "PMHOST_LIBRARY": "/nowhere.so"}, stderr=subprocess.PIPE, stdout=subprocess.PIPE)
+        self.assertEqual((ended.returncode, ended.stdout), (2, ""))
+        self.assertRegex(ended.stderr, r"\Apmhost: /nowhere\.so: .*; `pip install ./python` makes this package's library, .*\n\Z")
+
 
 class Colours(unittest.TestCase):
     def on_a_terminal(self, **around):

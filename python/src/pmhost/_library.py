@@ -1,6 +1,7 @@
 """The calls of the two libraries, as their headers pm.h and pm_part.h have them; one shared object has both."""
 import ctypes as c
 import os
+import sys
 
 PATH = os.environ.get("PMHOST_LIBRARY") or os.path.join(os.path.dirname(os.path.abspath(__file__)), "libpmhost.so")
 
@@ -10,12 +11,22 @@ HOST_SIZE = 2056
 CELLS = 49
 
 
+def _is_command() -> bool:
+    """Whether this process is the command, to whose user a line says more than a traceback. While `python -m` imports the
+    package, its first argument is still that option."""
+    return sys.argv[:1] == ["-m"] and "pmhost" in sys.orig_argv or os.path.basename(sys.argv[0]) == "pmhost"
+
+
 def _load() -> c.CDLL:
     try:
         loaded = c.CDLL(PATH)
         loaded.pm_part_size.restype = c.c_uint64
     except (OSError, AttributeError) as fault:
-        raise ImportError(f"{fault}; `pip install ./python` makes this package's library, PMHOST_LIBRARY names another") from None
+        why = f"{fault}; `pip install ./python` makes this package's library, PMHOST_LIBRARY names another"
+        if not _is_command():
+            raise ImportError(why) from None
+        sys.stderr.write(f"pmhost: {why}\n")
+        sys.exit(2)
     return loaded
 
 
