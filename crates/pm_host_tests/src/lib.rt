@@ -1,5 +1,5 @@
-//! Tests over the public calls of the host, what it sends and says, told what came of it; of its limits, a guard and a
-//! band, by rows written by hand; and of the driver and the buses beside it. There is nothing here to use.
+//! Tests over the public calls of the host, what it sends and says, told what came of it; of its limits, a guard, a band
+//! and a rail, by rows written by hand; and of the driver and the buses beside it. There is nothing here to use.
 #![tactic(auto)]
 
 #[cfg(test)]

@@ -1,9 +1,10 @@
-//! Limits by themselves, and how they are narrowed; a guard and its band below.
+//! Limits by themselves, and how they are narrowed; a guard, its band and its rails below.
 
 mod bands;
 mod faults;
 mod guards;
 mod orders;
+mod rails;
 
 use self::guards::{LINEAR, first, guard, learn, refusal};
 use crate::checks::equal;

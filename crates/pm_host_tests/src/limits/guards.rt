@@ -37,8 +37,8 @@ fn answer_to(request: &Message, payload: &[u8]) -> Frame {
     answer(0x58, request, payload)
 }
 
-// Tells the answer to a request, where one is being sent.
-fn tell(guard: &mut Guard, request: &Message, payload: &[u8]) {
+/// Tells the answer to a request, where one is being sent.
+pub(crate) fn tell(guard: &mut Guard, request: &Message, payload: &[u8]) {
     let frame = answer_to(request, payload);
     if let Turn::Request { .. } = guard.turn() {
         guard.told(Told::Got(frame.as_slice()));
