@@ -3,6 +3,8 @@ from __future__ import annotations
 
 from typing import Any
 
+from .ones import given
+
 
 class Smbus2Bus:
     """A bus of the package smbus2, which is handed in open: Smbus2Bus(smbus2.SMBus(1)).
@@ -24,4 +26,4 @@ class Smbus2Bus:
     def read(self, request: bytes, count: int) -> bytes:
         answer = self._message.read(request[0] >> 1, count)
         self._bus.i2c_rdwr(self._message.write(request[0] >> 1, list(request[1:])), answer)
-        return bytes(list(answer))
+        return given(bytes(list(answer)))

@@ -18,6 +18,7 @@ from .parser import BadCall, bus_options, shown, whole
 MARGIN_HIGH, MARGIN_LOW = 0xA8, 0x94
 # What each command sends beside reads, for an interruption to say.
 STORES = "the user store may hold the old or the new settings of every output"
+GO_OFF, MAY_GO_OFF = "--outputs-may-go-off", "on parts where it is a reset the outputs go off"
 RESTORES = f"{', '.join(REGISTERS)} of every output may hold the old or the stored word"
 
 
@@ -62,7 +63,8 @@ def add(commands: Any) -> None:
 
     def command(name: str, run: Any, help: str, judge: Any = None) -> Any:
         parser = commands.add_parser(name, help=help, description=help[0].upper() + help[1:] + ".")
-        parser.set_defaults(run=run, **({} if judge is None else {"judge": judge}))
+        parser.set_defaults(run=run, is_order=judge in (judge_write, judge_order, judge_word, judge_restore),
+                            **({} if judge is None else {"judge": judge}))
         return parser
 
     found = command("learn", learn, "learns the format of an output's voltages")
@@ -100,8 +102,10 @@ def add(commands: Any) -> None:
     found.add_argument("output", **output)
     bus_options(found)
     for name, help in (("store", "has the part store its settings"), ("restore", "has the part bring its stored settings back")):
-        found = command(name, acknowledged, help, judge_write)
+        found = command(name, acknowledged, help, judge_restore if name == "restore" else judge_write)
         found.set_defaults(output=None)
+        if name == "restore":
+            found.add_argument(GO_OFF, action="store_true", help=f"{MAY_GO_OFF}, which is well")
         bus_options(found)
 
 
@@ -114,6 +118,12 @@ def margin_of(word: str) -> str:
 
 def judge_write(arguments: argparse.Namespace) -> None:
     arguments.call.judge_write(arguments)
+
+
+def judge_restore(arguments: argparse.Namespace) -> None:
+    judge_write(arguments)
+    if not arguments.outputs_may_go_off:
+        raise BadCall(f"{said(arguments)}: {MAY_GO_OFF}: give {GO_OFF}, where the board tolerates it")
 
 
 def judge_order(arguments: argparse.Namespace) -> None:
@@ -236,7 +246,7 @@ def operate(arguments: argparse.Namespace) -> int:
 
 
 def acknowledged(arguments: argparse.Namespace) -> int:
-    """A command that nothing reads back: clear, store, restore."""
+    """A command that nothing reads back: clear, store, restore. It is acknowledged where the part answers behind it, too."""
     call: Call = arguments.call
     part, output = call.part(), arguments.output
     {"clear": lambda: part.host.clear(output), "store": part.host.store, "restore": part.host.restore}[arguments.command]()
@@ -244,8 +254,10 @@ def acknowledged(arguments: argparse.Namespace) -> int:
                   "restore": RESTORES}[arguments.command]
     step = part.carried_out()
     found = answer_of(arguments, part, None, step.kind)
-    if step.kind == "done":
-        found.text = "acknowledged"
-    else:
+    if step.kind != "done":
         found.status, found.text, found.why = 1, "unknown", part.transfers.why() or "no good answer"
+        return call.say(found)
+    status, why = call.unsure_of_last(arguments.command != "clear")
+    found = answer_of(arguments, part, None, "unknown" if status else "acknowledged", status=status, why=why)
+    found.text = found.end
     return call.say(found)
