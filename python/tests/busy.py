@@ -1,7 +1,7 @@
 """Parts that are busy or away for a while of the clock of runs.py, that fall silent, or whose lines are held low."""
 import errno
 
-from . import kernel, runs
+from . import kernel, odd_parts, runs
 
 STORE_USER_ALL, RESTORE_USER_ALL = 0x15, 0x16
 ONES = [0xFF] * 300
@@ -85,6 +85,32 @@ class LowBehindStore(kernel.Part):
             return [0] * 300
         self.is_low = frame[1] == STORE_USER_ALL
         return super().hear(frame, ending)
+
+
+class At48(odd_parts.Proved):
+    """A part at 48h, where zeros are a good answer to a read of WRITE_PROTECT: from its transfer of this number on all it
+    acknowledges, and reads are zeros."""
+
+    zeros_from = 10**9
+
+    def __init__(self):
+        super().__init__(0x48)
+
+    def hear(self, frame, ending):
+        answer = super().hear(frame, ending)
+        return answer if len(self.lines) <= self.zeros_from else [0] * 300
+
+
+class Zeros0At48(At48):
+    zeros_from = 0
+
+
+class Zeros1At48(At48):
+    zeros_from = 1
+
+
+class Zeros2At48(At48):
+    zeros_from = 2
 
 
 class Nobody:

@@ -6,9 +6,11 @@ import signal
 import subprocess
 import sys
 import tempfile
+import types
 import unittest
+from unittest import mock
 
-from pmhost import LinuxBus, NoBus
+from pmhost import LinuxBus, NoBus, Smbus2Bus
 from pmhost.bus.linux import I2C_FUNC_I2C, I2C_FUNCS, F_OFD_SETLK, Kernel
 
 from .running import around
@@ -105,6 +107,28 @@ class Locks(unittest.TestCase):
             ran.send_signal(signal.SIGKILL)
             ran.wait()
             self.assertFalse(self.taken())
+
+    def test_a_bus_of_smbus2(self):
+        sent = []
+        message = types.SimpleNamespace(write=lambda address, data: data, read=lambda address, count: bytes(count))
+        with mock.patch.dict("sys.modules", smbus2=types.SimpleNamespace(i2c_msg=message)), open(self.path, "r+b") as file:
+            opened = types.SimpleNamespace(i2c_rdwr=lambda *messages: sent.append(messages), fd=file.fileno())
+            one, other, shared = Smbus2Bus(opened), Smbus2Bus(opened), Smbus2Bus(opened, share=True)
+            self.assertFalse(self.taken())
+            one.write(b"\xB0\x03\x5D")
+            one.write(b"\xB0\x03\x5D")
+            self.assertTrue(self.taken())
+            for transfer in (lambda: other.write(b"\xB0\x03\x5D"), lambda: other.read(b"\xB0\x19", 2)):
+                with self.assertRaisesRegex(NoBus, "^another program drives .*-0058: fuser .* names who has the bus open$"):
+                    transfer()
+            self.assertEqual(len(sent), 2)
+            other.write(b"\xB2\x03\x5D")
+            shared.read(b"\xB0\x19", 2)
+            self.assertEqual((len(sent), self.taken(0x59)), (4, True))
+            one.close()
+            self.assertEqual((self.taken(), self.taken(0x59)), (False, True))
+            other.close()
+            self.assertFalse(self.taken(0x59))
 
     def test_the_lock_is_of_one_byte(self):
         with bus(self.path), open(self.path, "r+b") as file:

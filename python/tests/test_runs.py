@@ -36,7 +36,8 @@ class Blocks(unittest.TestCase):
 
     def look_at(self, trace, mishaps, part):
         """Each line of the trace is a frame, or a comment; and without damage each is a good one."""
-        is_whole = not {"damaged", "empty"} & set(mishaps.split()) and part.split()[0] not in ("WithoutPec", "FloatingPagePlus", "busy.Ones30", "busy.Ones150", "busy.OnesAlone")
+        is_whole = not {"damaged", "empty"} & set(mishaps.split()) and part.split()[0] not in ("WithoutPec", "FloatingPagePlus", "busy.Ones30", "busy.Ones150", "busy.OnesAlone", "busy.Zeros0At48",
+                                                                                             "busy.Zeros1At48", "busy.Zeros2At48")
         for line in trace.splitlines():
             if line.startswith("# failed: "):
                 continue

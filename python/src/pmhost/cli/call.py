@@ -200,10 +200,10 @@ class Call:
                 self._part.host.narrow(output, least, most)
         return self._part
 
-    def unanswered(self, patience: int) -> str:
-        """A check of OPERATION of output 0, again and again within the patience in milliseconds: nothing where a good answer came,
-        otherwise why none did. The transfers of the job before stay those of the part."""
-        part, deadline = self.part(), clock.until() + patience / 1000
+    def unanswered(self, is_long: bool = False) -> str:
+        """A check of OPERATION of output 0, again and again within the patience, which is long behind a store and a restore: nothing
+        where a good answer came, otherwise why none did. The transfers of the job before stay those of the part."""
+        part, deadline = self.part(), clock.until() + patience_of(self.patience, is_long) / 1000
         while True:
             transfers = Transfers()
             part.host.check(0, "OPERATION")
@@ -219,7 +219,7 @@ class Call:
         ordered."""
         if self._has_answered or not getattr(arguments, "is_order", False) or getattr(arguments, "dry_run", False):
             return 0
-        why = self.unanswered(patience_of(self.patience, False))
+        why = self.unanswered()
         if why:
             return self.say(Answer(said(arguments), "no part", "no part answers, nothing was ordered", 1, why,
                                    getattr(arguments, "output", None)))
@@ -231,7 +231,7 @@ class Call:
         all is well, and why not."""
         if self.is_held_low():
             return 2, HELD_LOW
-        why = self.unanswered(patience_of(self.patience, is_long))
+        why = self.unanswered(is_long)
         return (1, f"OPERATION of output 0 behind it: {why}") if why else (0, "")
 
     def close(self) -> None:

@@ -1,0 +1,139 @@
+"""A bus that waits for a busy part, over a clock that nobody waits for."""
+import errno
+import time
+import unittest
+from unittest import mock
+
+from pmhost import LinuxBus, PatientBus, clock
+from pmhost.bus import patient
+
+from . import runs
+from .busy import Deaf30
+from .kernel import FakeKernel, Part
+
+FRAME, REQUEST, STORE, RESTORE = bytes.fromhex("B0050400 21CD345A"), bytes.fromhex("B006020021"), bytes.fromhex("B01534"), bytes.fromhex("B0163D")
+CLEAR = bytes.fromhex("B0035D")
+
+
+class Scripted:
+    """A bus whose transfers do what a list says: an errno is raised, whatever else is answered. Behind its end a read gives an
+    answer and a write is acknowledged. It keeps each frame and when it came."""
+
+    def __init__(self, *ends):
+        self.ends, self.frames, self.times = list(ends), [], []
+
+    def _next(self, frame, well):
+        self.frames.append(bytes(frame))
+        self.times.append(round(1000 * (runs.CLOCK.until() - self.begun)))
+        end = self.ends.pop(0) if self.ends else well
+        if isinstance(end, int) and not isinstance(end, bool):
+            raise OSError(end, "failed")
+        return end
+
+    def write(self, frame):
+        return self._next(frame, True)
+
+    def read(self, request, count):
+        return self._next(request, b"\x80\xD3")
+
+    def over(self, *words):
+        """A patient bus over it, from now on."""
+        self.begun = runs.CLOCK.until()
+        return PatientBus(self, *words)
+
+
+ASK = bytes.fromhex("B019")
+
+
+class Patience(unittest.TestCase):
+    def test_a_write_is_followed_by_one_question(self):
+        below = Scripted()
+        self.assertIs(below.over(0, 200).write(FRAME), True)
+        self.assertEqual((below.frames, below.times), ([FRAME, ASK], [0, 0]))
+
+    def test_the_part_is_asked_each_5_ms_until_it_answers(self):
+        for ends in ((errno.ENXIO, errno.EREMOTEIO, errno.EIO, b""), (b"", b"", b"", errno.ETIMEDOUT)):
+            below = Scripted(True, *ends)
+            self.assertIs(below.over(0, 200).write(FRAME), True)
+            self.assertEqual((below.frames, below.times), ([FRAME] + [ASK] * 5, [0, 0, 5, 10, 15, 20]))
+
+    def test_the_patience_has_an_end(self):
+        for milliseconds, asked in ((0, 0), (1, 1), (5, 1), (20, 4), (200, 40)):
+            below = Scripted(True, *[errno.ENXIO] * 1000)
+            self.assertIs(below.over(0, milliseconds).write(FRAME), True)
+            with self.subTest(milliseconds=milliseconds):
+                self.assertIn(len(below.frames) - 1, (asked, asked + (asked > 1)))
+                self.assertLessEqual(below.times[-1], milliseconds)
+
+    def test_how_long_where_nothing_is_given(self):
+        self.assertEqual((runs.PATIENCE, runs.LONG_PATIENCE), (200, 1000))
+        with mock.patch.object(patient, "PATIENCE", runs.PATIENCE), mock.patch.object(patient, "LONG_PATIENCE", runs.LONG_PATIENCE):
+            bus = PatientBus(Scripted())
+            self.assertEqual([bus.patience(each) for each in (FRAME, CLEAR, STORE, RESTORE)], [200, 200, 1000, 1000])
+            bus = PatientBus(Scripted(), 0, 30)
+            self.assertEqual([bus.patience(each) for each in (FRAME, CLEAR, STORE, RESTORE)], [30] * 4)
+
+    def test_a_write_whose_address_nobody_acknowledged_is_sent_again(self):
+        below = Scripted(errno.ENXIO, errno.ENXIO, True)
+        self.assertIs(below.over(0, 200).write(FRAME), True)
+        self.assertEqual((below.frames, below.times), ([FRAME] * 3 + [ASK], [0, 5, 10, 10]))
+
+    def test_another_write_that_failed_is_not(self):
+        for number in (errno.EREMOTEIO, errno.EIO, errno.ETIMEDOUT, errno.EAGAIN, errno.ENODEV):
+            below = Scripted(number)
+            with self.subTest(number=number), self.assertRaises(OSError) as raised:
+                below.over(0, 200).write(FRAME)
+            self.assertEqual((raised.exception.errno, below.frames), (number, [FRAME, ASK]))
+        below = Scripted(False)
+        self.assertIs(below.over(0, 200).write(FRAME), False)
+        self.assertEqual(below.frames, [FRAME, ASK])
+
+    def test_a_write_that_nobody_ever_acknowledges_fails_when_the_patience_is_spent(self):
+        below = Scripted(*[errno.ENXIO] * 1000)
+        with self.assertRaises(OSError) as raised:
+            below.over(0, 50).write(FRAME)
+        self.assertEqual(raised.exception.errno, errno.ENXIO)
+        self.assertLessEqual(below.times[-1], 50)
+        below = Scripted(errno.ENXIO)
+        with self.assertRaises(OSError):
+            below.over(0, 0).write(FRAME)
+        self.assertEqual(below.frames, [FRAME])
+
+    def test_a_read_is_never_repeated(self):
+        for end in (errno.ENXIO, errno.EREMOTEIO):
+            below = Scripted(end)
+            with self.assertRaises(OSError):
+                below.over(0, 200).read(REQUEST, 4)
+            self.assertEqual(below.frames, [REQUEST])
+        below = Scripted(b"")
+        self.assertEqual((below.over(0, 200).read(REQUEST, 4), below.frames), (b"", [REQUEST]))
+
+    def test_a_wait_stands_before_each_transfer(self):
+        below = Scripted()
+        bus = below.over(7, 200)
+        bus.write(FRAME)
+        bus.read(REQUEST, 4)
+        self.assertEqual((below.frames, below.times), ([FRAME, ASK, REQUEST], [7, 14, 21]))
+
+    def test_an_interrupt_is_not_followed_by_a_question(self):
+        class Interrupted(Scripted):
+            def write(self, frame):
+                super().write(frame)
+                raise KeyboardInterrupt
+
+        below = Interrupted()
+        with self.assertRaises(KeyboardInterrupt):
+            below.over(0, 200).write(FRAME)
+        self.assertEqual(below.frames, [FRAME])
+
+    def test_over_the_bus_of_linux(self):
+        for part, went in ((Deaf30(), True), (Part(), True)):
+            with LinuxBus(7, 0x58, kernel=FakeKernel(part)) as bus:
+                over = PatientBus(bus, 0, 200)
+                self.assertIs(over.write(FRAME), went)
+                self.assertEqual(over.read(REQUEST, 4), bytes.fromhex("02CD34B9"))
+
+    def test_no_test_waits(self):
+        begun = time.monotonic()
+        clock.wait(5)
+        self.assertLess(time.monotonic() - begun, 4)
