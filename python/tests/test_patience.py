@@ -78,6 +78,15 @@ class Patience(unittest.TestCase):
         self.assertIs(below.over(0, 200).write(FRAME), True)
         self.assertEqual((below.frames, below.times), ([FRAME] * 3 + [ASK], [0, 5, 10, 10]))
 
+    def test_a_store_is_sent_once(self):
+        below = Scripted(errno.ENXIO)
+        with self.assertRaises(OSError):
+            below.over(0, 200).write(STORE)
+        self.assertEqual(below.frames, [STORE, ASK])
+        below = Scripted(errno.ENXIO)
+        self.assertIs(below.over(0, 200).write(RESTORE), True)
+        self.assertEqual(below.frames, [RESTORE, RESTORE, ASK])
+
     def test_another_write_that_failed_is_not(self):
         for number in (errno.EREMOTEIO, errno.EIO, errno.ETIMEDOUT, errno.EAGAIN, errno.ENODEV):
             below = Scripted(number)

@@ -1,8 +1,9 @@
 """A bus that waits for a busy part: one that doesn't acknowledge, or reads as ones, for a while behind a write.
 
 The wait stands at the end of a write's call, so that the next transfer meets a part that is ready: CAPABILITY is read again and
-again until an answer came. A write whose address nobody acknowledged was heard by nobody, and is sent again. A read that may
-have been heard is never repeated.
+again until an answer came. A write whose address nobody acknowledged was heard by nobody, and is sent again, but for a store: some
+adapters of the kernel say the same of a byte behind the address, and a store wears the memory. A read that may have been heard
+is never repeated.
 """
 from __future__ import annotations
 
@@ -16,14 +17,19 @@ CAPABILITY, STORE_USER_ALL, RESTORE_USER_ALL = 0x19, 0x15, 0x16
 STEP = 0.005
 # Milliseconds of patience behind a write, and behind a store and a restore.
 PATIENCE, LONG_PATIENCE = 200, 1000
-# What the kernel says of a write whose address wasn't acknowledged. EREMOTEIO and EIO are also said of a byte behind it, which
-# the part may have heard.
+# What the kernel's adapters say of a write whose address wasn't acknowledged. EREMOTEIO and EIO are said of a byte behind it, too:
+# the part may have heard it then.
 UNHEARD = errno.ENXIO
 
 
 def patience_of(given: int | None, is_long: bool) -> int:
     """The milliseconds of patience: those that were given, or those for a store and a restore, or for another write."""
     return given if given is not None else LONG_PATIENCE if is_long else PATIENCE
+
+
+def is_command(frame: bytes, code: int) -> bool:
+    """Whether a frame sends a command without data, and no more."""
+    return len(frame) == 3 and frame[1] == code
 
 
 class Bare(Protocol):
@@ -48,7 +54,7 @@ class PatientBus:
 
     def patience(self, frame: bytes) -> int:
         """The milliseconds of patience behind a frame."""
-        return patience_of(self._patience, len(frame) == 3 and frame[1] in (STORE_USER_ALL, RESTORE_USER_ALL))
+        return patience_of(self._patience, is_command(frame, STORE_USER_ALL) or is_command(frame, RESTORE_USER_ALL))
 
     def write(self, frame: bytes) -> bool:
         """Sends a packet, again where its address wasn't acknowledged, and waits until the part is ready. The end is that of the
@@ -85,7 +91,7 @@ class PatientBus:
             try:
                 return self._settled().write(frame)
             except OSError as fault:
-                if fault.errno != UNHEARD or not self._is_left(deadline):
+                if fault.errno != UNHEARD or is_command(frame, STORE_USER_ALL) or not self._is_left(deadline):
                     raise
 
     def _wait_for_part(self, address_byte: int, patience: int, deadline: float) -> None:
