@@ -100,11 +100,12 @@ class Locks(unittest.TestCase):
     def test_a_killed_holder_holds_nothing(self):
         here = os.path.dirname(os.path.dirname(os.path.abspath(__file__)))
         with subprocess.Popen([sys.executable, "-c", HOLDER, self.path], stdout=subprocess.PIPE, text=True, cwd=here, env=around()) as ran:
-            self.addCleanup(ran.kill)
-            self.assertEqual(ran.stdout.readline(), "held\n")
-            self.assertTrue(self.taken())
-            self.assertFalse(self.taken(0x59))
-            ran.send_signal(signal.SIGKILL)
+            try:
+                self.assertEqual(ran.stdout.readline(), "held\n")
+                self.assertTrue(self.taken())
+                self.assertFalse(self.taken(0x59))
+            finally:
+                ran.send_signal(signal.SIGKILL)
             ran.wait()
             self.assertFalse(self.taken())
 

@@ -4,12 +4,13 @@ import time
 import unittest
 from unittest import mock
 
-from pmhost import LinuxBus, PatientBus, clock
+from pmhost import Host, LinuxBus, PatientBus, Transfers, clock
 from pmhost.bus import patient
 
 from . import runs
 from .busy import Deaf30
 from .kernel import FakeKernel, Part
+from .odd_parts import Proved
 
 FRAME, REQUEST, STORE, RESTORE = bytes.fromhex("B0050400 21CD345A"), bytes.fromhex("B006020021"), bytes.fromhex("B01534"), bytes.fromhex("B0163D")
 CLEAR = bytes.fromhex("B0035D")
@@ -141,6 +142,22 @@ class Patience(unittest.TestCase):
                 over = PatientBus(bus, 0, 200)
                 self.assertIs(over.write(FRAME), went)
                 self.assertEqual(over.read(REQUEST, 4), bytes.fromhex("02CD34B9"))
+
+    def test_probe_asks_nothing_behind_its_writes(self):
+        part = Proved()
+        runs.called("-b 7 -a 58 --patience 200 probe --writes".split(), FakeKernel(part))
+        self.assertIn("B0 03 46", part.lines)
+        self.assertNotIn("B0 19 /", part.lines)
+        runs.called("-b 7 -a 58 --outputs 2 --patience 200 clear 0".split(), FakeKernel(part))
+        self.assertIn("B0 19 /", part.lines)
+
+    def test_each_store_is_sent_once(self):
+        """A store that wasn't acknowledged isn't sent in a later pass; a further job's is, with the same transfers, too."""
+        below, host, transfers = Scripted(False, False), Host(0x58), Transfers()
+        below.begun = 0
+        for sent in (1, 2):
+            host.store()
+            self.assertEqual((host.run(below, transfers).kind, len(below.frames)), ("unknown", sent))
 
     def test_no_test_waits(self):
         begun = time.monotonic()

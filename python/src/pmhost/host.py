@@ -223,6 +223,7 @@ class Host:
         `transfers` is told what became of each. Whatever else is raised meanwhile, as by Ctrl-C, goes on to the caller: the
         host is told before of each frame that is left, unsent, as failed, so that the job has ended as unknown then."""
         step, kept = None, Transfers() if transfers is None else transfers
+        kept.has_stored = False
         try:
             while (sending := self.sending()) is not None:
                 step = self._asked(bus, sending, kept) if sending.is_request else self._written(bus, sending, kept)

@@ -180,10 +180,10 @@ class Call:
         """Whether the open bus acknowledges an address that no part may have."""
         return isinstance(self._bus, LinuxBus) and self._bus.is_held_low()
 
-    def patient(self) -> DeskBus | PatientBus:
-        """The bus that waits for a busy part, which one on a desk never is."""
+    def patient(self, patience: int | None = None) -> DeskBus | PatientBus:
+        """The bus that waits for a busy part, which one on a desk never is; without a patience that of the call."""
         bus = self.opened()
-        return PatientBus(bus, self.settle, self.patience) if isinstance(bus, LinuxBus) else bus
+        return PatientBus(bus, self.settle, self.patience if patience is None else patience) if isinstance(bus, LinuxBus) else bus
 
     def _made(self, trace: Trace) -> DeskBus | LinuxBus:
         if self.bus == DESK:
