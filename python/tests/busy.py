@@ -87,6 +87,31 @@ class LowBehindStore(kernel.Part):
         return super().hear(frame, ending)
 
 
+class Timed(Busy):
+    """Each transfer takes half a millisecond. It is busy for so long behind each write, and 400 ms behind a store; where it
+    acknowledges meanwhile, its reads are ones, and it may drop what is written."""
+
+    def __init__(self, for_ms, is_ones, drops):
+        super().__init__()
+        self.for_ms, self.is_ones, self.drops = for_ms, is_ones, drops
+
+    def lasts(self, frame):
+        return 400 if frame[1] == STORE_USER_ALL else self.for_ms
+
+    def hear(self, frame, ending):
+        runs.CLOCK.now += 0.0005
+        if self.drops and self.is_busy() and ending == "stop":
+            return []
+        return super().hear(frame, ending)
+
+
+class At08(odd_parts.Proved):
+    """A part at the lowest address."""
+
+    def __init__(self):
+        super().__init__(0x08)
+
+
 class At48(odd_parts.Proved):
     """A part at 48h, where zeros are a good answer to a read of WRITE_PROTECT: from its transfer of this number on all it
     acknowledges, and reads are zeros."""

@@ -1,5 +1,6 @@
 """A bus that waits for a busy part, over a clock that nobody waits for."""
 import errno
+import re
 import time
 import unittest
 from unittest import mock
@@ -8,7 +9,7 @@ from pmhost import Host, LinuxBus, PatientBus, Transfers, clock
 from pmhost.bus import patient
 
 from . import runs
-from .busy import Deaf30
+from .busy import Deaf30, Timed
 from .kernel import FakeKernel, Part
 from .odd_parts import Proved
 
@@ -44,6 +45,37 @@ class Scripted:
 
 
 ASK = bytes.fromhex("B019")
+OUTPUTS = (0, 1, 1, 0, 0, 1, 0, 1)
+WORDS = tuple(0x1200 + 0x200 * place for place in range(len(OUTPUTS)))
+JOBS = " + ".join([*(f"word {output} VOUT_COMMAND {word:04X}" for output, word in zip(OUTPUTS, WORDS)), "store", "read 0", "read 1", "known"])
+# Busy by missing acknowledgements; by ones; by ones, and what is written meanwhile is dropped.
+WAYS = ((False, False), (True, False), (True, True))
+
+
+class EightOrders(unittest.TestCase):
+    """Eight orders, a store and two checks at a part that is busy behind each write."""
+
+    def carried_out(self, milliseconds, way, patience):
+        """The status, and whether what `known` says is held."""
+        part = Timed(milliseconds, *way)
+        given = ["--patience", str(patience)] if patience is not None else []
+        status, out, _ = runs.called(["-b", "7", "-a", "58", "--outputs", "2", "--no-limit", *given, *JOBS.split()], FakeKernel(part))
+        for output, word, possible in re.findall("^([01]) VOUT_COMMAND (?:([0-9A-F]{4}) .*confirmed|possible (.*))$", out, re.M):
+            held = f"{part.converter.cells[int(output), 0x21]:04X}"
+            self.assertIn(held, possible.split() if possible else [word])
+        return status, [part.converter.cells[output, 0x21] for output in (0, 1)]
+
+    def test_they_end_well(self):
+        with mock.patch.object(patient, "PATIENCE", runs.PATIENCE), mock.patch.object(patient, "LONG_PATIENCE", runs.LONG_PATIENCE):
+            for milliseconds in (0, 1, 10, 30, 150):
+                for way in WAYS:
+                    with self.subTest(milliseconds=milliseconds, way=way):
+                        self.assertEqual(self.carried_out(milliseconds, way, None), (0, [WORDS[6], WORDS[7]]))
+
+    def test_without_patience_nothing_false_is_said(self):
+        ends = {(milliseconds, way): self.carried_out(milliseconds, way, 0)[0] for milliseconds in (0, 1, 10, 30, 150) for way in WAYS}
+        self.assertEqual({ends[milliseconds, way] for milliseconds in (30, 150) for way in WAYS}, {1})
+        self.assertLessEqual(set(ends.values()), {0, 1})
 
 
 class Patience(unittest.TestCase):
