@@ -190,7 +190,7 @@ class FakeKernel:
 
     def __init__(self, part, mishaps=(), faults=None, functions=I2C_FUNC_I2C):
         self.part, self.mishaps, self.faults, self.functions = part, list(mishaps), faults or {}, functions
-        self.opened = 0
+        self.opened, self.locked = 0, []
 
     def fail(self, number):
         raise OSError(number, os.strerror(number))
@@ -202,6 +202,12 @@ class FakeKernel:
             self.fail(self.faults["open"])
         self.opened += 1
         return FILE
+
+    def lock(self, file, place):
+        assert file == FILE
+        if "lock" in self.faults:
+            self.fail(self.faults["lock"])
+        self.locked.append(place)
 
     def close(self, file):
         assert file == FILE
@@ -220,7 +226,13 @@ class FakeKernel:
         return self.transfer([argument.msgs[at] for at in range(argument.nmsgs)])
 
     def transfer(self, messages):
-        """What the kernel answers of a transfer, after the part has heard it."""
+        """What the kernel answers of a transfer, after the part has heard it. A lone read of one byte goes to address 02h, which
+        nobody acknowledges, unless the part holds the data line low."""
+        if len(messages) == 1 and messages[0].flags == I2C_M_RD:
+            assert (messages[0].addr, messages[0].len) == (0x02, 1)
+            if not getattr(self.part, "is_low", False):
+                self.fail(errno.ENXIO)
+            return 1
         sent, back = messages[0], messages[1] if len(messages) == 2 else None
         assert not sent.flags and (back is None or back.flags == I2C_M_RD and back.addr == sent.addr)
         frame = [2 * sent.addr, *ctypes.string_at(sent.buf, sent.len)]

@@ -4,9 +4,10 @@ A file has a block for each run, a blank line between them. The lines of a block
 
     words: WORDS         the command line; `FILE` is the file of rails of the block
     mishaps: M M ..      what befalls the transfers (kernel.py)
-    part: KIND [M M ..] [coefficients m b R]     the kind of part, and VOUT_MODEs in hexadecimal; `odd.KIND` of odd_parts.py
+    part: KIND [M M ..] [coefficients m b R]     the kind of part, and VOUT_MODEs in hexadecimal; `odd.KIND` of odd_parts.py,
+                         `busy.KIND` of busy.py
     cell: O REG WORD     a word that the part holds at first
-    fault: WHAT ERRNO    the kernel's error for `open` or `slave`
+    fault: WHAT ERRNO    the kernel's error for `open`, `slave` or `lock`
     functions: HEX       the adapter's functions
     held: WORD           what VOUT_COMMAND of output 0 holds behind the run, 1000 if left out
     writes: N            how many writes the part heard, 0 if left out
@@ -17,19 +18,36 @@ A file has a block for each run, a blank line between them. The lines of a block
 """
 import contextlib
 import errno
+import importlib
 import io
 import os
 import shlex
 from dataclasses import dataclass, field
 
-from pmhost import cli, reads
+from pmhost import cli, clock
+from pmhost.bus import patient
 from pmhost.bus.linux import I2C_FUNC_I2C, I2C_SLAVE
 from pmhost.values import CODES
 
-from . import kernel, odd_parts
+from . import kernel
 
-# The stand-in needs no time between two tries.
-reads.PAUSE = 0
+
+class Clock:
+    """A clock that nobody waits for."""
+
+    def __init__(self):
+        self.now = 1000.0
+
+    def until(self, moment=0.0):
+        self.now = max(self.now, moment)
+        return self.now
+
+
+# No test waits. Where a row doesn't give --patience, none is had: its mishaps befall the frames of its jobs alone.
+CLOCK = Clock()
+clock.until = CLOCK.until
+PATIENCE, LONG_PATIENCE = patient.PATIENCE, patient.LONG_PATIENCE
+patient.PATIENCE = patient.LONG_PATIENCE = 0
 DATA = os.path.join(os.path.dirname(os.path.abspath(__file__)), "data")
 
 
@@ -64,7 +82,7 @@ class Run:
             self.functions = int(text, 16)
         elif key == "fault":
             what, name = text.split()
-            self.faults[{"open": "open", "slave": I2C_SLAVE}[what]] = getattr(errno, name)
+            self.faults[{"open": "open", "lock": "lock", "slave": I2C_SLAVE}[what]] = getattr(errno, name)
         elif key == "cell":
             self.cells.append(text.split())
         else:
@@ -79,8 +97,8 @@ class Run:
             made["coefficients"], rest = tuple(int(each) for each in rest[at + 1:at + 4]), rest[:at]
         if rest:
             made["modes"] = tuple(int(each, 16) for each in rest)
-        module = odd_parts if kind.startswith("odd.") else kernel
-        part = getattr(module, kind.removeprefix("odd."))(**made)
+        module = "kernel" if "." not in kind else {"odd": "odd_parts", "busy": "busy"}[kind.partition(".")[0]]
+        part = getattr(importlib.import_module(f".{module}", __package__), kind.rpartition(".")[2])(**made)
         for output, register, word in self.cells:
             part.converter.set((None if output == "None" else int(output), CODES[register]), int(word, 16))
         return part

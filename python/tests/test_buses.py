@@ -8,9 +8,11 @@ from decimal import Decimal
 from unittest import mock
 
 from pmhost import DeskBus, LinuxBus, NoBus, NoTransfer, Pmbus, Smbus2Bus
+from pmhost.bus.ones import given
 from pmhost.bus.linux import I2C_FUNCS, I2C_RDWR, I2C_SLAVE, Message, Messages
 
 from . import kernel
+from .busy import OnesAlone
 
 ADDRESS = 0x58
 FRAME, REQUEST = bytes.fromhex("B0050400 21CD345A"), bytes.fromhex("B006020021")
@@ -80,6 +82,22 @@ class Linux(unittest.TestCase):
         with self.assertRaisesRegex(NoBus, "^/nowhere/t: No such file or directory$"):
             self.bus(trace="/nowhere/t")
 
+    def test_ones_are_no_answer(self):
+        for mishap in (None, "ones"):
+            over = kernel.FakeKernel(OnesAlone() if mishap else kernel.Part())
+            with LinuxBus(7, ADDRESS, kernel=over) as bus:
+                came = bus.read(REQUEST, 4)
+            self.assertEqual((came, getattr(came, "why", None)), (b"", "nothing but FFh") if mishap else (bytes.fromhex("02001041"), None))
+        for came, gives in ((b"\xFF", b""), (b"\xFF\xFF", b""), (b"\xFF\xFE", b"\xFF\xFE"), (b"\0", b"\0"), (b"", b"")):
+            self.assertEqual(given(came), gives)
+
+    def test_a_line_that_is_held_low(self):
+        for is_low in (False, True):
+            over = kernel.FakeKernel(kernel.Part())
+            over.part.is_low = is_low
+            with LinuxBus(7, ADDRESS, kernel=over) as bus:
+                self.assertIs(bus.is_held_low(), is_low)
+
     def test_a_buffer_keeps_no_older_answer(self):
         with self.bus("ok", "empty") as bus:
             bus.read(REQUEST, 4)
@@ -140,6 +158,11 @@ class Smbus2(unittest.TestCase):
         self.assertIs(bus.write(FRAME), True)
         self.assertEqual(bus.read(REQUEST, 4), bytes.fromhex("02CD34B9"))
         self.assertEqual(bus.read(REQUEST, 2), bytes.fromhex("02CD"))
+
+    def test_ones_are_no_answer(self):
+        stand = Smbus2Stand()
+        stand.i2c_rdwr = lambda *messages: setattr(messages[1], "data", [0xFF] * len(messages[1].data))
+        self.assertEqual(Smbus2Bus(stand).read(bytes.fromhex("9410"), 2), b"")
 
     def test_no_bus(self):
         with self.assertRaisesRegex(TypeError, "an open smbus2.SMBus is wanted"):

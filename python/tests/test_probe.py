@@ -8,7 +8,7 @@ from pmhost import PartBus, Part, Output, pec, reads
 from pmhost.probe import Probe
 
 from . import runs
-from .odd_parts import ADDRESS, Late
+from .odd_parts import ADDRESS, Late, Proved
 from .kernel import FakeKernel
 from .running import ROOT, stored
 from .test_runs import Blocks
@@ -88,11 +88,12 @@ class Frames(unittest.TestCase):
 
         class Listening(FakeKernel):
             def transfer(self, messages):
-                said.append("transfer")
+                if messages[0].addr == ADDRESS:
+                    said.append("transfer")
                 return super().transfer(messages)
 
         with mock.patch("pmhost.cli.probe.complain", said.append):
-            runs.called(["-b", "7", "-a", "58", "probe", "--writes"], Listening(runs.odd_parts.Proved()))
+            runs.called(["-b", "7", "-a", "58", "probe", "--writes"], Listening(Proved()))
         self.assertEqual(said[:2], [f"probe: {BEFORE}; --writes sends CLEAR_FAULTS, which clears the part's latched faults", "transfer"])
 
 
@@ -116,13 +117,13 @@ class OneFault(unittest.TestCase):
 
 class Busy(unittest.TestCase):
     def test_a_request_that_nobody_answered_waits_before_it_is_sent_again(self):
-        with mock.patch.object(reads, "PAUSE", 0.25), mock.patch("pmhost.reads.time.sleep") as slept:
+        with mock.patch.object(reads, "PAUSE", 0.25), mock.patch("pmhost.reads.clock.wait") as slept:
             runs.called(["-b", "7", "-a", "58", "probe"], FakeKernel(Late()))
         self.assertGreater(slept.call_count, 10)
         self.assertEqual({each.args for each in slept.call_args_list}, {(0.25,)})
 
     def test_a_part_that_answers_at_once_is_waited_for_only_where_it_lacks_something(self):
-        with mock.patch("pmhost.reads.time.sleep") as slept:
+        with mock.patch("pmhost.reads.clock.wait") as slept:
             found = Probe(PartBus(Part(ADDRESS, [Output()])), ADDRESS, 1).run()
         # Two waits for each of MFR_ID, MFR_MODEL, MFR_REVISION and ON_OFF_CONFIG.
         self.assertEqual((found.late, slept.call_count), (0, 8))

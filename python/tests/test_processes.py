@@ -33,12 +33,13 @@ pmhost -b 7 -a 58 --outputs 1 --limit 0:LEAST:MOST
 """
 PROBE = "-b 7 -a 58 --outputs 1 probe"
 UNSAID = f"unsaid: {DONE}"
-# Words, redirections of a shell, mishaps; standard output, standard error, status.
+# Words, redirections of a shell, mishaps; standard output, standard error, status. The transfers of an order: the check of OPERATION
+# before it, the write, the question whether the part is ready, the read.
 ROWS = [
     (ORDER, "", "", DONE, "", 0),
-    (f"{ORDER} + read 1 OPERATION", "", "group", "",
+    (f"{ORDER} + read 1 OPERATION", "", "ok group", "",
      "pmhost: interrupted during word 0 OPERATION 80: output 0 OPERATION may hold the old or the ordered word\n", 130),
-    (f"{ORDER} + read 1 OPERATION", "", "ok ok group", DONE,
+    (f"{ORDER} + read 1 OPERATION", "", "ok ok ok ok group", DONE,
      "pmhost: interrupted during read 1 OPERATION: nothing was written\n", 130),
     (f"{ORDER} + read 1 OPERATION", "> /dev/full", "", "", f"pmhost: standard output: No space left on device; {UNSAID}", 2),
     (f"{ORDER} + read 1 OPERATION", ">&-", "", "", "pmhost: standard output is closed: nothing was sent\n", 2),

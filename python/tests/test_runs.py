@@ -36,7 +36,8 @@ class Blocks(unittest.TestCase):
 
     def look_at(self, trace, mishaps, part):
         """Each line of the trace is a frame, or a comment; and without damage each is a good one."""
-        is_whole = not {"damaged", "empty"} & set(mishaps.split()) and part.split()[0] not in ("WithoutPec", "FloatingPagePlus")
+        is_whole = not {"damaged", "empty"} & set(mishaps.split()) and part.split()[0] not in ("WithoutPec", "FloatingPagePlus", "busy.Ones30", "busy.Ones150", "busy.OnesAlone", "busy.Zeros0At48",
+                                                                                             "busy.Zeros1At48", "busy.Zeros2At48")
         for line in trace.splitlines():
             if line.startswith("# failed: "):
                 continue
@@ -72,6 +73,9 @@ class Runs(Blocks):
 
     def test_interruptions(self):
         self.carry_out("interruptions.txt")
+
+    def test_busy_parts_and_answers_that_nobody_gave(self):
+        self.carry_out("busy.txt")
 
     def test_files_of_rails(self):
         self.carry_out("rails.txt")

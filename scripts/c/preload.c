@@ -1,6 +1,7 @@
 /* Puts examples/c/stand_in.c below a program that is there already, by LD_PRELOAD: its calls for /dev/i2c-1 to
  * /dev/i2c-4 go to the stand-in, and all others to the C library. scripts/c/run.sh has the command pmhost make its
- * own calls of the kernel so, with the kernel's own structures on the other side. */
+ * own calls of the kernel so, with the kernel's own structures on the other side. A lock of the converter's address is
+ * given, and nobody acknowledges a read of one byte from address 02h. */
 #define _GNU_SOURCE
 #include "../../examples/c/stand_in.c"
 #include <dlfcn.h>
@@ -24,7 +25,26 @@ int ioctl(int file, unsigned long request, ...) {
     va_start(rest, request);
     void *argument = va_arg(rest, void *);
     va_end(rest);
-    return is_bus(file) ? __wrap_ioctl(file, request, argument) : next(file, request, argument);
+    if (!is_bus(file))
+        return next(file, request, argument);
+    const struct i2c_rdwr_ioctl_data *whole = argument;
+    if (request == I2C_RDWR && whole->nmsgs == 1 && whole->msgs[0].addr == 2 && whole->msgs[0].flags == I2C_M_RD && whole->msgs[0].len == 1)
+        return fails(ENXIO);
+    return __wrap_ioctl(file, request, argument);
+}
+
+static int locks(const struct flock64 *lock) {
+    int is_right = lock->l_type == F_WRLCK && lock->l_whence == SEEK_SET && lock->l_start == 0x58 && lock->l_len == 1 && lock->l_pid == 0;
+    return is_right ? 0 : fails(EINVAL);
+}
+
+int fcntl64(int file, int request, ...) {
+    int (*next)(int, int, ...) = (int (*)(int, int, ...))dlsym(RTLD_NEXT, "fcntl64");
+    va_list rest;
+    va_start(rest, request);
+    void *argument = va_arg(rest, void *);
+    va_end(rest);
+    return is_bus(file) && request == F_OFD_SETLK ? locks(argument) : next(file, request, argument);
 }
 
 int close(int file) {

@@ -9,7 +9,7 @@
 What the library's calls answer is proved (docs/firmware.md says of what); this package is tested, and not proved.
 """
 from ._version import __version__
-from .bus import DeskBus, LinuxBus, NoBus, NoTransfer, Smbus2Bus
+from .bus import DeskBus, LinuxBus, NoBus, NoTransfer, PatientBus, Smbus2Bus
 from .errors import (Differs, FrameRefused, HostRefused, LimitRefused, MemoryRefused, NotDone, NumberRefused, PartRefused,
                      PmhostError, Refused, SetupRefused, Unknown)
 from .host import Band, Bus, Host, Known, Limits, Sending, Step
@@ -22,6 +22,6 @@ from .values import CODES, LINEAR11, Format
 __all__ = [
     "Band", "Bus", "CODES", "DeskBus", "Differs", "Format", "FrameRefused", "Host", "HostRefused", "Known", "LINEAR11",
     "LimitRefused", "Limits", "LinuxBus", "MemoryRefused", "NoBus", "NoTransfer", "NotDone", "NumberRefused", "Output", "Packet",
-    "Part", "PartBus", "PartRefused", "PmhostError", "Pmbus", "Refused", "Sending", "SetupRefused", "Smbus2Bus", "Step",
+    "Part", "PartBus", "PartRefused", "PatientBus", "PmhostError", "Pmbus", "Refused", "Sending", "SetupRefused", "Smbus2Bus", "Step",
     "Transfers", "Unknown", "__version__", "pec", "read_answer", "read_request", "read_write",
 ]

@@ -12,6 +12,7 @@ from .transfers import Transfers
 from .values import NAMES, Format, code_of, frame_bytes, whole
 
 REFERENCE = ctypes.byref
+STORE_USER_ALL = b"\x15"
 
 
 class Bus(Protocol):
@@ -216,11 +217,13 @@ class Host:
         return Step(ENDS[step.kind], step.word if step.kind == 2 else None)
 
     def run(self, bus: Bus, transfers: Transfers | None = None) -> Step:
-        """Carries the open job out over a bus, and says how it ended. An OSError of the bus is a frame that failed.
+        """Carries the open job out over a bus, and says how it ended. An OSError of the bus is a frame that failed. STORE_USER_ALL
+        is sent once: its later passes are told as not acknowledged, unsent.
 
         `transfers` is told what became of each. Whatever else is raised meanwhile, as by Ctrl-C, goes on to the caller: the
         host is told before of each frame that is left, unsent, as failed, so that the job has ended as unknown then."""
         step, kept = None, Transfers() if transfers is None else transfers
+        kept.has_stored = False
         try:
             while (sending := self.sending()) is not None:
                 step = self._asked(bus, sending, kept) if sending.is_request else self._written(bus, sending, kept)
@@ -240,6 +243,11 @@ class Host:
                 self.finished(False)
 
     def _written(self, bus: Bus, sending: Sending, transfers: Transfers) -> Step:
+        if sending.frame[1:-1] == STORE_USER_ALL:
+            if transfers.has_stored:
+                # A store may take a second and wears the memory: a later pass isn't sent.
+                return self.finished(False)
+            transfers.has_stored = True
         transfers.has_written = True
         try:
             acked = bus.write(sending.frame)
@@ -260,7 +268,7 @@ class Host:
             return self.got(b"")
         taken = frame_bytes(came, 2**16, "read")
         if not taken:
-            transfers.unheard("no answer")
+            transfers.unheard(getattr(came, "why", "no answer"))
             return self.got(b"")
         answer = bytes([self._address << 1 | 1]) + taken
         transfers.answered(self._address, sending.frame, answer)

@@ -1,15 +1,15 @@
 """Reads beside the host's jobs: each in three tries, and judged by the library's packet error code.
 
-The host isn't told of them. An answer of nothing but FFh is one that nobody gave: a bus that nobody drives is high, and a busy
-part may answer so. Its last byte can even be the right packet error code, as that of WRITE_PROTECT at 4Ah.
+The host isn't told of them. An answer of nothing but FFh is one that nobody gave.
 """
 from __future__ import annotations
 
 import errno
-import time
 from dataclasses import dataclass
 from typing import Callable
 
+from . import clock
+from .bus.ones import NOBODY, NoAnswer, is_ones
 from .errors import FrameRefused
 from .host import Bus
 from .packets import Packet, pec, read_answer
@@ -18,7 +18,6 @@ TRIES = 3
 # Seconds before a request is sent again, since the part may be busy.
 PAUSE = 0.01
 PAGE_PLUS_READ, MOST_BLOCK = 0x06, 32
-NOBODY = "nothing but FFh"
 
 
 @dataclass(frozen=True)
@@ -60,7 +59,7 @@ class Reads:
         """What came back; an OSError where it is nothing but FFh. A request that nobody answered waits before it is sent again."""
         is_again = self._wait(request)
         came = self.bus.read(request, count)
-        if came and not came.strip(b"\xFF"):
+        if isinstance(came, NoAnswer) or is_ones(came):
             self.high += 1
             raise OSError(errno.ENXIO, NOBODY)
         if came:
@@ -71,7 +70,7 @@ class Reads:
         """Whether a frame is sent again that nobody answered, which waits."""
         is_again, self._unanswered = frame == self._unanswered, frame
         if is_again:
-            time.sleep(PAUSE)
+            clock.wait(PAUSE)
         return is_again
 
     def packet(self, asked: Packet) -> Read:

@@ -13,7 +13,7 @@ class Transfers:
         self.faults: list[str] = []
         self.payloads: dict[Packet, bytes] = {}
         self.error: OSError | None = None
-        self.has_written = False
+        self.has_written = self.has_stored = False
 
     def fault(self, error: OSError) -> None:
         """A transfer failed with an error."""

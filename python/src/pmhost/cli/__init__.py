@@ -95,7 +95,7 @@ def commands_of(words: list[str]) -> list[argparse.Namespace]:
 
 def words_behind(command: str, part: list[str]) -> list[str]:
     """The words of a command without its options."""
-    found, has_value = [], {flag for flags, words in OPTIONS.values() if "const" not in words for flag in flags}
+    found, has_value = [], {"--accept", *(flag for flags, words in OPTIONS.values() if "const" not in words for flag in flags)}
     words = iter(part)
     for word in words:
         if word in has_value:
@@ -118,7 +118,7 @@ def carried_out(call: Call) -> int:
         if status and not getattr(arguments, "is_question", False):
             continue
         call.begin(arguments)
-        status = max(status, int(arguments.run(arguments)))
+        status = max(status, call.no_part(arguments) or int(arguments.run(arguments)))
     return status
 
 

@@ -7,16 +7,20 @@ import signal
 import sys
 from typing import Any, Iterator
 
-from ..bus import DeskBus, LinuxBus, Trace
+from .. import clock
+from ..bus import DeskBus, LinuxBus, NoBus, PatientBus, Trace
 from ..bus.linux import ENDING, Calls
+from ..bus.patient import STEP, patience_of
 from ..pmbus import Pmbus
 from ..rails import Rails
+from ..transfers import Transfers
 from . import streams
 from .answer import Answer, coloured
 from .parser import BEHIND, DESK, OPTIONS, BadCall
 
 DESK_ADDRESS, DESK_OUTPUTS, PASSES = 0x58, 2, 3
 NOTHING = "nothing was written"
+HELD_LOW = "a line is held low: address 02, which no part may have, acknowledges: look at SDA and SCL, take the power off"
 
 
 class Interrupted(BaseException):
@@ -73,12 +77,16 @@ class Call:
         self._rails: tuple[int, dict[int, tuple[int, int]]] | None = None
         self.under_way = self.maybe = self.unsaid = ""
         self.settled = NOTHING
+        self._has_answered = False
         self.bus: str | None = self._one("bus")
         self.address: int | None = self._one("address")
         self.outputs: int | None = self._one("outputs")
         self.passes: int = self._one("passes") or PASSES
         self.trace_path: str | None = self._one("trace")
-        self.is_unlimited, self.is_json, self.is_forced = (bool(self._all(name)) for name in ("no_limit", "json", "force"))
+        self.settle: int = self._one("settle") or 0
+        self.patience: int | None = self._one("patience")
+        self.is_unlimited, self.is_json, self.is_forced, self.is_shared = (
+            bool(self._all(name)) for name in ("no_limit", "json", "force", "share_bus"))
         self.limits: dict[int, tuple[int, int]] = {}
         for output, least, most in self._all("limit"):
             if output in self.limits:
@@ -156,7 +164,7 @@ class Call:
         return self.outputs or max([*named, *self.limits]) + 1
 
     def opened(self) -> DeskBus | LinuxBus:
-        """The bus, opened at its first use."""
+        """The bus, opened at its first use. NoBus, too, where a line is held low."""
         if self._bus is None:
             trace = Trace(self.trace_path)
             try:
@@ -164,22 +172,67 @@ class Call:
             except BaseException:
                 trace.close()
                 raise
+            if self.is_held_low():
+                raise NoBus(HELD_LOW)
         return self._bus
+
+    def is_held_low(self) -> bool:
+        """Whether the open bus acknowledges an address that no part may have."""
+        return isinstance(self._bus, LinuxBus) and self._bus.is_held_low()
+
+    def patient(self, patience: int | None = None) -> DeskBus | PatientBus:
+        """The bus that waits for a busy part, which one on a desk never is; without a patience that of the call."""
+        bus = self.opened()
+        return PatientBus(bus, self.settle, self.patience if patience is None else patience) if isinstance(bus, LinuxBus) else bus
 
     def _made(self, trace: Trace) -> DeskBus | LinuxBus:
         if self.bus == DESK:
             return DeskBus(self.address or DESK_ADDRESS, self.outputs or max(DESK_OUTPUTS, self.counted()), trace)
         assert self.bus is not None and self.address is not None
-        return LinuxBus(self.bus, self.address, self.is_forced, trace, self._kernel)
+        return LinuxBus(self.bus, self.address, self.is_forced, trace, self._kernel, self.is_shared)
 
     def part(self) -> Pmbus:
         """The part on the bus, through the one host of the call."""
         if self._part is None:
-            bus = self.opened()
+            bus = self.patient()
             self._part = Pmbus(bus, self.address or DESK_ADDRESS, self.counted(), self.passes)
             for output, (least, most) in self.limits.items():
                 self._part.host.narrow(output, least, most)
         return self._part
+
+    def unanswered(self, is_long: bool = False) -> str:
+        """A check of OPERATION of output 0, again and again within the patience, which is long behind a store and a restore: nothing
+        where a good answer came, otherwise why none did. The transfers of the job before stay those of the part."""
+        part, deadline = self.part(), clock.until() + patience_of(self.patience, is_long) / 1000
+        while True:
+            transfers = Transfers()
+            part.host.check(0, "OPERATION")
+            if part.host.run(part.bus, transfers).kind == "done":
+                return ""
+            now = clock.until()
+            if now + STEP >= deadline:
+                return transfers.why() or "no good answer"
+            clock.until(now + STEP)
+
+    def no_part(self, arguments: argparse.Namespace) -> int:
+        """Before the first command that orders something the part has to answer. 0, or the status where it doesn't: nothing was
+        ordered."""
+        if self._has_answered or not getattr(arguments, "is_order", False) or getattr(arguments, "dry_run", False):
+            return 0
+        why = self.unanswered()
+        if why:
+            return self.say(Answer(said(arguments), "no part", "no part answers, nothing was ordered", 1, why,
+                                   getattr(arguments, "output", None)))
+        self._has_answered = True
+        return 0
+
+    def unsure_of_last(self, is_long: bool) -> tuple[int, str]:
+        """Behind a command that nothing reads back: whether a line is held low, and whether the part answers. The status, 0 where
+        all is well, and why not."""
+        if self.is_held_low():
+            return 2, HELD_LOW
+        why = self.unanswered(is_long)
+        return (1, f"OPERATION of output 0 behind it: {why}") if why else (0, "")
 
     def close(self) -> None:
         if self._bus is not None:

@@ -9,15 +9,18 @@ from .. import probe, voltages
 from ..errors import Refused
 from ..pmbus import Pmbus
 from ..survey import Commanded, read as read_register
-from .answer import in_digits
+from .answer import Answer, in_digits
 from .call import Call, said
 from .completion import completed_by
 from .outcome import DEVICE, REGISTERS, VOLTAGES, answer_of, cell_words, ended_badly, refused, surveyed
 from .parser import BadCall, bus_options, shown, whole
 
 MARGIN_HIGH, MARGIN_LOW = 0xA8, 0x94
+# At this address zeros behind the read address are a good answer to a read of WRITE_PROTECT.
+ZEROS_ADDRESS = 0x48
 # What each command sends beside reads, for an interruption to say.
 STORES = "the user store may hold the old or the new settings of every output"
+GO_OFF, MAY_GO_OFF = "--outputs-may-go-off", "on parts where it is a reset the outputs go off"
 RESTORES = f"{', '.join(REGISTERS)} of every output may hold the old or the stored word"
 
 
@@ -44,6 +47,14 @@ def voltage_of(word: str) -> int:
         raise argparse.ArgumentTypeError(str(fault)) from None
 
 
+def accept_of(word: str) -> int:
+    """Microvolts of how near is near enough."""
+    found = voltage_of(word)
+    if found < 0:
+        raise argparse.ArgumentTypeError(f"accept {word}: give how near is near enough, as 20mV")
+    return found
+
+
 def output_of(word: str) -> int | None:
     """An output, or None for - , which stands for the device."""
     return None if word == "-" else OUTPUT(word)
@@ -62,7 +73,8 @@ def add(commands: Any) -> None:
 
     def command(name: str, run: Any, help: str, judge: Any = None) -> Any:
         parser = commands.add_parser(name, help=help, description=help[0].upper() + help[1:] + ".")
-        parser.set_defaults(run=run, **({} if judge is None else {"judge": judge}))
+        parser.set_defaults(run=run, is_order=judge in (judge_write, judge_order, judge_word, judge_restore),
+                            **({} if judge is None else {"judge": judge}))
         return parser
 
     found = command("learn", learn, "learns the format of an output's voltages")
@@ -73,16 +85,19 @@ def add(commands: Any) -> None:
     completed_by(found.add_argument("register", metavar="REG", nargs="?", type=register_of((*REGISTERS, DEVICE)),
                                     help="VOUT_COMMAND if left out"), (*REGISTERS, DEVICE))
     bus_options(found)
+    accept = {"type": accept_of, "metavar": "VOLTAGE", "help": "takes a word that the part made of the ordered one and that is this near, as 20mV"}
     found = command("set", set_voltage, "orders a voltage, and says what the output then commands", judge_order)
     found.add_argument("output", **output)
     found.add_argument("microvolts", type=voltage_of, metavar="VOLTAGE", help="as 3.3V, 3300mV or 3300000uV")
     completed_by(found.add_argument("register", metavar="REG", nargs="?", type=register_of(VOLTAGES), default="VOUT_COMMAND",
                                     help="VOUT_COMMAND if left out"), VOLTAGES)
     bus_options(found)
+    found.add_argument("--accept", **accept)
     found = command("word", word, "orders a register's word", judge_word)
     found.add_argument("output", **device)
     completed_by(found.add_argument("register", metavar="REG", type=register_of((*REGISTERS, DEVICE))), (*REGISTERS, DEVICE))
     found.add_argument("digits", metavar="WORD", type=digits_of, help="in hexadecimal digits, as 34CD")
+    found.add_argument("--accept", **accept)
     bus_options(found)
     found = command("on", operate, "turns an output on, by OPERATION 80", judge_order)
     found.add_argument("output", **output)
@@ -100,8 +115,10 @@ def add(commands: Any) -> None:
     found.add_argument("output", **output)
     bus_options(found)
     for name, help in (("store", "has the part store its settings"), ("restore", "has the part bring its stored settings back")):
-        found = command(name, acknowledged, help, judge_write)
+        found = command(name, acknowledged, help, judge_restore if name == "restore" else judge_write)
         found.set_defaults(output=None)
+        if name == "restore":
+            found.add_argument(GO_OFF, action="store_true", help=f"{MAY_GO_OFF}, which is well")
         bus_options(found)
 
 
@@ -114,6 +131,12 @@ def margin_of(word: str) -> str:
 
 def judge_write(arguments: argparse.Namespace) -> None:
     arguments.call.judge_write(arguments)
+
+
+def judge_restore(arguments: argparse.Namespace) -> None:
+    judge_write(arguments)
+    if not arguments.outputs_may_go_off:
+        raise BadCall(f"{said(arguments)}: {MAY_GO_OFF}: give {GO_OFF}, where the board tolerates it")
 
 
 def judge_order(arguments: argparse.Namespace) -> None:
@@ -139,6 +162,8 @@ def judge_word(arguments: argparse.Namespace) -> None:
     if len(arguments.digits) != wanted:
         raise BadCall(f"{said(arguments)}: word {arguments.digits}: give {'two' if wanted == 2 else 'four'} "
                             f"hexadecimal digits, as {'80' if wanted == 2 else '34CD'}")
+    if arguments.accept is not None and arguments.register not in VOLTAGES:
+        raise BadCall(f"{said(arguments)}: --accept is for voltages alone")
     judge_order(arguments)
 
 
@@ -173,8 +198,12 @@ def read(arguments: argparse.Namespace) -> int:
     part, register = call.part(), arguments.register
     if register in VOLTAGES:
         learned(part, arguments.output)
+    if why := doubt(call, part, register):
+        return call.say(not_told(arguments, part, why))
     part.host.check(arguments.output or 0, register)
     step = part.carried_out()
+    if why := doubt(call, part, register):
+        return call.say(not_told(arguments, part, why))
     if step.kind != "done":
         return call.say(ended_badly(arguments, part, register, step))
     found = answer_of(arguments, part, register, "done")
@@ -183,16 +212,57 @@ def read(arguments: argparse.Namespace) -> int:
     return call.say(found)
 
 
-def carried_out(arguments: argparse.Namespace, register: str, begin: Callable[[], object]) -> int:
-    """An order: what became of it, and what the output then commands."""
+def doubt(call: Call, part: Pmbus, register: str) -> str:
+    """Before and behind a check of WRITE_PROTECT where zeros are a good answer to it: why OPERATION gave none, nothing where it did."""
+    return call.unanswered() if register == DEVICE and part.host.address == ZEROS_ADDRESS else ""
+
+
+def not_told(arguments: argparse.Namespace, part: Pmbus, why: str) -> Answer:
+    """No state of WRITE_PROTECT is given, and nothing is known any more."""
+    part.restart()
+    return answer_of(arguments, part, DEVICE, "unknown", status=1, text=f"{DEVICE} unknown, any word is possible",
+                     why="OPERATION of output 0 gave no good answer beside it, and zeros from a line held low would be a good answer of "
+                         f"{DEVICE} at 48: {why}")
+
+
+def is_accepted(arguments: argparse.Namespace, part: Pmbus, register: str, wanted: int | None, held: tuple[int, ...] | None, word: int | None) -> bool:
+    """Whether the part made a word of the ordered one that is near enough: it wasn't possible before, and lies within the limits."""
+    form = part.host.format(arguments.output)
+    if form is None or wanted is None or word is None or held is None or word in held:
+        return False
+    try:
+        part.host.copy().order(arguments.output, register, word)
+    except Refused:
+        return False
+    return abs(form.microvolts(word) - wanted) <= int(arguments.accept)
+
+
+def carried_out(arguments: argparse.Namespace, register: str, begin: Callable[[], object], wanted: int | None = None) -> int:
+    """An order: what became of it, and what the output then commands. `wanted` has the microvolts of an order that may be taken by
+    its nearness: the register is read before it."""
     call: Call = arguments.call
     part, output = call.part(), arguments.output
+    held = None
+    if wanted is not None:
+        part.host.check(output, register)
+        step = part.carried_out()
+        if step.kind != "done":
+            found = ended_badly(arguments, part, register, step)
+            found.text += "; nothing was ordered"
+            return call.say(found)
+        held = part.host.possible(output, register)
+    if why := doubt(call, part, register):
+        return call.say(not_told(arguments, part, why))
     try:
         begin()
     except Refused as fault:
         return call.say(refused(arguments, part, register, fault))
     call.maybe = f"{register if output is None else f'output {output} {register}'} may hold the old or the ordered word"
     step = part.carried_out()
+    if why := doubt(call, part, register):
+        return call.say(not_told(arguments, part, why))
+    if step.kind == "differs" and is_accepted(arguments, part, register, wanted, held, step.word):
+        return call.say(surveyed(arguments, part, register, is_accepted=True))
     if step.kind != "done":
         return call.say(ended_badly(arguments, part, register, step))
     return call.say(surveyed(arguments, part, register))
@@ -206,7 +276,8 @@ def set_voltage(arguments: argparse.Namespace) -> int:
         found = answer_of(arguments, part, register, "unknown", status=1, text="its format isn't known, nothing was ordered",
                           why=probe.why_not_learned(part, output))
         return int(arguments.call.say(found))
-    return carried_out(arguments, register, lambda: part.host.order_micro(output, register, arguments.microvolts))
+    return carried_out(arguments, register, lambda: part.host.order_micro(output, register, arguments.microvolts),
+                       None if arguments.accept is None else arguments.microvolts)
 
 
 def word(arguments: argparse.Namespace) -> int:
@@ -215,8 +286,11 @@ def word(arguments: argparse.Namespace) -> int:
     register = arguments.register
     if register != DEVICE and part.host.limits(arguments.output) is not None:
         prepared(part, arguments.output, register)
-    return carried_out(arguments, register,
-                       lambda: part.host.order(arguments.output or 0, register, int(arguments.digits, 16)))
+    wanted, word = None, int(arguments.digits, 16)
+    if arguments.accept is not None and learned(part, arguments.output):
+        form = part.host.format(arguments.output)
+        wanted = None if form is None else form.microvolts(word)
+    return carried_out(arguments, register, lambda: part.host.order(arguments.output or 0, register, word), wanted)
 
 
 def prepared(part: Pmbus, output: int, register: str) -> None:
@@ -236,7 +310,7 @@ def operate(arguments: argparse.Namespace) -> int:
 
 
 def acknowledged(arguments: argparse.Namespace) -> int:
-    """A command that nothing reads back: clear, store, restore."""
+    """A command that nothing reads back: clear, store, restore. It is acknowledged where the part answers behind it, too."""
     call: Call = arguments.call
     part, output = call.part(), arguments.output
     {"clear": lambda: part.host.clear(output), "store": part.host.store, "restore": part.host.restore}[arguments.command]()
@@ -244,8 +318,10 @@ def acknowledged(arguments: argparse.Namespace) -> int:
                   "restore": RESTORES}[arguments.command]
     step = part.carried_out()
     found = answer_of(arguments, part, None, step.kind)
-    if step.kind == "done":
-        found.text = "acknowledged"
-    else:
+    if step.kind != "done":
         found.status, found.text, found.why = 1, "unknown", part.transfers.why() or "no good answer"
+        return call.say(found)
+    status, why = call.unsure_of_last(arguments.command != "clear")
+    found = answer_of(arguments, part, None, "unknown" if status else "acknowledged", status=status, why=why)
+    found.text = found.end
     return call.say(found)

@@ -127,12 +127,14 @@ def is_well(found: Commanded, register: str, microvolts: int | None) -> bool:
                               wanted is not None and found.is_value(wanted))
 
 
-def surveyed(arguments: argparse.Namespace, part: Pmbus, register: str) -> Answer:
-    """The answer to an order that is confirmed: what the output then commands is read."""
-    output = arguments.output
-    found = answer_of(arguments, part, register, "done")
+def surveyed(arguments: argparse.Namespace, part: Pmbus, register: str, is_accepted: bool = False) -> Answer:
+    """The answer to an order that is confirmed, or whose word is taken because it is near enough: what the output then commands
+    is read."""
+    output, end = arguments.output, "accepted" if is_accepted else "done"
+    found = answer_of(arguments, part, register, end)
     assert found.word is not None
-    words = f"{cell_words(arguments, part, register, found.word)} confirmed"
+    cell = cell_words(arguments, part, register, found.word)
+    words = f"{register} accepted{cell.removeprefix(register)}" if is_accepted else f"{cell} confirmed"
     arguments.call.maybe, arguments.call.settled = "", f"{words}; what the output commands wasn't read"
     if output is None:
         found.text = words
@@ -142,7 +144,7 @@ def surveyed(arguments: argparse.Namespace, part: Pmbus, register: str) -> Answe
         return found
     ordered, micro = found.word, found.microvolts
     commanded = survey(part, output)
-    found = answer_of(arguments, part, register, "done")
+    found = answer_of(arguments, part, register, end)
     found.commanded = commanded
     if found.word is not None and found.word != ordered:
         found.status, found.end = 1, "differs"
@@ -154,7 +156,7 @@ def surveyed(arguments: argparse.Namespace, part: Pmbus, register: str) -> Answe
         if not is_well(commanded, register, micro):
             found.status, found.end, found.why = 1, "cut" if commanded.is_well else "unsure", why_not(commanded)
     if found.restart_seen:
-        found.text += "; restart seen"
+        found.text += "; restart seen, or the part rounds" if is_accepted else "; restart seen"
     return found
 
 

@@ -28,7 +28,8 @@ def add(commands: Any) -> None:
 def run(arguments: argparse.Namespace) -> int:
     """What the part has, and in the last line what to give to `pmhost` for it, or why it can't be driven."""
     call: Call = arguments.call
-    bus = call.opened()
+    # Its own tries wait for a busy part. A question behind a write could change STATUS_CML, which it reads.
+    bus = call.patient(0)
     complain(f"{said(arguments)}: {MAY_NOTE}{f'; {CLEARS}' if arguments.writes else ''}")
     probe = Probe(bus, call.address or DESK_ADDRESS, call.outputs)
     found = probe.run()

@@ -20,7 +20,7 @@ def add(commands: Any) -> None:
                             ("verify", verify, "compares the part with a file of rails, and orders nothing")):
         found = commands.add_parser(name, help=help, description=help[0].upper() + help[1:] + ".")
         completed_by(found.add_argument("file", metavar="FILE", type=file_of, help="settings of a board's rails, in TOML"), FILES)
-        found.set_defaults(run=run, judge_file=judge_file, dry_run=False)
+        found.set_defaults(run=run, judge_file=judge_file, dry_run=False, is_order=name == "apply")
         if name == "apply":
             found.add_argument("--dry-run", action="store_true", help="reads, and says what would be ordered")
         bus_options(found)

@@ -1,0 +1,197 @@
+"""A bus that waits for a busy part, over a clock that nobody waits for."""
+import errno
+import re
+import time
+import unittest
+from unittest import mock
+
+from pmhost import Host, LinuxBus, PatientBus, Transfers, clock
+from pmhost.bus import patient
+
+from . import runs
+from .busy import Deaf30, Timed
+from .kernel import FakeKernel, Part
+from .odd_parts import Proved
+
+FRAME, REQUEST, STORE, RESTORE = bytes.fromhex("B0050400 21CD345A"), bytes.fromhex("B006020021"), bytes.fromhex("B01534"), bytes.fromhex("B0163D")
+CLEAR = bytes.fromhex("B0035D")
+
+
+class Scripted:
+    """A bus whose transfers do what a list says: an errno is raised, whatever else is answered. Behind its end a read gives an
+    answer and a write is acknowledged. It keeps each frame and when it came."""
+
+    def __init__(self, *ends):
+        self.ends, self.frames, self.times = list(ends), [], []
+
+    def _next(self, frame, well):
+        self.frames.append(bytes(frame))
+        self.times.append(round(1000 * (runs.CLOCK.until() - self.begun)))
+        end = self.ends.pop(0) if self.ends else well
+        if isinstance(end, int) and not isinstance(end, bool):
+            raise OSError(end, "failed")
+        return end
+
+    def write(self, frame):
+        return self._next(frame, True)
+
+    def read(self, request, count):
+        return self._next(request, b"\x80\xD3")
+
+    def over(self, *words):
+        """A patient bus over it, from now on."""
+        self.begun = runs.CLOCK.until()
+        return PatientBus(self, *words)
+
+
+ASK = bytes.fromhex("B019")
+OUTPUTS = (0, 1, 1, 0, 0, 1, 0, 1)
+WORDS = tuple(0x1200 + 0x200 * place for place in range(len(OUTPUTS)))
+JOBS = " + ".join([*(f"word {output} VOUT_COMMAND {word:04X}" for output, word in zip(OUTPUTS, WORDS)), "store", "read 0", "read 1", "known"])
+# Busy by missing acknowledgements; by ones; by ones, and what is written meanwhile is dropped.
+WAYS = ((False, False), (True, False), (True, True))
+
+
+class EightOrders(unittest.TestCase):
+    """Eight orders, a store and two checks at a part that is busy behind each write."""
+
+    def carried_out(self, milliseconds, way, patience):
+        """The status, and whether what `known` says is held."""
+        part = Timed(milliseconds, *way)
+        given = ["--patience", str(patience)] if patience is not None else []
+        status, out, _ = runs.called(["-b", "7", "-a", "58", "--outputs", "2", "--no-limit", *given, *JOBS.split()], FakeKernel(part))
+        for output, word, possible in re.findall("^([01]) VOUT_COMMAND (?:([0-9A-F]{4}) .*confirmed|possible (.*))$", out, re.M):
+            held = f"{part.converter.cells[int(output), 0x21]:04X}"
+            self.assertIn(held, possible.split() if possible else [word])
+        return status, [part.converter.cells[output, 0x21] for output in (0, 1)]
+
+    def test_they_end_well(self):
+        with mock.patch.object(patient, "PATIENCE", runs.PATIENCE), mock.patch.object(patient, "LONG_PATIENCE", runs.LONG_PATIENCE):
+            for milliseconds in (0, 1, 10, 30, 150):
+                for way in WAYS:
+                    with self.subTest(milliseconds=milliseconds, way=way):
+                        self.assertEqual(self.carried_out(milliseconds, way, None), (0, [WORDS[6], WORDS[7]]))
+
+    def test_without_patience_nothing_false_is_said(self):
+        ends = {(milliseconds, way): self.carried_out(milliseconds, way, 0)[0] for milliseconds in (0, 1, 10, 30, 150) for way in WAYS}
+        self.assertEqual({ends[milliseconds, way] for milliseconds in (30, 150) for way in WAYS}, {1})
+        self.assertLessEqual(set(ends.values()), {0, 1})
+
+
+class Patience(unittest.TestCase):
+    def test_a_write_is_followed_by_one_question(self):
+        below = Scripted()
+        self.assertIs(below.over(0, 200).write(FRAME), True)
+        self.assertEqual((below.frames, below.times), ([FRAME, ASK], [0, 0]))
+
+    def test_the_part_is_asked_each_5_ms_until_it_answers(self):
+        for ends in ((errno.ENXIO, errno.EREMOTEIO, errno.EIO, b""), (b"", b"", b"", errno.ETIMEDOUT)):
+            below = Scripted(True, *ends)
+            self.assertIs(below.over(0, 200).write(FRAME), True)
+            self.assertEqual((below.frames, below.times), ([FRAME] + [ASK] * 5, [0, 0, 5, 10, 15, 20]))
+
+    def test_the_patience_has_an_end(self):
+        for milliseconds, asked in ((0, 0), (1, 1), (5, 1), (20, 4), (200, 40)):
+            below = Scripted(True, *[errno.ENXIO] * 1000)
+            self.assertIs(below.over(0, milliseconds).write(FRAME), True)
+            with self.subTest(milliseconds=milliseconds):
+                self.assertIn(len(below.frames) - 1, (asked, asked + (asked > 1)))
+                self.assertLessEqual(below.times[-1], milliseconds)
+
+    def test_how_long_where_nothing_is_given(self):
+        self.assertEqual((runs.PATIENCE, runs.LONG_PATIENCE), (200, 1000))
+        with mock.patch.object(patient, "PATIENCE", runs.PATIENCE), mock.patch.object(patient, "LONG_PATIENCE", runs.LONG_PATIENCE):
+            bus = PatientBus(Scripted())
+            self.assertEqual([bus.patience(each) for each in (FRAME, CLEAR, STORE, RESTORE)], [200, 200, 1000, 1000])
+            bus = PatientBus(Scripted(), 0, 30)
+            self.assertEqual([bus.patience(each) for each in (FRAME, CLEAR, STORE, RESTORE)], [30] * 4)
+
+    def test_a_write_whose_address_nobody_acknowledged_is_sent_again(self):
+        below = Scripted(errno.ENXIO, errno.ENXIO, True)
+        self.assertIs(below.over(0, 200).write(FRAME), True)
+        self.assertEqual((below.frames, below.times), ([FRAME] * 3 + [ASK], [0, 5, 10, 10]))
+
+    def test_a_store_is_sent_once(self):
+        below = Scripted(errno.ENXIO)
+        with self.assertRaises(OSError):
+            below.over(0, 200).write(STORE)
+        self.assertEqual(below.frames, [STORE, ASK])
+        below = Scripted(errno.ENXIO)
+        self.assertIs(below.over(0, 200).write(RESTORE), True)
+        self.assertEqual(below.frames, [RESTORE, RESTORE, ASK])
+
+    def test_another_write_that_failed_is_not(self):
+        for number in (errno.EREMOTEIO, errno.EIO, errno.ETIMEDOUT, errno.EAGAIN, errno.ENODEV):
+            below = Scripted(number)
+            with self.subTest(number=number), self.assertRaises(OSError) as raised:
+                below.over(0, 200).write(FRAME)
+            self.assertEqual((raised.exception.errno, below.frames), (number, [FRAME, ASK]))
+        below = Scripted(False)
+        self.assertIs(below.over(0, 200).write(FRAME), False)
+        self.assertEqual(below.frames, [FRAME, ASK])
+
+    def test_a_write_that_nobody_ever_acknowledges_fails_when_the_patience_is_spent(self):
+        below = Scripted(*[errno.ENXIO] * 1000)
+        with self.assertRaises(OSError) as raised:
+            below.over(0, 50).write(FRAME)
+        self.assertEqual(raised.exception.errno, errno.ENXIO)
+        self.assertLessEqual(below.times[-1], 50)
+        below = Scripted(errno.ENXIO)
+        with self.assertRaises(OSError):
+            below.over(0, 0).write(FRAME)
+        self.assertEqual(below.frames, [FRAME])
+
+    def test_a_read_is_never_repeated(self):
+        for end in (errno.ENXIO, errno.EREMOTEIO):
+            below = Scripted(end)
+            with self.assertRaises(OSError):
+                below.over(0, 200).read(REQUEST, 4)
+            self.assertEqual(below.frames, [REQUEST])
+        below = Scripted(b"")
+        self.assertEqual((below.over(0, 200).read(REQUEST, 4), below.frames), (b"", [REQUEST]))
+
+    def test_a_wait_stands_before_each_transfer(self):
+        below = Scripted()
+        bus = below.over(7, 200)
+        bus.write(FRAME)
+        bus.read(REQUEST, 4)
+        self.assertEqual((below.frames, below.times), ([FRAME, ASK, REQUEST], [7, 14, 21]))
+
+    def test_an_interrupt_is_not_followed_by_a_question(self):
+        class Interrupted(Scripted):
+            def write(self, frame):
+                super().write(frame)
+                raise KeyboardInterrupt
+
+        below = Interrupted()
+        with self.assertRaises(KeyboardInterrupt):
+            below.over(0, 200).write(FRAME)
+        self.assertEqual(below.frames, [FRAME])
+
+    def test_over_the_bus_of_linux(self):
+        for part, went in ((Deaf30(), True), (Part(), True)):
+            with LinuxBus(7, 0x58, kernel=FakeKernel(part)) as bus:
+                over = PatientBus(bus, 0, 200)
+                self.assertIs(over.write(FRAME), went)
+                self.assertEqual(over.read(REQUEST, 4), bytes.fromhex("02CD34B9"))
+
+    def test_probe_asks_nothing_behind_its_writes(self):
+        part = Proved()
+        runs.called("-b 7 -a 58 --patience 200 probe --writes".split(), FakeKernel(part))
+        self.assertIn("B0 03 46", part.lines)
+        self.assertNotIn("B0 19 /", part.lines)
+        runs.called("-b 7 -a 58 --outputs 2 --patience 200 clear 0".split(), FakeKernel(part))
+        self.assertIn("B0 19 /", part.lines)
+
+    def test_each_store_is_sent_once(self):
+        """A store that wasn't acknowledged isn't sent in a later pass; a further job's is, with the same transfers, too."""
+        below, host, transfers = Scripted(False, False), Host(0x58), Transfers()
+        below.begun = 0
+        for sent in (1, 2):
+            host.store()
+            self.assertEqual((host.run(below, transfers).kind, len(below.frames)), ("unknown", sent))
+
+    def test_no_test_waits(self):
+        begun = time.monotonic()
+        clock.wait(5)
+        self.assertLess(time.monotonic() - begun, 4)
