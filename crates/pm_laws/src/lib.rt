@@ -7,6 +7,7 @@
 #![tactic(auto)]
 
 ghost use Rattle.pm_laws.specs.ByName.{LawsByName};
+ghost use Rattle.pm_laws.specs.Ones.{OnesAreNoAnswer};
 
 use pm_world::{
     answers_come_in_bytes, bands_are_exact, honest_orders_go_through, newest_events_are_parts,
@@ -26,3 +27,10 @@ pub fn laws_by_name()
     possible_words_are_exact();
     newest_events_are_parts();
 }
+
+/// An answer of nothing but ones, which is what comes where no part pulls the data line low, is none for a cell of an
+/// output, for VOUT_MODE or for COEFFICIENTS. For WRITE_PROTECT it is one at the address 4Ah alone, where two bytes FFh
+/// came, with the word FFh, which the cell doesn't take.
+pub fn ones_are_no_answer()
+    ensures { OnesAreNoAnswer }
+{}
