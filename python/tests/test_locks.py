@@ -116,14 +116,14 @@ class Locks(unittest.TestCase):
             opened = types.SimpleNamespace(i2c_rdwr=lambda *messages: sent.append(messages), fd=file.fileno())
             one, other, shared = Smbus2Bus(opened), Smbus2Bus(opened), Smbus2Bus(opened, share=True)
             self.assertFalse(self.taken())
-            one.write(b"\xB0\x03\x5D")
-            one.write(b"\xB0\x03\x5D")
+            one.write(b"\xB0\x03\x46")
+            one.write(b"\xB0\x03\x46")
             self.assertTrue(self.taken())
-            for transfer in (lambda: other.write(b"\xB0\x03\x5D"), lambda: other.read(b"\xB0\x19", 2)):
+            for transfer in (lambda: other.write(b"\xB0\x03\x46"), lambda: other.read(b"\xB0\x19", 2)):
                 with self.assertRaisesRegex(NoBus, "^another program drives .*-0058: fuser .* names who has the bus open$"):
                     transfer()
             self.assertEqual(len(sent), 2)
-            other.write(b"\xB2\x03\x5D")
+            other.write(b"\xB2\x03\x6C")
             shared.read(b"\xB0\x19", 2)
             self.assertEqual((len(sent), self.taken(0x59)), (4, True))
             one.close()

@@ -13,8 +13,8 @@ from .busy import Deaf30, Timed
 from .kernel import FakeKernel, Part
 from .odd_parts import Proved
 
-FRAME, REQUEST, STORE, RESTORE = bytes.fromhex("B0050400 21CD345A"), bytes.fromhex("B006020021"), bytes.fromhex("B01534"), bytes.fromhex("B0163D")
-CLEAR = bytes.fromhex("B0035D")
+FRAME, REQUEST = bytes.fromhex("B0050400 21CD345A"), bytes.fromhex("B006020021")
+CLEAR, STORE, RESTORE = bytes.fromhex("B00346"), bytes.fromhex("B01524"), bytes.fromhex("B0162D")
 
 
 class Scripted:

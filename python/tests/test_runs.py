@@ -8,6 +8,10 @@ from pmhost.bus.linux import ENDING
 
 from .runs import blocks, ran, writes
 
+# The parts of which answers aren't good ones.
+NOT_WHOLE = ("WithoutPec", "FloatingPagePlus", "busy.Ones30", "busy.Ones150", "busy.OnesAlone", "busy.Zeros0At48",
+             "busy.Zeros1At48", "busy.Zeros2At48")
+
 
 class Blocks(unittest.TestCase):
     """Each block of a file of data/ is a subtest."""
@@ -36,8 +40,7 @@ class Blocks(unittest.TestCase):
 
     def look_at(self, trace, mishaps, part):
         """Each line of the trace is a frame, or a comment; and without damage each is a good one."""
-        is_whole = not {"damaged", "empty"} & set(mishaps.split()) and part.split()[0] not in ("WithoutPec", "FloatingPagePlus", "busy.Ones30", "busy.Ones150", "busy.OnesAlone", "busy.Zeros0At48",
-                                                                                             "busy.Zeros1At48", "busy.Zeros2At48")
+        is_whole = not {"damaged", "empty"} & set(mishaps.split()) and part.split()[0] not in NOT_WHOLE
         for line in trace.splitlines():
             if line.startswith("# failed: "):
                 continue

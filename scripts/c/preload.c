@@ -28,14 +28,15 @@ int ioctl(int file, unsigned long request, ...) {
     if (!is_bus(file))
         return next(file, request, argument);
     const struct i2c_rdwr_ioctl_data *whole = argument;
-    if (request == I2C_RDWR && whole->nmsgs == 1 && whole->msgs[0].addr == 2 && whole->msgs[0].flags == I2C_M_RD && whole->msgs[0].len == 1)
+    const struct i2c_msg *first = request == I2C_RDWR ? whole->msgs : 0;
+    if (first && whole->nmsgs == 1 && first->addr == 2 && first->flags == I2C_M_RD && first->len == 1)
         return fails(ENXIO);
     return __wrap_ioctl(file, request, argument);
 }
 
 static int locks(const struct flock64 *lock) {
-    int is_right = lock->l_type == F_WRLCK && lock->l_whence == SEEK_SET && lock->l_start == 0x58 && lock->l_len == 1 && lock->l_pid == 0;
-    return is_right ? 0 : fails(EINVAL);
+    int is_place = lock->l_whence == SEEK_SET && lock->l_start == 0x58 && lock->l_len == 1;
+    return is_place && lock->l_type == F_WRLCK && lock->l_pid == 0 ? 0 : fails(EINVAL);
 }
 
 int fcntl64(int file, int request, ...) {

@@ -22,6 +22,7 @@ from .values import CODES, LINEAR11, Format
 __all__ = [
     "Band", "Bus", "CODES", "DeskBus", "Differs", "Format", "FrameRefused", "Host", "HostRefused", "Known", "LINEAR11",
     "LimitRefused", "Limits", "LinuxBus", "MemoryRefused", "NoBus", "NoTransfer", "NotDone", "NumberRefused", "Output", "Packet",
-    "Part", "PartBus", "PartRefused", "PatientBus", "PmhostError", "Pmbus", "Refused", "Sending", "SetupRefused", "Smbus2Bus", "Step",
+    "Part", "PartBus", "PartRefused", "PatientBus", "PmhostError",
+    "Pmbus", "Refused", "Sending", "SetupRefused", "Smbus2Bus", "Step",
     "Transfers", "Unknown", "__version__", "pec", "read_answer", "read_request", "read_write",
 ]

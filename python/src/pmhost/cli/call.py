@@ -201,8 +201,8 @@ class Call:
         return self._part
 
     def unanswered(self, is_long: bool = False) -> str:
-        """A check of OPERATION of output 0, again and again within the patience, which is long behind a store and a restore: nothing
-        where a good answer came, otherwise why none did. The transfers of the job before stay those of the part."""
+        """A check of OPERATION of output 0, again and again within the patience, which is long behind a store and a restore.
+        Nothing where a good answer came, otherwise why none did. The transfers of the job before stay those of the part."""
         part, deadline = self.part(), clock.until() + patience_of(self.patience, is_long) / 1000
         while True:
             transfers = Transfers()

@@ -85,7 +85,8 @@ def add(commands: Any) -> None:
     completed_by(found.add_argument("register", metavar="REG", nargs="?", type=register_of((*REGISTERS, DEVICE)),
                                     help="VOUT_COMMAND if left out"), (*REGISTERS, DEVICE))
     bus_options(found)
-    accept = {"type": accept_of, "metavar": "VOLTAGE", "help": "takes a word that the part made of the ordered one and that is this near, as 20mV"}
+    accept = {"type": accept_of, "metavar": "VOLTAGE",
+              "help": "takes a word that the part made of the ordered one and that is this near, as 20mV"}
     found = command("set", set_voltage, "orders a voltage, and says what the output then commands", judge_order)
     found.add_argument("output", **output)
     found.add_argument("microvolts", type=voltage_of, metavar="VOLTAGE", help="as 3.3V, 3300mV or 3300000uV")
@@ -213,7 +214,8 @@ def read(arguments: argparse.Namespace) -> int:
 
 
 def doubt(call: Call, part: Pmbus, register: str) -> str:
-    """Before and behind a check of WRITE_PROTECT where zeros are a good answer to it: why OPERATION gave none, nothing where it did."""
+    """Before and behind a check of WRITE_PROTECT where zeros are a good answer to it: why OPERATION gave none, and nothing where
+    it gave one."""
     return call.unanswered() if register == DEVICE and part.host.address == ZEROS_ADDRESS else ""
 
 
@@ -221,11 +223,12 @@ def not_told(arguments: argparse.Namespace, part: Pmbus, why: str) -> Answer:
     """No state of WRITE_PROTECT is given, and nothing is known any more."""
     part.restart()
     return answer_of(arguments, part, DEVICE, "unknown", status=1, text=f"{DEVICE} unknown, any word is possible",
-                     why="OPERATION of output 0 gave no good answer beside it, and zeros from a line held low would be a good answer of "
-                         f"{DEVICE} at 48: {why}")
+                     why="OPERATION of output 0 gave no good answer beside it, and zeros from a line held low would be a good "
+                         f"answer of {DEVICE} at 48: {why}")
 
 
-def is_accepted(arguments: argparse.Namespace, part: Pmbus, register: str, wanted: int | None, held: tuple[int, ...] | None, word: int | None) -> bool:
+def is_accepted(arguments: argparse.Namespace, part: Pmbus, register: str, wanted: int | None, held: tuple[int, ...] | None,
+                word: int | None) -> bool:
     """Whether the part made a word of the ordered one that is near enough: it wasn't possible before, and lies within the limits."""
     form = part.host.format(arguments.output)
     if form is None or wanted is None or word is None or held is None or word in held:
@@ -238,8 +241,8 @@ def is_accepted(arguments: argparse.Namespace, part: Pmbus, register: str, wante
 
 
 def carried_out(arguments: argparse.Namespace, register: str, begin: Callable[[], object], wanted: int | None = None) -> int:
-    """An order: what became of it, and what the output then commands. `wanted` has the microvolts of an order that may be taken by
-    its nearness: the register is read before it."""
+    """An order: what became of it, and what the output then commands. `wanted` has the microvolts of an order whose word may
+    be another one that is near: the register is read before it."""
     call: Call = arguments.call
     part, output = call.part(), arguments.output
     held = None

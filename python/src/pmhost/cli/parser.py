@@ -136,9 +136,11 @@ OPTIONS: dict[str, tuple[tuple[str, ...], dict[str, Any]]] = {
     "passes": (("--passes",), {"type": whole(1, 15, "passes"), "metavar": "N", "help": "how often a job is tried, 3 if left out"}),
     "trace": (("--trace",), {"type": file_of, "metavar": "FILE", "help": "appends what went over the wire, for pmb decode"}),
     "json": (("--json",), {"const": True, "help": "one object a command"}),
-    "settle": (("--settle",), {"type": whole(0, 10_000, "settle"), "metavar": "MS", "help": "milliseconds to wait before each transfer"}),
-    "patience": (("--patience",), {"type": whole(0, 60_000, "patience"), "metavar": "MS", "help":
-                                   "milliseconds to wait for a busy part behind each write; 200, and 1000 behind store and restore, if left out"}),
+    "settle": (("--settle",), {"type": whole(0, 10_000, "settle"), "metavar": "MS",
+                               "help": "milliseconds to wait before each transfer"}),
+    "patience": (("--patience",), {"type": whole(0, 60_000, "patience"), "metavar": "MS",
+                                   "help": "milliseconds to wait for a busy part behind each write; if left out 200, and 1000 "
+                                           "behind store and restore"}),
     "share_bus": (("--share-bus",), {"const": True, "help": "drives an address that another program drives"}),
     "force": (("--force",), {"const": True, "help": "drives a part that a driver of the kernel holds"}),
 }
