@@ -1,8 +1,8 @@
 -- The codes of a host's requests, compared.
-use Rattle.std.proofs.Common.{◌≡◌, ◌≢◌, ℕ, ◌<◌, Bool, true, false, eqb, lit<, List, [], ◌∷◌, bit_xor, refl, sym, ap, ◌∙◌}
+use Rattle.std.proofs.Common.{◌≡◌, ◌≢◌, ℕ, ◌<◌, Bool, true, false, ◌&&◌, eqb, lit<, List, [], ◌∷◌, bit_xor, refl, sym, ap, ◌∙◌}
 use Rattle.std.specs.List.{list_all, Contains}
 use Rattle.std.proofs.Math.Dec.{ltb}
-use Rattle.std.proofs.lemmas.Bool.{agree_below, agree_below_at, ltb-true, eqb-true, eq-eqb, false≢true}
+use Rattle.std.proofs.lemmas.Bool.{agree_below, agree_below_at, and_parts, ltb-true, eqb-true, eq-eqb, false≢true}
 use Rattle.std.proofs.lemmas.List.Elements.{All-contains}
 use Rattle.std.proofs.lemmas.List.Sums.{AllPass-from_list_all}
 use Rattle.std.specs.Bool.{beq}
@@ -14,7 +14,7 @@ use Rattle.pm_frame.specs.declared.message.Message.TheVariants.{PagePlusRead}
 use Rattle.pm_frame.specs.Fault.{whole_answer}
 use Rattle.pm_frame.specs.Layout.{read_address, write_address}
 use Rattle.pm_frame.specs.Pec.{doubled, residue, residues_of, pec_of}
-use Rattle.pm_host.specs.Messages.{cell_read, coefficients_read}
+use Rattle.pm_host.specs.Messages.{cell_read, coefficients_read, mode_read}
 use Rattle.pm_laws.specs.SharedCodes.{read_codes, request_code, shares}
 
 -- ---- what is added on both sides falls out
@@ -71,14 +71,16 @@ same_second : (addr second x y : ℕ) → around addr second x ≡ around addr s
 unfolding around
 same_second addr second x y h =
     cancel_right (pec_of (read_address addr ∷ [])) x y
-    (cancel_left (residues_of 2 24 8) _ _ (cancel_left (residues_of second 32 8) _ _ (cancel_left (residues_of (write_address addr) 40 8) _ _ h)))
+    (cancel_left (residues_of 2 24 8) _ _
+    (cancel_left (residues_of second 32 8) _ _ (cancel_left (residues_of (write_address addr) 40 8) _ _ h)))
 
 -- all before the read address
 before : ℕ → ℕ → ℕ
 before second middle = bit_xor (residues_of second 32 8) (bit_xor (residues_of 2 24 8) middle)
 
 around-before : (addr second middle : ℕ)
-    → around addr second middle ≡ bit_xor (residues_of (write_address addr) 40 8) (bit_xor (before second middle) (pec_of (read_address addr ∷ [])))
+    → around addr second middle
+    ≡ bit_xor (residues_of (write_address addr) 40 8) (bit_xor (before second middle) (pec_of (read_address addr ∷ [])))
 unfolding around before
 around-before addr second middle =
     ap (bit_xor (residues_of (write_address addr) 40 8))
@@ -132,6 +134,32 @@ outputs-share addr page code other another h k there then =
     (λ e. same_second addr command.page_plus_read (ends page code) (ends other another) (sym one ∙ e ∙ two))
     (λ e. one ∙ ap (around addr command.page_plus_read) e ∙ sym two)
     ∙ pair-agrees page code other another h k there then
+
+-- VOUT_MODE crosses nothing
+mode_agrees : ℕ → ℕ → ℕ → Bool
+mode_agrees page other another = beq (shares page command.vout_mode other another) (eqb page other && eqb another command.vout_mode)
+
+modes_agree : ℕ → ℕ → Bool
+modes_agree page other = list_all (mode_agrees page other) read_codes
+
+mode_page : ℕ → Bool
+mode_page page = agree_below (modes_agree page) (λ other. true) 8
+
+all_modes : agree_below mode_page (λ page. true) 8 ≡ true
+unfolding mode_page modes_agree mode_agrees
+all_modes = refl
+
+pub mode-alone : (addr page other another : ℕ) → page < 8 → other < 8 → Contains read_codes another
+    → request_code addr (mode_read page) ≡ request_code addr (PagePlusRead other another)
+    → (page ≡ other) × (another ≡ command.vout_mode)
+unfolding mode_page modes_agree mode_agrees
+mode-alone addr page other another h k there same =
+    let page_passes : mode_page page ≡ true = agree_below_at mode_page (λ page. true) 8 page all_modes h in
+    let pages_pass : modes_agree page other ≡ true = agree_below_at (modes_agree page) (λ other. true) 8 other page_passes k in
+    let one = same_from_beq _ _ (passes_at (mode_agrees page other) read_codes another pages_pass there) in
+    let shared = outputs-share addr page command.vout_mode other another h k (0, lit< tt, refl) there in
+    let parts = and_parts (eqb page other) (eqb another command.vout_mode) (sym one ∙ sym shared ∙ eq-eqb _ _ same) in
+    (eqb-true page other parts.0, eqb-true another command.vout_mode parts.1)
 
 -- the coefficients and a read of an output
 coefficients_agree : ℕ → ℕ → Bool

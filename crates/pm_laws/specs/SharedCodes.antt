@@ -11,7 +11,7 @@ use Rattle.pm_frame.specs.declared.message.Message.TheVariants.{PagePlusRead}
 use Rattle.pm_frame.specs.Fault.{whole_answer}
 use Rattle.pm_frame.specs.Layout.{read_address, sent}
 use Rattle.pm_frame.specs.Pec.{pec_of}
-use Rattle.pm_host.specs.Messages.{cell_read, coefficients_read}
+use Rattle.pm_host.specs.Messages.{cell_read, coefficients_read, mode_read}
 
 -- the PEC of a request and of the read address, with which its answer begins
 unfoldable pub request_code : ℕ → Message → ℕ
@@ -33,7 +33,8 @@ abbrev pub shares : ℕ → ℕ → ℕ → ℕ → Bool
 shares page code other another =
     page == other && code == another || (crosses page code other another || crosses other another page code)
 
--- Two reads of outputs share their code exactly where they are one request or cross, whatever the address. The read of
+-- Two reads of outputs share their code exactly where they are one request or cross, whatever the address, so that a read
+-- of VOUT_MODE shares its code with no other read of an output. The read of
 -- the coefficients, which is one request for all outputs, shares its code with no read of an output. The read of
 -- WRITE_PROTECT may share its code at some addresses; its answer has fewer bytes than the answer to any other request, so
 -- that neither passes for the other.
@@ -42,6 +43,9 @@ pub record ReadsThatShareTheirCode : Type 0 where
       Contains read_codes code → Contains read_codes another →
       (request_code addr (PagePlusRead page code) == request_code addr (PagePlusRead other another))
       ≡ shares page code other another
+  pub mode : (addr page other another : ℕ) → page < 8 → other < 8 → Contains read_codes another →
+      request_code addr (mode_read page) ≡ request_code addr (PagePlusRead other another) →
+      (page ≡ other) × (another ≡ command.vout_mode)
   pub coefficients : (addr page code : ℕ) → page < 8 → Contains read_codes code →
       request_code addr coefficients_read ≢ request_code addr (PagePlusRead page code)
   pub protect : (page code : ℕ) → Contains read_codes code →
