@@ -34,10 +34,9 @@ shares page code other another =
     page == other && code == another || (crosses page code other another || crosses other another page code)
 
 -- Two reads of outputs share their code exactly where they are one request or cross, whatever the address, so that a read
--- of VOUT_MODE shares its code with no other read of an output. The read of
--- the coefficients, which is one request for all outputs, shares its code with no read of an output. The read of
--- WRITE_PROTECT may share its code at some addresses; its answer has fewer bytes than the answer to any other request, so
--- that neither passes for the other.
+-- of VOUT_MODE shares its code with no other read of an output. The read of the coefficients, which is one request for all
+-- outputs, shares its code with no read of an output. The read of WRITE_PROTECT may share its code at some addresses; its
+-- answer has fewer bytes than the answer to any other request, so that neither passes for the other.
 pub record ReadsThatShareTheirCode : Type 0 where
   pub outputs : (addr page code other another : ℕ) → page < 8 → other < 8 →
       Contains read_codes code → Contains read_codes another →

@@ -32,8 +32,9 @@ pub fn laws_by_name()
 /// the PEC of an answer depends on the answer alone. Two reads of outputs share it exactly where they are one request, or
 /// VOUT_COMMAND of an output and VOUT_MARGIN_LOW of its neighbour (0 and 1, 2 and 3, 4 and 5, 6 and 7), or
 /// VOUT_MARGIN_HIGH of an output and VOUT_MIN of the one two further on or back (0 and 2, 1 and 3, 4 and 6, 5 and 7), so
-/// that VOUT_MODE and OPERATION share it with nothing. COEFFICIENTS shares it with no read of an output. WRITE_PROTECT may
-/// share it at some addresses, but its answer has fewer bytes than any other. It holds of any address, and of pages below 8.
+/// that VOUT_MODE and OPERATION share it with no other read of an output. COEFFICIENTS shares it with no read of an output.
+/// WRITE_PROTECT may share it at some addresses, but its answer has fewer bytes than any other. The law holds of any
+/// address, and of pages below 8.
 pub fn reads_that_share_their_code()
     ensures { ReadsThatShareTheirCode }
 {}
