@@ -1,1 +1,2 @@
 mod Ones
+mod SharedCodes

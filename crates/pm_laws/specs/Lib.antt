@@ -1,3 +1,4 @@
 -- What the crate promises.
 pub mod ByName
 pub mod Ones
+pub mod SharedCodes

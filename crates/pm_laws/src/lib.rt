@@ -8,6 +8,7 @@
 
 ghost use Rattle.pm_laws.specs.ByName.{LawsByName};
 ghost use Rattle.pm_laws.specs.Ones.{OnesAreNoAnswer};
+ghost use Rattle.pm_laws.specs.SharedCodes.{ReadsThatShareTheirCode};
 
 use pm_world::{
     answers_come_in_bytes, bands_are_exact, honest_orders_go_through, newest_events_are_parts,
@@ -33,4 +34,15 @@ pub fn laws_by_name()
 /// came, with the word FFh, which the cell doesn't take.
 pub fn ones_are_no_answer()
     ensures { OnesAreNoAnswer }
+{}
+
+/// Which of a host's requests to one converter share their packet error code (PEC) up to the read address, from which on
+/// the PEC of an answer depends on the answer alone. Two reads of outputs share it exactly where they are one request, or
+/// VOUT_COMMAND of an output and VOUT_MARGIN_LOW of its neighbour (0 and 1, 2 and 3, 4 and 5, 6 and 7), or
+/// VOUT_MARGIN_HIGH of an output and VOUT_MIN of the one two further on or back (0 and 2, 1 and 3, 4 and 6, 5 and 7), so
+/// that VOUT_MODE and OPERATION share it with no other read of an output. COEFFICIENTS shares it with no read of an output.
+/// WRITE_PROTECT may share it at some addresses, but its answer has fewer bytes than any other. The law holds of any
+/// address, and of pages below 8.
+pub fn reads_that_share_their_code()
+    ensures { ReadsThatShareTheirCode }
 {}
