@@ -1,16 +1,20 @@
 //! What the host says when a job begins and ends, and what that says of the converter.
 
-ghost use Rattle.std.specs.Prelude.{◌≡◌, ◌≢◌, ◌∷◌, ℕ, Some, true, IfOk, OnSome, OnOk, reverse};
+ghost use Rattle.std.specs.Prelude.{◌≡◌, ◌≢◌, ◌∷◌, ℕ, None, Some, true, IfOk, OnSome, OnOk, reverse};
+ghost use Rattle.pm_host.specs.Answers.{good_word};
 ghost use Rattle.pm_host.specs.Ended.{IsRead, IsUncertain, job_in};
 ghost use Rattle.pm_host.specs.Refusals.{may_come};
 ghost use Rattle.pm_host.specs.Told.{entry_told};
 ghost use Rattle.pm_host.specs.Transcript.{Order};
+ghost use Rattle.pm_laws.specs.Ones.{ones_behind};
+ghost use Rattle.pm_table.specs.declared.cell.Cell.TheVariants.{Out};
 ghost use Rattle.pm_world.specs.Ended.{DiffersNeverTook};
 
 use crate::further::run_and_step;
 use pm_device::Config;
 use pm_host::{Host, HostFault, JobEnd, Step, Told};
-use pm_table::Cell;
+use pm_laws::ones_are_no_answer;
+use pm_table::{Cell, Reg};
 use pm_world::{Event, SetupFault, World, differing_orders_never_took};
 
 /// Once an order is accepted its word is one that the cell may hold, and no word of the cell is confirmed.
@@ -61,4 +65,12 @@ pub fn an_order_that_differs_after_a_step(
     // Hands its law to the prover.
     differing_orders_never_took();
     run_and_step(c, passes, events, more)
+}
+
+/// Nothing but ones behind the first byte is no good answer for a register of an output, however many came.
+pub fn ones_for_an_output(addr: u8, opening: u8, count: u32, output: u8, register: Reg)
+    ensures { good_word addr (Out output register) (ones_behind opening count) ≡ None }
+{
+    // Hands its law to the prover.
+    ones_are_no_answer();
 }

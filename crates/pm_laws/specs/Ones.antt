@@ -1,5 +1,5 @@
 -- What nothing but ones behind the read address says to a host: this is what comes where no part pulls the data line
--- low. This project's own choice.
+-- low.
 use Rattle.std.specs.Prelude.{◌≡◌, ◌<◌, ◌&&◌, ◌==◌, if◌then◌else◌, ℕ, Bool, false, List, ◌∷◌, replicate, Some, None}
 use Rattle.pm_table.specs.declared.cell.Cell.{Cell}
 use Rattle.pm_table.specs.declared.cell.Cell.TheVariants.{Out, Protect}
