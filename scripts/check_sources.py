@@ -54,7 +54,8 @@ HELPS = ("crates/pm_tool/src/commandline/helps.rt", "crates/pm_session/src/optio
 NUMBERS = ("crates/pm_frame/src/packet_error_code.rt", "crates/pm_lines/src/hex_digit.rt", "crates/pm_c/src/numbers.rt",
            "crates/pm_c/src/names.rt", "crates/pm_c/specs/Numbers.antt")
 # Where each register stands for itself, as a field of its own.
-EACH_REGISTER = ("crates/pm_limits/src/ends.rt", "crates/pm_rail/")
+EACH_REGISTER = ("crates/pm_limits/src/ends.rt", "crates/pm_rail/", "crates/pm_world/proofs/LimitedLives.antt",
+                 "crates/pm_laws/proofs/Ones.antt", "crates/pm_callers/proofs/limits/")
 
 
 def sources(crates, folders):
