@@ -19,9 +19,12 @@ FURTHER, BEFORE = "(probe: .*\n)+pmhost -b 1 .*\n", "pmhost: probe: the part may
 ORDER = "pmhost -b 1 -a 58 --outputs 2 --limit 0:3.135V:3.465V --trace bus.trace set 0 3.3V"
 ORDERED = "set 0: VOUT_COMMAND 34CD 3.300048V confirmed; the output commands 3.300048V, within 3.135V to 3.465V\n"
 FRAMES = r"printf 'B0 19 /\nB0 06 02 00 20 /\n' | pmhost capture i2ctransfer 1"
-LEARNED = """1 58 page 0 VOUT_MODE read 14
-2 58 page 0 VOUT_COMMAND write 34CD
-3 58 page 0 VOUT_COMMAND read 34CD
+# OPERATION is read before the first order, and CAPABILITY behind each write, until the part is ready.
+LEARNED = """1 58 page 0 OPERATION read 80
+2 58 page 0 VOUT_MODE read 14
+3 58 page 0 VOUT_COMMAND write 34CD
+4 58 CAPABILITY read 80
+5 58 page 0 VOUT_COMMAND read 34CD
 """
 TRACED = "echo > /sys/kernel/tracing/trace", "echo 1 > /sys/kernel/tracing/events/i2c/enable", "cat /sys/kernel/tracing/trace"
 
@@ -66,6 +69,11 @@ def exactly(text):
     return re.escape(text)
 
 
+def without_comments(trace):
+    """The packets of a trace; that address 02 was asked is a comment."""
+    return "".join(line for line in trace.splitlines(True) if not line.startswith("#"))
+
+
 def board(page):
     """From a board to a confirmed voltage, and what went over the wire."""
     page.bench.put("modes 14 40")
@@ -74,10 +82,10 @@ def board(page):
     for words in TRACED[:2]:
         page.tell(words, "")
     page.tell(ORDER, exactly(ORDERED), more=[] if page.command(ORDERED) in page.text else ["the page has another answer"])
-    page.tell("pmb decode < bus.trace", exactly(LEARNED) + "(.*\n)*lines 8 accepted 8 faults 0 bad 0\n")
+    page.tell("pmb decode < bus.trace", exactly(LEARNED) + "(.*\n)*lines 10 accepted 10 faults 0 bad 0\n")
     page.tell("grep failed bus.trace", "", status=1)
-    kernel = page.run(f"{TRACED[2]} | pmhost capture linux --address=58 --bus={page.number}").stdout
-    sent = "".join(line for line in read("bus.trace").splitlines(True) if not line.startswith("#"))
+    kernel = without_comments(page.run(f"{TRACED[2]} | pmhost capture linux --address=58 --bus={page.number}").stdout)
+    sent = without_comments(read("bus.trace"))
     page.tally.tell(f"bus {page.number}, the kernel's tracepoints", [] if kernel == sent else [f"{kernel!r}, not {sent!r}"])
 
 
