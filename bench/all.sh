@@ -8,7 +8,7 @@
 #   bench/all.sh [--earlier PMB] [--earlier-archive FILE] [--rounds N]
 #
 # It runs the built program, or the one that the environment variable PMB names. `--earlier` is the program of an earlier
-# commit, and `--earlier-archive` its libpm_c.a. What is built on the way is proved on the way: with checks kept in out/
+# commit, and `--earlier-archive` its libpm_host_c.a. What is built on the way is proved on the way: with checks kept in out/
 # that takes some minutes. Where rt isn't there, no order is counted.
 set -eu
 case " $* " in *" --help "* | *" -h "*) sed -n '2,/^[^#]/s/^# \{0,1\}//p' "$0"; exit 0 ;; esac
@@ -20,11 +20,11 @@ trap 'rm -rf "$folder"' EXIT
 
 orders=""
 if command -v rt > /dev/null; then
-    if (cd crates/pm_c && rt lib --backend rattle > "$folder/log" 2>&1); then
-        orders="--archive crates/pm_c/out/libpm_c.a"
-        [ -z "$(command -v gcc)" ] || bench/c_order.sh --archive crates/pm_c/out/libpm_c.a > "$folder/c_order"
+    if (cd crates/pm_host_c && rt lib --backend rattle > "$folder/log" 2>&1); then
+        orders="--archive crates/pm_host_c/out/libpm_host_c.a"
+        [ -z "$(command -v gcc)" ] || bench/c_order.sh --archive crates/pm_host_c/out/libpm_host_c.a > "$folder/c_order"
     else
-        echo "lacks: an archive of crates/pm_c, which wasn't built, so an order over pm_c isn't measured" > "$folder/lacks"
+        echo "lacks: an archive of crates/pm_host_c, which wasn't built, so an order over pm_host_c isn't measured" > "$folder/lacks"
     fi
     if bench/driver/build.sh orders "$folder/driver" > "$folder/log" 2>&1; then
         orders="$orders --driver $folder/driver"
@@ -32,7 +32,7 @@ if command -v rt > /dev/null; then
         echo "lacks: a program over pm_driver, which wasn't built, so an order over it isn't measured" >> "$folder/lacks"
     fi
 else
-    echo "lacks: rt, so an order over pm_c and over pm_driver isn't measured" > "$folder/lacks"
+    echo "lacks: rt, so an order over pm_host_c and over pm_driver isn't measured" > "$folder/lacks"
 fi
 
 {

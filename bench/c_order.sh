@@ -1,5 +1,5 @@
 #!/usr/bin/env bash
-# How long an order takes over the static library of crates/pm_c beside plain code, the stack of its calls as
+# How long an order takes over the static library of crates/pm_host_c beside plain code, the stack of its calls as
 # they ran and of the deepest call as the compiler finds it, how many instructions an order takes by valgrind's callgrind,
 # how big the archive is and what it wants.
 #
@@ -11,13 +11,13 @@ folder=$(mktemp -d)
 trap 'rm -rf "$folder"' EXIT
 if [ "${1-}" = --archive ]; then
     archive=${2-}
-    [ -f "$archive" ] || { echo "c_order.sh: no archive at '$archive': give --archive FILE, a libpm_c.a" >&2; exit 2; }
+    [ -f "$archive" ] || { echo "c_order.sh: no archive at '$archive': give --archive FILE, a libpm_host_c.a" >&2; exit 2; }
 else
-    (cd crates/pm_c && rt lib --backend rattle > "$folder/log" 2>&1) || { tail -20 "$folder/log"; exit 1; }
+    (cd crates/pm_host_c && rt lib --backend rattle > "$folder/log" 2>&1) || { tail -20 "$folder/log"; exit 1; }
     grep -o 'frame-bytes=[0-9]* stack-bytes=[0-9]*' "$folder/log"
-    archive=crates/pm_c/out/libpm_c.a
+    archive=crates/pm_host_c/out/libpm_host_c.a
 fi
-gcc -O2 -Wno-unused-result -Icrates/pm_c/include bench/c_order.c "$archive" -o "$folder/bench"
+gcc -O2 -Wno-unused-result -Icrates/pm_host_c/include bench/c_order.c "$archive" -o "$folder/bench"
 "$folder/bench"
 # counted ORDERS: the instructions of a program that gives so many
 counted() { valgrind --tool=callgrind --callgrind-out-file=/dev/null "$folder/bench" loop linear "$1" 2>&1 | sed -n 's/.*Collected : //p'; }
@@ -28,5 +28,5 @@ else
 fi
 size "$archive" | awk 'NR == 2 {print "archive: " $1 " bytes of text, " $2 + $3 " of data"}'
 echo "symbols that it wants: $(nm -u "$archive" | grep -c ' U ' || true)"
-gcc -O2 -Wno-unused-result -Icrates/pm_c/include -Wl,--gc-sections examples/c/order.c "$archive" -o "$folder/order"
+gcc -O2 -Wno-unused-result -Icrates/pm_host_c/include -Wl,--gc-sections examples/c/order.c "$archive" -o "$folder/order"
 size "$folder/order" | awk 'NR == 2 {print "a linked order: " $1 " bytes of text"}'

@@ -7,7 +7,7 @@ and a band for each word that the output's registers list. Limits and bands are 
     bench/costs.py [--driver FILE] [--bands FILE] [--archive FILE]
 
 `--driver` and `--bands` are the programs orders and bands that bench/driver/build.sh makes, and `--archive` is the static
-library of crates/pm_c. What isn't given is proved and built first, which takes many minutes from nothing. A bus for
+library of crates/pm_host_c. What isn't given is proved and built first, which takes many minutes from nothing. A bus for
 pm_driver has a converter at its other end: what that takes of an order is counted alone and taken off, which leaves orders
 over a bus of no cost. It needs valgrind and gcc.
 """
@@ -52,8 +52,8 @@ def over_pm_c(archive, folder):
     made = measured.over_archive(archive, os.path.join(folder, "c_order"))
     for kind in FORMATS:
         loop, guard = (measured.for_one([made, way, kind], folder) for way in ("loop", "guard"))
-        yield beside(f"pm_c: an order within limits beside one without, {kind}", guard, loop, WITHIN_LIMITS)
-        yield a_word(f"pm_c: a band, a word, {kind}", measured.for_one([made, "bands", kind], folder))
+        yield beside(f"pm_host_c: an order within limits beside one without, {kind}", guard, loop, WITHIN_LIMITS)
+        yield a_word(f"pm_host_c: a band, a word, {kind}", measured.for_one([made, "bands", kind], folder))
 
 
 def built(command, crate, path):
@@ -78,8 +78,8 @@ def main():
             return
     with tempfile.TemporaryDirectory() as folder:
         driver, bands = (measured.value_behind(word) or program_of(name, folder) for word, name in (("--driver", "orders"), ("--bands", "bands")))
-        library = os.path.join(program.ROOT, "crates/pm_c/out/libpm_c.a")
-        archive = measured.value_behind("--archive") or built(["rt", "lib", "--backend", "rattle"], "crates/pm_c", library)
+        library = os.path.join(program.ROOT, "crates/pm_host_c/out/libpm_host_c.a")
+        archive = measured.value_behind("--archive") or built(["rt", "lib", "--backend", "rattle"], "crates/pm_host_c", library)
         print("| what | instructions | beside | ratio | at most |\n|---|---|---|---|---|")
         checks = [*over_driver(driver, bands, folder), *over_pm_c(archive, folder)]
     print(f"{sum(checks)} passed, {len(checks) - sum(checks)} failed")

@@ -6,7 +6,7 @@ order over the C library and over pm_driver. A count is the same from run to run
     bench/instructions.py [--earlier PMB] [--archive FILE] [--earlier-archive FILE] [--driver FILE] [--by COMMAND]
 
 It runs the built program, or the one that the environment variable PMB names, and beside it the one that `--earlier`
-names. `--archive` is the static library of crates/pm_c, `--driver` the program orders that bench/driver/build.sh makes; without
+names. `--archive` is the static library of crates/pm_host_c, `--driver` the program orders that bench/driver/build.sh makes; without
 them no order is counted. `--by` lists a command's most expensive functions. It needs valgrind, and gcc for the C library.
 """
 import os
@@ -55,9 +55,9 @@ def main():
         texts(folder, measured.value_behind("--by"))
         if measured.value_behind("--archive"):
             if shutil.which("gcc"):
-                an_order("an order over pm_c", c_orders(folder), folder)
+                an_order("an order over pm_host_c", c_orders(folder), folder)
             else:
-                measured.lacks("gcc", "an order over pm_c")
+                measured.lacks("gcc", "an order over pm_host_c")
         driver = measured.value_behind("--driver")
         if driver:
             an_order("an order over pm_driver and the model converter", {"this": [driver, "driver", "linear"]}, folder)

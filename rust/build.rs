@@ -1,6 +1,6 @@
-//! Finds the archives libpm_c.a and libpm_part.a for the target that is built for: in the folder that
+//! Finds the archives libpm_host_c.a and libpm_device_c.a for the target that is built for: in the folder that
 //! PM_ARCHIVES_<target> names, with `_` for `-`; for x86-64 Linux else in that of PM_ARCHIVES, or those that `rt lib`
-//! left in crates/pm_c/out and crates/pm_part/out.
+//! left in crates/pm_host_c/out and crates/pm_device_c/out.
 
 use std::path::{Path, PathBuf};
 use std::{env, fs, process};
@@ -39,12 +39,12 @@ fn main() {
             "cargo:rustc-link-arg-tests=-Wl,--wrap=pm_version,--wrap=pm_host_version,--wrap=pm_host_size,--wrap=pm_part_size"
         );
     }
-    for library in ["pm_c", "pm_part"] {
+    for library in ["pm_host_c", "pm_device_c"] {
         let from = archive(&target, library);
         if !from.is_file() {
             refuse(format!(
                 "no archive at {}: build it by (cd crates/{library} && rt lib), or give PM_ARCHIVES, a folder with \
-                 libpm_c.a and libpm_part.a",
+                 libpm_host_c.a and libpm_device_c.a",
                 from.display()
             ));
         }

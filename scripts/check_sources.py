@@ -49,10 +49,10 @@ HIDES_ONE = re.compile(
 # The one place where each crate makes X6 of a refused allocation.
 FROM = re.compile(r"^impl(?:<T: Drop>)? From<(AllocError|AllocFailed<T>)> for (\w+) \{$")
 # The files of the programs' helps, which tell refusals by their letters and names.
-HELPS = ("crates/pm_tool/src/commandline/helps.rt", "crates/pm_session/src/options.rt", "crates/pm_part_lines/src/options.rt")
+HELPS = ("crates/pm_tool/src/commandline/helps.rt", "crates/pmbhost_lines/src/options.rt", "crates/pmbpart_lines/src/options.rt")
 # A file of numbers that are no codes.
-NUMBERS = ("crates/pm_frame/src/packet_error_code.rt", "crates/pm_lines/src/hex_digit.rt", "crates/pm_c/src/numbers.rt",
-           "crates/pm_c/src/names.rt", "crates/pm_c/specs/Numbers.antt")
+NUMBERS = ("crates/pm_frame/src/packet_error_code.rt", "crates/pm_lines/src/hex_digit.rt", "crates/pm_host_c/src/numbers.rt",
+           "crates/pm_host_c/src/names.rt", "crates/pm_host_c/specs/Numbers.antt")
 # Where each register stands for itself, as a field of its own.
 EACH_REGISTER = ("crates/pm_limits/src/ends.rt", "crates/pm_rail/", "crates/pm_world/proofs/LimitedLives.antt",
                  "crates/pm_laws/proofs/Ones.antt", "crates/pm_callers/proofs/limits/")

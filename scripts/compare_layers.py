@@ -19,14 +19,14 @@ WIDTHS = {"uint8_t": "u8", "int8_t": "i8", "uint16_t": "u16", "int16_t": "i16", 
           "c_uint8": "u8", "c_int8": "i8", "c_uint16": "u16", "c_int16": "i16", "c_int64": "i64", "c_uint64": "u64", "c_char": "u8"}
 # The structs, by their names in C; with Rattle's, and the file. Python's and Rust's are called as Rattle's images are.
 STRUCTS = {
-    "sending": ("SendingImage", "pm_c/src/sending_image.rt"), "step": ("HostStep", "pm_c/src/host_step.rt"),
+    "sending": ("SendingImage", "pm_host_c/src/sending_image.rt"), "step": ("HostStep", "pm_host_c/src/host_step.rt"),
     "words": ("WordsImage", "pm_host/src/words_image.rt"), "standing": ("StandingImage", "pm_host/src/standing_image.rt"),
-    "cell": ("KnownCell", "pm_c/src/known_cells.rt"), "known": ("KnownCells", "pm_c/src/known_cells.rt"),
-    "limits": ("LimitsImage", "pm_c/src/guard_image.rt"), "band": ("BandImage", "pm_c/src/limits.rt"),
-    "format": ("FormatImage", "pm_host/src/format_image.rt"), "name": ("NameImage", "pm_c/src/name_image.rt"),
-    "packet": ("Packet", "pm_c/src/packet.rt"), "payload": ("PayloadImage", "pm_c/src/answer.rt"),
+    "cell": ("KnownCell", "pm_host_c/src/known_cells.rt"), "known": ("KnownCells", "pm_host_c/src/known_cells.rt"),
+    "limits": ("LimitsImage", "pm_host_c/src/guard_image.rt"), "band": ("BandImage", "pm_host_c/src/limits.rt"),
+    "format": ("FormatImage", "pm_host/src/format_image.rt"), "name": ("NameImage", "pm_host_c/src/name_image.rt"),
+    "packet": ("Packet", "pm_host_c/src/packet.rt"), "payload": ("PayloadImage", "pm_host_c/src/answer.rt"),
     "part_output": ("OutputImage", "pm_device/src/image.rt"), "part_config": ("ConfigImage", "pm_device/src/image.rt"),
-    "part_reply": ("ReplyImage", "pm_part/src/reply_image.rt"),
+    "part_reply": ("ReplyImage", "pm_device_c/src/reply_image.rt"),
 }
 COUNTS = {"PM_CELLS": "49", "CELLS": "49", "Cell::PLACES": "49", "ROOM": "32", "Reg::COUNT": "6"}
 FAULTS = {"HostFault": "pm_host/src/fault.rt", "NumFault": "pm_num/src/fault.rt", "LimitFault": "pm_limits/src/fault.rt",
@@ -53,8 +53,8 @@ def header(*path):
     return re.sub(r"/\*.*?\*/", "", read(*path), flags=re.DOTALL)
 
 
-CRATES = {"pm_c": sources("pm_c"), "pm_part": sources("pm_part")}
-HEADERS = {"pm_c": header("crates/pm_c/include/pm.h"), "pm_part": header("crates/pm_part/include/pm_part.h")}
+CRATES = {"pm_host_c": sources("pm_host_c"), "pm_device_c": sources("pm_device_c")}
+HEADERS = {"pm_host_c": header("crates/pm_host_c/include/pm.h"), "pm_device_c": header("crates/pm_device_c/include/pm_part.h")}
 PYTHON = read("python/src/pmhost/_library.py")
 RUST = without_comments(read("rust/src/ffi.rs"))
 
@@ -93,7 +93,7 @@ def constants(crate):
 
 def named():
     """The words of each number, as pm_refusal_name has them."""
-    words, text = words_of_types(), CRATES["pm_c"]["names.rt"]
+    words, text = words_of_types(), CRATES["pm_host_c"]["names.rt"]
     found = {int(number, 0): words[name, variant] for number, name, variant in re.findall(
         r"(0x\w+) => (?:LimitFault::Host\()?(?:HostFault::Num\()?(\w+Fault)::(\w+)", text) if (name, variant) in words}
     return found | {int(number, 0): name for number, name in re.findall(r'(0xE\w) => Some\("(\w+)"\)', text)}
@@ -101,22 +101,22 @@ def named():
 
 def refusals():
     """Each number and its words, by the types, by what C is told, and by each layer."""
-    types, own, part, names = numbers_of_types(), constants("pm_c"), constants("pm_part"), named()
+    types, own, part, names = numbers_of_types(), constants("pm_host_c"), constants("pm_device_c"), named()
     alone = {number: camel(name) for name, number in own.items() if number >= 0xE0}
     of_part = {part[name]: camel(name) for name in ("NO_PART", "NO_READING")}
     yield "names", types | alone | of_part, {"pm_refusal_name": names}
     yield "refusals", names, {"rust": {int(number, 0): re.sub(r"^([A-Z]\d)", r"\1 ", name) for name, number in re.findall(
         r"^    (\w+) = (0x\w\w),", read("rust/src/refusal.rs"), re.MULTILINE)}}
-    text = HEADERS["pm_c"]
+    text = HEADERS["pm_host_c"]
     found = {int(number, 0): spaced(name) for name, number in re.findall(r"\bPM_([A-Z]\d_\w+) = (\w+)", text)}
     found |= {int(number, 0): camel(name) for name, number in re.findall(r"\bPM_(NO_\w+|OTHER_FRAME) = (0xE\w)", text)}
-    yield "refusals of pm_c", {number: it for number, it in types.items() if it[0] in "HNLF"} | alone, {"its header": found}
-    found = {re.sub("^(PART|HEARD)_", "", name): int(number, 0) for name, number in re.findall(r"\bPM_(\w+) = (\w+)", HEADERS["pm_part"])}
+    yield "refusals of pm_host_c", {number: it for number, it in types.items() if it[0] in "HNLF"} | alone, {"its header": found}
+    found = {re.sub("^(PART|HEARD)_", "", name): int(number, 0) for name, number in re.findall(r"\bPM_(\w+) = (\w+)", HEADERS["pm_device_c"])}
     faults = {number: spaced(name) for name, number in found.items() if re.match(r"[A-Z]\d_", name)}
-    yield "refusals of pm_part", {number: it for number, it in types.items() if it[0] in "VK"}, {"its header": faults}
+    yield "refusals of pm_device_c", {number: it for number, it in types.items() if it[0] in "VK"}, {"its header": faults}
     wanted = part | {"OK": part["ACCEPTED"], "TOO_LARGE": next(number for number, it in types.items() if it == "N5 TooLarge")}
     del wanted["ACCEPTED"]
-    yield "numbers of pm_part", wanted, {"its header": {name: number for name, number in found.items() if number not in faults}}
+    yield "numbers of pm_device_c", wanted, {"its header": {name: number for name, number in found.items() if number not in faults}}
 
 
 def camel(name):
@@ -139,12 +139,12 @@ def letters():
 def sizes():
     """Versions, layouts, and the bytes of a host and of a part: the types' by their tests, which are proved."""
     size = {name: int(re.search(rf"{name}\(\), &(\d+)", CRATES[crate]["tests.rt"])[1])
-            for crate, name in (("pm_c", "pm_host_size"), ("pm_part", "pm_part_size"))}
+            for crate, name in (("pm_host_c", "pm_host_size"), ("pm_device_c", "pm_part_size"))}
     layout = {crate: int(re.search(r"VERSION: u16 = (\d+);", read("crates", crate, "src/image.rt"))[1]) for crate in ("pm_host", "pm_device")}
-    host = {"VERSION": int(re.search(r"const VERSION: u16 = (\w+);", CRATES["pm_c"]["host.rt"])[1], 0), "HOST_VERSION": layout["pm_host"],
+    host = {"VERSION": int(re.search(r"const VERSION: u16 = (\w+);", CRATES["pm_host_c"]["host.rt"])[1], 0), "HOST_VERSION": layout["pm_host"],
             "HOST_SIZE": size["pm_host_size"], "CELLS": int(COUNTS["PM_CELLS"])}
     part = {"PART_VERSION": layout["pm_device"], "PART_SIZE": size["pm_part_size"]}
-    for crate, types in ("pm_c", host), ("pm_part", part):
+    for crate, types in ("pm_host_c", host), ("pm_device_c", part):
         yield f"sizes of {crate}", types, {"its header": {it: int(re.search(rf"#define PM_{it} (\w+)", HEADERS[crate])[1], 0) for it in types}}
     yield "sizes for Python", host, {"python": {it: int(re.search(rf"^{it} = (\w+)", PYTHON, re.MULTILINE)[1], 0) for it in host}}
     both = host | {"PART_SIZE": part["PART_SIZE"]}
@@ -167,7 +167,7 @@ def counted(fields):
 
 
 def fields_of_c(name):
-    body = re.search(rf"typedef struct \{{([^}}]*)\}} pm_{name};", HEADERS["pm_part" if name.startswith("part_") else "pm_c"])[1]
+    body = re.search(rf"typedef struct \{{([^}}]*)\}} pm_{name};", HEADERS["pm_device_c" if name.startswith("part_") else "pm_host_c"])[1]
     found = []
     for declared in filter(None, (it.strip() for it in body.split(";"))):
         kind, _, names = declared.partition(" ")

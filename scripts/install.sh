@@ -1,12 +1,12 @@
 #!/usr/bin/env bash
 # Installs what a built tree has below a folder: the programs pmb, pmbhost and pmbpart with their manual pages and
-# completions for bash; for C the host and the model part, libpm_c and libpm_part, each as an archive and as a shared object
+# completions for bash; for C the host and the model part, libpm_host_c and libpm_device_c, each as an archive and as a shared object
 # with its header, and pm_host.pc and pm_part.pc for pkg-config.
 #
 #   scripts/install.sh PREFIX [--library] [--archives FOLDER]
 #
 # With --library the libraries alone. Programs are those in crates/*/out, or those that PMB, PMBHOST and PMBPART name; one
-# that is named '' is left out. The archives are libpm_c.a and libpm_part.a of FOLDER, or those in crates/*/out. CC is the
+# that is named '' is left out. The archives are libpm_host_c.a and libpm_device_c.a of FOLDER, or those in crates/*/out. CC is the
 # compiler that makes the shared objects, cc if it isn't set; DESTDIR stands before PREFIX where files are put, and in no
 # file. Nothing is built but the shared objects, and nothing is removed.
 set -eu
@@ -33,7 +33,7 @@ archive() { echo "${archives:-$root/crates/$1/out}/lib$1.a"; }
 # program PATH HOW: it is there, or left out
 program() { [ -z "$1" ] || [ -x "$1" ] || die "no program at $1: build it $2, or give --library"; }
 
-for each in pm_c pm_part; do
+for each in pm_host_c pm_device_c; do
     [ -f "$(archive $each)" ] || die "no archive at $(archive $each): build it by (cd crates/$each && rt lib --backend rattle), or give --archives FOLDER"
 done
 if [ -z "$library" ]; then
@@ -41,7 +41,7 @@ if [ -z "$library" ]; then
     program "$pmbhost" "as docs/bus.md says, set PMBHOST"
     program "$pmbpart" "as docs/desk.md says, set PMBPART"
 fi
-version=$(sed -n 's/^#define PM_VERSION 0x\(..\)\(..\)$/\1 \2/p' "$root/crates/pm_c/include/pm.h")
+version=$(sed -n 's/^#define PM_VERSION 0x\(..\)\(..\)$/\1 \2/p' "$root/crates/pm_host_c/include/pm.h")
 major=$((16#${version% *})) minor=$((16#${version#* }))
 to=${DESTDIR-}$prefix
 
@@ -73,8 +73,8 @@ Cflags: -I\${includedir}
 END
 }
 
-library pm_c pm.h pm_host "A PMBus host core that sets supply voltages, proved"
-library pm_part pm_part.h pm_part "A model of a PMBus power converter to try firmware against, proved"
+library pm_host_c pm.h pm_host "A PMBus host core that sets supply voltages, proved"
+library pm_device_c pm_part.h pm_part "A model of a PMBus power converter to try firmware against, proved"
 if [ -z "$library" ]; then
     for each in pmb pmbhost pmbpart; do
         [ -n "${!each}" ] || continue

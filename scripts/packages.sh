@@ -4,10 +4,10 @@
 #
 #   scripts/packages.sh [--after-ci | --built FOLDER]
 #
-# `rt ci` proves crates/pm_c and crates/pm_part, and leaves no archive of them; it leaves the libraries that they stand on.
+# `rt ci` proves crates/pm_host_c and crates/pm_device_c, and leaves no archive of them; it leaves the libraries that they stand on.
 # With --after-ci these are taken as they are, so that the two crates alone are proved once more as they are built: give it
 # where `rt ci` has just passed, and nothing was edited since. With --built the archives of that folder are taken:
-# libpm_c.a and libpm_part.a. With neither, `rt lib` makes them over what it kept.
+# libpm_host_c.a and libpm_device_c.a. With neither, `rt lib` makes them over what it kept.
 #
 # A tool that isn't on this machine is named in a line; it is a failure where PACKAGES_REQUIRED=1 is set. The last line says
 # how many tests passed and failed.
@@ -66,7 +66,7 @@ left_by_ci() {
 if [ -z "$built" ]; then
     built=$folder/built
     mkdir "$built"
-    for each in pm_c pm_part; do
+    for each in pm_host_c pm_device_c; do
         if [ -n "$after_ci" ] && left_by_ci "$each" > "$folder/log" 2>&1; then
             echo "lib$each.a: proved and built over the libraries that rt ci left"
         elif (cd "crates/$each" && rt lib --backend rattle > "$folder/log" 2>&1); then
@@ -101,7 +101,7 @@ if ! command -v python3 > /dev/null || ! python3 -c 'import sys; sys.exit(sys.ve
     lacks "Python" "python3 (3.11)"
 elif ! command -v gcc > /dev/null; then
     lacks "Python" gcc
-elif ! gcc -shared -Wl,--whole-archive "$built/libpm_c.a" "$built/libpm_part.a" -Wl,--no-whole-archive -Wl,-z,noexecstack \
+elif ! gcc -shared -Wl,--whole-archive "$built/libpm_host_c.a" "$built/libpm_device_c.a" -Wl,--no-whole-archive -Wl,-z,noexecstack \
     -o "$folder/libpmhost.so" > "$folder/log" 2>&1; then
     counted "Python" 0 0 1
 else

@@ -1,5 +1,5 @@
 #!/usr/bin/env python3
-"""Makes each allocation of each test of `pm_engine_tests` fail in turn.
+"""Makes each allocation of each test of `pm_text_engine_tests` fail in turn.
 
     scripts/refuse_test_allocations.py
 
@@ -11,7 +11,7 @@ each test counts.
 Of a test outside memory.rt with more than 2,000 allocations the first 500 are refused, and then every so many-th, about
 1,500 of them; its line says which.
 
-It has the tests proved and built first, by `rt test` in crates/pm_engine_tests, or runs those that the environment
+It has the tests proved and built first, by `rt test` in crates/pm_text_engine_tests, or runs those that the environment
 variable ENGINE_TESTS names, and needs a C compiler and glibc. It takes some minutes.
 """
 import os
@@ -25,7 +25,7 @@ sys.dont_write_bytecode = True
 import refuser  # noqa: E402
 from program import ROOT, answer_help  # noqa: E402
 
-CRATE = os.path.join(ROOT, "crates/pm_engine_tests")
+CRATE = os.path.join(ROOT, "crates/pm_text_engine_tests")
 MOST, FIRST = 2000, 500
 SECONDS = 60
 # How a test ends that gives a refusal back, and one that stops at an assertion.

@@ -6,7 +6,7 @@
 #
 #   scripts/release.sh OUT [--library] [--archives FOLDER] [--aarch64 FOLDER]
 #
-# The archives libpm_c.a and libpm_part.a are those of the first FOLDER, or those in crates/*/out. The second is that of
+# The archives libpm_host_c.a and libpm_device_c.a are those of the first FOLDER, or those in crates/*/out. The second is that of
 # aarch64 Linux which scripts/c/targets.sh --out leaves; pmb and pmbhost in it, as scripts/aarch64/build.sh makes them, go
 # with it, and pmbpart where it is there. No licence is invented: the .deb has no copyright file, which lintian says.
 set -eu
@@ -36,7 +36,7 @@ SOURCE_DATE_EPOCH=$(git -C "$root" log -1 --format=%ct)
 if [ -z "$archives" ]; then
     archives=$folder/archives
     mkdir "$archives"
-    for each in pm_c pm_part; do
+    for each in pm_host_c pm_device_c; do
         [ -f "$root/crates/$each/out/lib$each.a" ] || die "no lib$each.a in crates/$each/out: build it by (cd crates/$each && rt lib --backend rattle), or give --archives FOLDER"
         cp "$root/crates/$each/out/lib$each.a" "$archives/"
     done
@@ -58,8 +58,8 @@ packed() {
     debian "$tree" "$deb"
     dpkg-deb --root-owner-group --build "$tree" "$out/${name}_${version}_$deb.deb" > /dev/null
     echo "$arch commit=$commit date=$date programs=$([ -z "$mode" ] && echo yes || echo no)" \
-        "libpm_c.a sha256=$(sha256sum < "$from/libpm_c.a" | cut -c1-64) $(says "$from/libpm_c.a")" \
-        "libpm_part.a sha256=$(sha256sum < "$from/libpm_part.a" | cut -c1-64) $(says "$from/libpm_part.a")" >> "$out/FACTS"
+        "libpm_host_c.a sha256=$(sha256sum < "$from/libpm_host_c.a" | cut -c1-64) $(says "$from/libpm_host_c.a")" \
+        "libpm_device_c.a sha256=$(sha256sum < "$from/libpm_device_c.a" | cut -c1-64) $(says "$from/libpm_device_c.a")" >> "$out/FACTS"
 }
 
 # debian TREE ARCH: what a .deb has beside
@@ -87,7 +87,7 @@ Description: PMBus host core that sets supply voltages, proved
  model part is there to try firmware and scripts against.
 END
     printf 'activate-noawait ldconfig\n' > "$tree/DEBIAN/triggers"
-    printf '%s 1 %s (>= %s)\n' libpm_c "$name" "$version" libpm_part "$name" "$version" > "$tree/DEBIAN/shlibs"
+    printf '%s 1 %s (>= %s)\n' libpm_host_c "$name" "$version" libpm_device_c "$name" "$version" > "$tree/DEBIAN/shlibs"
     (cd "$tree" && find usr -type f -exec md5sum {} + > DEBIAN/md5sums)
     find "$tree" -type d -exec chmod 755 {} +
     find "$tree" -exec touch -h -d "@$SOURCE_DATE_EPOCH" {} +
@@ -96,7 +96,7 @@ END
 : > "$out/FACTS"
 packed x86_64 amd64 "$archives" "$library"
 if [ -n "$aarch64" ]; then
-    for each in pm_c pm_part; do
+    for each in pm_host_c pm_device_c; do
         [ -f "$aarch64/lib$each.a" ] || die "no lib$each.a in $aarch64: scripts/c/targets.sh --out leaves one"
     done
     export CC=aarch64-linux-gnu-gcc STRIP=aarch64-linux-gnu-strip

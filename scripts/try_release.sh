@@ -35,13 +35,13 @@ step ".deb" 'dpkg -i *.deb'
 step "C over the shared object" 'gcc -Wall -Werror examples/c/order.c $(pkg-config --cflags --libs pm_host) -o order && ./order | cmp - examples/c/order.expected'
 step "C over the part's shared object" 'gcc -Wall -Werror examples/c/part.c $(pkg-config --cflags --libs pm_part) -o part && ./part | cmp - examples/c/part.expected'
 step "C over both shared objects" 'gcc -Wall -Werror examples/c/faults.c $(pkg-config --cflags --libs pm_host pm_part) -o faults && ./faults 5000'
-step "C over the archive" 'gcc examples/c/order.c -l:libpm_c.a -o order && ./order | cmp - examples/c/order.expected'
-step "both ends under faults" 'gcc examples/c/faults.c -l:libpm_c.a -l:libpm_part.a -o faults && ./faults 5000'
+step "C over the archive" 'gcc examples/c/order.c -l:libpm_host_c.a -o order && ./order | cmp - examples/c/order.expected'
+step "both ends under faults" 'gcc examples/c/faults.c -l:libpm_host_c.a -l:libpm_device_c.a -o faults && ./faults 5000'
 step "Python package" 'python3 -m venv v && PMHOST_ARCHIVES=/usr/lib v/bin/pip install --no-index ./python'
 step "its tests" 'v/bin/python -B -m unittest discover -s python/tests -t python'
 step "its command" 'v/bin/pmhost -b desk --outputs 2 --limit 0:3.135V:3.465V set 0 3.3V | grep "the output commands 3.300048V, within"'
 step "a file of rails" 'printf "[rails.core]\noutput = 0\nvolts = \"0.9V\"\nlimits = [\"0.85V\", \"0.95V\"]\n" > rails.toml && v/bin/pmhost -b desk apply rails.toml'
-step "tarball" 'mkdir t && tar -C t --strip-components=1 -xf *.tar.gz && gcc examples/c/order.c -It/include t/lib/libpm_c.a -o order && ./order | cmp - examples/c/order.expected && gcc examples/c/faults.c -It/include t/lib/libpm_c.a t/lib/libpm_part.a -o faults && ./faults 5000'
+step "tarball" 'mkdir t && tar -C t --strip-components=1 -xf *.tar.gz && gcc examples/c/order.c -It/include t/lib/libpm_host_c.a -o order && ./order | cmp - examples/c/order.expected && gcc examples/c/faults.c -It/include t/lib/libpm_host_c.a t/lib/libpm_device_c.a -o faults && ./faults 5000'
 if [ -x "$root/usr/bin/pmb" ]; then
     step "README's example" 'pmb replay < examples/answer-lost.scenario | cmp - examples/answer-lost.report'
     step "manual pages and completions" 'for each in pmb pmbhost pmbpart; do test -x /usr/bin/$each && test -f /usr/share/man/man1/$each.1.gz && bash -c ". /usr/share/bash-completion/completions/$each"; done'
@@ -50,7 +50,7 @@ if [ -x "$root/usr/bin/pmb" ]; then
 else
     echo "the release has no programs: README's examples aren't tried"
 fi
-step "removed" 'dpkg -r pm-host && for each in lib/libpm_c.a lib/libpm_part.a include/pm.h include/pm_part.h bin/pmbpart; do ! test -e /usr/$each || exit 1; done'
+step "removed" 'dpkg -r pm-host && for each in lib/libpm_host_c.a lib/libpm_device_c.a include/pm.h include/pm_part.h bin/pmbpart; do ! test -e /usr/$each || exit 1; done'
 rm -rf "${root:?}$work"
 echo "$passed passed, $failed failed"
 [ "$failed" = 0 ]

@@ -16,11 +16,11 @@ folder=$(mktemp -d)
 trap 'rm -rf "$folder"' EXIT
 
 mkdir -p "$folder/crates/decode_bench/src"
-for crate in pm_num pm_table pm_frame pm_model pm_device pm_host pm_setup pm_lines pm_trace pm_meaning pm_capture; do
+for crate in pm_num pm_table pm_frame pm_model pm_device pm_host pm_setup pm_lines pm_trace pm_values pm_decode; do
     cp -a "crates/$crate" "$folder/crates/"
     grep "^$crate:" crates.txt >> "$folder/crates.txt"
 done
-echo "decode_bench: pm_capture pm_trace pm_lines" >> "$folder/crates.txt"
+echo "decode_bench: pm_decode pm_trace pm_lines" >> "$folder/crates.txt"
 cp bench/decode/decode.rattle "$folder/crates/decode_bench/src/main.rt"
 (cd "$folder/crates/decode_bench" && rt run -- short 0 < /dev/null > "$folder/log" 2>&1) || { cat "$folder/log"; exit 1; }
 if command -v rustc > /dev/null; then

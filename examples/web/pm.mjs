@@ -1,4 +1,4 @@
-// The proved host and the proved part as a module of JavaScript, over the libraries pm_c and pm_part as WebAssembly
+// The proved host and the proved part as a module of JavaScript, over the libraries pm_host_c and pm_device_c as WebAssembly
 // (wasm64). The calls are those of pm.h and pm_part.h; what they answer is proved of the libraries, and this layer is not.
 
 export const CODE = {OPERATION: 0x01, WRITE_PROTECT: 0x10, VOUT_COMMAND: 0x21, VOUT_MAX: 0x24, VOUT_MARGIN_HIGH: 0x25,

@@ -1,7 +1,7 @@
 """Builds the package: the files of pmhost, and the shared object that the C compiler makes of the two archives.
 
-The archives libpm_c.a and libpm_part.a are those in the folder that the variable PMHOST_ARCHIVES names, or else those that
-`rt lib` left in crates/pm_c/out and crates/pm_part/out. The compiler is `cc`, or what CC names. It has the calls of PEP 517
+The archives libpm_host_c.a and libpm_device_c.a are those in the folder that the variable PMHOST_ARCHIVES names, or else those that
+`rt lib` left in crates/pm_host_c/out and crates/pm_device_c/out. The compiler is `cc`, or what CC names. It has the calls of PEP 517
 and no dependency.
 """
 import base64
@@ -16,7 +16,7 @@ import tomllib
 import zipfile
 
 HOME = os.path.dirname(os.path.dirname(os.path.abspath(__file__)))
-CRATES = ("pm_c", "pm_part")
+CRATES = ("pm_host_c", "pm_device_c")
 LIBRARY = "libpmhost.so"
 # The files of the package that are no programs are data that its modules read.
 KINDS = (".py", ".typed", ".json", ".toml", ".txt")
@@ -50,7 +50,7 @@ def archives():
         path = os.path.join(given or os.path.join(os.path.dirname(HOME), "crates", crate, "out"), f"lib{crate}.a")
         if not os.path.isfile(path):
             raise SystemExit(f"pmhost: no archive at {path}: build it by (cd crates/{crate} && rt lib --backend rattle), "
-                             "or give PMHOST_ARCHIVES, a folder with libpm_c.a and libpm_part.a")
+                             "or give PMHOST_ARCHIVES, a folder with libpm_host_c.a and libpm_device_c.a")
         found.append(path)
     return found
 

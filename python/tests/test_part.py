@@ -1,4 +1,4 @@
-"""The model part: what it hears, holds, stores and latches; frames are those of crates/pm_part's tests."""
+"""The model part: what it hears, holds, stores and latches; frames are those of crates/pm_device_c's tests."""
 import unittest
 from decimal import Decimal
 

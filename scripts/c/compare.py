@@ -1,5 +1,5 @@
 #!/usr/bin/env python3
-"""Compares the static library of crates/pm_c with the plain slow host of scripts/plain, event by event.
+"""Compares the static library of crates/pm_host_c with the plain slow host of scripts/plain, event by event.
 
     scripts/c/compare.py [--archive FILE] [SEED [EVENTS]]
 
@@ -8,7 +8,7 @@ say the same of the frame that is sent, the end of a job, each refusal, the rest
 is said of it and which words it may hold, and of an output its limits and its band; limits are narrowed meanwhile. After a
 life so for every cell, with each format. A plain converter answers.
 Writes a line for the first difference, and the status is then 1. Without --archive it takes the archive that
-`rt lib` left in crates/pm_c/out. EVENTS is 100000 if left out.
+`rt lib` left in crates/pm_host_c/out. EVENTS is 100000 if left out.
 """
 import ctypes
 import os
@@ -269,4 +269,4 @@ class Life:
 
 
 if __name__ == "__main__":
-    sys.exit(lives.compare(__doc__, "pm_c", declare, Life, sys.argv[1:]))
+    sys.exit(lives.compare(__doc__, "pm_host_c", declare, Life, sys.argv[1:]))

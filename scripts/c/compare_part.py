@@ -1,5 +1,5 @@
 #!/usr/bin/env python3
-"""Compares the static library of crates/pm_part with the plain slow converter of scripts/plain, event by event.
+"""Compares the static library of crates/pm_device_c with the plain slow converter of scripts/plain, event by event.
 
     scripts/c/compare_part.py [--archive FILE] [SEED [EVENTS]]
 
@@ -8,7 +8,7 @@ as requests, stores, restores, restarts and readings. After each event the two s
 of its answer, of a cell and its word in the store, of PAGE, of what an output commands and of its status; after a life
 so for every cell and output. Configurations with every fault are refused by both alike, and what a refused call wrote
 is compared. Writes a line for the first difference, and the status is then 1. Without --archive it takes the archive
-that `rt lib` left in crates/pm_part/out. EVENTS is 100000 if left out.
+that `rt lib` left in crates/pm_device_c/out. EVENTS is 100000 if left out.
 """
 import ctypes
 import os
@@ -229,4 +229,4 @@ class Life:
 
 
 if __name__ == "__main__":
-    sys.exit(lives.compare(__doc__, "pm_part", declare, Life, sys.argv[1:]))
+    sys.exit(lives.compare(__doc__, "pm_device_c", declare, Life, sys.argv[1:]))

@@ -1,11 +1,11 @@
 #!/usr/bin/env bash
-# Builds the static libraries of crates/pm_c and crates/pm_part and, with each compiler of this machine, the programs of
+# Builds the static libraries of crates/pm_host_c and crates/pm_device_c and, with each compiler of this machine, the programs of
 # examples/c and examples/firmware over them; runs them and compares what they write. So it does with the packages rust/ and
 # python/, and their tests.
 #
 #   scripts/c/run.sh [--built FOLDER] [--gcc]
 #
-# With --built the archives of that folder are taken, and nothing is built: libpm_c.a and libpm_part.a of Rattle's own
+# With --built the archives of that folder are taken, and nothing is built: libpm_host_c.a and libpm_device_c.a of Rattle's own
 # compiler, and llvm_pm_c.a and llvm_pm_part.a of LLVM, if they are there. With --gcc only the programs run, built by gcc:
 # no other compiler, no sanitizer, no package, and not the command pmhost.
 #
@@ -32,7 +32,7 @@ trap 'rm -rf "$folder"' EXIT
 if [ -z "$built" ]; then
     built=$folder/built
     mkdir "$built"
-    for each in pm_c pm_part; do
+    for each in pm_host_c pm_device_c; do
         (cd crates/$each && rt lib --backend llvm > "$folder/log" 2>&1) || { tail -20 "$folder/log"; exit 1; }
         cp crates/$each/out/lib$each.a "$built/llvm_$each.a"
         (cd crates/$each && rt lib --backend rattle > "$folder/log" 2>&1) || { tail -20 "$folder/log"; exit 1; }
@@ -40,7 +40,7 @@ if [ -z "$built" ]; then
         cp crates/$each/out/lib$each.a "$built/"
     done
 fi
-archives=("$built/libpm_c.a" "$built/libpm_part.a") llvm=()
+archives=("$built/libpm_host_c.a" "$built/libpm_device_c.a") llvm=()
 [ -f "$built/llvm_pm_c.a" ] && [ -f "$built/llvm_pm_part.a" ] && llvm=("$built/llvm_pm_c.a" "$built/llvm_pm_part.a")
 passed=0 failed=0
 
@@ -58,7 +58,7 @@ bound() {
     local most=PM_STACK needed promised
     if nm "$1" | grep -q ' T pm_part_'; then most=PM_PART_STACK; fi
     needed=$(readelf -p .comment "$1" | grep -o 'stack-bytes=[0-9]*' | cut -d= -f2)
-    promised=$(sed -n "s/^#define $most \([0-9]*\)$/\1/p" crates/pm_c/include/pm.h crates/pm_part/include/pm_part.h)
+    promised=$(sed -n "s/^#define $most \([0-9]*\)$/\1/p" crates/pm_host_c/include/pm.h crates/pm_device_c/include/pm_part.h)
     if [ "${needed:-none}" != none ] && [ "$needed" -le "$promised" ]; then
         passed=$((passed + 1)); echo "$(basename "$1") stack: ok, $needed of $most, $promised"
     else
@@ -253,7 +253,7 @@ for each in "${archives[@]}"; do
     size -t "$each" | awk -v name="$(basename "$each")" 'END {print name ": " $1 " bytes of text"}'
     (cd "$folder/objects" && ar x "$each")
 done
-headers="-Icrates/pm_c/include -Icrates/pm_part/include"
+headers="-Icrates/pm_host_c/include -Icrates/pm_device_c/include"
 for object in "$folder"/objects/*; do bound "$object"; done
 [ -n "$only_gcc" ] || bus_command
 [ -n "$only_gcc" ] || [ ${#llvm[@]} != 0 ] || echo "LLVM's archives: --built FOLDER has none to compare"
@@ -325,11 +325,11 @@ if command -v pkg-config > /dev/null && command -v gcc > /dev/null; then
     order="examples/c/order.expected examples/c/order.c" part="examples/c/part.expected examples/c/part.c"
     ends="examples/c/faults.expected examples/c/faults.c"
     installed "order, shared" $order $(pkg-config --cflags --libs pm_host)
-    installed "order, static" $order $(pkg-config --cflags pm_host) "$folder/prefix/lib/libpm_c.a"
+    installed "order, static" $order $(pkg-config --cflags pm_host) "$folder/prefix/lib/libpm_host_c.a"
     installed "part, shared" $part $(pkg-config --cflags --libs pm_part)
-    installed "part, static" $part $(pkg-config --cflags pm_part) "$folder/prefix/lib/libpm_part.a"
+    installed "part, static" $part $(pkg-config --cflags pm_part) "$folder/prefix/lib/libpm_device_c.a"
     installed "both ends, shared" $ends $(pkg-config --cflags --libs pm_host pm_part)
-    installed "both ends, static" $ends $(pkg-config --cflags pm_host pm_part) "$folder/prefix/lib/libpm_c.a" "$folder/prefix/lib/libpm_part.a"
+    installed "both ends, static" $ends $(pkg-config --cflags pm_host pm_part) "$folder/prefix/lib/libpm_host_c.a" "$folder/prefix/lib/libpm_device_c.a"
 else
     echo "pkg-config: not on this machine"
 fi

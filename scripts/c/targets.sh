@@ -1,5 +1,5 @@
 #!/usr/bin/env bash
-# Builds the static libraries of crates/pm_c and crates/pm_part for each processor that they are tried on, with their
+# Builds the static libraries of crates/pm_host_c and crates/pm_device_c for each processor that they are tried on, with their
 # programs; runs these under emulators, compares what they write byte for byte with x86-64's, and prints a table.
 #
 #   scripts/c/targets.sh [--out FOLDER] [--built FOLDER] [--seeds N] [TARGET ..]
@@ -62,8 +62,8 @@ END
 # they stand on with what other copies of the repository kept.
 prove() {
     local name=$1 crate kept by=$folder/kit; shift
-    for crate in pm_c pm_part; do
-        kept=$built/$name; [ $crate = pm_part ] && kept=$kept.part
+    for crate in pm_host_c pm_device_c; do
+        kept=$built/$name; [ $crate = pm_device_c ] && kept=$kept.part
         [ -f "$kept.a" ] && continue
         if [ $name = x86-64 ]; then by=$kit; elif [ ! -d "$by" ]; then mirror; fi
         rm -f "$folder"/module.bc "$folder"/module.words
@@ -164,7 +164,7 @@ within() {
     local host naming part most=() each
     read -r _ _ host naming part _ < "$folder/$1.measured"
     for each in PM_STACK PM_NAME_STACK PM_PART_STACK; do
-        most+=("$(sed -n "s/^#define $each \([0-9]*\)$/\1/p" crates/pm_c/include/pm.h crates/pm_part/include/pm_part.h)")
+        most+=("$(sed -n "s/^#define $each \([0-9]*\)$/\1/p" crates/pm_host_c/include/pm.h crates/pm_device_c/include/pm_part.h)")
     done
     if { [ "$host" -le "${most[0]}" ] && [ "$naming" -le "${most[1]}" ] && [ "$part" -le "${most[2]}" ]; } 2> /dev/null; then
         echo "$1 stack: ok"
@@ -191,9 +191,9 @@ leave() {
     local name=$1 text order host naming part orders
     read -r text order host naming part orders < "$folder/$name.measured"
     mkdir -p "$out/$name"
-    cp "$folder/$name.a" "$out/$name/libpm_c.a"
-    cp "$folder/$name.part.a" "$out/$name/libpm_part.a"
-    cp crates/pm_c/include/pm.h crates/pm_part/include/pm_part.h "$out/$name/"
+    cp "$folder/$name.a" "$out/$name/libpm_host_c.a"
+    cp "$folder/$name.part.a" "$out/$name/libpm_device_c.a"
+    cp crates/pm_host_c/include/pm.h crates/pm_device_c/include/pm_part.h "$out/$name/"
     echo "commit=$(git rev-parse HEAD) toolchain=$(rt version | tr ' ' '-') target=$name proof=${class[$name]} flags=$(tr ' ' ',' <<< "${flags[$name]}")" \
         "text=$text order=$order stack-host=$host stack-name=$naming stack-part=$part instructions=$orders sha256=$(sha256sum "$folder/$name.a" | cut -d' ' -f1)" \
         "sha256-part=$(sha256sum "$folder/$name.part.a" | cut -d' ' -f1)" \

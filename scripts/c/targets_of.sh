@@ -46,7 +46,7 @@ lacks() {
     done
 }
 picolibc=/usr/lib/picolibc/riscv64-unknown-elf/picolibc.specs
-warn="-Wall -Wextra -Werror -Icrates/pm_c/include -Icrates/pm_part/include -Iexamples/firmware"
+warn="-Wall -Wextra -Werror -Icrates/pm_host_c/include -Icrates/pm_device_c/include -Iexamples/firmware"
 bare=scripts/c/bare
 
 # link NAME PROGRAM FLAGS SOURCES ..: a program over the target's archives

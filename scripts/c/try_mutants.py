@@ -4,7 +4,7 @@ beside it.
 
     scripts/c/try_mutants.py --built FOLDER [WORD ..]
 
-FOLDER has libpm_c.a and libpm_part.a. WORDs choose the mutants whose names have one of them; all if left out. It wants gcc, and
+FOLDER has libpm_host_c.a and libpm_device_c.a. WORDs choose the mutants whose names have one of them; all if left out. It wants gcc, and
 cargo for those in Rust. A line for each mutant; the last line says how many were noticed and how many weren't.
 """
 import os
@@ -16,7 +16,7 @@ import tempfile
 
 sys.dont_write_bytecode = True
 ROOT = os.path.dirname(os.path.dirname(os.path.dirname(os.path.abspath(__file__))))
-HEADER, BUS = "crates/pm_c/include/pm.h", "examples/c/i2c_dev.c"
+HEADER, BUS = "crates/pm_host_c/include/pm.h", "examples/c/i2c_dev.c"
 HOST, NUMBER, PART, DONE = (f"rust/src/{name}.rs" for name in ("host", "number", "part", "done"))
 WRITE, COUNT = "write(context, frame.bytes, frame.length) == PM_ACKED", "came == 0 || came > room ? 0 : came + 1"
 FAILED_WRITE = "*error = Some(why);\n                self.finished(false)"
@@ -106,7 +106,7 @@ class Copy:
 
     def __init__(self, folder, built):
         self.folder, self.built = folder, built
-        for each in ("crates/pm_c/include", "crates/pm_part/include", "examples/c", "rust"):
+        for each in ("crates/pm_host_c/include", "crates/pm_device_c/include", "examples/c", "rust"):
             shutil.copytree(os.path.join(ROOT, each), os.path.join(folder, each), ignore=shutil.ignore_patterns("target"))
 
     def run(self, *words, **environment):
@@ -132,8 +132,8 @@ class Copy:
                 file.write(text)
 
     def program(self, name, *words):
-        found = self.run("gcc", "-O1", "-Icrates/pm_c/include", "-Icrates/pm_part/include", *words, os.path.join(self.built, "libpm_c.a"),
-                         os.path.join(self.built, "libpm_part.a"), "-o", name)
+        found = self.run("gcc", "-O1", "-Icrates/pm_host_c/include", "-Icrates/pm_device_c/include", *words, os.path.join(self.built, "libpm_host_c.a"),
+                         os.path.join(self.built, "libpm_device_c.a"), "-o", name)
         if found[0]:
             sys.exit(found[1])
 
@@ -146,7 +146,7 @@ class Copy:
         """Whether gcc warns of this call alone on a line."""
         with open(os.path.join(self.folder, "drops.c"), "w", encoding="utf-8") as file:
             file.write(f'#include "pm.h"\nstatic pm_host host;\nint main(void) {{ pm_host_{call}; return 0; }}\n')
-        return self.run("gcc", "-Icrates/pm_c/include", "-Werror=unused-result", "-c", "drops.c")[0] != 0
+        return self.run("gcc", "-Icrates/pm_host_c/include", "-Werror=unused-result", "-c", "drops.c")[0] != 0
 
     def transfers(self, mishaps, wanted):
         """Whether an order over the stand-in for the kernel prints this."""
@@ -183,8 +183,8 @@ def main():
     if "--help" in words or "-h" in words:
         print(__doc__.strip())
         return 0
-    if words[:1] != ["--built"] or len(words) < 2 or not os.path.isfile(os.path.join(words[1], "libpm_c.a")):
-        print("try_mutants.py: give --built FOLDER, one with libpm_c.a and libpm_part.a", file=sys.stderr)
+    if words[:1] != ["--built"] or len(words) < 2 or not os.path.isfile(os.path.join(words[1], "libpm_host_c.a")):
+        print("try_mutants.py: give --built FOLDER, one with libpm_host_c.a and libpm_device_c.a", file=sys.stderr)
         return 2
     noticed = missed = 0
     with tempfile.TemporaryDirectory() as folder:

@@ -25,7 +25,7 @@ line() {
     cp scripts/c/retarget.py "$folder/retarget.py"
     cp "$folder/module.text" "$folder/planted.text"
     mkdir -p "$folder/include"
-    cp crates/pm_c/include/pm.h "$folder/include/"
+    cp crates/pm_host_c/include/pm.h "$folder/include/"
     case $planted in
         struct) sed -i 's/return load_struct(found) if self.narrow else \[line\]/return [line]/' "$folder/retarget.py" ;;
         count) sed -i 's/uint64_t count/size_t count/; s/^#include <stdint.h>/#include <stddef.h>\n&/' "$folder/include/pm.h" ;;
@@ -36,7 +36,7 @@ line() {
         python3 -B "$folder/retarget.py" --like "$folder/like" --pointer "${pointer[$name]}" "$folder/planted.text" "$folder/module.ll" &&
         "$clang" "${words[@]}" -x ir "$folder/module.ll" -c -o "$folder/$name.o" &&
         rm -f "$folder/$name.a" && "$kit/toolchain/bin/llvm-ar" rcs "$folder/$name.a" "$folder/$name.o" || { echo build; return; }
-    warn="-I$folder/include -Icrates/pm_part/include -Iexamples/firmware"
+    warn="-I$folder/include -Icrates/pm_device_c/include -Iexamples/firmware"
     link "$name" "$folder/$name.run" -DSTEPS=20000 scripts/c/same.c > "$folder/log" 2>&1 || { echo build; return; }
     run "$name" "$folder/$name.run" 2>&1 < /dev/null | tail -1
 }

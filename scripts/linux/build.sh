@@ -1,6 +1,6 @@
 #!/usr/bin/env bash
 # Builds what scripts/linux/run.sh needs, once: a kernel of Debian's linux-source-6.1 for User Mode Linux, the modules of
-# scripts/linux/modules for it, and the archives of crates/pm_c and crates/pm_part as one shared object for the package.
+# scripts/linux/modules for it, and the archives of crates/pm_host_c and crates/pm_device_c as one shared object for the package.
 #
 #   scripts/linux/build.sh CACHE
 #
@@ -45,7 +45,7 @@ for each in "$here"/modules/*; do
     cmp -s "$each" "$cache/modules/$(basename "$each")" || cp "$each" "$cache/modules/"
 done
 quiet make -C "$source" O="$kernel" M="$cache/modules" modules
-part=${PART-$root/crates/pm_part/out/libpm_part.a} archive=${ARCHIVE-$root/crates/pm_c/out/libpm_c.a}
+part=${PART-$root/crates/pm_device_c/out/libpm_device_c.a} archive=${ARCHIVE-$root/crates/pm_host_c/out/libpm_host_c.a}
 rm -f "$cache/libpmhost.so"
 if [ -f "$part" ] && [ -f "$archive" ]; then
     quiet gcc -shared -Wl,--whole-archive "$archive" "$part" -Wl,--no-whole-archive -Wl,-z,noexecstack -o "$cache/libpmhost.so"

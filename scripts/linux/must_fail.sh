@@ -15,7 +15,7 @@ built=$CACHE
 # plant NAME FILE OLD NEW: a copy of what the trials read, with one text changed, which stands there once.
 plant() {
     mkdir -p "$work/$1/tree"
-    (cd "$root" && cp -r --parents scripts python docs/bus.md docs/refusals.md examples/c crates/pm_c/include "$work/$1/tree")
+    (cd "$root" && cp -r --parents scripts python docs/bus.md docs/refusals.md examples/c crates/pm_host_c/include "$work/$1/tree")
     python3 - "$work/$1/tree/$2" "$3" "$4" << 'END' || refuse "$1: the text to change doesn't stand once in $2"
 import sys
 path, old, new = sys.argv[1:]
@@ -39,7 +39,7 @@ names="package frames"
 plant program examples/c/i2c_dev.c "if (went == count)" "if (went >= 0)"
 mkdir "$work/cache"
 ln -s "$built/kernel" "$built/modules" "$built/libpmhost.so" "$work/cache"
-gcc -I"$root/crates/pm_c/include" "$work/program/tree/examples/c/i2c_dev.c" "$archive" -o "$work/cache/i2c_dev" ||
+gcc -I"$root/crates/pm_host_c/include" "$work/program/tree/examples/c/i2c_dev.c" "$archive" -o "$work/cache/i2c_dev" ||
     refuse "examples/c/i2c_dev.c doesn't build"
 CACHE=$work/cache tried program programs 0
 names="$names program"

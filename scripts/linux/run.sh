@@ -6,8 +6,8 @@
 #   scripts/linux/run.sh [OPTIONS]
 #
 #   --cache FOLDER    the folder of kernel and modules, some 2 GB, ~/.cache/pmbus-linux where it isn't given
-#   --archive FILE    the library with the host, crates/pm_c/out/libpm_c.a where it isn't given
-#   --part FILE       the library with the proved converter, crates/pm_part/out/libpm_part.a where it isn't given
+#   --archive FILE    the library with the host, crates/pm_host_c/out/libpm_host_c.a where it isn't given
+#   --part FILE       the library with the proved converter, crates/pm_device_c/out/libpm_device_c.a where it isn't given
 #   --plain           the plain model alone behind the buses, and not the proved converter beside it
 #   --at-once N       how many guests run at once, 3 where it isn't given
 #
@@ -33,7 +33,7 @@ start "$@"
 command -v i2ctransfer > /dev/null || [ -x /usr/sbin/i2ctransfer ] || refuse "no i2ctransfer: install i2c-tools"
 began=$(date +%s)
 kinds="faults rows commands captures together programs"
-gcc -O2 -Wall -Wextra -Werror -I"$root/crates/pm_c/include" "$root/examples/c/i2c_dev.c" "$archive" -o "$CACHE/i2c_dev" ||
+gcc -O2 -Wall -Wextra -Werror -I"$root/crates/pm_host_c/include" "$root/examples/c/i2c_dev.c" "$archive" -o "$CACHE/i2c_dev" ||
     refuse "examples/c/i2c_dev.c doesn't build"
 names=()
 for kind in $kinds; do

@@ -2,7 +2,7 @@
 
 start() {
     cache=${HOME:-/tmp}/.cache/pmbus-linux is_plain= at_once=3
-    archive=$root/crates/pm_c/out/libpm_c.a part=$root/crates/pm_part/out/libpm_part.a
+    archive=$root/crates/pm_host_c/out/libpm_host_c.a part=$root/crates/pm_device_c/out/libpm_device_c.a
     while [ $# -gt 0 ]; do
         case $1 in
             --cache) cache=${2-}; shift ;;
@@ -19,8 +19,8 @@ start() {
     export PMB=${PMB-$root/crates/pmb/out/pmb} PMBHOST=${PMBHOST-$root/crates/pmbhost/out/pmbhost}
     [ -x "$PMB" ] || refuse "no program at $PMB: build it by (cd crates/pmb && rt run -- replay < stdin), or set PMB to one"
     [ -x "$PMBHOST" ] || refuse "no program at $PMBHOST: build it as docs/bus.md says, or set PMBHOST to one"
-    [ -f "$archive" ] || refuse "no $archive: build it by (cd crates/pm_c && rt lib), or give --archive FILE"
-    [ -f "$part" ] || refuse "no $part: build it by (cd crates/pm_part && rt lib), or give --part FILE"
+    [ -f "$archive" ] || refuse "no $archive: build it by (cd crates/pm_host_c && rt lib), or give --archive FILE"
+    [ -f "$part" ] || refuse "no $part: build it by (cd crates/pm_device_c && rt lib), or give --part FILE"
     ARCHIVE=$archive PART=$part "$here/build.sh" "$cache" || exit 2
     CACHE=$(realpath "$cache") PMHOST_LIBRARY=$(realpath "$cache")/libpmhost.so PLAIN_PART=$is_plain
     export CACHE PMHOST_LIBRARY PLAIN_PART

@@ -1,5 +1,5 @@
 #!/usr/bin/env bash
-# Leaves the page of examples/web in a folder, ready to be served: the libraries of crates/pm_c and crates/pm_part are
+# Leaves the page of examples/web in a folder, ready to be served: the libraries of crates/pm_host_c and crates/pm_device_c are
 # proved and compiled for WebAssembly (wasm64) by the toolchain, and linked into one module with one memory.
 #
 #   scripts/web/build.sh FOLDER [HOST_ARCHIVE PART_ARCHIVE]
@@ -19,7 +19,7 @@ kit=$(dirname "$(dirname "$(realpath "$(command -v rt)")")")
 folder=$(mktemp -d)
 trap 'rm -rf "$folder"' EXIT
 if [ ${#archives[@]} = 0 ]; then
-    for each in pm_c pm_part; do
+    for each in pm_host_c pm_device_c; do
         (cd crates/$each && rt lib --target wasm64-unknown-unknown > "$folder/log" 2>&1) || { tail -5 "$folder/log"; exit 1; }
         cp crates/$each/out/lib$each.a "$folder/$each.a"
         archives+=("$folder/$each.a")

@@ -43,7 +43,7 @@ impl Image {
     /// The mark of an image.
     pub const MARK: u16 = 0x504D;
 
-    /// The number of the layout that this is a part of: `pm_c` keeps limits behind it.
+    /// The number of the layout that this is a part of: `pm_host_c` keeps limits behind it.
     pub const VERSION: u16 = 4;
 
     /// Zeros, which are the image of no host.

@@ -35,7 +35,7 @@ mod scenario;
 pub use base::base_converter;
 pub use form::Form;
 pub use laws::lowest_words_cut_nothing;
-pub use pm_capture::decode;
+pub use pm_decode::decode;
 pub use pm_lines::{MAX_TEXT, Sink, Source, TextFault};
 pub use pm_trace::{
     ByteList, DecodeEnd, Decoder, Fed, Shown, TraceLine, read_trace_line, render_line,

@@ -2,8 +2,8 @@
 //! reported as, and what is no scenario.
 
 use crate::checks::{equal, is_true};
+use pm_test_streams::{Engine, Engines, REPORT, SCENARIO, in_pieces};
 use pm_text::{Ran, TextFault, read_scenario, render_report};
-use pm_text_fixtures::{Engine, Engines, REPORT, SCENARIO, in_pieces};
 use pm_world::{Cause, Stop, World};
 use std::alloc::Global;
 use std::process::Abort;

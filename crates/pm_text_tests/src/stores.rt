@@ -1,8 +1,8 @@
 //! The user store in texts: what is stored comes back by a restart and by a restore, in version 2 alone.
 
 use crate::checks::{equal, is_true};
+use pm_test_streams::{Engine, Engines, SCENARIO, in_pieces};
 use pm_text::{TextFault, read_scenario};
-use pm_text_fixtures::{Engine, Engines, SCENARIO, in_pieces};
 use std::alloc::Global;
 use std::process::Abort;
 use std::test::Fail;

@@ -4,8 +4,8 @@ mod bad_lines;
 mod packets;
 
 use crate::checks::{equal, is_true};
+use pm_test_streams::{Engine, Engines, TRACE, in_pieces};
 use pm_text::{Decoder, Shown, TextFault, read_trace_line, render_line};
-use pm_text_fixtures::{Engine, Engines, TRACE, in_pieces};
 use std::alloc::{AllocError, Global};
 use std::process::Abort;
 use std::test::Fail;

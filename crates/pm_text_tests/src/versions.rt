@@ -1,8 +1,8 @@
 //! Scenarios of both versions: VOUT_MIN stands in the second one, and the first is read and told as it was.
 
 use crate::checks::{equal, is_true};
+use pm_test_streams::{Engine, Engines, REPORT, SCENARIO, in_pieces};
 use pm_text::{Scenario, TextFault, read_scenario};
-use pm_text_fixtures::{Engine, Engines, REPORT, SCENARIO, in_pieces};
 use std::alloc::Global;
 use std::process::Abort;
 use std::test::Fail;

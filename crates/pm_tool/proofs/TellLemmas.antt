@@ -6,10 +6,10 @@ use Rattle.pm_lines.specs.Streams.{Held}
 use Rattle.pm_lines.specs.declared.fault.TextFault.{TextFault}
 use Rattle.pm_lines.specs.declared.fault.TextFault.TheVariants.{Syntax, BadHex, TooLong, Read, Write, Memory, Setup}
 use Rattle.pm_trace.specs.declared.decode_end.DecodeEnd.{DecodeEnd}
-use Rattle.pm_capture.specs.CaptureText.{capture_end, capture_text}
-use Rattle.pm_capture.specs.Capturing.{most_bytes, said_text}
-use Rattle.pm_capture.specs.LongEngine.{LongEnds}
-use Rattle.pm_capture.specs.declared.options.TellOptions.{TellOptions}
+use Rattle.pm_decode.specs.CaptureText.{capture_end, capture_text}
+use Rattle.pm_decode.specs.Capturing.{most_bytes, said_text}
+use Rattle.pm_decode.specs.LongEngine.{LongEnds}
+use Rattle.pm_decode.specs.declared.options.TellOptions.{TellOptions}
 use Rattle.pm_program.specs.Refusals.{Says, text_refusal}
 use Rattle.pm_tool.specs.Execution.{End, Printed, CutShort, Broken, IsDone, TellRuns, decode_status, refusal_line}
 use Rattle.pm_tool.proofs.EndLemmas.{Ends, Writers, cut, ended}

@@ -15,10 +15,10 @@ use Rattle.pm_lines.specs.declared.fault.TextFault.TheVariants.{Read, Write, Mem
 use Rattle.pm_trace.specs.Outcome.{decoding}
 use Rattle.pm_trace.specs.declared.decode_end.DecodeEnd.{DecodeEnd}
 use Rattle.pm_trace.specs.declared.decode_end.DecodeEnd.TheVariants.{Clean, BadLines}
-use Rattle.pm_capture.specs.CaptureText.{capture_end, capture_text}
-use Rattle.pm_capture.specs.Capturing.{most_bytes, said_text}
-use Rattle.pm_capture.specs.LongEngine.{Breaks, GaveAll, IsCut}
-use Rattle.pm_capture.specs.declared.options.TellOptions.{TellOptions}
+use Rattle.pm_decode.specs.CaptureText.{capture_end, capture_text}
+use Rattle.pm_decode.specs.Capturing.{most_bytes, said_text}
+use Rattle.pm_decode.specs.LongEngine.{Breaks, GaveAll, IsCut}
+use Rattle.pm_decode.specs.declared.options.TellOptions.{TellOptions}
 use Rattle.pm_text.specs.Replay.{replaying}
 use Rattle.pm_text.specs.declared.replay_end.ReplayEnd.{ReplayEnd}
 use Rattle.pm_text.specs.declared.replay_end.ReplayEnd.TheVariants.{Ran as AllTaken, Stopped}

@@ -15,7 +15,7 @@ ghost use Rattle.pm_tool.specs.Question.{asked_by};
 use crate::commandline::{Chosen, TellTexts, chosen, option_words};
 use crate::numbers::number;
 use crate::text_commands::{Decoding, Hearing, Replaying, TextCommand};
-use pm_capture::{TellOptions, tell};
+use pm_decode::{TellOptions, tell};
 use pm_program::{
     Usage, misuse, refuse_arguments, refuse_memory, say, say_fault, texts_of, usage_of, words_of,
 };

@@ -1,7 +1,7 @@
 //! What captures are told as, written out by hand.
 
 use crate::checks::equal;
-use pm_capture::{TellOptions, tell};
+use pm_decode::{TellOptions, tell};
 use pm_lines::{Sink, Source, TextFault};
 use pm_trace::DecodeEnd;
 use std::alloc::Global;

@@ -1,5 +1,5 @@
 use crate::checks::{equal, is_true};
-use pm_text_fixtures::{TAKEN, blank_paper, in_pieces};
+use pm_test_streams::{TAKEN, blank_paper, in_pieces};
 use pm_tool::{Sink, Source, TextFault, hear};
 use std::alloc::Global;
 use std::process::Abort;

@@ -2,7 +2,7 @@
 
 use crate::checks::{equal, is_true};
 use crate::run::{run_on, run_with};
-use pm_text_fixtures::{blank_paper, in_pieces};
+use pm_test_streams::{blank_paper, in_pieces};
 use pm_tool::{Source, TellTexts};
 use std::test::Fail;
 

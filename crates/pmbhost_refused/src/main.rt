@@ -2,8 +2,8 @@
 //! nothing on standard output.
 #![tactic(auto)]
 
-use pm_session::program;
 use pm_talk::{Sink, Source, Streams};
+use pmbhost_lines::program;
 use std::env;
 use std::process::ExitCode;
 

@@ -1,4 +1,4 @@
-"""A PMBus host that sets supply voltages: Python over the libraries of crates/pm_c and crates/pm_part.
+"""A PMBus host that sets supply voltages: Python over the libraries of crates/pm_host_c and crates/pm_device_c.
 
     from pmhost import LinuxBus, Pmbus
     with LinuxBus(1, 0x58) as bus:

@@ -1,8 +1,8 @@
 //! The faults of scenarios, and the numbers of their lines.
 
 use super::{head_with, is_refused, with_event};
+use pm_test_streams::SCENARIO;
 use pm_text::TextFault;
-use pm_text_fixtures::SCENARIO;
 use std::alloc::{AllocError, Global};
 use std::process::Abort;
 use std::test::Fail;

@@ -1,7 +1,0 @@
-use Rattle.std.proofs.Common.{◌≡◌, ◌++◌, string_bytes}
-use Rattle.pm_capture.specs.JsonText.{other_jsons}
-use Rattle.pm_capture.proofs.json_counts.push_others.Given as goal
-
--- the objects of the codes so far were appended
-abbrev pub invariant-loop-code : goal.invariant-loop-code
-invariant-loop-code l = string_bytes l.text ≡ string_bytes l.initial.text ++ other_jsons l.others l.code

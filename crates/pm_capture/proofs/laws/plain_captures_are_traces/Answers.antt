@@ -1,5 +1,0 @@
-use Rattle.pm_capture.proofs.PlainLemmas.{plain_text}
-use Rattle.pm_capture.proofs.laws.plain_captures_are_traces.Goals as goal
-
-pub returns : goal.returns
-returns c = plain_text

@@ -1,0 +1,45 @@
+//! The texts of errors: each shows as programs print it.
+
+use crate::checks::equal;
+use pm_host::{HostFault, Untold};
+use pm_limits::LimitFault;
+use pmbhost_lines::{Refusal, StartFault};
+use std::fmt::Display;
+use std::process::Abort;
+use std::test::Fail;
+
+static START: [(StartFault, &str); 6] = [
+    (StartFault::Address, "bad address"),
+    (StartFault::Outputs, "bad outputs"),
+    (StartFault::Passes, "bad passes"),
+    (StartFault::Host(HostFault::OutputCount), "H1 OutputCount"),
+    (StartFault::Limit, "bad limit"),
+    (
+        StartFault::Limits(LimitFault::LimitsInverted),
+        "L1 LimitsInverted",
+    ),
+];
+
+static REFUSALS: [(Refusal, &str); 7] = [
+    (Refusal::Syntax, "X1 Syntax"),
+    (Refusal::BadHex, "X2 BadHex"),
+    (Refusal::TooLong, "X3 TooLong"),
+    (Refusal::Untold(Untold::NothingSent), "S2 NothingSent"),
+    (Refusal::Untold(Untold::WrongKind), "S3 WrongKind"),
+    (Refusal::Guard(LimitFault::Host(HostFault::Busy)), "H3 Busy"),
+    (Refusal::Guard(LimitFault::BelowLimit), "L3 BelowLimit"),
+];
+
+// Each fault of a table is told by its text.
+fn are_told<T: Display>(rt: &(impl Abort + AllocGlobal), table: &[(T, &str)]) -> Result<(), Fail> {
+    for (fault, text) in table {
+        equal(rt, &fault.to_string(rt.alloc())?.as_str(), text, text);
+    }
+    Ok(())
+}
+
+#[test]
+fn each_fault_has_its_text(rt: HostRuntime) -> Result<(), Fail> {
+    are_told(&rt, &START)?;
+    are_told(&rt, &REFUSALS)
+}

@@ -1,0 +1,271 @@
+//! The statuses of the program and what it says, over streams.
+
+use crate::checks::expect_run;
+use crate::fakes::{blank, streams};
+use pmbhost_lines::run;
+use std::alloc::Global;
+use std::io::ErrorKind;
+
+// A run over the line `seen`, whose writer fails at this call, 0 for none: its status, and what was
+// written and said.
+fn ran(
+    alloc: Global,
+    words: Result<&[&str], ErrorKind>,
+    fails_at: usize,
+) -> (u8, Vec<u8>, Vec<u8>) {
+    let mut streams = streams(alloc, b"seen\n", (0, fails_at));
+    let mut errors = blank(alloc, 0);
+    let status = run(alloc, words, &mut streams, &mut errors);
+    (
+        status,
+        streams.sink.into_inner().taken,
+        errors.into_inner().taken,
+    )
+}
+
+// Options, the call of the writer that fails, 0 for none, the status, and what is written and said.
+static ENDS: [([&str; 3], usize, u8, &str, &str); 8] = [
+    (
+        ["--address=58", "--outputs=2", "--passes=2"],
+        0,
+        0,
+        "seen no\n",
+        "",
+    ),
+    (
+        ["--address=58", "--outputs=2", "--passes=2"],
+        1,
+        1,
+        "",
+        "pmbhost: X5 Write\n",
+    ),
+    (
+        ["--address=78", "--outputs=2", "--passes=2"],
+        0,
+        2,
+        "",
+        "pmbhost: bad address\n",
+    ),
+    (
+        ["--address=58", "--outputs=-1", "--passes=2"],
+        0,
+        2,
+        "",
+        "pmbhost: bad outputs\n",
+    ),
+    (
+        ["--address=58", "--outputs=2", "--passes=+2"],
+        0,
+        2,
+        "",
+        "pmbhost: bad passes\n",
+    ),
+    (
+        ["--address=58", "--outputs=9", "--passes=0"],
+        0,
+        1,
+        "",
+        "pmbhost: H1 OutputCount\n",
+    ),
+    (
+        ["--address=58", "--outputs=8", "--passes=16"],
+        0,
+        1,
+        "",
+        "pmbhost: H2 Passes\n",
+    ),
+    (
+        ["--address=58", "--outputs=8", "--passes=0"],
+        0,
+        1,
+        "",
+        "pmbhost: H2 Passes\n",
+    ),
+];
+
+#[test]
+fn each_end_has_its_status_and_its_line(rt: HostRuntime) {
+    for &([address, outputs, passes], fails_at, status, written, said) in &ENDS {
+        let words = ["pmbhost", address, outputs, passes];
+        expect_run(
+            &rt,
+            ran(rt.alloc(), Ok(&words), fails_at),
+            status,
+            written,
+            said,
+        );
+    }
+    expect_run(
+        &rt,
+        ran(rt.alloc(), Ok(&["pmbhost", "--outputs=2", "--passes=2"]), 0),
+        2,
+        "",
+        "pmbhost: bad address\n",
+    );
+    expect_run(
+        &rt,
+        ran(rt.alloc(), Err(ErrorKind::OutOfMemory), 0),
+        1,
+        "",
+        "pmbhost: X6 Memory\n",
+    );
+    expect_run(
+        &rt,
+        ran(rt.alloc(), Err(ErrorKind::InvalidInput), 0),
+        2,
+        "",
+        "pmbhost: bad arguments\n",
+    );
+}
+
+// The limits of a host, the status, and what is written and said.
+static LIMITS: [([&str; 2], u8, &str, &str); 9] = [
+    (
+        ["--limit=0:3200000:3465000", "--limit=1:-5:5"],
+        0,
+        "seen no\n",
+        "",
+    ),
+    (
+        ["--limit=1:0:0", "--limit=0:3465000:3200000"],
+        2,
+        "",
+        "pmbhost: L1 LimitsInverted\n",
+    ),
+    (
+        ["--limit=2:1:2", "--limit=0:2:1"],
+        2,
+        "",
+        "pmbhost: H4 UnknownOutput\n",
+    ),
+    (
+        ["--limit=0:1:1000000000000001", "--limit=nothing"],
+        2,
+        "",
+        "pmbhost: N5 TooLarge\n",
+    ),
+    (
+        ["--limit=0:1:2", "--limit=0:1:2"],
+        2,
+        "",
+        "pmbhost: bad limit\n",
+    ),
+    (
+        ["--limit=0:1", "--limit=0:1:2"],
+        2,
+        "",
+        "pmbhost: bad limit\n",
+    ),
+    (
+        ["--limit=0:1:2:3", "--limit="],
+        2,
+        "",
+        "pmbhost: bad limit\n",
+    ),
+    (
+        ["--limit=1:1:2", "--limit=0:one:2"],
+        2,
+        "",
+        "pmbhost: bad limit\n",
+    ),
+    (
+        ["--limit=0:1:2", "--limit=256:1:2"],
+        2,
+        "",
+        "pmbhost: bad limit\n",
+    ),
+];
+
+#[test]
+fn each_output_has_its_limits_once(rt: HostRuntime) {
+    for &(limits, status, written, said) in &LIMITS {
+        let words = [
+            "pmbhost",
+            "--address=58",
+            "--outputs=2",
+            "--passes=2",
+            limits[0],
+            limits[1],
+        ];
+        expect_run(&rt, ran(rt.alloc(), Ok(&words), 0), status, written, said);
+    }
+}
+
+const HELP: &str = "\
+A proved PMBus host that is spoken to in lines, for scripts that drive a bus
+
+Usage: pmbhost [OPTIONS]
+
+Options:
+      --address <HH>          The device's address, two hexadecimal digits from 08 to 77
+      --outputs <N>           How many outputs the device has, 1 to 8
+      --passes <N>            How many passes or tries a job has at most, 1 to 15
+      --limit <O:LEAST:MOST>  The limits of an output's voltage in microvolts, once an output at most
+  -h, --help                  Print help
+  -V, --version               Print version
+
+Each line of standard input gets one line at once. A line says:
+  order 0 VOUT_COMMAND 34CD      write a word and read it back; order - WRITE_PROTECT 40
+  volts 0 VOUT_COMMAND 3300000   the same in microvolts, after learn
+  check 0 VOUT_COMMAND           read a setting; check - WRITE_PROTECT
+  learn 0                        read the format of an output's voltages
+  clear 0                        clear an output's latched faults
+  store                          store the outputs' settings, for a restart of the device to load
+  restore                        bring them back: then none is confirmed until it is read
+  finished ack | finished nack   the write was sent, and acknowledged or not
+  got B1 02 CD 34 B9 | got       the request was sent, and this came back, or nothing
+  sending                        say again what is to be sent
+  state 0 VOUT_COMMAND           what is known of a setting; state - WRITE_PROTECT
+  seen                           whether a restart of the device was seen
+  band 0                         between which voltages an output may be, after learn
+  limits 0                       the limits of an output, in microvolts
+  narrow 0 3200000 3465000       give an output narrower limits, or its first ones
+  restart                        forget all but the limits
+An answer says:
+  send B0 05 04 00 21 CD 34 5A   send this write, then say finished
+  send B0 06 02 00 21 read 4     send this request, read 4 bytes behind the read address, say got
+  ended done | ended differs 1000 | ended unknown | ended learned
+  idle                           nothing is to be sent
+  state confirmed 34CD possible 34CD | state unknown possible 1000 34CD | state unknown possible any
+  seen yes | seen no
+  band 1000000 3300049 | band unknown
+  limits 3200000 3465000 | limits none
+  narrowed
+  restarted
+  refused H6 TooUncertain        nothing has changed: X1 to X3, S2, S3, H3 to H7, N3 to N5, L1 to L6
+
+  $ echo 'order 0 VOUT_COMMAND 34CD' | pmbhost --address=58 --outputs=2 --passes=2
+  send B0 05 04 00 21 CD 34 5A
+";
+
+// What the parser says of a word, in place of options; the writer fails at this call, 0 for none.
+fn said_of(alloc: Global, word: &str, fails_at: usize) -> (u8, Vec<u8>, Vec<u8>) {
+    let words = ["pmbhost", word];
+    ran(alloc, Ok(&words), fails_at)
+}
+
+#[test]
+fn the_parser_speaks_for_itself(rt: HostRuntime) {
+    expect_run(&rt, said_of(rt.alloc(), "--help", 0), 0, HELP, "");
+    expect_run(
+        &rt,
+        said_of(rt.alloc(), "--version", 0),
+        0,
+        "pmbhost 0.1.0\n",
+        "",
+    );
+    expect_run(
+        &rt,
+        said_of(rt.alloc(), "--version", 2),
+        1,
+        "pmbhost",
+        "pmbhost: X5 Write\n",
+    );
+    expect_run(
+        &rt,
+        said_of(rt.alloc(), "--nope", 0),
+        2,
+        "",
+        "error: unexpected argument '--nope' found\n\nUsage: pmbhost [OPTIONS]\n\nFor more information, try '--help'.\n",
+    );
+}

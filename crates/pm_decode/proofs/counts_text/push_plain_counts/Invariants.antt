@@ -1,0 +1,9 @@
+use Rattle.std.proofs.Common.{◌≡◌, ◌++◌, string_bytes}
+use Rattle.std.specs.Prelude.{flat_map}
+use Rattle.pm_trace.specs.TraceText.{count_line}
+use Rattle.pm_decode.proofs.counts_text.push_plain_counts.Given as goal
+
+-- what is written and what is left are the whole
+abbrev pub invariant-loop-code : goal.invariant-loop-code
+invariant-loop-code l = string_bytes l.text ++ flat_map count_line l.code-iterator
+    ≡ string_bytes l.fn.text ++ flat_map count_line l.heard.counts.codes

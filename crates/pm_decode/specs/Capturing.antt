@@ -1,0 +1,104 @@
+-- What is kept of the bytes of a capture that were taken, and what was said of the lines that ended: `kept_of` and
+-- `said_text`, a look back over all bytes, and `next` and `told`, what further bytes make of it. This project's own
+-- choice.
+use Rattle.std.specs.Prelude.{ℕ, ◌+◌, ◌-◌, ◌^◌, ◌≤◌, Bool, if◌then◌else◌, List, [], ◌∷◌, ◌++◌, length, map, filter}
+use Rattle.std.specs.List.{enumerate_from, fold}
+use Rattle.pm_lines.specs.Lines.{is_line_feed, is_unskipped, without_return}
+use Rattle.pm_lines.specs.Streams.{max_text}
+use Rattle.pm_trace.specs.Marks.{ended, since}
+use Rattle.pm_values.specs.Taught.{untaught}
+use Rattle.pm_decode.specs.CaptureText.{line_text, lines_text}
+use Rattle.pm_decode.specs.Hearing.{Heard, heard_lines, heard_of, heard_with}
+use Rattle.pm_decode.specs.Readings.{Entry, entry_of}
+use Rattle.pm_decode.specs.TimedLines.{skips_timed, timed_of, timed_read, timed_takes}
+use Rattle.pm_decode.specs.declared.options.TellOptions.{TellOptions}
+use Rattle.pm_decode.specs.declared.timed_line.TimedLine.{TimedLine}
+
+-- ---- the bytes taken
+
+-- how the capture is told, how many bytes were taken, how many lines ended, what these lines said, and what is kept of
+-- the line that goes on
+pub record Kept : Type 0 where
+  pub options : TellOptions
+  pub taken : ℕ
+  pub ended : ℕ
+  pub heard : Heard
+  pub line : TimedLine
+
+-- the lines that a line feed ended, those that are skipped apart
+unfoldable pub said : Bool → List ℕ → List Entry
+said times bytes = map (entry_of times) (filter is_unskipped
+    (enumerate_from 1 (map without_return (ended is_line_feed bytes))))
+
+-- what is written of them
+abbrev pub said_text : TellOptions → List ℕ → List ℕ
+said_text options bytes = lines_text options untaught (said options.times bytes)
+
+-- what is kept of these bytes
+unfoldable pub kept_of : TellOptions → List ℕ → Kept
+kept_of options bytes = record {
+  options = options;
+  taken = length bytes;
+  ended = length (ended is_line_feed bytes);
+  heard = heard_of options.all (said options.times bytes);
+  line = timed_of options.times (since is_line_feed bytes);
+}
+
+-- ---- further bytes
+
+-- the line that ends here
+abbrev pub entry_ended : Kept → Entry
+entry_ended kept = (kept.ended + 1, timed_read kept.line)
+
+-- what is heard where a line ends here, and what is written of it
+abbrev pub heard_ended : Kept → Heard
+heard_ended kept = if skips_timed kept.line then kept.heard
+    else heard_with kept.options.all kept.heard (entry_ended kept)
+
+abbrev pub text_ended : Kept → List ℕ
+text_ended kept = if skips_timed kept.line then []
+    else line_text kept.options kept.heard.taught (entry_ended kept)
+
+-- what is kept where a line ends here
+abbrev pub line_ended : Kept → Kept
+line_ended kept = record {
+  options = kept.options;
+  taken = kept.taken;
+  ended = kept.ended + 1;
+  heard = heard_ended kept;
+  line = timed_of kept.line.times [];
+}
+
+-- one byte more
+unfoldable pub kept_takes : Kept → ℕ → Kept
+kept_takes kept byte = if is_line_feed byte
+    then record (line_ended kept) { taken = kept.taken + 1 }
+    else record kept { taken = kept.taken + 1; line = timed_takes kept.line byte }
+
+-- further bytes
+abbrev pub next : Kept → List ℕ → Kept
+next kept bytes = fold kept_takes kept bytes
+
+-- what is written of the lines that end within further bytes
+abbrev pub told : Kept → List ℕ → List ℕ
+told kept [] = []
+told kept (byte ∷ bytes) = (if is_line_feed byte then text_ended kept else []) ++ told (kept_takes kept byte) bytes
+
+-- the end of all bytes, which ends a line that has some
+abbrev pub kept_at_end : Kept → Kept
+kept_at_end kept = if kept.line.is_begun then line_ended kept else kept
+
+abbrev pub told_at_end : Kept → List ℕ
+told_at_end kept = if kept.line.is_begun then text_ended kept else []
+
+-- ---- bounds
+
+-- the most bytes that a capture may have
+abbrev pub most_bytes : Bool → ℕ
+most_bytes long = if long then 2 ^ 64 - 1 else max_text
+
+-- no more lines were heard than ended, and no more ended than bytes were taken, where one that goes on has a byte
+pub record IsBounded (kept : Kept) : Type 0 where
+  pub heard : heard_lines kept.heard ≤ kept.ended
+  pub ended : kept.ended + (if kept.line.is_begun then 1 else 0) ≤ kept.taken
+  pub taken : kept.taken ≤ most_bytes kept.options.long

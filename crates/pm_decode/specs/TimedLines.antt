@@ -1,0 +1,68 @@
+-- What is kept of a line of a capture while its bytes come one after another, as a look back over its bytes so far
+-- (`timed_of`), and what one more byte makes of it (`timed_takes`). This project's own choice.
+use Rattle.std.specs.Prelude.{◌≡◌, ℕ, Bool, true, false, not, ◌&&◌, ◌||◌, ◌==◌, nat_eq, if◌then◌else◌, List, [], ◌++◌, codes, None}
+use Rattle.std.specs.List.{fold, list_any, starts_with}
+use Rattle.pm_lines.specs.Lines.{has_bytes, is_line_feed, is_space, without_return}
+use Rattle.pm_trace.specs.OpenLines.{is_skipped_kind, line_of, line_takes, open_read}
+use Rattle.pm_trace.specs.Parts.{part_of, part_takes}
+use Rattle.pm_decode.specs.Readings.{Reading, behind_word, first_word, time_in, timed}
+use Rattle.pm_decode.specs.declared.timed_line.TimedLine.{TimedLine}
+
+-- these bytes of a line; the packet's own are all of them where lines have no time
+unfoldable pub timed_of : Bool → List ℕ → TimedLine
+timed_of times line = record {
+  times = times;
+  has_mark = starts_with nat_eq line (codes "#");
+  is_begun = has_bytes line;
+  is_over = if times then has_bytes (behind_word line) else true;
+  word = part_of (if times then first_word line else []);
+  packet = line_of (if times then behind_word line else line);
+}
+
+-- a byte is the packet's own: lines have no time, or a space ended the word, or ends it
+abbrev pub is_of_packet : TimedLine → ℕ → Bool
+is_of_packet line byte = line.is_over || (is_space byte && has_bytes line.word.bytes)
+
+-- there is a byte, and this one is the first where there was none. 35 is `#`.
+abbrev pub begun_with : TimedLine → ℕ → TimedLine
+begun_with line byte = record line {
+  has_mark = if line.is_begun then line.has_mark else byte == 35;
+  is_begun = true;
+}
+
+-- one byte more
+unfoldable pub timed_takes : TimedLine → ℕ → TimedLine
+timed_takes line byte = record {
+  times = line.times;
+  has_mark = if line.is_begun then line.has_mark else byte == 35;
+  is_begun = true;
+  is_over = is_of_packet line byte;
+  word = if is_of_packet line byte || is_space byte then line.word else part_takes line.word byte;
+  packet = if is_of_packet line byte then line_takes line.packet byte else line.packet;
+}
+
+-- ---- where the line ends here
+
+-- the word, without the carriage return that is no part of the line
+abbrev pub word_ended : TimedLine → List ℕ
+word_ended line = if line.is_over then line.word.bytes else without_return line.word.bytes
+
+-- the line is skipped
+abbrev pub skips_timed : TimedLine → Bool
+skips_timed line = if line.times then (line.has_mark || not (has_bytes (word_ended line)))
+    else is_skipped_kind line.packet.kind
+
+-- what it reads as
+abbrev pub timed_read : TimedLine → Reading
+timed_read line = if line.times
+    then timed (if line.word.is_long then None else time_in (word_ended line)) (open_read line.packet)
+    else record { time = None; parts = open_read line.packet }
+
+-- ---- bytes of a piece
+
+-- the first bytes of a piece were taken, none of which is a line feed, and the rest is left
+pub record PassesTimed (old : TimedLine) (piece rest : List ℕ) (new : TimedLine) : Type 0 where
+  pub front : List ℕ
+  pub split : piece ≡ front ++ rest
+  pub plain : list_any is_line_feed front ≡ false
+  pub line : new ≡ fold timed_takes old front

@@ -1,0 +1,109 @@
+//! The text of the counts.
+ghost use Rattle.std.specs.Prelude.{◌≡◌, ◌+◌, ◌<◌, ◌++◌, ◌^◌, OnOk, string_bytes};
+ghost use Rattle.pm_trace.specs.Counts.{total_of};
+ghost use Rattle.pm_decode.specs.CaptureText.{counts_text, faults_text, json_counts, other_line, other_lines, others_total, plain_counts, totals_line};
+ghost use Rattle.pm_decode.specs.Hearing.{heard_lines};
+
+use crate::heard::Heard;
+use crate::json_counts::push_json_counts;
+use crate::options::TellOptions;
+use crate::others::Others;
+use pm_lines::{push_decimal, push_hex};
+use pm_trace::push_count;
+use std::alloc::AllocError;
+
+/// Appends a line for each code that was carried, and the line of the counts, to a text.
+pub(crate) fn push_counts(
+    text: &mut String,
+    options: &TellOptions,
+    heard: &Heard,
+) -> Result<(), AllocError>
+    requires { heard_lines heard.now < 2 ^ 64 }
+    ensures { OnOk result (string_bytes text.new ≡ string_bytes text.old ++ counts_text options.now heard.now) }
+{
+    if options.json {
+        push_json_counts(text, options.all, heard)
+    } else {
+        push_plain_counts(text, options.all, heard)
+    }
+}
+
+// The same as it is told to a person.
+#[tactic(auto, using(pm_lines::proofs::Joins::joins), unfolding(crate::specs::CaptureText::plain_counts))]
+fn push_plain_counts(text: &mut String, all: bool, heard: &Heard) -> Result<(), AllocError>
+    requires { heard_lines heard.now < 2 ^ 64 }
+    ensures { OnOk result (string_bytes text.new ≡ string_bytes text.old ++ plain_counts all heard.now) }
+{
+    for (code, count) in heard.tally().codes().iter() {
+        push_count(text, *code, *count)?;
+    }
+    if all {
+        push_others(text, heard.others())?;
+    }
+    push_totals(text, all, heard)
+}
+
+// A line for each other code, in ascending order.
+#[tactic(auto, using(crate::proofs::CountsLemmas::count_steps))]
+fn push_others(text: &mut String, others: &Others) -> Result<(), AllocError>
+    ensures { OnOk result (string_bytes text.new ≡ string_bytes text.old ++ other_lines others.now 256) }
+{
+    for code in 0..256u16 {
+        push_other(text, others, code as u8)?;
+    }
+    Ok(())
+}
+
+// The line of another code, where it was carried.
+#[tactic(auto, using(pm_lines::proofs::Joins::joins))]
+fn push_other(text: &mut String, others: &Others, code: u8) -> Result<(), AllocError>
+    ensures { OnOk result (string_bytes text.new ≡ string_bytes text.old ++ other_line others.now code) }
+{
+    let Some(count) = others.of(code) else {
+        return Ok(());
+    };
+    text.push_str("count code ")?;
+    push_hex(text, code)?;
+    text.push_str(" ")?;
+    push_decimal(text, count)?;
+    text.push_str("\n")
+}
+
+// The line of the counts.
+#[tactic(auto, using(pm_lines::proofs::Joins::joins), unfolding(crate::specs::CaptureText::totals_line))]
+fn push_totals(text: &mut String, all: bool, heard: &Heard) -> Result<(), AllocError>
+    requires { heard_lines heard.now < 2 ^ 64 }
+    ensures { OnOk result (string_bytes text.new ≡ string_bytes text.old ++ totals_line all heard.now) }
+{
+    let (_, accepted, faults, bad) = heard.tally().lines();
+    text.push_str("lines ")?;
+    push_decimal(text, heard.lines())?;
+    text.push_str(" accepted ")?;
+    push_decimal(text, accepted)?;
+    push_others_total(text, all, heard.others())?;
+    push_faults(text, faults, bad)
+}
+
+// The end of that line: how many lines had a fault and were bad.
+#[tactic(auto, using(pm_lines::proofs::Joins::joins))]
+fn push_faults(text: &mut String, faults: u64, bad: u64) -> Result<(), AllocError>
+    ensures { OnOk result (string_bytes text.new ≡ string_bytes text.old ++ faults_text faults bad) }
+{
+    text.push_str(" faults ")?;
+    push_decimal(text, faults)?;
+    text.push_str(" bad ")?;
+    push_decimal(text, bad)?;
+    text.push_str("\n")
+}
+
+// How often other codes were carried.
+#[tactic(auto, using(pm_lines::proofs::Joins::joins))]
+fn push_others_total(text: &mut String, all: bool, others: &Others) -> Result<(), AllocError>
+    ensures { OnOk result (string_bytes text.new ≡ string_bytes text.old ++ others_total all others.now) }
+{
+    if !all {
+        return Ok(());
+    }
+    text.push_str(" other ")?;
+    push_decimal(text, others.total())
+}

@@ -1,0 +1,147 @@
+//! What is known behind the lines of a capture.
+ghost use Rattle.std.specs.Prelude.{◌≡◌, Err};
+ghost use Rattle.pm_trace.specs.ShownLines.{judged_in};
+ghost use Rattle.pm_trace.specs.Trace.{reading_judged};
+
+use crate::line_text::{push_bad_line, push_packet_line};
+use crate::options::TellOptions;
+use crate::others::Others;
+use crate::timed_line::LineReading;
+use pm_trace::{LineFault, Shown, Tally, packet_shown};
+use pm_values::{Lessons, Packet, address_otherwise};
+use std::alloc::{AllocError, Global};
+use std::marker::Model;
+
+/// What the lines taught, and how many there were of each kind.
+#[derive(Debug, Drop)]
+pub(crate) struct Heard {
+    lessons: Lessons,
+    tally: Tally,
+    others: Others,
+}
+
+impl Model for Heard {
+    ghost use Rattle.pm_decode.specs.Hearing.{Heard};
+
+    ghost Value = { Heard };
+
+    ghost view = { λ h. record { taught = h.lessons; counts = h.tally; others = h.others } };
+}
+
+impl Heard {
+    ghost use Rattle.std.specs.Prelude.{[], ◌+◌, ◌<◌, ◌≤◌, ◌^◌, ◌++◌, codes, false, OnOk, Ok, string_bytes};
+    ghost use Rattle.pm_trace.specs.Counts.{lines_in};
+    ghost use Rattle.pm_decode.specs.CaptureText.{line_text};
+    ghost use Rattle.pm_decode.specs.Hearing.{counted_with, heard_lines, heard_of, heard_with};
+    ghost use Rattle.pm_decode.specs.ShownReadings.{packet_in, reading_in};
+
+    /// No line yet. Takes no memory.
+    #[tactic(auto, unfolding(crate::specs::Hearing::heard_of))]
+    pub(crate) fn new(alloc: Global) -> Heard
+        ensures { result ≡ heard_of false [] }
+    {
+        Heard {
+            lessons: Lessons::new(alloc),
+            tally: Tally::new(alloc),
+            others: Others::new(alloc),
+        }
+    }
+
+    /// Appends what a line says to a text, with its number and without a line feed, and counts it. Takes memory for the
+    /// text, and for a code and an output that is new.
+    #[tactic(auto, using(crate::proofs::HearingLemmas::heard_one))]
+    pub(crate) fn hear(
+        &mut self,
+        options: &TellOptions,
+        number: u64,
+        line: &LineReading<'_>,
+        text: &mut String,
+    ) -> Result<(), AllocError>
+        requires { heard_lines self.old + 1 < 2 ^ 64 }
+        ensures text { OnOk result (string_bytes text.new ++ codes "\n" ≡ string_bytes text.old
+            ++ line_text options.now self.old.taught (number, reading_in line.now)) }
+        ensures heard { OnOk result (self.new ≡ heard_with options.now.all self.old (number, reading_in line.now)) }
+        ensures few { heard_lines self.new ≤ heard_lines self.old + 1 }
+    {
+        match &line.packet {
+            Ok(packet) => self.hear_packet(options, number, line.time, packet, text),
+            Err(fault) => {
+                push_bad_line(text, options, number, *fault)?;
+                self.tally.count(&bad_shown(*fault))
+            }
+        }
+    }
+
+    // The same of a line that could be read.
+    #[tactic(auto, using(crate::proofs::HearingLemmas::heard_one))]
+    fn hear_packet(
+        &mut self,
+        options: &TellOptions,
+        number: u64,
+        time: Option<u64>,
+        packet: &Packet<'_>,
+        text: &mut String,
+    ) -> Result<(), AllocError>
+        requires { heard_lines self.old + 1 < 2 ^ 64 }
+        ensures text { OnOk result (string_bytes text.new ++ codes "\n" ≡ string_bytes text.old
+            ++ line_text options.now self.old.taught (number, record { time = time; parts = Ok (packet_in packet.now) })) }
+        ensures heard { OnOk result (self.new
+            ≡ heard_with options.now.all self.old (number, record { time = time; parts = Ok (packet_in packet.now) })) }
+        ensures few { heard_lines self.new ≤ heard_lines self.old + 1 }
+    {
+        let shown = packet_shown(packet.write, packet.read);
+        let other = if options.all {
+            address_otherwise(packet, &shown)
+        } else {
+            None
+        };
+        push_packet_line(
+            text,
+            options,
+            &self.lessons,
+            number,
+            time,
+            packet,
+            &shown,
+            other,
+        )?;
+        self.lessons.learn(&shown)?;
+        match other {
+            None => self.tally.count(&shown),
+            Some(_) => self.others.count(packet.code()),
+        }
+    }
+
+    /// How many lines there were.
+    pub(crate) fn lines(&self) -> u64
+        requires { heard_lines self.now < 2 ^ 64 }
+        ensures { result ≡ heard_lines self.now }
+    {
+        let (lines, _, _, _) = self.tally.lines();
+        lines + self.others.total()
+    }
+
+    /// The counts of the lines that are told as the command table has them.
+    pub(crate) fn tally(&self) -> &Tally
+        ensures { result.now ≡ self.now.counts }
+    {
+        &self.tally
+    }
+
+    /// How often other codes were carried.
+    pub(crate) fn others(&self) -> &Others
+        ensures { result.now ≡ self.now.others }
+    {
+        &self.others
+    }
+}
+
+// What a line says that can't be read.
+fn bad_shown(fault: LineFault) -> Shown<'static>
+    ensures { judged_in result ≡ reading_judged (Err fault) }
+{
+    match fault {
+        LineFault::Syntax => Shown::BadSyntax,
+        LineFault::BadHex => Shown::BadHex,
+    }
+}

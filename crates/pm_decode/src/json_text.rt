@@ -1,0 +1,316 @@
+//! Packets as objects of JSON.
+ghost use Rattle.std.specs.Prelude.{◌≡◌, ◌++◌, option_map, if◌then◌else◌, codes, OnOk, string_bytes};
+ghost use Rattle.std.specs.Fmt.{signed_decimal};
+ghost use Rattle.pm_frame.specs.FaultWords.{frame_fault_place};
+ghost use Rattle.pm_table.specs.Coefficients.{coefficients_of};
+ghost use Rattle.pm_trace.specs.ShownLines.{judged_in};
+ghost use Rattle.pm_decode.specs.JsonText.{code_fields, coefficients_fields, fault_fields, judged_fields, kind_fields, message_fields, name_field, numbers_json, other_fields, other_payload, payload_fields, plain_fields, sent_direction as spec_sent_direction, sent_fields, text_field, whole_field, whole_words};
+
+use crate::json_fields::{
+    push_address_field, push_bytes_field, push_hex_field, push_key, push_number_field,
+    push_number_field_if, push_text_field,
+};
+use crate::json_value::push_value_fields;
+use crate::options::TellOptions;
+use pm_frame::{FrameFault, FrameView, Message};
+use pm_lines::{push_hex, push_signed};
+use pm_table::{Code, Coefficients};
+use pm_trace::{Shown, answered, coefficients_in};
+use pm_values::{Lessons, Packet, packet_value, push_spaced};
+use std::alloc::AllocError;
+
+/// Appends the fields of a packet as the command table has it.
+#[tactic(auto, using(pm_lines::proofs::Joins::joins))]
+pub(crate) fn push_judged_fields(
+    text: &mut String,
+    options: &TellOptions,
+    lessons: &Lessons,
+    packet: &Packet<'_>,
+    shown: &Shown<'_>,
+) -> Result<(), AllocError>
+    ensures { OnOk result (string_bytes text.new ≡ string_bytes text.old
+        ++ judged_fields options.now.vout options.now.values lessons.now packet.now.write.now
+        (option_map (λ bytes. bytes.now) packet.now.read) (judged_in shown.now)) }
+{
+    match shown {
+        Shown::Accepted { addr, view, answer } => {
+            push_address_field(text, Some(*addr))?;
+            push_message_fields(text, options, lessons, *addr, view, *answer)
+        }
+        Shown::Faulty { addr, read, fault } => {
+            push_fault_fields(text, options.values, packet, *addr, *read, *fault)
+        }
+        Shown::BadSyntax | Shown::BadHex => Ok(()),
+    }
+}
+
+// What a packet says that was accepted.
+#[tactic(auto, using(pm_lines::proofs::Joins::joins))]
+fn push_message_fields(
+    text: &mut String,
+    options: &TellOptions,
+    lessons: &Lessons,
+    addr: u8,
+    view: &FrameView<'_>,
+    answer: Option<&[u8]>,
+) -> Result<(), AllocError>
+    ensures { OnOk result (string_bytes text.new ≡ string_bytes text.old
+        ++ message_fields options.now.vout options.now.values lessons.now addr view.now
+        (option_map (λ bytes. bytes.now) answer.entry)) }
+{
+    match view.message() {
+        Message::ReadCoefficients { code, side } => {
+            push_coefficients_fields(text, code, side, answered(answer))
+        }
+        _ => push_plain_fields(text, options, lessons, addr, view, answer),
+    }
+}
+
+// The page that a packet names, its code, its payload and its value.
+#[tactic(auto, using(pm_lines::proofs::Joins::joins))]
+fn push_plain_fields(
+    text: &mut String,
+    options: &TellOptions,
+    lessons: &Lessons,
+    addr: u8,
+    view: &FrameView<'_>,
+    answer: Option<&[u8]>,
+) -> Result<(), AllocError>
+    ensures { OnOk result (string_bytes text.new ≡ string_bytes text.old
+        ++ plain_fields options.now.vout options.now.values lessons.now addr view.now
+        (option_map (λ bytes. bytes.now) answer.entry)) }
+{
+    push_number_field_if(text, "page", view.page().map(u64::from))?;
+    push_code_fields(text, view.code())?;
+    push_payload_fields(text, view.payload(), answer)?;
+    if options.values {
+        push_value_fields(
+            text,
+            packet_value(options.vout, lessons, addr, view, answer),
+        )?;
+    }
+    Ok(())
+}
+
+// A code, and its name.
+#[tactic(auto, using(pm_lines::proofs::Joins::joins))]
+fn push_code_fields(text: &mut String, code: u8) -> Result<(), AllocError>
+    ensures { OnOk result (string_bytes text.new ≡ string_bytes text.old ++ code_fields code) }
+{
+    push_hex_field(text, "code", code)?;
+    push_text_field(text, "name", Code(code).name())
+}
+
+// Where a payload goes, and the payload.
+#[tactic(auto, using(pm_lines::proofs::Joins::joins))]
+fn push_payload_fields(
+    text: &mut String,
+    payload: &[u8],
+    answer: Option<&[u8]>,
+) -> Result<(), AllocError>
+    ensures { OnOk result (string_bytes text.new ≡ string_bytes text.old
+        ++ payload_fields payload.now (option_map (λ bytes. bytes.now) answer.entry)) }
+{
+    match answer {
+        None => push_sent_fields(text, payload),
+        Some(answer) => {
+            push_text_field(text, "direction", "read")?;
+            push_bytes_field(text, "bytes", answer)
+        }
+    }
+}
+
+// What was written, or that nothing was.
+#[tactic(auto, using(pm_lines::proofs::Joins::joins))]
+fn push_sent_fields(text: &mut String, payload: &[u8]) -> Result<(), AllocError>
+    ensures { OnOk result (string_bytes text.new ≡ string_bytes text.old ++ sent_fields payload.now) }
+{
+    push_text_field(text, "direction", sent_direction(payload))?;
+    push_bytes_field(text, "bytes", payload)
+}
+
+// Whether something was written, or only sent.
+fn sent_direction(payload: &[u8]) -> &'static str
+    ensures { result.now ≡ spec_sent_direction payload.now }
+{
+    if payload.is_empty() { "send" } else { "write" }
+}
+
+// What coefficients were asked of, and the coefficients.
+#[tactic(auto, using(pm_lines::proofs::Joins::joins))]
+fn push_coefficients_fields(
+    text: &mut String,
+    code: u8,
+    side: u8,
+    answer: &[u8],
+) -> Result<(), AllocError>
+    ensures { OnOk result (string_bytes text.new ≡ string_bytes text.old ++ coefficients_fields code side answer.now) }
+{
+    push_code_fields(text, 0x30)?;
+    push_hex_field(text, "of", code)?;
+    push_number_field(text, "side", u64::from(side))?;
+    push_payload_fields(text, &[], Some(answer))?;
+    push_numbers_field(text, coefficients_in(answer))
+}
+
+// The three numbers of an answer as a field.
+#[tactic(auto, using(pm_lines::proofs::Joins::joins), unfolding(crate::specs::JsonText::text_field))]
+fn push_numbers_field(text: &mut String, coefficients: Coefficients) -> Result<(), AllocError>
+    ensures { OnOk result (string_bytes text.new
+        ≡ string_bytes text.old ++ text_field (codes "value") (numbers_json coefficients)) }
+{
+    push_key(text, "value")?;
+    text.push_str("\"")?;
+    push_numbers(text, coefficients)?;
+    text.push_str("\"")
+}
+
+// The three numbers of an answer.
+#[tactic(auto, using(pm_lines::proofs::Joins::signed_joins), unfolding(crate::specs::JsonText::numbers_json))]
+fn push_numbers(text: &mut String, coefficients: Coefficients) -> Result<(), AllocError>
+    ensures { OnOk result (string_bytes text.new ≡ string_bytes text.old ++ numbers_json coefficients) }
+{
+    text.push_str("m ")?;
+    push_signed(text, i128::from(coefficients.m))?;
+    text.push_str(" b ")?;
+    push_signed(text, i128::from(coefficients.b))?;
+    text.push_str(" r ")?;
+    push_signed(text, i128::from(coefficients.r))
+}
+
+// A packet with a fault.
+#[tactic(auto, using(pm_lines::proofs::Joins::joins))]
+fn push_fault_fields(
+    text: &mut String,
+    values: bool,
+    packet: &Packet<'_>,
+    addr: Option<u8>,
+    is_read: bool,
+    fault: FrameFault,
+) -> Result<(), AllocError>
+    ensures { OnOk result (string_bytes text.new ≡ string_bytes text.old
+        ++ fault_fields values packet.now.write.now (option_map (λ bytes. bytes.now) packet.now.read) addr is_read fault) }
+{
+    push_address_field(text, addr)?;
+    push_text_field(text, "direction", direction(is_read))?;
+    push_whole_field(text, values, packet)?;
+    push_kind_fields(text, fault)
+}
+
+// A fault, and its place.
+#[tactic(auto, using(pm_lines::proofs::Joins::joins))]
+fn push_kind_fields(text: &mut String, fault: FrameFault) -> Result<(), AllocError>
+    ensures { OnOk result (string_bytes text.new ≡ string_bytes text.old ++ kind_fields fault) }
+{
+    push_text_field(text, "fault", fault.words())?;
+    push_number_field_if(text, "place", place_of(fault))
+}
+
+// The place of a fault, where it has one.
+fn place_of(fault: FrameFault) -> Option<u64>
+    ensures { result ≡ frame_fault_place fault }
+{
+    match fault.place() {
+        Some(place) => Some(place as u64),
+        None => None,
+    }
+}
+
+// The part that has the fault.
+fn direction(is_read: bool) -> &'static str
+    ensures { result.now ≡ (if is_read then codes "read" else codes "write") }
+{
+    if is_read { "read" } else { "write" }
+}
+
+// All bytes of a packet, where they are wanted.
+#[tactic(auto, using(pm_lines::proofs::Joins::joins), unfolding(crate::specs::JsonText::text_field))]
+fn push_whole_field(text: &mut String, values: bool, packet: &Packet<'_>) -> Result<(), AllocError>
+    ensures { OnOk result (string_bytes text.new ≡ string_bytes text.old
+        ++ whole_field values packet.now.write.now (option_map (λ bytes. bytes.now) packet.now.read)) }
+{
+    if !values {
+        return Ok(());
+    }
+    push_key(text, "bytes")?;
+    text.push_str("\"")?;
+    push_whole_words(text, packet)?;
+    text.push_str("\"")
+}
+
+// All bytes of a packet, with a slash before those that were read.
+#[tactic(auto, using(pm_lines::proofs::Joins::joins), unfolding(crate::specs::JsonText::whole_words))]
+fn push_whole_words(text: &mut String, packet: &Packet<'_>) -> Result<(), AllocError>
+    ensures { OnOk result (string_bytes text.new ≡ string_bytes text.old
+        ++ whole_words packet.now.write.now (option_map (λ bytes. bytes.now) packet.now.read)) }
+{
+    match (packet.write, packet.read) {
+        ([], None) => Ok(()),
+        ([], Some(read)) => {
+            text.push_str("/")?;
+            push_spaced(text, read)
+        }
+        ([byte, rest @ ..], None) => {
+            push_hex(text, *byte)?;
+            push_spaced(text, rest)
+        }
+        ([byte, rest @ ..], Some(read)) => {
+            push_hex(text, *byte)?;
+            push_spaced(text, rest)?;
+            text.push_str(" /")?;
+            push_spaced(text, read)
+        }
+    }
+}
+
+/// Appends the fields of a packet that is told by its code and bytes.
+#[tactic(auto, using(pm_lines::proofs::Joins::joins))]
+pub(crate) fn push_other_fields(
+    text: &mut String,
+    addr: u8,
+    packet: &Packet<'_>,
+) -> Result<(), AllocError>
+    ensures { OnOk result (string_bytes text.new ≡ string_bytes text.old
+        ++ other_fields addr packet.now.write.now (option_map (λ bytes. bytes.now) packet.now.read)) }
+{
+    let code = packet.code();
+    push_address_field(text, Some(addr))?;
+    push_hex_field(text, "code", code)?;
+    push_name_field(text, code)?;
+    push_other_payload(text, packet)?;
+    push_key(text, "pec")?;
+    text.push_str(truth(packet.has_pec()))
+}
+
+// A boolean value.
+fn truth(value: bool) -> &'static str
+    ensures { result.now ≡ (if value then codes "true" else codes "false") }
+{
+    if value { "true" } else { "false" }
+}
+
+// The name of a code that the table has.
+fn push_name_field(text: &mut String, code: u8) -> Result<(), AllocError>
+    ensures { OnOk result (string_bytes text.new ≡ string_bytes text.old ++ name_field code) }
+{
+    if !Code(code).is_known() {
+        return Ok(());
+    }
+    push_text_field(text, "name", Code(code).name())
+}
+
+// What was written and read.
+#[tactic(auto, using(pm_lines::proofs::Joins::joins))]
+fn push_other_payload(text: &mut String, packet: &Packet<'_>) -> Result<(), AllocError>
+    ensures { OnOk result (string_bytes text.new ≡ string_bytes text.old
+        ++ other_payload packet.now.write.now (option_map (λ bytes. bytes.now) packet.now.read)) }
+{
+    match packet.answer() {
+        None => push_sent_fields(text, packet.written()),
+        Some(answer) => {
+            push_text_field(text, "direction", "read")?;
+            push_bytes_field(text, "written", packet.written())?;
+            push_bytes_field(text, "bytes", answer)
+        }
+    }
+}

@@ -1,0 +1,213 @@
+//! The text of a line.
+ghost use Rattle.std.specs.Prelude.{◌≡◌, ◌++◌, ℕ, Option, Err, Ok, OnOk, codes, decimal, option_map, string_bytes};
+ghost use Rattle.pm_trace.specs.ShownLines.{judged_in};
+ghost use Rattle.pm_trace.specs.Trace.{parts_judged, reading_judged};
+ghost use Rattle.pm_trace.specs.TraceText.{judged_text};
+ghost use Rattle.pm_values.specs.Taught.{Taught};
+ghost use Rattle.pm_decode.specs.CaptureText.{bytes_text, extra_text, json_line, line_text, plain_line, meaning_text, packet_text_by, read_bytes_text, time_text};
+ghost use Rattle.pm_decode.specs.Hearing.{other_address};
+ghost use Rattle.pm_decode.specs.ShownReadings.{packet_in};
+
+use crate::json_fields::{push_number_field_if, push_text_field};
+use crate::json_text::{push_judged_fields, push_other_fields};
+use crate::options::TellOptions;
+use pm_lines::{TextFault, push_decimal};
+use pm_trace::{LineFault, Shown, push_shown};
+use pm_values::{Lessons, Packet, packet_value, push_known, push_otherwise, push_spaced};
+use std::alloc::AllocError;
+
+/// Appends a line that can't be read to a text, with its number and without a line feed.
+#[tactic(auto, unfolding(crate::specs::CaptureText::line_text))]
+pub(crate) fn push_bad_line(
+    text: &mut String,
+    options: &TellOptions,
+    number: u64,
+    fault: LineFault,
+) -> Result<(), AllocError>
+    ensures { OnOk result ((taught : Taught) (time : Option ℕ) → string_bytes text.new ++ codes "\n" ≡ string_bytes text.old
+        ++ line_text options.now taught (number, record { time = time; parts = Err fault })) }
+{
+    if options.json {
+        push_bad_json(text, options, number, fault)
+    } else {
+        push_bad_plain(text, options, number, fault)
+    }
+}
+
+// The same as an object of JSON.
+#[tactic(auto, using(pm_lines::proofs::Joins::joins), unfolding(crate::specs::CaptureText::json_line))]
+fn push_bad_json(
+    text: &mut String,
+    options: &TellOptions,
+    number: u64,
+    fault: LineFault,
+) -> Result<(), AllocError>
+    ensures { OnOk result ((taught : Taught) (time : Option ℕ) → string_bytes text.new ++ codes "\n" ≡ string_bytes text.old
+        ++ json_line options.now taught (number, record { time = time; parts = Err fault })) }
+{
+    text.push_str("{\"line\":")?;
+    push_decimal(text, number)?;
+    push_text_field(text, "fault", fault_words(number, fault))?;
+    text.push_str("}")
+}
+
+// The same as it is told to a person.
+#[tactic(auto, using(pm_lines::proofs::Joins::joins), unfolding(crate::specs::CaptureText::plain_line))]
+fn push_bad_plain(
+    text: &mut String,
+    options: &TellOptions,
+    number: u64,
+    fault: LineFault,
+) -> Result<(), AllocError>
+    ensures { OnOk result ((taught : Taught) (time : Option ℕ) → string_bytes text.new ++ codes "\n" ≡ string_bytes text.old
+        ++ plain_line options.now taught (number, record { time = time; parts = Err fault })) }
+{
+    push_decimal(text, number)?;
+    text.push_str(" ")?;
+    text.push_str(fault_words(number, fault))
+}
+
+// The words of a fault of the line of this number.
+fn fault_words(number: u64, fault: LineFault) -> &'static str
+    ensures { result.now ≡ judged_text number (reading_judged (Err fault)) }
+{
+    match fault {
+        LineFault::Syntax => TextFault::Syntax(number).words(),
+        LineFault::BadHex => TextFault::BadHex(number).words(),
+    }
+}
+
+/// Appends a packet's line to a text, with its number and without a line feed: as the command table has the packet, or by
+/// its address, code and bytes where `other` is its address.
+#[tactic(auto, unfolding(crate::specs::CaptureText::line_text))]
+pub(crate) fn push_packet_line(
+    text: &mut String,
+    options: &TellOptions,
+    lessons: &Lessons,
+    number: u64,
+    time: Option<u64>,
+    packet: &Packet<'_>,
+    shown: &Shown<'_>,
+    other: Option<u8>,
+) -> Result<(), AllocError>
+    requires shown { judged_in shown.now ≡ parts_judged packet.now.write.now (option_map (λ bytes. bytes.now) packet.now.read) }
+    requires other { other ≡ other_address options.now.all (packet_in packet.now) }
+    ensures { OnOk result (string_bytes text.new ++ codes "\n" ≡ string_bytes text.old
+        ++ line_text options.now lessons.now (number, record { time = time; parts = Ok (packet_in packet.now) })) }
+{
+    if options.json {
+        push_packet_json(text, options, lessons, number, time, packet, shown, other)
+    } else {
+        push_packet_plain(text, options, lessons, number, time, packet, shown, other)
+    }
+}
+
+// The same as an object of JSON.
+#[tactic(auto, using(pm_lines::proofs::Joins::joins), unfolding(crate::specs::CaptureText::json_line))]
+fn push_packet_json(
+    text: &mut String,
+    options: &TellOptions,
+    lessons: &Lessons,
+    number: u64,
+    time: Option<u64>,
+    packet: &Packet<'_>,
+    shown: &Shown<'_>,
+    other: Option<u8>,
+) -> Result<(), AllocError>
+    requires shown { judged_in shown.now ≡ parts_judged packet.now.write.now (option_map (λ bytes. bytes.now) packet.now.read) }
+    requires other { other ≡ other_address options.now.all (packet_in packet.now) }
+    ensures { OnOk result (string_bytes text.new ++ codes "\n" ≡ string_bytes text.old
+        ++ json_line options.now lessons.now (number, record { time = time; parts = Ok (packet_in packet.now) })) }
+{
+    text.push_str("{\"line\":")?;
+    push_decimal(text, number)?;
+    push_number_field_if(text, "time", time)?;
+    match other {
+        None => push_judged_fields(text, options, lessons, packet, shown)?,
+        Some(addr) => push_other_fields(text, addr, packet)?,
+    }
+    text.push_str("}")
+}
+
+// The same as it is told to a person.
+#[tactic(auto, using(pm_lines::proofs::Joins::joins), unfolding(crate::specs::CaptureText::plain_line))]
+fn push_packet_plain(
+    text: &mut String,
+    options: &TellOptions,
+    lessons: &Lessons,
+    number: u64,
+    time: Option<u64>,
+    packet: &Packet<'_>,
+    shown: &Shown<'_>,
+    other: Option<u8>,
+) -> Result<(), AllocError>
+    requires shown { judged_in shown.now ≡ parts_judged packet.now.write.now (option_map (λ bytes. bytes.now) packet.now.read) }
+    requires other { other ≡ other_address options.now.all (packet_in packet.now) }
+    ensures { OnOk result (string_bytes text.new ++ codes "\n" ≡ string_bytes text.old
+        ++ plain_line options.now lessons.now (number, record { time = time; parts = Ok (packet_in packet.now) })) }
+{
+    push_decimal(text, number)?;
+    push_time(text, time)?;
+    text.push_str(" ")?;
+    match other {
+        None => {
+            push_shown(text, number, shown)?;
+            push_extra(text, options, lessons, packet, shown)
+        }
+        Some(addr) => push_otherwise(text, addr, packet),
+    }
+}
+
+// The time of a packet, where it is known.
+#[tactic(auto, using(pm_lines::proofs::Joins::joins))]
+fn push_time(text: &mut String, time: Option<u64>) -> Result<(), AllocError>
+    ensures { OnOk result (string_bytes text.new ≡ string_bytes text.old ++ time_text time) }
+{
+    let Some(time) = time else {
+        return Ok(());
+    };
+    text.push_str(" ")?;
+    push_decimal(text, time)?;
+    text.push_str(" us")
+}
+
+// What stands behind a packet's text: its value, or its bytes where it has a fault.
+#[tactic(auto, using(pm_lines::proofs::Joins::joins))]
+fn push_extra(
+    text: &mut String,
+    options: &TellOptions,
+    lessons: &Lessons,
+    packet: &Packet<'_>,
+    shown: &Shown<'_>,
+) -> Result<(), AllocError>
+    ensures { OnOk result (string_bytes text.new ≡ string_bytes text.old
+        ++ extra_text options.now lessons.now (packet_in packet.now) (judged_in shown.now)) }
+{
+    if !options.values {
+        return Ok(());
+    }
+    match shown {
+        Shown::Accepted { addr, view, answer } => {
+            push_known(
+                text,
+                packet_value(options.vout, lessons, *addr, view, *answer),
+            )
+        }
+        Shown::Faulty { .. } => push_bytes(text, packet),
+        Shown::BadSyntax | Shown::BadHex => Ok(()),
+    }
+}
+
+// All bytes of a packet.
+#[tactic(auto, using(pm_lines::proofs::Joins::joins))]
+fn push_bytes(text: &mut String, packet: &Packet<'_>) -> Result<(), AllocError>
+    ensures { OnOk result (string_bytes text.new ≡ string_bytes text.old ++ bytes_text (packet_in packet.now)) }
+{
+    text.push_str(" bytes")?;
+    push_spaced(text, packet.write)?;
+    let Some(read) = packet.read else {
+        return Ok(());
+    };
+    text.push_str(" /")?;
+    push_spaced(text, read)
+}

@@ -1,0 +1,92 @@
+ghost use Rattle.std.specs.Prelude.{◌≡◌};
+
+use crate::capture::Capture;
+use crate::heard::Heard;
+use crate::options::TellOptions;
+use crate::timed_line::LineReading;
+use std::alloc::{AllocError, Global};
+use std::marker::Model;
+
+/// The text of lines that ended and was not written yet.
+#[derive(Debug, Drop)]
+pub(crate) struct Told {
+    text: Vec<u8>,
+    // Where the text of a line is made.
+    line: String,
+}
+
+impl Model for Told {
+    ghost use Rattle.std.specs.Prelude.{List, ℕ};
+
+    ghost Value = { List ℕ };
+
+    ghost view = { λ t. t.text.items };
+}
+
+impl Told {
+    ghost use Rattle.std.specs.Prelude.{[], ◌+◌, ◌<◌, ◌≤◌, ◌++◌, ◌^◌, OnErr, OnOk, length};
+    ghost use Rattle.pm_decode.specs.CaptureText.{counts_text, line_text};
+    ghost use Rattle.pm_decode.specs.Hearing.{heard_lines, heard_with};
+    ghost use Rattle.pm_decode.specs.ShownReadings.{reading_in};
+
+    /// No line. Takes no memory.
+    pub(crate) fn new(alloc: Global) -> Told
+        ensures { result ≡ [] }
+    {
+        Told {
+            text: Vec::new(alloc),
+            line: String::new(alloc),
+        }
+    }
+
+    /// The text.
+    pub(crate) fn bytes(&self) -> &[u8]
+        ensures { result.now ≡ self.now }
+    {
+        &self.text
+    }
+
+    /// How many bytes the text has.
+    pub(crate) fn len(&self) -> usize
+        ensures { result ≡ length self.now }
+    {
+        self.text.len()
+    }
+
+    /// Leaves no byte.
+    pub(crate) fn clear(&mut self)
+        ensures { self.new ≡ [] }
+    {
+        self.text.clear();
+    }
+
+    /// Gathers what a line says, with its number, and has it heard.
+    pub(crate) fn hear(
+        &mut self,
+        heard: &mut Heard,
+        options: &TellOptions,
+        number: u64,
+        line: &LineReading<'_>,
+    ) -> Result<(), AllocError>
+        requires { heard_lines heard.old + 1 < 2 ^ 64 }
+        ensures told { OnOk result (self.new
+            ≡ self.old ++ line_text options.now heard.old.taught (number, reading_in line.now)) }
+        ensures heard { OnOk result (heard.new ≡ heard_with options.now.all heard.old (number, reading_in line.now)) }
+        ensures unchanged { OnErr result (self.new ≡ self.old) }
+        ensures few { heard_lines heard.new ≤ heard_lines heard.old + 1 }
+    {
+        self.line.clear();
+        heard.hear(options, number, line, &mut self.line)?;
+        self.line.push_str("\n")?;
+        self.text.extend_from_slice(self.line.as_str().as_bytes())
+    }
+
+    /// Gathers the text of the counts.
+    pub(crate) fn gather_counts(&mut self, capture: &Capture) -> Result<(), AllocError>
+        ensures { OnOk result (self.new ≡ self.old ++ counts_text capture.now.options capture.now.heard) }
+    {
+        self.line.clear();
+        capture.push_counts(&mut self.line)?;
+        self.text.extend_from_slice(self.line.as_str().as_bytes())
+    }
+}

@@ -1,0 +1,49 @@
+-- What calls of a part in a caller's memory answer and write.
+use Rattle.std.specs.Prelude.{◌≡◌, ℕ, Bool, if◌then◌else◌, ◌==◌, List, [], take, drop, Option, Some, None}
+use Rattle.pm_num.specs.Ratio.{Ratio}
+use Rattle.pm_table.specs.declared.cell.Cell.{Cell}
+use Rattle.pm_model.specs.Commanded.{commanded}
+use Rattle.pm_model.specs.Settings.{word_at}
+use Rattle.pm_device.specs.declared.ending.Ending.{Ending}
+use Rattle.pm_device.specs.declared.ending.Ending.TheVariants.{Stop, Restart}
+use Rattle.pm_device.specs.declared.heard.Heard.{Heard}
+use Rattle.pm_device.specs.declared.heard.Heard.TheVariants.{Answer}
+use Rattle.pm_device.specs.Held.{Held, value_for}
+use Rattle.pm_device_c.specs.declared.reply_image.ReplyImage.{ReplyImage}
+
+-- a stop ends the frame, or a repeated start where this isn't 0
+abbrev pub ending_of : ℕ → Ending
+ending_of request = if request == 0 then Stop else Restart
+
+-- the number of a bit
+abbrev pub flag_of : Bool → ℕ
+flag_of bit = if bit then 1 else 0
+
+-- the bytes of the answer; none where there is none
+abbrev pub heard_bytes : Heard → List ℕ
+heard_bytes (Answer frame) = frame.items
+heard_bytes _ = []
+
+-- the bytes of the answer stand in front, and what stands after them stays
+pub record HasReply (heard : Heard) (before after : ReplyImage) : Type 0 where
+  pub bytes : take after.length after.bytes ≡ heard_bytes heard
+  pub rest : drop after.length after.bytes ≡ drop after.length before.bytes
+  pub unused : after.unused ≡ before.unused
+
+-- where the memory holds no part all of it stays
+abbrev pub IsReply : Option Heard → ReplyImage → ReplyImage → Type 0
+IsReply None before after = after ≡ before
+IsReply (Some heard) before after = HasReply heard before after
+
+-- the word of a cell, and the one that it has in the store
+abbrev pub IsWord : Option Held → Option Cell → ℕ → Type 0
+IsWord (Some held) (Some cell) word = word ≡ word_at held.words cell
+IsWord _ _ word = Unit {0}
+
+abbrev pub IsStored : Option Held → Option Cell → ℕ → Type 0
+IsStored (Some held) (Some cell) word = word ≡ word_at held.store cell
+IsStored _ _ word = Unit {0}
+
+-- the voltage that an output commands
+abbrev pub commanded_now : Held → ℕ → Ratio
+commanded_now held output = commanded (value_for held.config output) held.words output

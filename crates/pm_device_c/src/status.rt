@@ -1,0 +1,74 @@
+//! The status registers of a part.
+
+ghost use Rattle.std.specs.Prelude.{◌≡◌, ◌≢◌, IsSomeAnd};
+ghost use Rattle.pm_device.specs.Image.{device_of};
+ghost use Rattle.pm_device.specs.Status.{status_byte, status_cml, status_vout, status_word};
+ghost use Rattle.pm_device_c.specs.Numbers.{output_number, there_number};
+
+use crate::numbers::{ACCEPTED, NO_OUTPUT, NO_PART};
+use pm_device::{Converter, Image};
+
+/// STATUS_BYTE of an output. E5h, 4 where the output isn't there.
+#[unsafe(no_mangle)]
+pub extern "C" fn pm_part_status_byte(part: &Image, output: u8, status: &mut u8) -> u8
+    ensures number { result ≡ output_number (device_of part.now) output }
+    ensures status { result ≡ 0 → IsSomeAnd (device_of part.now) (λ held. status.new ≡ status_byte held output) }
+    ensures refused { result ≢ 0 → status.new ≡ status.old }
+{
+    let Some(converter) = &Converter::read(part) else {
+        return NO_PART;
+    };
+    if converter.count() <= output {
+        return NO_OUTPUT;
+    }
+    *status = converter.status_byte(output);
+    ACCEPTED
+}
+
+/// STATUS_WORD of an output. E5h, 4 where the output isn't there.
+#[unsafe(no_mangle)]
+pub extern "C" fn pm_part_status_word(part: &Image, output: u8, status: &mut u16) -> u8
+    ensures number { result ≡ output_number (device_of part.now) output }
+    ensures status { result ≡ 0 → IsSomeAnd (device_of part.now) (λ held. status.new ≡ status_word held output) }
+    ensures refused { result ≢ 0 → status.new ≡ status.old }
+{
+    let Some(converter) = &Converter::read(part) else {
+        return NO_PART;
+    };
+    if converter.count() <= output {
+        return NO_OUTPUT;
+    }
+    *status = converter.status_word(output);
+    ACCEPTED
+}
+
+/// STATUS_VOUT of an output. E5h, 4 where the output isn't there.
+#[unsafe(no_mangle)]
+pub extern "C" fn pm_part_status_vout(part: &Image, output: u8, status: &mut u8) -> u8
+    ensures number { result ≡ output_number (device_of part.now) output }
+    ensures status { result ≡ 0 → IsSomeAnd (device_of part.now) (λ held. status.new ≡ status_vout held output) }
+    ensures refused { result ≢ 0 → status.new ≡ status.old }
+{
+    let Some(converter) = &Converter::read(part) else {
+        return NO_PART;
+    };
+    if converter.count() <= output {
+        return NO_OUTPUT;
+    }
+    *status = converter.status_vout(output);
+    ACCEPTED
+}
+
+/// STATUS_CML, the device's. E5h.
+#[unsafe(no_mangle)]
+pub extern "C" fn pm_part_status_cml(part: &Image, status: &mut u8) -> u8
+    ensures number { result ≡ there_number (device_of part.now) }
+    ensures status { result ≡ 0 → IsSomeAnd (device_of part.now) (λ held. status.new ≡ status_cml held) }
+    ensures refused { result ≢ 0 → status.new ≡ status.old }
+{
+    let Some(converter) = &Converter::read(part) else {
+        return NO_PART;
+    };
+    *status = converter.status_cml();
+    ACCEPTED
+}

@@ -1,0 +1,375 @@
+/* The PMBus host core as a static library: a host that sets supply voltages over PMBus 1.3, and calls for packets and
+ * numbers that need no host. One header for processors of 64 and of 32 bits. A model converter to try firmware against
+ * is a library of its own, pm_part.h.
+ *
+ * What each call answers and does is proved of the library (crates/pm_host_c). No prover reads this header: the
+ * programs of examples/c compare its sizes and the numbers that they use.
+ *
+ * What the caller owes, on every call:
+ *   - each pointer is valid for what it points to, aligned for its type, and never null; with a count of
+ *     0 the pointer to bytes may be any that isn't null;
+ *   - what a call writes overlaps nothing else that it is given;
+ *   - counts are in elements, uint64_t on every processor, and tell the truth;
+ *   - one call at a time works on a host, and each call has PM_STACK bytes of stack, pm_refusal_name
+ *     PM_NAME_STACK.
+ *
+ * The library takes no memory, keeps nothing between calls, calls nothing and never blocks.
+ *
+ * A host lives in memory of yours, a pm_host. Any bytes may stand there: each call but pm_host_new, which
+ * makes one, asks first whether it is a host, and answers PM_NO_HOST where it isn't, as for zeros and for a
+ * host of another version. It looks at the mark, the version, the setup and the stage of the open job, 13 of
+ * the 2,056 bytes, and while an order is open at what is known of its cell; at nothing else. So most damage
+ * isn't noticed: of flipped bits and overwritten bytes about 0.4 %. Damaged memory that still reads as a
+ * host is safe to use, and what it says may be wrong, its limits too: keep it from others.
+ *
+ * What stands in a pm_host is a function of what it holds: two hosts that were made and told the same are equal byte for
+ * byte. It holds no pointer, so it may be copied, and kept over a sleep or a warm reset. Who keeps one
+ * keeps a checksum with it, as a CRC-32 over all PM_HOST_SIZE bytes: taken before the sleep, or after each
+ * call that changes the host where a reset may come at any time, and compared before the first call
+ * afterwards. Where the two differ, make a new host by pm_host_new, and narrow its limits again. */
+#ifndef PM_H
+#define PM_H
+
+#include <stdint.h>
+
+/* Before each call whose answer must be asked, since nothing was sent where it is a refusal: a compiler warns where the
+ * answer is dropped. */
+#if (defined __cplusplus && __cplusplus >= 201703L) || (defined __STDC_VERSION__ && __STDC_VERSION__ >= 202311L)
+#define PM_MUST_USE [[nodiscard]]
+#elif defined __GNUC__
+#define PM_MUST_USE __attribute__((warn_unused_result))
+#else
+#define PM_MUST_USE
+#endif
+
+#ifdef __cplusplus
+extern "C" {
+#endif
+
+/* The version of the library, the greater part in the upper byte; pm_version answers that of the one that was linked. */
+#define PM_VERSION 0x0100
+
+/* The version of a host's layout, its size in bytes, and the stack that a call takes at most: PM_STACK, and PM_NAME_STACK
+ * of pm_refusal_name, in which a loader may bind memmove. docs/firmware.md has what calls take on each processor, and an
+ * archive says its own bound as stack-bytes in its section .comment. */
+#define PM_HOST_VERSION 4
+#define PM_HOST_SIZE 2056
+#define PM_STACK 2048
+#define PM_NAME_STACK 4096
+
+/* What a call answers: 0, or why it is refused. A refused call changes nothing, but for one: pm_host_sending
+ * then writes PM_NOTHING. pm_pec, pm_host_restart_seen and pm_host_within answer something else: each says what, and
+ * what the last answers is no number of these. pm_refusal_name gives the name of each, and of those of pm_part.h. */
+enum {
+    PM_OK = 0,
+    PM_H1_OUTPUT_COUNT = 0x01,    /* a number of outputs other than 1 to 8 */
+    PM_H2_PASSES = 0x02,          /* a number of passes other than 1 to 15 */
+    PM_H3_BUSY = 0x03,            /* a job is open */
+    PM_H4_UNKNOWN_OUTPUT = 0x04,  /* the output isn't there */
+    PM_H5_BAD_WORD = 0x05,        /* the cell doesn't take the word, or isn't a voltage */
+    PM_H6_TOO_UNCERTAIN = 0x06,   /* 16 words are possible for the cell, and this is another */
+    PM_H7_FORMAT_UNKNOWN = 0x07,  /* the format of the output's voltages isn't known */
+    PM_N1_ZERO_SLOPE = 0x11,      /* m of DIRECT is 0 */
+    PM_N2_EXPONENT_RANGE = 0x12,  /* R of DIRECT is outside -12 to 12 */
+    PM_N3_BELOW_LEAST = 0x13,     /* below all of the format's values */
+    PM_N4_ABOVE_GREATEST = 0x14,  /* above all of the format's values */
+    PM_N5_TOO_LARGE = 0x15,       /* beyond 10^15 microvolts in size */
+    PM_L1_LIMITS_INVERTED = 0x21, /* limits whose least is above their most */
+    PM_L2_FORMAT_UNKNOWN = 0x22,  /* the output has limits, and its format isn't known: learn it first */
+    PM_L3_BELOW_LIMIT = 0x23,     /* the word's value is below the output's limits */
+    PM_L4_ABOVE_LIMIT = 0x24,     /* the word's value is above the output's limits */
+    PM_L5_NOT_KNOWN_WITHIN = 0x25, /* this byte leaves the output on, and it isn't known to be within its limits */
+    PM_L6_LIMITS_WIDENED = 0x26,  /* the new limits let through what the old ones don't */
+    PM_NO_HOST = 0xE0,            /* the memory holds no host of this version */
+    PM_NO_CELL = 0xE1,            /* the command code is no cell's */
+    PM_OTHER_FRAME = 0xE2,        /* no frame of this kind is being sent */
+    PM_NO_ADDRESS = 0xE3,         /* no address from 08h to 77h */
+    PM_NO_PACKET = 0xE4,          /* no packet has these numbers */
+    PM_NO_LIMITS = 0xE6,          /* the output has no limits */
+    PM_NO_NAME = 0xE7,            /* the number has no name */
+    PM_F1_NOT_OURS = 0x31,        /* F1 to F8: what is wrong with the bytes of a packet */
+    PM_F2_SHORT = 0x32,
+    PM_F3_LONG = 0x33,
+    PM_F4_WRONG_COUNT = 0x34,
+    PM_F5_WRONG_PEC = 0x35,
+    PM_F6_UNKNOWN_CODE = 0x36,
+    PM_F7_WRONG_DIRECTION = 0x37,
+    PM_F8_NESTED = 0x38
+};
+
+/* The cells: an output and one of these command codes; with WRITE_PROTECT, which is the device's, the
+ * output isn't looked at. */
+enum {
+    PM_OPERATION = 0x01,
+    PM_WRITE_PROTECT = 0x10,
+    PM_VOUT_COMMAND = 0x21,
+    PM_VOUT_MAX = 0x24,
+    PM_VOUT_MARGIN_HIGH = 0x25,
+    PM_VOUT_MARGIN_LOW = 0x26,
+    PM_VOUT_MIN = 0x2B
+};
+
+/* ---- The host ---- */
+
+/* A host, in memory of yours. Nothing in it is for callers. */
+typedef struct { uint64_t held[PM_HOST_SIZE / 8]; } pm_host;
+
+/* A compiler that pads it stops here: the sizes of an array aren't negative. */
+typedef char pm_host_has_its_size[sizeof(pm_host) == PM_HOST_SIZE ? 1 : -1];
+
+/* The frame that is to be sent now, or nothing. */
+enum { PM_NOTHING = 0, PM_WRITE = 1, PM_REQUEST = 2 };
+typedef struct {
+    uint8_t kind;      /* PM_NOTHING; PM_WRITE, which a stop ends; PM_REQUEST, which a repeated start ends */
+    uint8_t length;    /* how many bytes it has */
+    uint8_t answer;    /* of a request: how many bytes a whole answer has, 3 to 8, the read address first */
+    uint8_t unused;
+    uint8_t bytes[16]; /* the address byte first; a write ends with its PEC */
+} pm_sending;
+
+/* What a call that tells what became of a frame answers. */
+enum { PM_NEXT = 0, PM_DONE = 1, PM_DIFFERS = 2, PM_UNKNOWN = 3, PM_LEARNED = 4 };
+typedef struct {
+    uint16_t kind; /* PM_NEXT, or how the job ended; or a refusal, PM_NO_HOST or PM_OTHER_FRAME */
+    uint16_t word; /* with PM_DIFFERS the word that was read; with PM_UNKNOWN what was wrong with the last answer, as
+                    * PM_F5_WRONG_PEC, 0 where no byte came or it was good and names no format; otherwise 0 */
+} pm_step;
+
+/* Ends and refusals share `kind`: look for a refusal first, before a table is asked by it. pm_host_run, at the end
+ * of this header, is the loop that carries an open job out. */
+
+/* The words that a cell may hold: the first `count` of `words`, at most 16; any word where the count is 0. */
+typedef struct { uint16_t count; uint16_t words[16]; } pm_words;
+
+/* What is said of a cell's word: 1 where it is confirmed, otherwise 0. */
+typedef struct { uint16_t is_confirmed; uint16_t word; } pm_standing;
+
+/* What is known of one cell, by its output and its command code. */
+typedef struct {
+    uint8_t code;
+    uint8_t output; /* 0 of WRITE_PROTECT */
+    pm_standing standing;
+    pm_words words;
+} pm_cell;
+
+/* What is known of all cells: the first `count` of `cells`, output by output, and WRITE_PROTECT last. */
+#define PM_CELLS 49
+typedef struct { uint16_t count; pm_cell cells[PM_CELLS]; } pm_known;
+
+/* Limits of an output's voltage in microvolts, which count as within; and the band in which it is known to be. */
+typedef struct { int64_t least, most; } pm_limits;
+typedef struct { int64_t least, greatest; } pm_band;
+
+/* The format of an output's voltages, or of a reading: LINEAR11, which READ_VIN, READ_IOUT and READ_TEMPERATURE_1
+ * have, and which no host learns of an output. Microvolts are then millionths of a volt, an ampere or a degree. */
+enum { PM_NO_FORMAT = 0, PM_ULINEAR16 = 1, PM_DIRECT = 2, PM_LINEAR11 = 3 };
+typedef struct {
+    uint8_t kind;    /* with PM_LINEAR11 nothing else is looked at */
+    int8_t exponent; /* the exponent of ULINEAR16, -16 to 15, or R of DIRECT, -12 to 12 */
+    int16_t m;       /* the slope of DIRECT, not 0 */
+    int16_t b;       /* the offset of DIRECT */
+} pm_format;
+
+/* The version of this library: compare it at start with PM_VERSION, of which the upper byte has to be the same. */
+uint16_t pm_version(void);
+
+/* The size and the version of a pm_host: compare them at start with PM_HOST_SIZE and PM_HOST_VERSION. */
+uint64_t pm_host_size(void);
+uint16_t pm_host_version(void);
+
+/* Makes a host, whatever stood in the memory, for the device at this address, 08h to 77h, which has this
+ * many outputs, 1 to 8; a job has at most this many passes or tries, 1 to 15. Nothing is known, and no output has
+ * limits. PM_NO_ADDRESS, H1, H2, the first that applies. */
+PM_MUST_USE
+uint8_t pm_host_new(pm_host *host, uint8_t address, uint8_t outputs, uint8_t passes);
+
+/* Gives an output limits, or narrower ones than it has: a least and a most in microvolts. From then on every order for
+ * the output is judged by them, however it is asked: a voltage (VOUT_COMMAND, VOUT_MAX, VOUT_MIN, the margins) by the
+ * value of the word that would be sent, and a byte of OPERATION that leaves the output on by the band that would then
+ * hold. Turning an output off is never refused by a limit. pm_host_restart keeps limits, pm_host_new drops them. A
+ * word that was ordered before stays possible, and what the part or its store holds no host knows: check the
+ * registers, and ask pm_host_within. PM_NO_HOST, H4, N5 beyond 10^15, L1, L6. */
+PM_MUST_USE
+uint8_t pm_host_narrow(pm_host *host, uint8_t output, int64_t least, int64_t most);
+
+/* The limits of an output. PM_NO_HOST, H4, PM_NO_LIMITS; then nothing is written. */
+uint8_t pm_host_limits(const pm_host *host, uint8_t output, pm_limits *limits);
+
+/* Whether an output's voltage lies within its limits, by the words that its registers may hold: PM_WITHIN where its
+ * whole band does or it has none, PM_OUTSIDE where the whole band lies below them or above them, otherwise
+ * PM_NOT_KNOWN. PM_NO_HOST, H4. */
+enum { PM_WITHIN = 0x91, PM_OUTSIDE = 0x92, PM_NOT_KNOWN = 0x93 };
+uint8_t pm_host_within(const pm_host *host, uint8_t output);
+
+/* Between which voltages an output may be, by what is known. No narrower band is true where, since the host started, the
+ * device didn't restart, WRITE_PROTECT was neither ordered nor read as other than 00h, and no restore was begun. The least
+ * is rounded down, the greatest up. PM_NO_HOST, H4, H7 where its format isn't known, N5 where an end is beyond 10^15
+ * microvolts; then nothing is written. */
+uint8_t pm_host_band(const pm_host *host, uint8_t output, pm_band *band);
+
+/* Begins an order: at most `passes` times the word is written once and read back once. It ends as
+ * PM_DONE, PM_DIFFERS or PM_UNKNOWN. PM_NO_HOST, PM_NO_CELL, H3, H4, then by the output's limits L2, L3 or L4, then
+ * H5, L5, H6. */
+PM_MUST_USE
+uint8_t pm_host_order(pm_host *host, uint8_t output, uint8_t code, uint16_t word);
+
+/* Begins an order of the word nearest to a number of microvolts, in the format that the last learn of the
+ * output found. PM_NO_HOST, PM_NO_CELL, H3, H4, H5, H7, N5, N3 or N4, then L3 or L4 by the value of that word, H6. */
+PM_MUST_USE
+uint8_t pm_host_order_micro(pm_host *host, uint8_t output, uint8_t code, int64_t microvolts);
+
+/* Begins a check: the cell is read at most `passes` times. PM_DONE or PM_UNKNOWN. PM_NO_HOST, PM_NO_CELL,
+ * H3, H4. */
+PM_MUST_USE
+uint8_t pm_host_check(pm_host *host, uint8_t output, uint8_t code);
+
+/* Begins a learn of the format of an output's voltages. PM_LEARNED or PM_UNKNOWN. PM_NO_HOST, H3, H4. */
+PM_MUST_USE
+uint8_t pm_host_learn(pm_host *host, uint8_t output);
+
+/* Begins to send CLEAR_FAULTS to an output until it is acknowledged, at most `passes` times. PM_DONE says
+ * no more than that; or PM_UNKNOWN. PM_NO_HOST, H3, H4. */
+PM_MUST_USE
+uint8_t pm_host_clear(pm_host *host, uint8_t output);
+
+/* Begins to send STORE_USER_ALL, which stores the outputs' settings for a restart of the device to load, or
+ * RESTORE_USER_ALL, which brings them back, until it is acknowledged, at most `passes` times. PM_DONE says
+ * no more than that; or PM_UNKNOWN. From the start of a restore on no word of an output is confirmed and any
+ * is possible, until its cell is read. PM_NO_HOST, H3. */
+PM_MUST_USE
+uint8_t pm_host_store(pm_host *host);
+PM_MUST_USE
+uint8_t pm_host_restore(pm_host *host);
+
+/* What is to be sent now. It stays the same until pm_host_finished, pm_host_got, pm_host_restart or
+ * pm_host_new, and where it is PM_NOTHING until a job begins. PM_NO_HOST, and then PM_NOTHING. */
+uint8_t pm_host_sending(const pm_host *host, pm_sending *sending);
+
+/* A write was sent; `acked` isn't 0 where every byte was acknowledged. The status of many HALs is 0 then: ask it, and don't
+ * hand it on. PM_NO_HOST, PM_OTHER_FRAME where no write is to be sent. */
+pm_step pm_host_finished(pm_host *host, uint8_t acked);
+
+/* A request was sent, and these bytes came back, the read address first; 0 bytes where none came.
+ * PM_NO_HOST, PM_OTHER_FRAME where no request is to be sent. */
+pm_step pm_host_got(pm_host *host, const uint8_t *bytes, uint64_t count);
+
+/* Drops the open job and all that is known of cells and formats. The limits stay. PM_NO_HOST. */
+uint8_t pm_host_restart(pm_host *host);
+
+/* What is known of a cell's word, the words that it may hold, the format of an output's voltages.
+ * PM_NO_HOST, PM_NO_CELL, H4; then nothing is written. */
+uint8_t pm_host_standing(const pm_host *host, uint8_t output, uint8_t code, pm_standing *standing);
+uint8_t pm_host_possible(const pm_host *host, uint8_t output, uint8_t code, pm_words *words);
+uint8_t pm_host_format(const pm_host *host, uint8_t output, pm_format *format);
+
+/* What is known of every cell. What stands behind `count` cells stays as it was. PM_NO_HOST; then nothing is written. */
+uint8_t pm_host_known(const pm_host *host, pm_known *known);
+
+/* 1 where a restart of the device was seen since the host started, 0 where none was. PM_NO_HOST, which isn't
+ * 0 either: ask `pm_host_restart_seen(host) == 1`. */
+uint8_t pm_host_restart_seen(const pm_host *host);
+
+/* ---- Names ---- */
+
+/* A name: characters of ASCII, and zeros behind them, so that `text` is a string of C. */
+typedef struct { char text[32]; } pm_name;
+
+/* The letter and the name of a refusal, as "H6 TooUncertain". PM_NO_NAME where the number is none; then nothing is
+ * written. */
+uint8_t pm_refusal_name(uint8_t number, pm_name *name);
+
+/* The name of the kind of a step: "next", "done", "differs", "unknown", "learned". PM_NO_NAME for another number. */
+uint8_t pm_end_name(uint16_t kind, pm_name *name);
+
+/* ---- Numbers and packets alone ---- */
+
+/* The whole microvolts of a word, rounded down. H7 where the format is none, N5 exactly where the word's value
+ * is beyond 10^15 microvolts in size. */
+uint8_t pm_microvolts(const pm_format *format, uint16_t word, int64_t *microvolts);
+
+/* The word nearest to a number of microvolts. H7 where the format is none, N5, N3, N4. */
+uint8_t pm_nearest_word(const pm_format *format, int64_t microvolts, uint16_t *word);
+
+/* What a packet says. */
+typedef struct {
+    uint8_t kind;  /* 1 send byte, 2 write byte, 3 write word, 4 PAGE_PLUS_WRITE, 5 read byte or word,
+                    * 6 PAGE_PLUS_READ, 7 COEFFICIENTS */
+    uint8_t page;  /* of 4 and 6 the page, of 7 the side */
+    uint8_t code;  /* the code; of 4 and 6 the one that is carried, of 7 the one asked about */
+    uint8_t count; /* of 4: how many bytes it carries, 0 to 2 */
+    uint16_t word; /* what is written; a byte is below 256 */
+} pm_packet;
+
+/* The packet error code of bytes. */
+uint8_t pm_pec(const uint8_t *bytes, uint64_t count);
+
+/* The bytes of a packet to a device. PM_NO_ADDRESS; PM_NO_PACKET where the numbers mean none, or the code
+ * doesn't have this layout. */
+uint8_t pm_packet_write(uint8_t address, const pm_packet *packet, pm_sending *frame);
+
+/* What the bytes of a write, and of a request, to a device say. PM_NO_ADDRESS, F1 to F8. */
+uint8_t pm_packet_read_write(uint8_t address, const uint8_t *bytes, uint64_t count, pm_packet *packet);
+uint8_t pm_packet_read_request(uint8_t address, const uint8_t *bytes, uint64_t count, pm_packet *packet);
+
+/* The payload of an answer, without its count and its PEC. */
+typedef struct {
+    uint8_t length;   /* 1, 2, or 5 of COEFFICIENTS */
+    uint8_t bytes[5]; /* 0 after the payload */
+    uint16_t word;    /* the first two as a word, the low one first; of one byte that byte */
+} pm_payload;
+
+/* What came back after the repeated start of a request, the read address first: the PEC covers the request's bytes too.
+ * PM_NO_ADDRESS, PM_NO_PACKET where the packet isn't a request, F1 to F5; then nothing is written. */
+uint8_t pm_packet_read_answer(uint8_t address, const pm_packet *request, const uint8_t *bytes, uint64_t count,
+                              pm_payload *payload);
+
+/* ---- The loop of a driver ---- */
+
+#if defined __cplusplus || (defined __STDC_VERSION__ && __STDC_VERSION__ >= 199901L)
+/* What a write answers. No other number is an acknowledgement, so that a HAL's own status, handed on, never counts as one. */
+enum {
+    PM_ACKED = 0xA5,     /* every byte was acknowledged */
+    PM_NOT_ACKED = 0x5A, /* some byte wasn't */
+    PM_UNHEARD = 0x3C    /* nobody acknowledged the address; it counts as not acknowledged */
+};
+
+/* A bus of yours. `write` puts a packet on it, the address byte first and the PEC last, and answers PM_ACKED, PM_NOT_ACKED
+ * or PM_UNHEARD. `read` sends a request, then a repeated start and the read address, and writes what comes after that to
+ * `answer`, whose `room` bytes are 0 before: it answers how many bytes came, 0 where none did or the transfer failed. A HAL
+ * that sends the address by itself is handed the bytes behind it. Neither call may try again by itself, nor hand over an
+ * older answer. */
+typedef uint8_t (*pm_write)(void *context, const uint8_t *bytes, uint64_t count);
+typedef uint64_t (*pm_read)(void *context, const uint8_t *request, uint64_t count, uint8_t *answer, uint64_t room);
+
+/* Carries the open job out, and says how it ended: PM_UNKNOWN where none was open, PM_NO_HOST where the memory holds no
+ * host. A `read` that says that more bytes came than there was room for counts as one to which none came. It ends since a
+ * job has at most twice as many frames as passes, which is proved; this loop is C of the header, was tried under every
+ * fault of a bus (examples/c/faults.c and run_rows.c), and isn't proved. */
+PM_MUST_USE
+static inline pm_step pm_host_run(pm_host *host, pm_write write, pm_read read, void *context) {
+    pm_step step = {PM_UNKNOWN, 0};
+    pm_sending frame;
+    uint8_t number = pm_host_sending(host, &frame);
+    while (number == PM_OK && frame.kind != PM_NOTHING) {
+        if (frame.kind == PM_WRITE) {
+            step = pm_host_finished(host, write(context, frame.bytes, frame.length) == PM_ACKED);
+        } else {
+            uint8_t answer[8] = {0, 0, 0, 0, 0, 0, 0, 0};
+            uint64_t room = (uint64_t)frame.answer - 1;
+            uint64_t came = read(context, frame.bytes, frame.length, answer + 1, room);
+            answer[0] = (uint8_t)(frame.bytes[0] | 1);
+            step = pm_host_got(host, answer, came == 0 || came > room ? 0 : came + 1);
+        }
+        number = pm_host_sending(host, &frame);
+    }
+    if (number != PM_OK)
+        step.kind = number;
+    return step;
+}
+#endif
+
+#ifdef __cplusplus
+}
+#endif
+
+#endif

@@ -1,0 +1,33 @@
+-- What became of a frame is told where it is of the frame's kind.
+use Rattle.std.proofs.Common.{◌≡◌, true, Some}
+use Rattle.pm_host.specs.declared.stage.Stage.{Stage}
+use Rattle.pm_host.specs.declared.state.State.{State}
+use Rattle.pm_host.specs.declared.told.Told.{Told}
+use Rattle.pm_host.specs.declared.told.Told.TheVariants.{Finished, Got}
+use Rattle.pm_host.specs.Image.{held, host_of}
+use Rattle.pm_host.specs.Refusals.{may_come}
+use Rattle.pm_host.specs.Summary.{Summary, next, step_of}
+use Rattle.pm_host.specs.Told.{entry_told, is_awaited}
+use Rattle.pm_host.specs.Transcript.{Entry}
+use Rattle.pm_host_c.specs.declared.guard_image.GuardImage.{GuardImage}
+use Rattle.pm_host_c.specs.declared.host_step.HostStep.{HostStep}
+use Rattle.pm_host_c.specs.Host.{fault_in, host_step, TellsHost}
+use Rattle.pm_host_c.specs.Memory.{IsMemory}
+
+-- what is of the kind of the open stage's frame may come
+pub awaited : (stage : Stage) (state : State) (told : Told) → is_awaited stage told ≡ true
+    → may_come (held (Some stage) state) (entry_told told) ≡ true
+awaited stage state (Finished acked) is = is
+awaited stage state (Got bytes) is = is
+
+-- the host takes it, and answers how the job stands
+pub tells : (old new : GuardImage) (s : Summary) (e : Entry) (result : HostStep) → host_of old.host ≡ Some s
+    → may_come s e ≡ true → host_of new.host ≡ Some (next s e) → result ≡ host_step (fault_in s e) (step_of s e)
+    → new.limits ≡ old.limits → (IsMemory old → IsMemory new) → TellsHost old e result new
+tells old new s e result found may became answered limits written = record {
+  answer = rw (found, may) answered;
+  told = λ is. rw found became;
+  limits = limits;
+  written = written;
+  refused = λ is. let never = rw found at is in cc;
+}

@@ -1,0 +1,58 @@
+-- What the calls of limits and of the band answer, by the definitions of pm_limits.
+use Rattle.std.specs.Prelude.{ℕ, ℤ, ◌||◌, nat_lt, if◌then◌else◌, Option, Some, None, is_none}
+use Rattle.std.specs.Option.{option_map_or}
+use Rattle.pm_num.specs.declared.fault.NumFault.TheVariants.{TooLarge}
+use Rattle.pm_host.specs.declared.fault.HostFault.TheVariants.{FormatUnknown, UnknownOutput}
+use Rattle.pm_host.specs.Summary.{Summary}
+use Rattle.pm_limits.specs.declared.band.Band.{Band}
+use Rattle.pm_limits.specs.declared.within.Within.{Within}
+use Rattle.pm_limits.specs.declared.within.Within.TheVariants.{Yes, No, NotKnown}
+use Rattle.pm_limits.specs.Band.{band_at, within_of}
+use Rattle.pm_limits.specs.Guard.{Guarded, limits_at, narrow_fault}
+use Rattle.pm_host_c.specs.declared.limits.BandImage.{BandImage}
+use Rattle.pm_host_c.specs.Numbers.{accepted, limit_outcome, no_host, no_limits_there, within_no, within_not_known, within_yes}
+use Rattle.pm_host.specs.FaultWords.{host_fault_number}
+use Rattle.pm_num.specs.FaultWords.{num_fault_number}
+use Rattle.pm_host_c.specs.Voltages.{is_far, IsCeil, IsFloor}
+
+-- limits are narrowed
+abbrev pub narrow_number : Option Guarded → ℕ → ℤ → ℤ → ℕ
+narrow_number None output least most = no_host
+narrow_number (Some g) output least most = limit_outcome (narrow_fault g output least most)
+
+-- limits are asked
+abbrev pub limits_number : Option Guarded → ℕ → ℕ
+limits_number None output = no_host
+limits_number (Some g) output =
+    if nat_lt output g.host.setup.outputs
+    then (if is_none (limits_at g output) then no_limits_there else accepted)
+    else host_fault_number UnknownOutput
+
+-- whether an output's voltage lies within its limits
+abbrev pub within_word : Within → ℕ
+within_word Yes = within_yes
+within_word No = within_no
+within_word NotKnown = within_not_known
+
+abbrev pub within_number : Option Guarded → ℕ → ℕ
+within_number None output = no_host
+within_number (Some g) output =
+    if nat_lt output g.host.setup.outputs
+    then within_word (within_of (limits_at g output) (band_at g.host output))
+    else host_fault_number UnknownOutput
+
+-- the ends of a band are asked: N5 where one is beyond 10^15 microvolts in size
+abbrev pub ends_number : Band → ℕ
+ends_number band = if is_far band.least || is_far band.greatest then num_fault_number TooLarge else accepted
+
+abbrev pub band_number : Option Summary → ℕ → ℕ
+band_number None output = no_host
+band_number (Some s) output =
+    if nat_lt output s.setup.outputs
+    then option_map_or ends_number (band_at s output) (host_fault_number FormatUnknown)
+    else host_fault_number UnknownOutput
+
+-- the whole microvolts of the ends, the least rounded down and the greatest up
+pub record IsBand (known : Band) (band : BandImage) : Type 0 where
+  pub least : IsFloor known.least band.least
+  pub greatest : IsCeil known.greatest band.greatest

@@ -1,0 +1,126 @@
+ghost use Rattle.std.specs.Prelude.{◌≡◌, ◌<◌, map, slice_index_or, slice_set, Some, None};
+ghost use Rattle.pm_host_c.specs.Guard.{job_limits, limits_held, limits_kept, no_limits};
+ghost use Rattle.pm_host_c.specs.Memory.{limits_image, AreLimits, IsMemory};
+ghost use Rattle.pm_host.specs.Memory.{IsImage};
+
+use pm_host::{Image, Job};
+use pm_limits::{Limits, ordered_output};
+
+/// How many outputs a device has at most.
+pub const OUTPUTS: usize = 8;
+
+/// A host and the limits of its outputs, in a caller's memory. It has no padding.
+#[repr(C)]
+#[derive(Drop)]
+pub struct GuardImage {
+    /// The host.
+    pub host: Image,
+    /// No meaning.
+    pub unused: u16,
+    /// The limits of each output.
+    pub limits: [LimitsImage; OUTPUTS],
+}
+
+/// The limits of an output's voltage, in microvolts, as plain numbers. Numbers that are no limits, as a least above
+/// the most, say that it has none.
+#[repr(C)]
+#[derive(Clone, Copy, Debug)]
+pub struct LimitsImage {
+    /// The least voltage.
+    pub least: i64,
+    /// The most.
+    pub most: i64,
+}
+
+impl LimitsImage {
+    /// None.
+    const NONE: LimitsImage = LimitsImage { least: 1, most: 0 };
+
+    /// These limits.
+    pub(crate) fn of(limits: &Limits) -> LimitsImage
+        ensures held { limits_held result ≡ Some limits.now }
+        ensures written { result ≡ limits_image (Some limits.now) }
+    {
+        LimitsImage {
+            least: limits.least(),
+            most: limits.most(),
+        }
+    }
+
+    /// What the numbers mean.
+    pub(crate) fn limits(&self) -> Option<Limits>
+        ensures { result ≡ limits_held self.now }
+    {
+        // The usual numbers are those of no limits.
+        if self.most < self.least {
+            return None;
+        }
+        Limits::new(self.least, self.most).ok()
+    }
+}
+
+impl GuardImage {
+    /// Zeros, which are the image of no host.
+    #[cfg(test)]
+    pub(crate) fn blank() -> GuardImage {
+        GuardImage {
+            host: Image::blank(),
+            unused: 0,
+            limits: [LimitsImage { least: 0, most: 0 }; OUTPUTS],
+        }
+    }
+
+    /// No output has limits.
+    #[tactic(auto, unfolding(crate::specs::Guard::limits_kept))]
+    pub(crate) fn free(&mut self)
+        ensures free { limits_kept self.new ≡ no_limits }
+        ensures host { self.new.host ≡ self.old.host }
+        ensures written { IsImage self.old.host → IsMemory self.new }
+    {
+        self.unused = 0;
+        self.limits.fill(LimitsImage::NONE);
+    }
+
+    /// The limits of an output, where it has any; one that isn't there has none.
+    #[tactic(auto, unfolding(crate::specs::Guard::limits_kept))]
+    pub(crate) fn limits(&self, output: u8) -> Option<Limits>
+        ensures { result ≡ slice_index_or (limits_kept self.now) output None }
+    {
+        let place = usize::from(output);
+        if place < OUTPUTS {
+            self.limits[place].limits()
+        } else {
+            None
+        }
+    }
+
+    /// The limits by which a job is judged.
+    pub(crate) fn limits_for(&self, job: Job) -> Option<Limits>
+        ensures { result ≡ job_limits (limits_kept self.now) job }
+    {
+        match ordered_output(job) {
+            Some(output) => self.limits(output),
+            None => None,
+        }
+    }
+
+    /// Gives an output limits.
+    #[tactic(auto, unfolding(crate::specs::Guard::limits_kept))]
+    pub(crate) fn put_limits(&mut self, output: u8, limits: &Limits)
+        requires { output < 8 }
+        ensures limits { limits_kept self.new ≡ slice_set (limits_kept self.old) output (Some limits.now) }
+        ensures host { self.new.host ≡ self.old.host }
+        ensures written { IsMemory self.old → IsMemory self.new }
+    {
+        put(&mut self.limits, output, LimitsImage::of(limits));
+    }
+}
+
+// Gives an output limits.
+fn put(all: &mut [LimitsImage; OUTPUTS], output: u8, limits: LimitsImage)
+    requires { output < 8 }
+    ensures held { map limits_held all.new ≡ slice_set (map limits_held all.old) output (limits_held limits) }
+    ensures written { limits ≡ limits_image (limits_held limits) → AreLimits all.old → AreLimits all.new }
+{
+    all[usize::from(output)] = limits;
+}

@@ -1,0 +1,214 @@
+//! A host's life: it is made, begins jobs, and starts again.
+
+ghost use Rattle.std.specs.Prelude.{◌≡◌, ◌≢◌, Some, option_map, IfOk, OnErr};
+ghost use Rattle.std.specs.Result.{result_err};
+ghost use Rattle.pm_table.specs.Cell.{cell_at};
+ghost use Rattle.pm_host.specs.Image.{held, host_of, image_version};
+ghost use Rattle.pm_host.specs.Jobs.{begin_fault};
+ghost use Rattle.pm_host.specs.Memory.{IsState};
+ghost use Rattle.pm_host.specs.Sound.{IsSound};
+ghost use Rattle.pm_host.specs.Summary.{start};
+ghost use Rattle.pm_host.specs.Transcript.{Setup, Restarted};
+ghost use Rattle.pm_limits.specs.Guard.{limited_fault, of_host};
+ghost use Rattle.pm_host_c.specs.Guard.{guard_of, no_limits};
+ghost use Rattle.pm_host_c.specs.Memory.{IsMemory};
+ghost use Rattle.pm_host_c.specs.Sizes.{host_size, library_version};
+ghost use Rattle.pm_host_c.specs.Host.{new_number, memory_number, after, job_begun, BeginsJob};
+
+use crate::guard_image::GuardImage;
+use crate::numbers::{ACCEPTED, NO_ADDRESS, NO_CELL, NO_HOST};
+use pm_host::{Command, Image, Job, Stage, State};
+use pm_limits::{LimitFault, Limits, judge};
+use pm_table::{Code, address_ok, cell_of};
+use std::mem::size_of;
+
+// The version of this library.
+const VERSION: u16 = 0x0100;
+
+/// How many bytes a host has.
+#[unsafe(no_mangle)]
+pub extern "C" fn pm_host_size() -> usize
+    ensures { result ≡ host_size }
+{
+    size_of::<GuardImage>()
+}
+
+/// The version of this library: the greater part in the upper byte, the lesser in the lower one.
+#[unsafe(no_mangle)]
+pub extern "C" fn pm_version() -> u16
+    ensures { result ≡ library_version }
+{
+    VERSION
+}
+
+/// The number of a host's layout.
+#[unsafe(no_mangle)]
+pub extern "C" fn pm_host_version() -> u16
+    ensures { result ≡ image_version }
+{
+    Image::VERSION
+}
+
+/// Makes a host for the device at this address, which has this many outputs; a job has at most this
+/// many passes or tries. No output has limits. E3h, H1, H2.
+#[unsafe(no_mangle)]
+pub extern "C" fn pm_host_new(host: &mut GuardImage, address: u8, outputs: u8, passes: u8) -> u8
+    ensures number { result ≡ new_number address outputs passes }
+    ensures begun { let setup : Setup = record { addr = address; outputs = outputs; passes = passes } in
+        result ≡ 0 → guard_of host.new ≡ Some (record { host = start setup; limits = no_limits }) }
+    ensures written { result ≡ 0 → IsMemory host.new }
+    ensures refused { result ≢ 0 → host.new ≡ host.old }
+{
+    if !address_ok(address) {
+        return NO_ADDRESS;
+    }
+    match host.host.start(address, outputs, passes) {
+        Ok(()) => {
+            host.free();
+            ACCEPTED
+        }
+        Err(fault) => fault.number(),
+    }
+}
+
+// Begins a job; none is asked for by a code that is no cell's.
+#[inline(never)]
+fn begin(host: &mut GuardImage, job: Option<Job>) -> u8
+    ensures { BeginsJob host.old job result host.new }
+{
+    let Ok(stage) = host.host.read_stage() else {
+        return NO_HOST;
+    };
+    let Some(job) = job else {
+        return NO_CELL;
+    };
+    let limits = host.limits_for(job);
+    match begin_within(&mut host.host.state, stage, limits, job) {
+        Ok(stage) => {
+            host.host.write_stage(Some(stage));
+            ACCEPTED
+        }
+        Err(fault) => fault.number(),
+    }
+}
+
+// Begins a job whose output has these limits, as a guard does.
+#[inline(always)]
+fn begin_within(
+    state: &mut State,
+    stage: Option<Stage>,
+    limits: Option<Limits>,
+    job: Job,
+) -> Result<Stage, LimitFault>
+    requires sound { IsSound (held stage state.old) }
+    ensures sound { IfOk result (λ at. IsSound (held (Some at) state.new)) }
+    ensures fault { result_err result ≡ limited_fault limits (held stage state.old) job }
+    ensures ok { IfOk result (λ at. Some (held (Some at) state.new) ≡ job_begun (Some (held stage state.old)) (Some job)) }
+    ensures err { OnErr result (state.new ≡ state.old) }
+    ensures written { IsState state.old → IsState state.new }
+{
+    let asked = judge(state, stage, limits, job)?;
+    begin_asked(state, stage, asked)
+}
+
+// Begins a job as a host does.
+#[inline(always)]
+fn begin_asked(state: &mut State, stage: Option<Stage>, job: Job) -> Result<Stage, LimitFault>
+    requires sound { IsSound (held stage state.old) }
+    ensures sound { IfOk result (λ at. IsSound (held (Some at) state.new)) }
+    ensures fault { result_err result ≡ of_host (begin_fault (held stage state.old) job) }
+    ensures ok { IfOk result (λ at. Some (held (Some at) state.new) ≡ job_begun (Some (held stage state.old)) (Some job)) }
+    ensures err { OnErr result (state.new ≡ state.old) }
+    ensures written { IsState state.old → IsState state.new }
+{
+    match state.begin(stage, job) {
+        Ok(stage) => Ok(stage),
+        Err(fault) => Err(LimitFault::Host(fault)),
+    }
+}
+
+/// Begins an order. E0h, E1h, H3, H4, then by the output's limits L2, L3 or L4, then H5, L5 and H6.
+#[unsafe(no_mangle)]
+pub extern "C" fn pm_host_order(host: &mut GuardImage, output: u8, code: u8, word: u16) -> u8
+    ensures { let job = option_map (λ cell. Job.Order cell word) (cell_at code output) in
+        BeginsJob host.old job result host.new }
+{
+    let cell = cell_of(Code(code), output);
+    begin(host, cell.map(|cell| Job::Order(cell, word)))
+}
+
+/// Begins an order of the word nearest to a number of microvolts, in the format that was learned for
+/// the output. E0h, E1h, H3, H4, H5, H7, N5, N3 or N4, L3 or L4, H6.
+#[unsafe(no_mangle)]
+pub extern "C" fn pm_host_order_micro(
+    host: &mut GuardImage,
+    output: u8,
+    code: u8,
+    microvolts: i64,
+) -> u8
+    ensures { let job = option_map (λ cell. Job.OrderMicro cell microvolts) (cell_at code output) in
+        BeginsJob host.old job result host.new }
+{
+    let cell = cell_of(Code(code), output);
+    begin(host, cell.map(|cell| Job::OrderMicro(cell, microvolts)))
+}
+
+/// Begins a check of a cell. E0h, E1h, H3, H4.
+#[unsafe(no_mangle)]
+pub extern "C" fn pm_host_check(host: &mut GuardImage, output: u8, code: u8) -> u8
+    ensures { let job = option_map (λ cell. Job.Check cell) (cell_at code output) in
+        BeginsJob host.old job result host.new }
+{
+    let cell = cell_of(Code(code), output);
+    begin(host, cell.map(|cell| Job::Check(cell)))
+}
+
+/// Begins a learn of the format of an output's voltages. E0h, H3, H4.
+#[unsafe(no_mangle)]
+pub extern "C" fn pm_host_learn(host: &mut GuardImage, output: u8) -> u8
+    ensures { BeginsJob host.old (Some (Job.Learn output)) result host.new }
+{
+    begin(host, Some(Job::Learn(output)))
+}
+
+/// Begins to clear the latched faults of an output. E0h, H3, H4.
+#[unsafe(no_mangle)]
+pub extern "C" fn pm_host_clear(host: &mut GuardImage, output: u8) -> u8
+    ensures { BeginsJob host.old (Some (Job.Send (Command.ClearFaults output))) result host.new }
+{
+    begin(host, Some(Job::Send(Command::ClearFaults { output })))
+}
+
+/// Begins to store the outputs' settings. E0h, H3.
+#[unsafe(no_mangle)]
+pub extern "C" fn pm_host_store(host: &mut GuardImage) -> u8
+    ensures { BeginsJob host.old (Some (Job.Send Command.StoreUserAll)) result host.new }
+{
+    begin(host, Some(Job::Send(Command::StoreUserAll)))
+}
+
+/// Begins to bring the outputs' stored settings back. E0h, H3.
+#[unsafe(no_mangle)]
+pub extern "C" fn pm_host_restore(host: &mut GuardImage) -> u8
+    ensures { BeginsJob host.old (Some (Job.Send Command.RestoreUserAll)) result host.new }
+{
+    begin(host, Some(Job::Send(Command::RestoreUserAll)))
+}
+
+/// Drops the open job and all that is known of cells and formats. The limits stay. E0h.
+#[tactic(auto, unfolding(pm_host::specs::Summary::next))]
+#[unsafe(no_mangle)]
+pub extern "C" fn pm_host_restart(host: &mut GuardImage) -> u8
+    ensures number { result ≡ memory_number (host_of host.old.host) }
+    ensures begun { host_of host.new.host ≡ after (host_of host.old.host) Restarted }
+    ensures limits { host.new.limits ≡ host.old.limits }
+    ensures written { IsMemory host.old → IsMemory host.new }
+    ensures refused { result ≢ 0 → host.new ≡ host.old }
+{
+    if host.host.read_stage().is_err() {
+        return NO_HOST;
+    }
+    host.host.state.restart();
+    host.host.write_stage(None);
+    ACCEPTED
+}

@@ -1,0 +1,102 @@
+//! What a host knows.
+
+ghost use Rattle.std.specs.Prelude.{◌≡◌, ◌≢◌, ◌≤◌};
+ghost use Rattle.pm_table.specs.Cell.{cell_at};
+ghost use Rattle.pm_host.specs.Image.{host_of, standing_held, words_held};
+ghost use Rattle.pm_host_c.specs.Host.{cell_number, IsStanding, IsPossible, seen_number};
+
+use crate::guard_image::GuardImage;
+use crate::numbers::{ACCEPTED, NO_CELL, NO_HOST};
+use pm_host::{HostFault, StandingImage, WordsImage};
+use pm_table::{Code, cell_of};
+
+/// What is known of a cell's word. E0h, E1h, H4.
+#[unsafe(no_mangle)]
+pub extern "C" fn pm_host_standing(
+    host: &GuardImage,
+    output: u8,
+    code: u8,
+    standing: &mut StandingImage,
+) -> u8
+    ensures number { result ≡ cell_number (host_of host.now.host) (cell_at code output) }
+    ensures said { result ≡ 0 → IsStanding (host_of host.now.host) (cell_at code output) standing.new }
+    ensures refused { result ≢ 0 → standing.new ≡ standing.old }
+{
+    if host.host.read_stage().is_err() {
+        return NO_HOST;
+    }
+    let Some(cell) = cell_of(Code(code), output) else {
+        return NO_CELL;
+    };
+    if !cell.is_there(host.host.state.outputs) {
+        return HostFault::UnknownOutput.number();
+    }
+    *standing = flagged(host.host.state.known.standing(cell));
+    ACCEPTED
+}
+
+/// The same with 0 for any number that isn't 1, which damaged memory may have.
+pub(crate) fn flagged(standing: StandingImage) -> StandingImage
+    ensures same { standing_held result ≡ standing_held standing }
+    ensures flag { result.is_confirmed ≤ 1 }
+{
+    if standing.is_confirmed == 1 {
+        standing
+    } else {
+        StandingImage {
+            is_confirmed: 0,
+            word: 0,
+        }
+    }
+}
+
+/// The words that a cell may hold. E0h, E1h, H4.
+#[unsafe(no_mangle)]
+pub extern "C" fn pm_host_possible(
+    host: &GuardImage,
+    output: u8,
+    code: u8,
+    words: &mut WordsImage,
+) -> u8
+    ensures number { result ≡ cell_number (host_of host.now.host) (cell_at code output) }
+    ensures said { result ≡ 0 → IsPossible (host_of host.now.host) (cell_at code output) words.new }
+    ensures refused { result ≢ 0 → words.new ≡ words.old }
+{
+    if host.host.read_stage().is_err() {
+        return NO_HOST;
+    }
+    let Some(cell) = cell_of(Code(code), output) else {
+        return NO_CELL;
+    };
+    if !cell.is_there(host.host.state.outputs) {
+        return HostFault::UnknownOutput.number();
+    }
+    *words = counted(host.host.state.known.possible(cell));
+    ACCEPTED
+}
+
+/// The same with 0 for a count above 16, which damaged memory may have.
+pub(crate) fn counted(words: &WordsImage) -> WordsImage
+    ensures same { words_held result ≡ words_held words.now }
+    ensures count { result.count ≤ 16 }
+{
+    if words.count <= 16 {
+        *words
+    } else {
+        WordsImage {
+            count: 0,
+            words: [0; 16],
+        }
+    }
+}
+
+/// 1 where a restart of the device was seen since the host started, 0 where none was. E0h.
+#[unsafe(no_mangle)]
+pub extern "C" fn pm_host_restart_seen(host: &GuardImage) -> u8
+    ensures { result ≡ seen_number (host_of host.now.host) }
+{
+    if host.host.read_stage().is_err() {
+        return NO_HOST;
+    }
+    u8::from(host.host.state.known.restart_seen())
+}

@@ -1,0 +1,137 @@
+//! Limits of an output's voltage, and the band that is known.
+
+ghost use Rattle.std.specs.Prelude.{◌≡◌, ◌≢◌, IsSomeAnd, option_map};
+ghost use Rattle.pm_host.specs.Image.{host_of};
+ghost use Rattle.pm_limits.specs.Band.{band_at};
+ghost use Rattle.pm_limits.specs.Guard.{limits_at, narrowed};
+ghost use Rattle.pm_host_c.specs.Guard.{guard_of, limits_held};
+ghost use Rattle.pm_host_c.specs.Memory.{IsMemory};
+ghost use Rattle.pm_host_c.specs.Limits.{band_number, limits_number, narrow_number, within_number, within_word, ends_number, IsBand};
+
+use crate::guard_image::{GuardImage, LimitsImage};
+use crate::numbers::{ACCEPTED, NO_HOST, NO_LIMITS, WITHIN_NO, WITHIN_NOT_KNOWN, WITHIN_YES};
+use crate::voltages::{put_ceil, put_floor};
+use pm_host::HostFault;
+use pm_limits::{Band, Limits, Within, band_in, within_limits};
+
+/// The ends of the band of an output's voltage, in whole microvolts, as plain numbers.
+#[repr(C)]
+#[derive(Clone, Copy, Debug)]
+pub struct BandImage {
+    /// The least voltage, rounded down.
+    pub least: i64,
+    /// The greatest, rounded up.
+    pub greatest: i64,
+}
+
+/// Gives an output narrower limits; an output without limits takes any. E0h, H4, N5, L1, L6.
+#[unsafe(no_mangle)]
+pub extern "C" fn pm_host_narrow(host: &mut GuardImage, output: u8, least: i64, most: i64) -> u8
+    ensures number { result ≡ narrow_number (guard_of host.old) output least most }
+    ensures narrowed { result ≡ 0 → guard_of host.new ≡ option_map (λ g. narrowed g output least most) (guard_of host.old) }
+    ensures written { IsMemory host.old → IsMemory host.new }
+    ensures refused { result ≢ 0 → host.new ≡ host.old }
+{
+    if host.host.read_stage().is_err() {
+        return NO_HOST;
+    }
+    if host.host.state.outputs <= output {
+        return HostFault::UnknownOutput.number();
+    }
+    match Limits::narrower(host.limits(output), least, most) {
+        Ok(limits) => {
+            host.put_limits(output, &limits);
+            ACCEPTED
+        }
+        Err(fault) => fault.number(),
+    }
+}
+
+/// The limits of an output. E0h, H4, E6h where it has none.
+#[unsafe(no_mangle)]
+pub extern "C" fn pm_host_limits(host: &GuardImage, output: u8, limits: &mut LimitsImage) -> u8
+    ensures number { result ≡ limits_number (guard_of host.now) output }
+    ensures said { result ≡ 0 → IsSomeAnd (guard_of host.now)
+        (λ g. limits_held limits.new ≡ limits_at g output) }
+    ensures refused { result ≢ 0 → limits.new ≡ limits.old }
+{
+    if host.host.read_stage().is_err() {
+        return NO_HOST;
+    }
+    if host.host.state.outputs <= output {
+        return HostFault::UnknownOutput.number();
+    }
+    match host.limits(output) {
+        Some(found) => {
+            *limits = LimitsImage::of(&found);
+            ACCEPTED
+        }
+        None => NO_LIMITS,
+    }
+}
+
+/// Whether an output's voltage lies within its limits, by the words that its registers may hold: 91h where it does or
+/// the output has none, 92h where its whole band lies below them or above them, otherwise 93h. E0h, H4.
+#[unsafe(no_mangle)]
+pub extern "C" fn pm_host_within(host: &GuardImage, output: u8) -> u8
+    ensures { result ≡ within_number (guard_of host.now) output }
+{
+    if host.host.read_stage().is_err() {
+        return NO_HOST;
+    }
+    if host.host.state.outputs <= output {
+        return HostFault::UnknownOutput.number();
+    }
+    of_within(within_limits(host.limits(output), band_in(&host.host.state, output)))
+}
+
+// The number of an answer.
+fn of_within(within: Within) -> u8
+    ensures { result ≡ within_word within }
+{
+    match within {
+        Within::Yes => WITHIN_YES,
+        Within::No => WITHIN_NO,
+        Within::NotKnown => WITHIN_NOT_KNOWN,
+    }
+}
+
+/// Between which voltages an output may be, by what is known. E0h, H4, H7 where its format isn't known, N5 where an
+/// end is beyond 10^15 microvolts in size.
+#[unsafe(no_mangle)]
+pub extern "C" fn pm_host_band(host: &GuardImage, output: u8, band: &mut BandImage) -> u8
+    ensures number { result ≡ band_number (host_of host.now.host) output }
+    ensures said { result ≡ 0 → IsSomeAnd (host_of host.now.host)
+        (λ s. IsSomeAnd (band_at s output) (λ known. IsBand known band.new)) }
+    ensures refused { result ≢ 0 → band.new ≡ band.old }
+{
+    if host.host.read_stage().is_err() {
+        return NO_HOST;
+    }
+    if host.host.state.outputs <= output {
+        return HostFault::UnknownOutput.number();
+    }
+    match band_in(&host.host.state, output) {
+        Some(known) => put_band(&known, band),
+        None => HostFault::FormatUnknown.number(),
+    }
+}
+
+// The ends of a band in whole microvolts. N5 where one is beyond 10^15 in size.
+fn put_band(known: &Band, band: &mut BandImage) -> u8
+    ensures number { result ≡ ends_number known.now }
+    ensures said { result ≡ 0 → IsBand known.now band.new }
+    ensures refused { result ≢ 0 → band.new ≡ band.old }
+{
+    let (mut least, mut greatest) = (0, 0);
+    let number = put_floor(&known.least, &mut least);
+    if number != ACCEPTED {
+        return number;
+    }
+    let number = put_ceil(&known.greatest, &mut greatest);
+    if number != ACCEPTED {
+        return number;
+    }
+    *band = BandImage { least, greatest };
+    ACCEPTED
+}

@@ -1,0 +1,47 @@
+//! What became of the frame that a host is sending.
+
+ghost use Rattle.std.specs.Prelude.{◌≡◌, not, ◌==◌};
+ghost use Rattle.pm_host.specs.Told.{entry_told};
+ghost use Rattle.pm_host.specs.Transcript.{Finished, Got};
+ghost use Rattle.pm_host_c.specs.Host.{TellsHost};
+
+use crate::guard_image::GuardImage;
+use crate::host_step::{HostStep, no_step, step_after};
+use crate::numbers::{NO_HOST, OTHER_FRAME};
+use pm_host::Told;
+
+/// A write was sent, and acknowledged or not (0). E0h, E2h where no write is being sent.
+#[unsafe(no_mangle)]
+pub extern "C" fn pm_host_finished(host: &mut GuardImage, acked: u8) -> HostStep
+    ensures { TellsHost host.old (Finished (not (acked == 0))) result host.new }
+{
+    tell(host, Told::Finished { acked: acked != 0 })
+}
+
+/// A request was sent, and these bytes came back, the read address first; none where there was no
+/// answer. E0h, E2h where no request is being sent.
+#[unsafe(no_mangle)]
+pub extern "C" fn pm_host_got(host: &mut GuardImage, bytes: &[u8]) -> HostStep
+    ensures { TellsHost host.old (Got bytes.now) result host.new }
+{
+    tell(host, Told::Got(bytes))
+}
+
+// Tells a host what became of its frame. Either call has this code for itself, with the part that is its own.
+#[inline(always)]
+fn tell(host: &mut GuardImage, told: Told<'_>) -> HostStep
+    ensures { TellsHost host.old (entry_told told.entry) result host.new }
+{
+    let Ok(stage) = host.host.read_stage() else {
+        return no_step(NO_HOST);
+    };
+    match stage {
+        Some(stage) if stage.awaits(&told) => {
+            let progress = host.host.state.told(stage, told);
+            let address = host.host.state.address;
+            host.host.write_stage(progress.stage());
+            step_after(progress.step(), address, stage, told)
+        }
+        _ => no_step(OTHER_FRAME),
+    }
+}

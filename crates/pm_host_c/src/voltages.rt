@@ -1,0 +1,168 @@
+//! Words and microvolts, both ways.
+
+ghost use Rattle.std.specs.Prelude.{◌≡◌, ◌≢◌, ◌<◌, pos, Some, IsSomeAnd, option_map};
+ghost use Rattle.pm_num.specs.AnyFormat.{shape_of, shape_value, shape_rank};
+ghost use Rattle.pm_num.specs.NearestWord.{nearest_word as spec_nearest_word};
+ghost use Rattle.pm_num.specs.Ratio.{is_above as spec_is_above, micros, InBounds};
+ghost use Rattle.pm_host.specs.Image.{format_held, host_of};
+ghost use Rattle.pm_host.specs.Summary.{format_at};
+ghost use Rattle.pm_host_c.specs.Voltages.{floor_number, is_far as spec_is_far, output_number, format_meant, value_number, word_number, IsCeil, IsFloor, IsFormat, IsNear, IsSmall};
+
+use crate::guard_image::GuardImage;
+use crate::numbers::{ACCEPTED, NO_HOST};
+use pm_host::{FormatImage, HostFault, nearest_word};
+use pm_num::{AnyFormat, Frac, NumFault, NumFormat, micro};
+use std::cmp::Ordering;
+
+// The greatest number of microvolts that is answered, in size.
+const LIMIT: i128 = 1_000_000_000_000_000;
+
+// The kind of LINEAR11, which no host learns.
+const LINEAR11: u8 = 3;
+
+// Microvolts in a volt.
+const MILLION: i128 = 1_000_000;
+
+/// The format of an output's voltages, as far as the host learned it. E0h, H4.
+#[unsafe(no_mangle)]
+pub extern "C" fn pm_host_format(host: &GuardImage, output: u8, format: &mut FormatImage) -> u8
+    ensures number { result ≡ output_number (host_of host.now.host) output }
+    ensures said { result ≡ 0 → IsSomeAnd (host_of host.now.host)
+        (λ s. IsFormat (format_at s output) format.new) }
+    ensures refused { result ≢ 0 → format.new ≡ format.old }
+{
+    if host.host.read_stage().is_err() {
+        return NO_HOST;
+    }
+    if host.host.state.outputs <= output {
+        return HostFault::UnknownOutput.number();
+    }
+    *format = kinded(host.host.state.format(output));
+    ACCEPTED
+}
+
+// The same with kind 0 for numbers that mean no format, which damaged memory may have.
+fn kinded(format: FormatImage) -> FormatImage
+    ensures { IsFormat (format_held format) result }
+{
+    if format.format().is_some() {
+        format
+    } else {
+        FormatImage {
+            kind: 0,
+            exponent: 0,
+            m: 0,
+            b: 0,
+        }
+    }
+}
+
+// What the numbers mean: beside the formats that a host learns LINEAR11, which readings of PMBus have.
+fn format_of(format: &FormatImage) -> Option<AnyFormat>
+    ensures { option_map shape_of result ≡ format_meant format.now }
+{
+    if format.kind == LINEAR11 {
+        Some(AnyFormat::Linear11)
+    } else {
+        format.format()
+    }
+}
+
+/// The whole microvolts of a word, rounded down. H7 where the numbers mean no format, N5 exactly where
+/// the word's value is beyond 10^15 microvolts in size.
+#[unsafe(no_mangle)]
+pub extern "C" fn pm_microvolts(format: &FormatImage, word: u16, microvolts: &mut i64) -> u8
+    ensures number { result ≡ value_number (format_meant format.now) word }
+    ensures floor { result ≡ 0 → IsSomeAnd (format_meant format.now)
+        (λ shape. IsFloor (shape_value shape word) microvolts.new) }
+    ensures refused { result ≢ 0 → microvolts.new ≡ microvolts.old }
+{
+    let Some(format) = format_of(format) else {
+        return HostFault::FormatUnknown.number();
+    };
+    put_floor(&format.value_of(word), microvolts)
+}
+
+/// The whole microvolts of a value, rounded down. N5 exactly where the value is beyond 10^15 microvolts in
+/// size.
+pub(crate) fn put_floor(value: &Frac, microvolts: &mut i64) -> u8
+    ensures number { result ≡ floor_number value.now }
+    ensures floor { result ≡ 0 → IsFloor value.now microvolts.new }
+    ensures near { result ≡ 0 → IsNear microvolts.new }
+    ensures positive { 0 < value.now.den }
+    ensures refused { result ≢ 0 → microvolts.new ≡ microvolts.old }
+{
+    if is_far(value) {
+        return NumFault::TooLarge.number();
+    }
+    *microvolts = value.floor_micro() as i64;
+    ACCEPTED
+}
+
+/// The same rounded up.
+pub(crate) fn put_ceil(value: &Frac, microvolts: &mut i64) -> u8
+    ensures number { result ≡ floor_number value.now }
+    ensures ceil { result ≡ 0 → IsCeil value.now microvolts.new }
+    ensures small { result ≡ 0 → IsSmall microvolts.new }
+    ensures refused { result ≢ 0 → microvolts.new ≡ microvolts.old }
+{
+    let mut floor = 0;
+    let number = put_floor(value, &mut floor);
+    if number != ACCEPTED {
+        return number;
+    }
+    *microvolts = if is_above(value, &whole(floor)) {
+        floor + 1
+    } else {
+        floor
+    };
+    ACCEPTED
+}
+
+// This many microvolts as a fraction.
+fn whole(x: i64) -> Frac
+    requires { IsNear x }
+    ensures { result ≡ micros x }
+{
+    match micro(x) {
+        Ok(value) => value,
+        Err(_) => unreachable!(),
+    }
+}
+
+// Whether the first value is the greater one.
+fn is_above(p: &Frac, q: &Frac) -> bool
+    ensures { result ≡ spec_is_above p.now q.now }
+{
+    p.cmp_value(q) == Ordering::Greater
+}
+
+// Whether a value is beyond 10^15 microvolts in size, by cross products.
+fn is_far(value: &Frac) -> bool
+    ensures far { result ≡ spec_is_far value.now }
+    ensures bounds { InBounds value.now.num (pos value.now.den) }
+{
+    let microvolts = value.num() * MILLION;
+    LIMIT * value.den() < microvolts || microvolts < -LIMIT * value.den()
+}
+
+/// The word nearest to a number of microvolts. H7 where the numbers mean no format, N5, N3, N4.
+#[unsafe(no_mangle)]
+pub extern "C" fn pm_nearest_word(format: &FormatImage, microvolts: i64, word: &mut u16) -> u8
+    ensures number { result ≡ word_number (format_meant format.now) microvolts }
+    ensures nearest { result ≡ 0 → IsSomeAnd (format_meant format.now)
+        (λ shape. spec_nearest_word (shape_value shape) (shape_rank shape) (micros microvolts)
+        ≡ Some word.new) }
+    ensures refused { result ≢ 0 → word.new ≡ word.old }
+{
+    let Some(format) = format_of(format) else {
+        return HostFault::FormatUnknown.number();
+    };
+    match nearest_word(&format, microvolts) {
+        Ok(found) => {
+            *word = found;
+            ACCEPTED
+        }
+        Err(fault) => fault.number(),
+    }
+}

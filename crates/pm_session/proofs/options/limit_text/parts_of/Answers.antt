@@ -1,5 +1,0 @@
-use Rattle.pm_session.proofs.LimitTexts.{parts_found}
-use Rattle.pm_session.proofs.options.limit_text.parts_of.Goals as goal
-
-pub returns : goal.returns
-returns c = parts_found c.args.text.now c.split_once.result c.split_once.ensures.cases

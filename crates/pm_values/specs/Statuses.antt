@@ -1,0 +1,43 @@
+-- The bits of the status registers by name (PMBus 1.3 Part II), each as the number that has this bit alone, and the
+-- names of those that are set. How a reserved bit is named is this project's own choice.
+use Rattle.std.specs.Prelude.{ℕ, Bool, false, ◌==◌, if◌then◌else◌, List, [], ◌∷◌, ◌++◌, codes, bit_and}
+use Rattle.pm_values.specs.declared.status.Status.{Status}
+use Rattle.pm_values.specs.declared.status.Status.TheVariants.{Byte, Word, Vout, Cml}
+
+-- a bit and its name
+abbrev pub Row : Type 0
+Row = ℕ × List ℕ
+
+abbrev pub byte_rows : List Row
+byte_rows = (0x80, codes "BUSY") ∷ (0x40, codes "OFF") ∷ (0x20, codes "VOUT_OV_FAULT") ∷ (0x10, codes "IOUT_OC_FAULT")
+    ∷ (0x08, codes "VIN_UV_FAULT") ∷ (0x04, codes "TEMPERATURE") ∷ (0x02, codes "CML")
+    ∷ (0x01, codes "NONE_OF_THE_ABOVE") ∷ []
+
+-- STATUS_WORD has the bits of STATUS_BYTE in its lower byte
+abbrev pub word_rows : List Row
+word_rows = (0x8000, codes "VOUT") ∷ (0x4000, codes "IOUT_POUT") ∷ (0x2000, codes "INPUT")
+    ∷ (0x1000, codes "MFR_SPECIFIC") ∷ (0x0800, codes "POWER_GOOD#") ∷ (0x0400, codes "FANS") ∷ (0x0200, codes "OTHER")
+    ∷ (0x0100, codes "UNKNOWN") ∷ byte_rows
+
+abbrev pub vout_rows : List Row
+vout_rows = (0x80, codes "VOUT_OV_FAULT") ∷ (0x40, codes "VOUT_OV_WARNING") ∷ (0x20, codes "VOUT_UV_WARNING")
+    ∷ (0x10, codes "VOUT_UV_FAULT") ∷ (0x08, codes "VOUT_MAX_MIN") ∷ (0x04, codes "TON_MAX_FAULT")
+    ∷ (0x02, codes "TOFF_MAX_WARNING") ∷ (0x01, codes "TRACKING") ∷ []
+
+abbrev pub cml_rows : List Row
+cml_rows = (0x80, codes "COMMAND") ∷ (0x40, codes "DATA") ∷ (0x20, codes "PEC") ∷ (0x10, codes "MEMORY")
+    ∷ (0x08, codes "PROCESSOR") ∷ (0x04, codes "bit 2") ∷ (0x02, codes "COMMUNICATION") ∷ (0x01, codes "OTHER") ∷ []
+
+-- the bits of a register, the highest first
+unfoldable pub rows_of : Status → List Row
+rows_of Byte = byte_rows
+rows_of Word = word_rows
+rows_of Vout = vout_rows
+rows_of Cml = cml_rows
+
+-- the names of the bits that are set, with a text around each name, and one between two of them
+abbrev pub names_from : List ℕ → List ℕ → Bool → List Row → ℕ → List ℕ
+names_from between around is_first [] bits = []
+names_from between around is_first (row ∷ rows) bits = if bit_and bits row.0 == 0
+    then names_from between around is_first rows bits
+    else (if is_first then [] else between) ++ (around ++ (row.1 ++ (around ++ names_from between around false rows bits)))

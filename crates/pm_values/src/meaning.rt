@@ -1,0 +1,79 @@
+//! What the payload of a packet means.
+ghost use Rattle.std.specs.Prelude.{◌≡◌, option_map};
+ghost use Rattle.pm_num.specs.AnyFormat.{shape_of};
+ghost use Rattle.pm_values.specs.Values.{byte_in as spec_byte_in, code_value as spec_code_value, packet_value as spec_packet_value, protects, word_in as spec_word_in};
+
+use crate::fraction::reading_of;
+use crate::lessons::{Lessons, is_voltage};
+use crate::status::Status;
+use crate::value::{Unit, Value};
+use pm_frame::FrameView;
+use pm_num::{AnyFormat, NumFormat};
+use pm_table::{Code, Operation, VoutMode};
+
+/// What a packet at an address means, by its payload, or by what was answered; `None` where its code is told without a
+/// value, or where no format of its voltage is known. `vout` is the format of voltages whose own format wasn't taught.
+pub fn packet_value(
+    vout: Option<AnyFormat>,
+    lessons: &Lessons,
+    addr: u8,
+    view: &FrameView<'_>,
+    answer: Option<&[u8]>,
+) -> Option<Value>
+    ensures { result ≡ spec_packet_value vout lessons.now addr view.now (option_map (λ bytes. bytes.now) answer.entry) }
+{
+    let format = lessons.format(vout, addr, view.page());
+    match answer {
+        Some(answer) => code_value(format, view.code(), answer),
+        None => code_value(format, view.code(), view.payload()),
+    }
+}
+
+// The value of a code's payload, with the format of voltages.
+fn code_value(format: Option<AnyFormat>, code: u8, bytes: &[u8]) -> Option<Value>
+    ensures { result ≡ spec_code_value (option_map shape_of format) code bytes.now }
+{
+    let byte = byte_in(bytes);
+    let word = word_in(bytes);
+    if is_voltage(code) {
+        return format.map(|format| Value::Volts(format.value_of(word)));
+    }
+    match Code(code) {
+        Code::READ_VIN => Some(Value::Reading(reading_of(word), Unit::Volt)),
+        Code::READ_IOUT => Some(Value::Reading(reading_of(word), Unit::Ampere)),
+        Code::READ_TEMPERATURE_1 => Some(Value::Reading(reading_of(word), Unit::Celsius)),
+        Code::OPERATION => Operation::read(u16::from(byte)).map(Value::Operates),
+        Code::WRITE_PROTECT => protection(byte),
+        Code::VOUT_MODE => VoutMode::read(byte).ok().map(Value::Scales),
+        Code::STATUS_BYTE => Some(Value::Flags(Status::Byte, word)),
+        Code::STATUS_WORD => Some(Value::Flags(Status::Word, word)),
+        Code::STATUS_VOUT => Some(Value::Flags(Status::Vout, word)),
+        Code::STATUS_CML => Some(Value::Flags(Status::Cml, word)),
+        _ => None,
+    }
+}
+
+// What a byte of WRITE_PROTECT means.
+fn protection(byte: u8) -> Option<Value>
+    ensures { result ≡ protects byte }
+{
+    match byte {
+        0x00 | 0x20 | 0x40 | 0x80 => Some(Value::Protects(byte)),
+        _ => None,
+    }
+}
+
+// The first byte of a payload, 0 where it has none.
+fn byte_in(bytes: &[u8]) -> u8
+    ensures { result ≡ spec_byte_in bytes.now }
+{
+    bytes.first().copied().unwrap_or(0)
+}
+
+// The word of a payload, low byte first; a byte that isn't there counts as 0.
+fn word_in(bytes: &[u8]) -> u16
+    ensures { result ≡ spec_word_in bytes.now }
+{
+    let byte = |place: usize| bytes.get(place).copied().unwrap_or(0);
+    u16::from_le_bytes([byte(0), byte(1)])
+}

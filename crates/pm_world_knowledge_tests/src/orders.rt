@@ -1,0 +1,151 @@
+//! The world beside the order machine, which is told what each event is to it.
+
+ghost use Rattle.std.specs.Prelude.{◌≡◌};
+
+use crate::checks::{equal, is_true};
+use crate::watch::ordered;
+use pm_device_tests::{CELLS, FIRST, SECOND, START};
+use pm_model::{OrderMachine, PendingJob, Plain};
+use pm_table::Cell;
+use pm_world::{Arrival, Back, Event, SetupFault, World};
+use pm_world_tests::{ACKED, Look, NOT_ACKED, READ, WHOLE};
+use std::process::Abort;
+
+const CUT: Event = Event::Deliver(Arrival::Cut(5));
+
+const CUT_READ: Event = Event::Exchange(Arrival::Cut(3), Back::Whole);
+
+// What the order machine is told with an event.
+#[derive(Clone, Copy)]
+enum Told {
+    Nothing,
+    Accept(Cell, u16),
+    Take,
+    End,
+    Back,
+}
+
+// Tells the machine so; whether it could be told.
+fn tell(machine: &mut OrderMachine, told: Told) -> bool {
+    match told {
+        Told::Nothing => true,
+        Told::Take => {
+            machine.take();
+            machine.pending().is_some()
+        }
+        Told::End => {
+            machine.end();
+            true
+        }
+        Told::Back => {
+            machine.back();
+            true
+        }
+        Told::Accept(cell, word) => match machine.pending() {
+            None if machine.has(cell) && cell.accepts(word) => {
+                machine.accept(PendingJob::Order { cell, word });
+                true
+            }
+            _ => false,
+        },
+    }
+}
+
+// The order machine at its start.
+fn plain() -> OrderMachine {
+    OrderMachine::new(Plain::new(2, [START; 8], 0x00))
+}
+
+fn agrees(rt: &impl Abort, world: &World, machine: &OrderMachine, at: usize) {
+    for &cell in &CELLS {
+        let held = world.word(cell);
+        equal(rt, &held, &ordered(machine, cell), &(cell, at));
+    }
+}
+
+// A world and the order machine, one event after another: each cell has the same word in both.
+fn follow(rt: &impl Abort, rows: &[(Event, Told)]) -> Result<(), SetupFault> {
+    let mut world = World::begin(World::base(), 2)?;
+    let mut machine = plain();
+    for (at, (event, told)) in rows.iter().enumerate() {
+        is_true(rt, world.meets(event).is_ok(), &at);
+        is_true(rt, tell(&mut machine, *told), &at);
+        agrees(rt, &world, &machine, at);
+    }
+    Ok(())
+}
+
+#[test]
+fn an_order_takes_at_each_whole_delivery(rt: HostRuntime) -> Result<(), SetupFault> {
+    let nothing = Told::Nothing;
+    let first = (Event::Order(FIRST, 0x34CD), Told::Accept(FIRST, 0x34CD));
+    let second = (Event::Order(SECOND, 0x2000), Told::Accept(SECOND, 0x2000));
+    let rows = [
+        first,
+        (WHOLE, Told::Take),
+        (ACKED, nothing),
+        (READ, Told::End),
+        second,
+        (CUT, nothing),
+        (ACKED, nothing),
+        (READ, nothing),
+        (WHOLE, Told::Take),
+        (WHOLE, Told::Take),
+        (NOT_ACKED, nothing),
+        (CUT_READ, Told::End),
+    ];
+    follow(&rt, &rows)
+}
+
+#[test]
+fn start_words_come_back_and_the_order_goes_on(rt: HostRuntime) -> Result<(), SetupFault> {
+    let nothing = Told::Nothing;
+    let order = (Event::Order(FIRST, 0x34CD), Told::Accept(FIRST, 0x34CD));
+    let micro = (
+        Event::OrderMicro(FIRST, 2_000_000),
+        Told::Accept(FIRST, 0x2000),
+    );
+    let rows = [
+        order,
+        (WHOLE, Told::Take),
+        (Event::RestartDevice, Told::Back),
+        (WHOLE, Told::Take),
+        (Event::RestartHost, Told::End),
+        (Event::Clear(1), nothing),
+        (WHOLE, nothing),
+        (ACKED, nothing),
+        (Event::Learn(0), nothing),
+        (READ, nothing),
+        micro,
+        (WHOLE, Told::Take),
+        (ACKED, nothing),
+        (Event::RestartDevice, Told::Back),
+        (READ, nothing),
+    ];
+    follow(&rt, &rows)
+}
+
+#[test]
+fn a_blocked_order_takes_after_a_restart(rt: HostRuntime) -> Result<(), SetupFault> {
+    let nothing = Told::Nothing;
+    let protect = (
+        Event::Order(Cell::Protect, 0x40),
+        Told::Accept(Cell::Protect, 0x40),
+    );
+    let order = (Event::Order(SECOND, 0x34CD), Told::Accept(SECOND, 0x34CD));
+    let rows = [
+        protect,
+        (WHOLE, Told::Take),
+        (ACKED, nothing),
+        (READ, Told::End),
+        order,
+        (WHOLE, nothing),
+        (ACKED, nothing),
+        (READ, nothing),
+        (Event::RestartDevice, Told::Back),
+        (WHOLE, Told::Take),
+        (ACKED, nothing),
+        (READ, Told::End),
+    ];
+    follow(&rt, &rows)
+}
