@@ -55,7 +55,7 @@ NUMBERS = ("crates/pm_frame/src/packet_error_code.rt", "crates/pm_lines/src/hex_
            "crates/pm_host_c/src/names.rt", "crates/pm_host_c/specs/Numbers.antt")
 # Where each register stands for itself, as a field of its own.
 EACH_REGISTER = ("crates/pm_limits/src/ends.rt", "crates/pm_rail/", "crates/pm_world/proofs/LimitedLives.antt",
-                 "crates/pm_laws/proofs/Ones.antt", "crates/pm_callers/proofs/limits/")
+                 "crates/pm_world_examples/proofs/Ones.antt", "crates/pm_world_examples/proofs/limits/")
 
 
 def sources(crates, folders):
@@ -268,7 +268,7 @@ def main():
     words = [word for word in sys.argv[1:] if word != "--places"]
     if any(word.startswith("-") for word in words):
         sys.exit(__doc__)
-    crates = words or [name for name in crates_below() if not name.endswith(("_tests", "_fixtures"))]
+    crates = words or [name for name in crates_below() if not name.endswith("_tests") and name != "pm_test_streams"]
     if "--places" in sys.argv[1:]:
         print("\n".join(places(crates)))
         sys.exit(0)

@@ -139,7 +139,7 @@ def main():
             print("%s:%d: %s" % it)
         return
     libraries = [name for name in crates if os.path.exists("crates/%s/src/lib.rt" % name)]
-    shipped = [name for name in libraries if not name.endswith(("_tests", "_fixtures")) and name not in ("pm_laws", "pm_callers")]
+    shipped = [name for name in libraries if not name.endswith("_tests") and name not in ("pm_test_streams", "pm_world_examples")]
     rows = [
         ("crates", len(crates)),
         ("engines that write a trace's text", len(engines())),

@@ -25,7 +25,7 @@ from plain.packets import answer_shape  # noqa: E402
 from program import ROOT, seed_and_count  # noqa: E402
 
 # What the program uses of the crates, of which each stands on others.
-USED = ("pm_buses", "pm_lines")
+USED = ("pm_driver", "pm_lines")
 FIRST = (0, COMMAND)
 WORDS = {0x01: 0x80, 0x21: 0x1000, 0x24: 0x4000, 0x25: 0x1100, 0x26: 0x0F00, 0x2B: 0x0000}
 SETUP = {"address": 0x58, "count": 2, "outputs": [(0x14, WORDS)] * 2, "protect": 0x00, "coefficients": (1, 0, 0), "version": 2}

@@ -24,7 +24,7 @@ copied() {
     for crate in $below; do copied "$crate"; done
 }
 
-below_bench="pm_buses pm_driver pm_world pm_limits pm_device pm_host pm_frame pm_table"
+below_bench="pm_driver pm_driver pm_world pm_limits pm_device pm_host pm_frame pm_table"
 mkdir -p "$folder/crates/driver_bench/src"
 echo "driver_bench: $below_bench" > "$folder/crates.txt"
 for crate in $below_bench; do copied "$crate"; done

@@ -1,8 +1,8 @@
 //! A reader that gives one byte at a time and a writer that takes seven, each of which fails where it is told to.
 ghost use Rattle.std.specs.Prelude.{◌≡◌, IsFalse, Some};
 
+use pm_console::Streams;
 use pm_lines::{Sink, Source};
-use pm_talk::Streams;
 use std::alloc::Global;
 use std::io::{self, ErrorKind, Read, Write};
 

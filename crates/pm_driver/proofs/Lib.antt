@@ -8,3 +8,9 @@ mod SentFrames
 mod NoRestarts
 mod UndisturbedOrders
 mod WithinLimits
+mod Heard
+mod Parts
+mod Patience
+mod Plan
+mod NeverRestarts
+mod PlanEnds

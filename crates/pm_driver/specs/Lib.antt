@@ -10,3 +10,11 @@ pub mod Undisturbed
 -- How it is kept.
 pub mod Steps
 pub mod Lemmas
+-- Buses.
+pub mod Tries
+pub mod Disturbed
+pub mod DeadLine
+pub mod Plan
+pub mod Patience
+pub mod NeverRestarts
+pub mod PlanEnds

@@ -14,8 +14,10 @@
 //! The bus counts the converter's restarts, and each call of a driver hands out how many there were: while there are
 //! none, what the host calls confirmed is held ([`restarts_are_counted`], [`Driver::laws`]).
 //!
-//! It has no bus of its own, no clock and no memory: a bus decides how long it waits, and whether it tries a write
-//! again. There is one host and one converter; a second master on the bus is no part of it.
+//! It has no clock and no memory: a bus decides how long it waits, and whether it tries a write again. There is one host
+//! and one converter; a second master on the bus is no part of it. Of its own buses a
+//! [`SimulatedBus`] has the model converter at its other end and a plan of faults, to try a firmware's own code over, and a
+//! [`Patient`] one stands over any [`Adapter`].
 //!
 //! An order, over a bus of the caller's:
 //!
@@ -28,12 +30,19 @@
 
 mod adapter;
 mod bus;
+mod buses;
 mod driver;
 mod frames;
 mod laws;
 
 pub use adapter::{Adapter, ReadEnd, WriteEnd};
 pub use bus::Bus;
+pub use buses::{
+    DeadBus, Fault, Patient, Retrying, SimulatedBus, driver_over, never_restarts_stays,
+    order_patiently_through, order_through, orders_go_through, parts_compose,
+    patient_never_restarts_stays, patient_orders_go_through, requests_may_be_lost,
+    run_patiently_without_restart, run_without_restart,
+};
 pub use driver::Driver;
 pub use frames::carry_out;
 pub use laws::{

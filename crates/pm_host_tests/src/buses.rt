@@ -2,10 +2,9 @@
 //! by rows.
 
 use crate::checks::equal;
-use pm_buses::{DeadBus, Fault, Patient, SimulatedBus, driver_over};
 use pm_device::Converter;
 use pm_device_tests::{BASE, FIRST};
-use pm_driver::{Bus, carry_out};
+use pm_driver::{Bus, DeadBus, Fault, Patient, SimulatedBus, carry_out, driver_over};
 use pm_host::{Command, Host, Job, JobEnd};
 use pm_limits::Guard;
 use pm_world::{Arrival, Back};

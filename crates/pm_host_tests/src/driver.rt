@@ -3,10 +3,9 @@
 mod example;
 
 use crate::checks::equal;
-use pm_buses::{DeadBus, Fault, Retrying, SimulatedBus, driver_over};
 use pm_device::Converter;
 use pm_device_tests::{BASE, FIRST};
-use pm_driver::{Bus, carry_out};
+use pm_driver::{Bus, DeadBus, Fault, Retrying, SimulatedBus, carry_out, driver_over};
 use pm_host::{Host, HostFault, JobEnd, Standing};
 use pm_limits::{Guard, LimitFault};
 use pm_table::{Cell, Reg};

@@ -10,7 +10,7 @@ use Rattle.pm_decode.specs.CaptureText.{capture_end, capture_text}
 use Rattle.pm_decode.specs.Capturing.{most_bytes, said_text}
 use Rattle.pm_decode.specs.LongEngine.{LongEnds}
 use Rattle.pm_decode.specs.declared.options.TellOptions.{TellOptions}
-use Rattle.pm_program.specs.Refusals.{Says, text_refusal}
+use Rattle.pm_console.specs.Refusals.{Says, text_refusal}
 use Rattle.pm_tool.specs.Execution.{End, Printed, CutShort, Broken, IsDone, TellRuns, decode_status, refusal_line}
 use Rattle.pm_tool.proofs.EndLemmas.{Ends, Writers, cut, ended}
 

@@ -11,7 +11,7 @@ use Rattle.pm_num.specs.declared.any_format.AnyFormat.{AnyFormat}
 use Rattle.pm_table.specs.Format.{shape_in}
 use Rattle.pm_table.specs.declared.vout_mode.VoutMode.TheVariants as mode
 use Rattle.pm_decode.specs.declared.options.TellOptions.{TellOptions}
-use Rattle.pm_program.specs.Options.{option_rule}
+use Rattle.pm_console.specs.Options.{option_rule}
 use Rattle.pm_tool.specs.Question.{format_of, text_at}
 use Rattle.pm_tool.specs.declared.commandline.telling.TellTexts.{TellTexts}
 use Rattle.pm_tool.specs.declared.commandline.tell_fault.TellFault.{TellFault}

@@ -24,7 +24,7 @@ pub use choice::Chosen;
 use clap::error::ErrorKind;
 use clap::{ArgMatches, Error};
 use commands::pmb_command;
-use pm_program::text_of;
+use pm_console::text_of;
 use std::alloc::Global;
 pub use tell_fault::TellFault;
 pub use telling::TellTexts;

@@ -5,8 +5,8 @@ ghost use Rattle.std.specs.Process.{exit_status};
 ghost use Rattle.std.specs.Vec.Iter.{into_iter_items};
 ghost use Rattle.clap.specs.Walk.{texts};
 ghost use Rattle.clap.specs.Words.{kind_of};
-ghost use Rattle.pm_program.specs.Arguments.{arguments_of};
-ghost use Rattle.pm_program.specs.Refusals.{Says, text_refusal};
+ghost use Rattle.pm_console.specs.Arguments.{arguments_of};
+ghost use Rattle.pm_console.specs.Refusals.{Says, text_refusal};
 ghost use Rattle.pm_tool.specs.Execution.{End, EngineRuns, IsDone, IsEnd, NumberEnds, RunEnds, UsageEnds};
 ghost use Rattle.pm_tool.specs.Execution.{OptionsEnd, TellEnds, TellRuns, WordsEnd};
 ghost use Rattle.pm_tool.specs.Execution.{CutShort, Printed, refusal_line, wants_memory};
@@ -15,10 +15,10 @@ ghost use Rattle.pm_tool.specs.Question.{asked_by};
 use crate::commandline::{Chosen, TellTexts, chosen, option_words};
 use crate::numbers::number;
 use crate::text_commands::{Decoding, Hearing, Replaying, TextCommand};
-use pm_decode::{TellOptions, tell};
-use pm_program::{
+use pm_console::{
     Usage, misuse, refuse_arguments, refuse_memory, say, say_fault, texts_of, usage_of, words_of,
 };
+use pm_decode::{TellOptions, tell};
 use pm_text::{Sink, Source, TextFault};
 use std::alloc::Global;
 use std::env::Args;

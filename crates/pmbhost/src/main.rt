@@ -1,7 +1,7 @@
 //! The program `pmbhost`: it hands the arguments and the standard streams of its runtime to the library.
 #![tactic(auto)]
 
-use pm_talk::{Sink, Source, Streams};
+use pm_console::{Sink, Source, Streams};
 use pmbhost_lines::program;
 use std::env;
 use std::process::ExitCode;

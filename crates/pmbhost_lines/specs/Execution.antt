@@ -5,13 +5,13 @@ use Rattle.std.specs.declared.io.ErrorKind.{ErrorKind as IoKind}
 use Rattle.clap.specs.Words.{IsAmong, Text, fault_of, matches_of}
 use Rattle.clap.specs.declared.error.kind.ErrorKind.{ErrorKind}
 use Rattle.pm_limits.specs.Guard.{Guarded}
-use Rattle.pm_program.specs.Refusals.{no_words, no_words_status}
+use Rattle.pm_console.specs.Refusals.{no_words, no_words_status}
 use Rattle.pmbhost_lines.specs.Options.{HasTexts, pmbhost, start_fault_words, start_of, start_status}
 use Rattle.pmbhost_lines.specs.Speaking.{spoken}
 use Rattle.pmbhost_lines.specs.declared.options.Options.{Options}
 use Rattle.pmbhost_lines.specs.declared.options.start_fault.StartFault.{StartFault}
-use Rattle.pm_talk.specs.Serving.{IsQuiet, Refuses, Run, TalkEnds, UsageEnds, WantsMemory}
-use Rattle.pm_talk.specs.declared.happening.Happening.{Happening}
+use Rattle.pm_console.specs.Serving.{IsQuiet, Refuses, Run, TalkEnds, UsageEnds, WantsMemory}
+use Rattle.pm_console.specs.declared.happening.Happening.{Happening}
 
 -- the program's name, as it begins each line on standard error
 abbrev pub name : List ℕ

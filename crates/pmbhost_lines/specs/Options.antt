@@ -9,7 +9,7 @@ use Rattle.pm_limits.specs.FaultWords.{limit_fault_words}
 use Rattle.pm_limits.specs.Guard.{Guarded, limits_at, narrow_fault, narrowed}
 use Rattle.pm_limits.specs.declared.fault.LimitFault.{LimitFault}
 use Rattle.pm_lines.specs.Digits.{hex_of, signed_of, small_of}
-use Rattle.pm_program.specs.Options.{option_rule, repeated_rule}
+use Rattle.pm_console.specs.Options.{option_rule, repeated_rule}
 use Rattle.pmbhost_lines.specs.declared.options.limit_text.OutputLimits.{OutputLimits}
 use Rattle.pmbhost_lines.specs.declared.options.Options.{Options}
 use Rattle.pmbhost_lines.specs.declared.options.start_fault.StartFault.{StartFault}

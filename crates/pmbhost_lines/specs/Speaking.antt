@@ -4,7 +4,7 @@ use Rattle.pm_limits.specs.Guard.{Guarded}
 use Rattle.pmbhost_lines.specs.ReplyText.{reply_text}
 use Rattle.pmbhost_lines.specs.Session.{answer_to}
 use Rattle.pmbhost_lines.specs.declared.speaking.Session.{Session}
-use Rattle.pm_talk.specs.Speech.{Speech}
+use Rattle.pm_console.specs.Speech.{Speech}
 
 -- the line of the answer to a line
 unfoldable pub answer_text : Guarded → List ℕ → List ℕ

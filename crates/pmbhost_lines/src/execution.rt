@@ -3,16 +3,17 @@ ghost use Rattle.std.specs.Prelude.{◌≡◌, ◌≤◌, IsFalse, MatchResult, 
 ghost use Rattle.std.specs.IoError.{error_kind};
 ghost use Rattle.std.specs.Process.{exit_status};
 ghost use Rattle.std.specs.Vec.Iter.{into_iter_items};
-ghost use Rattle.pm_program.specs.Arguments.{arguments_of};
+ghost use Rattle.pm_console.specs.Arguments.{arguments_of};
 ghost use Rattle.pmbhost_lines.specs.Execution.{RunEnds, ServeEnds};
 ghost use Rattle.pmbhost_lines.specs.Options.{start_of};
-ghost use Rattle.pm_talk.specs.Serving.{over};
+ghost use Rattle.pm_console.specs.Serving.{over};
 
 use crate::options::Options;
 use crate::speaking::Session;
+use pm_console::{
+    Port, refuse_arguments, refuse_memory, say, serve, show_usage, texts_of, words_of,
+};
 use pm_lines::Sink;
-use pm_program::{refuse_arguments, refuse_memory, say, texts_of, words_of};
-use pm_talk::{Port, serve, show_usage};
 use std::alloc::Global;
 use std::env::Args;
 use std::io::{self, Write};

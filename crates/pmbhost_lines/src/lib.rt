@@ -6,7 +6,7 @@
 //!
 //! What the lines of a job say is read by the readers of scenarios, and what is answered of a cell is
 //! written as in a report. It knows no bus: whoever speaks to it sends the frames. In which order lines come
-//! and answers go is the business of `pm_talk`, to which a [`Session`] is a machine that is spoken to.
+//! and answers go is the business of `pm_console`, to which a [`Session`] is a machine that is spoken to.
 #![tactic(auto)]
 
 mod ask;

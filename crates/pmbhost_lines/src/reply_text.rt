@@ -7,12 +7,12 @@ ghost use Rattle.pmbhost_lines.specs.ReplyText.{band_text, ceil_micros, limits_t
 
 use crate::refusal::Refusal;
 use crate::reply::Reply;
+use pm_console::{AnswerText, push_signed, push_spaced_bytes, push_text, push_word};
 use pm_host::{JobEnd, Possible, Standing};
 use pm_limits::{Band, Limits};
 use pm_lines::hex_digits;
 use pm_num::Frac;
 use pm_table::Cell;
-use pm_talk::{AnswerText, push_signed, push_spaced_bytes, push_text, push_word};
 use pm_text::microvolts;
 
 /// The line of an answer, with its line feed.

@@ -1,7 +1,7 @@
 use crate::reply_text::reply_text;
 use crate::session::answer_line;
+use pm_console::{AnswerText, Speaker};
 use pm_limits::Guard;
-use pm_talk::{AnswerText, Speaker};
 
 /// A host, with its limits, that is spoken to in lines.
 #[derive(Drop)]

@@ -1,7 +1,7 @@
 //! The program `pmbpart`: it hands the arguments, the files and the standard streams of its runtime to the library.
 #![tactic(auto)]
 
-use pm_talk::{Sink, Source, Streams};
+use pm_console::{Sink, Source, Streams};
 use pmbpart_lines::{SetupFiles, program};
 use std::env;
 use std::process::ExitCode;

@@ -6,12 +6,12 @@ use Rattle.clap.specs.Words.{App, IsAmong, Text, fault_of, first_of, matches_of,
 use Rattle.clap.specs.declared.error.kind.ErrorKind.{ErrorKind}
 use Rattle.pm_device.specs.Held.{Held}
 use Rattle.pm_lines.specs.declared.fault.TextFault.{TextFault}
-use Rattle.pm_program.specs.Options.{option_rule}
-use Rattle.pm_program.specs.Refusals.{no_words, no_words_status, text_refusal}
+use Rattle.pm_console.specs.Options.{option_rule}
+use Rattle.pm_console.specs.Refusals.{no_words, no_words_status, text_refusal}
 use Rattle.pmbpart_lines.specs.Setups.{IsStart}
 use Rattle.pmbpart_lines.specs.Speaking.{spoken}
-use Rattle.pm_talk.specs.Serving.{IsQuiet, Refuses, Run, TalkEnds, UsageEnds, WantsMemory}
-use Rattle.pm_talk.specs.declared.happening.Happening.{Happening}
+use Rattle.pm_console.specs.Serving.{IsQuiet, Refuses, Run, TalkEnds, UsageEnds, WantsMemory}
+use Rattle.pm_console.specs.declared.happening.Happening.{Happening}
 
 -- the program's name, as it begins each line on standard error
 abbrev pub name : List ℕ

@@ -4,7 +4,7 @@ use Rattle.pm_device.specs.Held.{Held}
 use Rattle.pmbpart_lines.specs.Answering.{answer_to}
 use Rattle.pmbpart_lines.specs.ReplyText.{reply_text}
 use Rattle.pmbpart_lines.specs.declared.speaking.Part.{Part}
-use Rattle.pm_talk.specs.Speech.{Speech}
+use Rattle.pm_console.specs.Speech.{Speech}
 
 -- the line of the answer to a line
 unfoldable pub answer_text : Held → List ℕ → List ℕ

@@ -3,16 +3,17 @@ ghost use Rattle.std.specs.Prelude.{◌≡◌, ◌≤◌, IsFalse, MatchResult, 
 ghost use Rattle.std.specs.IoError.{error_kind};
 ghost use Rattle.std.specs.Process.{exit_status};
 ghost use Rattle.std.specs.Vec.Iter.{into_iter_items};
-ghost use Rattle.pm_program.specs.Arguments.{arguments_of};
+ghost use Rattle.pm_console.specs.Arguments.{arguments_of};
 ghost use Rattle.pmbpart_lines.specs.Execution.{RunEnds, StartEnds};
-ghost use Rattle.pm_talk.specs.Serving.{over};
+ghost use Rattle.pm_console.specs.Serving.{over};
 
 use crate::options::Options;
 use crate::setups::Setups;
 use crate::speaking::Part;
+use pm_console::{
+    Port, refuse_arguments, refuse_memory, say_fault, serve, show_usage, texts_of, words_of,
+};
 use pm_lines::Sink;
-use pm_program::{refuse_arguments, refuse_memory, say_fault, texts_of, words_of};
-use pm_talk::{Port, serve, show_usage};
 use std::alloc::Global;
 use std::env::Args;
 use std::io::{self, Write};

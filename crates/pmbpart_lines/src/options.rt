@@ -8,9 +8,9 @@ ghost use Rattle.pmbpart_lines.specs.Setups.{IsStart, started_by};
 
 use crate::setups::Setups;
 use clap::{Command, Error};
+use pm_console::{VERSION, given_text, with_option};
 use pm_device::Converter;
 use pm_lines::TextFault;
-use pm_program::{VERSION, given_text, with_option};
 use pm_setup::SetupFault;
 use pm_text::{base_converter, read_setup};
 use std::alloc::{AllocError, Global};

@@ -10,12 +10,12 @@ ghost use Rattle.pmbpart_lines.specs.ReplyText.{refusal_words, reply_text as spe
 
 use crate::refusal::Refusal;
 use crate::reply::Reply;
+use pm_console::{AnswerText, push_signed, push_spaced_bytes, push_text, push_word};
 use pm_device::{DeviceFault, Heard};
 use pm_frame::FrameFault;
 use pm_lines::hex_digits;
 use pm_num::Frac;
 use pm_table::Cell;
-use pm_talk::{AnswerText, push_signed, push_spaced_bytes, push_text, push_word};
 use pm_text::microvolts;
 
 /// The line of an answer, with its line feed.

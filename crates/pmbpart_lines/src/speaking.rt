@@ -1,7 +1,7 @@
 use crate::answering::answer_line;
 use crate::reply_text::reply_text;
+use pm_console::{AnswerText, Speaker};
 use pm_device::Converter;
-use pm_talk::{AnswerText, Speaker};
 
 /// A converter that is spoken to in lines.
 #[derive(Debug, Drop)]

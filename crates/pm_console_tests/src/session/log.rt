@@ -1,10 +1,10 @@
 //! A port that keeps what happened.
 ghost use Rattle.std.specs.Prelude.{◌≡◌, ◌++◌, [], ◌∷◌, true};
-ghost use Rattle.pm_talk.specs.Talk.{went};
+ghost use Rattle.pm_console.specs.Talk.{went};
 ghost use Rattle.std.proofs.Common.{◌∙◌, ap, append_assoc, append-nil, sym};
 
+use pm_console::{Happening, Port};
 use pm_lines::TextFault;
-use pm_talk::{Happening, Port};
 
 /// A port over these bytes that keeps what happened, in its order. `whole` is false once something couldn't
 /// be kept.
@@ -26,7 +26,7 @@ impl Log<'_> {
     }
 
     // Keeps that these bytes went.
-    #[tactic(auto, using(std::proofs::lemmas::Grind::common_steps), unfolding(pm_talk::specs::Talk::went))]
+    #[tactic(auto, using(std::proofs::lemmas::Grind::common_steps), unfolding(pm_console::specs::Talk::went))]
     fn keep_all(&mut self, bytes: &[u8])
         ensures { self.new.whole ≡ true → (self.old.whole ≡ true)
             × (self.new.kept.items ≡ self.old.kept.items ++ went bytes.now) }

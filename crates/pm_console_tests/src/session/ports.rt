@@ -2,9 +2,9 @@
 use super::log::Log;
 use crate::checks::{equal, is_true};
 use crate::fakes::{blank, streams};
+use pm_console::{Happening, Port, converse};
 use pm_limits::Guard;
 use pm_lines::TextFault;
-use pm_talk::{Happening, Port, converse};
 use pmbhost_lines::{Session, run};
 use std::alloc::Global;
 use std::process::Abort;

@@ -1,10 +1,9 @@
-//! The examples of the roots of `pm_driver` and `pm_buses`, word for word.
+//! The examples of the roots of `pm_driver` and `pm_driver`, word for word.
 
 use crate::checks::equal;
-use pm_buses::{Fault, driver_over};
 use pm_device::Config;
 use pm_device_tests::BASE;
-use pm_driver::{Bus, Driver};
+use pm_driver::{Bus, Driver, Fault, driver_over};
 use pm_host::JobEnd;
 use pm_limits::LimitFault;
 use pm_table::{Cell, Reg};

@@ -6,7 +6,7 @@ ghost use Rattle.pm_tool.specs.Telling.{flag_rule, tell_app};
 
 use super::helps;
 use clap::{Arg, ArgAction, Command};
-use pm_program::{VERSION, with_option};
+use pm_console::{VERSION, with_option};
 use std::alloc::{AllocError, Global};
 
 /// What `decode` does.

@@ -13,9 +13,9 @@ use super::commands::tell_command;
 use super::tell_fault::TellFault;
 use crate::numbers::{FormatText, read_format};
 use clap::{ArgMatches, Error};
+use pm_console::given_text;
 use pm_decode::TellOptions;
 use pm_num::{AnyFormat, Ulinear16};
-use pm_program::given_text;
 use pm_table::{Coefficients, VoutMode, format_of};
 use std::alloc::Global;
 

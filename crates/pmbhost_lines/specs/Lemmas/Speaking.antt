@@ -9,7 +9,7 @@ use Rattle.pmbhost_lines.specs.Session.{Answered, answer_to, answers_asked}
 use Rattle.pmbhost_lines.specs.Speaking.{answer_text, spoken}
 use Rattle.pmbhost_lines.specs.declared.refusal.Refusal.TheVariants.{TooLong}
 use Rattle.pmbhost_lines.specs.declared.speaking.Session.{Session}
-use Rattle.pm_talk.specs.Lemmas.LongLines.{kept_asks}
+use Rattle.pm_console.specs.Lemmas.LongLines.{kept_asks}
 
 -- a line of more than 256 bytes asks nothing
 long_asks : (long : List ℕ) → 256 < length long → ask_of long ≡ Err TooLong

@@ -9,7 +9,7 @@ use Rattle.pmbpart_lines.specs.ReplyText.{reply_text}
 use Rattle.pmbpart_lines.specs.Speaking.{answer_text, spoken}
 use Rattle.pmbpart_lines.specs.declared.refusal.Refusal.TheVariants.{TooLong}
 use Rattle.pmbpart_lines.specs.declared.speaking.Part.{Part}
-use Rattle.pm_talk.specs.Lemmas.LongLines.{kept_asks}
+use Rattle.pm_console.specs.Lemmas.LongLines.{kept_asks}
 
 -- a line of more than 256 bytes asks nothing
 long_asks : (long : List ℕ) → 256 < length long → ask_of long ≡ Err TooLong

@@ -1,5 +1,5 @@
 use Rattle.std.proofs.Common.{refl}
-use Rattle.pm_program.specs.Refusals.{no_words, no_words_status}
+use Rattle.pm_console.specs.Refusals.{no_words, no_words_status}
 use Rattle.pm_tool.specs.Execution.{Refused}
 use Rattle.pm_tool.proofs.execution.run.Goals as goal
 

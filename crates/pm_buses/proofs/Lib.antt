@@ -1,6 +1,0 @@
-mod Heard
-mod Parts
-mod Patience
-mod Plan
-mod NeverRestarts
-mod PlanEnds

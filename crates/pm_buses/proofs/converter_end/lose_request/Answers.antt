@@ -1,7 +1,0 @@
-use Rattle.std.proofs.Common.{length}
-use Rattle.pm_buses.proofs.Heard.{lost-asked}
-use Rattle.pm_buses.proofs.converter_end.lose_request.Goals as goal
-
-pub returns-clause-asked : goal.returns-clause-asked
-returns-clause-asked c =
-    lost-asked c.args.request.now (length c.args.answer.now) c.args.device.now c.hear.new.self c.requires c.hear.ensures.after

@@ -1,5 +1,0 @@
-use Rattle.pm_buses.proofs.Parts.{parts-compose}
-use Rattle.pm_buses.proofs.laws.parts_compose.Goals as goal
-
-pub returns : goal.returns
-returns c = parts-compose c.requests_may_be_lost.ensures

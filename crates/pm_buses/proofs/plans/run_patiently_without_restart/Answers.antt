@@ -1,4 +1,0 @@
-use Rattle.pm_buses.proofs.plans.run_patiently_without_restart.Goals as goal
-
-pub returns : goal.returns
-returns c = c.patient_never_restarts_stays.ensures c.args.job c.args.driver.now c.run.new.self c.run.result c.run.ensures c.requires

@@ -1,0 +1,4 @@
+mod FailureLemmas
+mod TalkLemmas
+pub mod UsageLemmas
+mod SetupLemmas

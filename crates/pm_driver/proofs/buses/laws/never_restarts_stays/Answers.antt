@@ -1,0 +1,5 @@
+use Rattle.pm_driver.proofs.NeverRestarts.{never-stays}
+use Rattle.pm_driver.proofs.buses.laws.never_restarts_stays.Goals as goal
+
+pub returns : goal.returns
+returns c = never-stays c.jobs_restart_nothing.ensures

@@ -1,0 +1,51 @@
+ghost use Rattle.pm_driver.specs.Disturbed.{PartsCompose, RequestsMayBeLost};
+ghost use Rattle.pm_driver.specs.NeverRestarts.{NeverRestartsStays, PatientNeverRestartsStays};
+ghost use Rattle.pm_driver.specs.PlanEnds.{OrdersGoThrough, PatientOrdersGoThrough};
+
+use crate::buses::patient::Patient;
+use crate::buses::simulated_bus::SimulatedBus;
+use crate::{jobs_restart_nothing, undisturbed_orders_are_done, whole_frames_are_legal};
+
+/// What happens to a converter in parts, put together: a write that is heard in two goes, and times in which it heard
+/// nothing before a write and before a request, or alone.
+pub fn parts_compose()
+    ensures { PartsCompose }
+{
+    requests_may_be_lost();
+}
+
+/// A request that is never sent, and of which nothing comes back, is one that a bus may lose: what a queue that gives
+/// up, or a layer with too little room, answers by 0 bytes. Its `read` calls this law.
+pub fn requests_may_be_lost()
+    ensures { RequestsMayBeLost }
+{}
+
+/// Over a plan without restarts, each job keeps what the host confirms true of the converter.
+pub fn never_restarts_stays()
+    ensures { NeverRestartsStays }
+{
+    jobs_restart_nothing::<SimulatedBus<'static>>();
+}
+
+/// So it does over a patient bus, which counts the restarts of its adapter.
+pub fn patient_never_restarts_stays()
+    ensures { PatientNeverRestartsStays }
+{
+    jobs_restart_nothing::<Patient<SimulatedBus<'static>>>();
+}
+
+/// Over a plan at its end an order that WRITE_PROTECT allows is done, and the converter holds its word.
+pub fn orders_go_through()
+    ensures { OrdersGoThrough }
+{
+    whole_frames_are_legal();
+    undisturbed_orders_are_done::<SimulatedBus<'static>>();
+}
+
+/// So is one over a patient bus that has a try.
+pub fn patient_orders_go_through()
+    ensures { PatientOrdersGoThrough }
+{
+    whole_frames_are_legal();
+    undisturbed_orders_are_done::<Patient<SimulatedBus<'static>>>();
+}

@@ -1,8 +1,0 @@
--- What the crate promises.
-pub mod Laws
-pub mod Ports
-pub mod Serving
-pub mod Speech
-pub mod Talk
--- How it is kept.
-pub mod Lemmas

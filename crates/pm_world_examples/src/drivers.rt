@@ -1,0 +1,94 @@
+//! A driver over a simulated bus: while a plan restarts nothing, what the host confirms is held; over an empty plan an order
+//! is done. The same of a patient bus, whose adapter is a simulated one.
+
+ghost use Rattle.std.specs.Prelude.{◌≡◌, ℕ, true, IfOk, IfSome};
+ghost use Rattle.pm_table.specs.declared.cell.Cell.{Cell as Place};
+ghost use Rattle.pm_table.specs.Cell.{IsCell};
+ghost use Rattle.pm_model.specs.Settings.{word_at};
+ghost use Rattle.pm_device.specs.History.{start_of};
+ghost use Rattle.pm_host.specs.declared.job_end.JobEnd.TheVariants.{Done};
+ghost use Rattle.pm_host.specs.declared.standing.Standing.TheVariants.{Confirmed};
+ghost use Rattle.pm_host.specs.Summary.{standing_at};
+ghost use Rattle.pm_driver.specs.NeverRestarts.{NeverRestarts, PatientNeverRestarts};
+ghost use Rattle.pm_driver.specs.Plan.{restarts_of};
+ghost use Rattle.pm_driver.specs.PlanEnds.{IsAllowed, PatientWentThrough, is_ready};
+
+use pm_device::Config;
+use pm_driver::{
+    Driver, Fault, Patient, SimulatedBus, driver_over, order_patiently_through, order_through,
+    run_patiently_without_restart, run_without_restart,
+};
+use pm_host::{Job, JobEnd};
+use pm_limits::LimitFault;
+use pm_table::{Cell, Reg};
+
+/// What the host confirms is held, where the plan has no restart.
+pub fn confirmed_is_held<'a>(driver: &Driver<SimulatedBus<'a>>)
+    requires { NeverRestarts driver.now }
+    ensures { (cell : Place) (word : ℕ) → IsCell driver.now.guard.host.setup.outputs cell →
+        standing_at driver.now.guard.host cell ≡ Confirmed word → word_at driver.now.bus.device.words cell ≡ word }
+{
+    driver.laws();
+}
+
+/// Two orders and two checks over any plan without restarts: what the host confirms is held.
+pub fn orders_over_a_plan<'a>(
+    c: Config,
+    passes: u8,
+    plan: &'a [Fault],
+    word: u16,
+) -> Option<Driver<SimulatedBus<'a>>>
+    requires { restarts_of plan.now ≡ 0 }
+    ensures { IfSome result (λ driver. (cell : Place) (word : ℕ) → IsCell driver.guard.host.setup.outputs cell →
+        standing_at driver.guard.host cell ≡ Confirmed word → word_at driver.bus.device.words cell ≡ word) }
+{
+    let mut driver = driver_over(c, passes, plan)?;
+    let _ = run_without_restart(
+        &mut driver,
+        Job::Order(Cell::Out(0, Reg::VoutCommand), word),
+    );
+    let _ = run_without_restart(&mut driver, Job::Check(Cell::Out(1, Reg::VoutCommand)));
+    let _ = run_without_restart(
+        &mut driver,
+        Job::Order(Cell::Out(1, Reg::VoutCommand), word),
+    );
+    let _ = run_without_restart(&mut driver, Job::Check(Cell::Out(0, Reg::VoutCommand)));
+    confirmed_is_held(&driver);
+    Some(driver)
+}
+
+/// The first order over an empty plan is done, where WRITE_PROTECT allows it and nothing refuses it.
+pub fn first_order(
+    c: Config,
+    passes: u8,
+    cell: Cell,
+    word: u16,
+) -> Option<Result<JobEnd, LimitFault>>
+    requires { IsAllowed cell (start_of c) }
+    ensures { IfSome result (λ ended. IfOk ended (λ end. end ≡ Done)) }
+{
+    let mut driver = driver_over(c, passes, &[])?;
+    Some(order_through(&mut driver, cell, word))
+}
+
+/// An order over a patient bus that has a try, over a plan at its end, is done, too.
+pub fn patient_order<'a>(
+    driver: &mut Driver<Patient<SimulatedBus<'a>>>,
+    cell: Cell,
+    word: u16,
+) -> Result<JobEnd, LimitFault>
+    requires ready { is_ready driver.old.bus ≡ true }
+    requires allowed { IsAllowed cell driver.old.bus.adapter.device }
+    ensures { PatientWentThrough cell word result driver.new }
+{
+    order_patiently_through(driver, cell, word)
+}
+
+/// Two checks over a patient bus whose adapter's plan has no restart.
+pub fn patient_checks<'a>(driver: &mut Driver<Patient<SimulatedBus<'a>>>)
+    requires { PatientNeverRestarts driver.old }
+    ensures { PatientNeverRestarts driver.new }
+{
+    let _ = run_patiently_without_restart(driver, Job::Check(Cell::Out(0, Reg::VoutCommand)));
+    let _ = run_patiently_without_restart(driver, Job::Check(Cell::Out(1, Reg::VoutCommand)));
+}

@@ -1,0 +1,39 @@
+//! How the laws of both ends are used: for each law of `pm_world` a short function that has it, of a world after
+//! [`World::run`](pm_world::World::run) and after a step that follows, with no proof by hand. It calls the law, which
+//! does nothing, and the prover finds the rest by what `new`, `run` and `step` hand out; so this crate is also the
+//! check that each premise of a law is one that a caller gets. What `run`'s own clauses say is shown here only for a step
+//! that follows it, and a law that speaks of no world, or of any events, is shown as it is. Six are taken by the names of
+//! [`laws_by_name`], which a function opens by `unfolding`. Premises that stay are of the caller's
+//! own events: that the converter didn't restart, say, or that a frame was undisturbed or damaged so.
+//!
+//! - `laws`: some laws of host and converter, each as a named statement that shows all its arguments, so that a caller
+//!   gets it without writing a proof.
+//! - `further`: a world that goes on after a run has each promise of `run` for the longer list of events too.
+//! - `ends`: what the host says when a job begins and ends, and what an order that differs says of the converter.
+//! - `damage`: damage that the packet error code betrays is legal, and stops no run.
+//! - `exact`: what the host calls possible is exact, and the words that show it can be had in a world.
+//! - `bands`: an output commands a voltage in the band that the host gives, which is exact where the possible words are.
+//! - `limits`: limits that allow the start words of a usual part, by computing with them.
+//! - `orders`: an order that nothing disturbs goes through, and a run says which one it was.
+//! - `good`: what frames that nothing disturbs make of an open job, and how it ends once all its frames come whole.
+//! - `whole`: a job that is open after a run ends by frames that come whole.
+//! - `moves`: what moves a setting or the store.
+//! - `own_loop`: events that a caller's own loop lets happen.
+//! - `drivers`: what a driver over a simulated bus, or over a patient one, makes of orders.
+#![tactic(auto)]
+
+pub mod bands;
+pub mod damage;
+pub mod drivers;
+pub mod ends;
+pub mod exact;
+pub mod further;
+pub mod good;
+mod laws;
+pub mod limits;
+pub mod moves;
+pub mod orders;
+pub mod own_loop;
+pub mod whole;
+
+pub use laws::{laws_by_name, ones_are_no_answer, reads_that_share_their_code};
