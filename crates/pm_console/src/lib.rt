@@ -1,24 +1,39 @@
-//! Programs that are spoken to in lines, as coprocesses: a line comes, its answer goes and is flushed, and only
-//! then another byte is read. What a line means is the business of a [`Speaker`], what carries lines and answers
-//! that of a [`Port`]; [`converse`] is the loop between them, proved for every one of both, and [`serve`] what a
-//! program makes of its end.
+//! What every program over a runtime has in common: its arguments as words, its command line by `clap`, what it says on
+//! standard error, the statuses that go with it, and the conversation of those that are spoken to in lines. `pmb`,
+//! `pmbhost` and `pmbpart` are made of it.
+//!
+//! A program has a name, which begins each line that it says: `pmb: X6 Memory`. What `pmb` reads and writes is its own.
+//!
+//! The other two are coprocesses: a line comes, its answer goes and is flushed, and only then another byte is read. What a
+//! line means is the business of a [`Speaker`], what carries lines and answers that of a [`Port`]; [`converse`] is the
+//! loop between them, proved for every one of both, and [`serve`] what a program makes of its end.
 #![tactic(auto)]
 
 mod answer_text;
+mod arguments;
 mod happening;
 mod laws;
+mod options;
 mod port;
+mod refusals;
 mod serving;
 mod speaker;
 mod streams;
 mod talk;
+mod text_faults;
+mod usage;
 
 pub use answer_text::{AnswerText, push_signed, push_spaced_bytes, push_text, push_word};
+pub use arguments::{texts_of, words_of};
 pub use happening::Happening;
 pub use laws::streams_fail_as_told;
+pub use options::{VERSION, all_texts_of, given_text, text_of, with_option, with_repeated};
 pub use pm_lines::{Sink, Source};
 pub use port::Port;
+pub use refusals::{misuse, refuse_arguments, refuse_memory, say};
 pub use serving::{serve, show_usage};
 pub use speaker::Speaker;
 pub use streams::Streams;
 pub use talk::{converse, hand_on};
+pub use text_faults::say_fault;
+pub use usage::{Usage, usage_of};
