@@ -112,7 +112,7 @@ class OneFault(unittest.TestCase):
                     run.words, run.part, run.mishaps = "-b 7 -a 58 probe --writes", part, " ".join(["ok"] * at + [mishap])
                     with tempfile.TemporaryDirectory() as folder, self.subTest(part=part, mishap=mishap, at=at):
                         got = runs.ran(run, folder)
-                        self.assertEqual((got.status, got.out.splitlines()[-1]), (whole.status, whole.out.splitlines()[-1]))
+                        self.assertEqual((got.status, got.out.splitlines()[-1:]), (whole.status, whole.out.splitlines()[-1:]), got.err)
 
 
 class Busy(unittest.TestCase):
