@@ -63,7 +63,7 @@ none-found : {A : Type 0} (found : Option A) → is_some found ≡ false → fou
 none-found None e = refl
 none-found (Some x) e = cc
 
--- so a code of the device is none of them
+-- a code of the device is none of the codes that the output has
 of-device : (code : ℕ) → is_device_code code ≡ true → IsOfDevice code
 unfolding line_of is_told is_of_output
 of-device code e = parts (go (line_of code) refl e) where
@@ -137,7 +137,7 @@ module _ (config : Config) (words : Words) (page : ℕ) where
       (cond (not (is_allowed (word_at words Protect) code)) (Refuses Protected)
       (cond (not (is_accepted act)) (Refuses UnsupportedData) (Takes act)))
 
-  -- so a carried write whose page is there results in that
+  -- a carried write whose page is there results in that
   carried-there : (output code : ℕ) (payload : Payload) → output < config.count →
       write_verdict config words page (PagePlusWrite output code payload)
       ≡ option_map_or (come code) (act_in code output (payload_word payload)) (Refuses UnsupportedCode)
@@ -201,7 +201,7 @@ reply-moved : (held : Held) (page : ℕ) (verdict : Verdict) →
 reply-moved held page (Answers request) not_answer = absurd (not_answer (answer_bytes held request) refl)
 reply-moved held page verdict not_answer = refl
 
--- and what it came to leaves the same but for PAGE
+-- what a verdict came to leaves the same, except PAGE
 after-moved : (held : Held) (page : ℕ) (outcome : Outcome) →
     after held outcome ≡ record (after (moved held page) outcome) { page = (after held outcome).page }
 unfolding after moved

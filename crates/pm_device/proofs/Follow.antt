@@ -39,7 +39,7 @@ held-of config after readings cut faults = record {
   faults = faults;
 }
 
--- and what is held by the same parts
+-- what is held is the same where its parts are
 held-same : (config : Config) (after : Kept) {readings readings' : Measured} {cut cut' : List Bool} {faults faults' : CmlFaults} →
     readings ≡ readings' → cut ≡ cut' → faults ≡ faults' →
     held-of config after readings cut faults ≡ held-of config after readings' cut' faults'
@@ -111,7 +111,7 @@ each_output-same : (f g : ℕ → Bool) → ((output : ℕ) → output < 8 → f
 each_output-same f g same =
     each_output-by (each_output f) g (length-each_output f) (λ output there. cut_at-each_output f output there ∙ same output there)
 
--- and after one bit was set
+-- the bits of all outputs after one bit was set
 each_output-set : (f g : ℕ → Bool) (place : ℕ) (bit : Bool) → (place < 8 → bit ≡ g place) →
     ((output : ℕ) → output < 8 → output ≢ place → f output ≡ g output) → set (each_output f) place bit ≡ each_output g
 each_output-set f g place bit here others =
@@ -164,7 +164,7 @@ module _ (map : SettingsAreAMap) (alone : OutputsStandAlone) (config : Config) (
       sym (shown (is_output_cut config (kept config past).words output) (vout_in config past output)
       (vout-shows config past output))
 
-  -- so all bits stay where nothing is cleared and no settings change
+  -- all bits stay where nothing is cleared and no settings change
   all-stay : each_output before ≡ each_output (λ output. is_output_cut config (kept config past).words output || before output)
   all-stay =
       each_output-same before (λ output. is_output_cut config (kept config past).words output || before output)
@@ -194,7 +194,7 @@ module _ (map : SettingsAreAMap) (alone : OutputsStandAlone) (config : Config) (
       ∙ ap (λ b. is_output_cut config (kept config past).words output || cond b false (before output))
       (sym (and-false (eqb place output))))
 
-  -- and a bit beside `true`
+  -- a bit beside `true` is that bit
   and-holds : (b : Bool) → (b && true) ≡ b
   and-holds true = refl
   and-holds false = refl
@@ -315,7 +315,7 @@ pub now-words : SettingsAreAMap → (config : Config) (past : List Event) → Ar
 unfolding now
 now-words map config past = (kept-full map config past).words
 
--- and one in the store
+-- each cell has a word in the store
 pub now-store : SettingsAreAMap → (config : Config) (past : List Event) → AreWords (now config past).store
 unfolding now
 now-store map config past = (kept-full map config past).store

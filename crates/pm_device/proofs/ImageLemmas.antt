@@ -82,7 +82,7 @@ may-hold h may = and_from _ _ (ap (λ (f : Option ConfigFault). is_none f) may.c
     (ap (λ (s : Option Settings). is_some s) may.store.1))
     (and_from _ _ (same-true _ _ may.protect) (less-true _ _ may.page)))
 
--- so an image of this layout is that of the converter
+-- an image of this layout is that of the converter
 pub some-held : (image : Image) → is_current image ≡ true → MayHold (held image) →
     device_of image ≡ Some (held image)
 unfolding device_of

@@ -24,7 +24,7 @@ unfolding start_words
 start-full map config =
     let words = (map.made (start_word config)).0 in record { words = words; store = words }
 
--- and after what an event came to
+-- each cell has a word after what an event came to
 full-kept : SettingsAreAMap → (before : Kept) (outcome : Outcome) → AreFull before → AreFull (kept_by before outcome)
 full-kept map before (Heard (Takes (Put cell word))) full =
     record { words = map.kept before.words cell word full.words; store = full.store }
@@ -36,7 +36,7 @@ full-kept map before (Heard (Takes Restore)) full =
 full-kept map before Restarts full = record { words = full.store; store = full.store }
 full-kept map before _ full = full
 
--- so there is one for each after any past
+-- each cell has a word after any past
 pub kept-full : SettingsAreAMap → (config : Config) (past : List Event) → AreFull (kept config past)
 unfolding kept
 kept-full map config [] = start-full map config
@@ -60,7 +60,7 @@ page-kept config before (Heard (Takes (Select page))) can some there = can (Sele
 page-kept config before Restarts can some there = omega arith
 page-kept config before _ can some there = there
 
--- so it does after any past
+-- PAGE names an output after any past
 pub kept-page : (config : Config) (past : List Event) → 1 ≤ config.count → (kept config past).page < config.count
 unfolding kept
 kept-page config [] some = omega arith

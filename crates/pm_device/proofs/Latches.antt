@@ -39,7 +39,7 @@ pub readings-heard : (held : Held) (bytes : List ℕ) (ending : Ending) → (nex
 unfolding next after
 readings-heard held bytes ending = refl
 
--- and a restart
+-- a restart changes no readings
 pub readings-restarted : (held : Held) → (next held Restarted).readings ≡ held.readings
 unfolding next after
 readings-restarted held = refl
@@ -108,7 +108,7 @@ taken-act held (Refuses fault) e = cc
 taken-act held (Answers request) e = cc
 taken-act held (Takes act) e = (act, refl)
 
--- so was the write
+-- what was taken was written
 was-written : WritesAreExact → (held : Held) (message : Message) (bytes : List ℕ) →
     IsWrite held.config.addr message bytes → reply_of held bytes Stop ≡ Taken → WasWritten held message bytes
 unfolding next reply_of
@@ -137,7 +137,7 @@ faults-same code output (ClearVout named byte) faults has other second = refl
 faults-same code output Store faults has other second = refl
 faults-same code output Restore faults has other second = refl
 
--- so does a write
+-- a write of another code leaves STATUS_CML
 pub cml-stays : WritesAreExact → (held : Held) (message : Message) (bytes : List ℕ) →
     IsWrite held.config.addr message bytes → reply_of held bytes Stop ≡ Taken →
     message_code message ≢ command.clear_faults → message_code message ≢ command.status_cml →
@@ -168,7 +168,7 @@ set-other : (cut : List Bool) (place output : ℕ) (bit : Bool) → output ≢ p
     cut_at (set cut place bit) output ≡ true
 set-other cut place output bit ne is = get_or-set_other cut place output bit false ne ∙ is
 
--- and after more is latched
+-- a bit stays set after more is latched
 set-more : (cut : List Bool) (place output : ℕ) (bit : Bool) → cut_at cut output ≡ true
     → cut_at (set cut place (cut_at cut place || bit)) output ≡ true
 set-more cut place output bit is = elim (cases_eq output place) [
@@ -225,7 +225,7 @@ leaves-code code named output (ClearCml byte) has other second = tt
 leaves-code code named output Store has other second = tt
 leaves-code code named output Restore has other second = tt
 
--- and those on another output
+-- acts on another output leave this output's bit
 pub leaves-output : (code named output : ℕ) (act : Act) → HasCode code named act → output ≢ named → LeavesVout output act
 unfolding HasCode LeavesVout
 leaves-output code named output (ClearFaults place) has ne = λ e. ne (e ∙ has.1)
@@ -236,7 +236,7 @@ leaves-output code named output (ClearCml byte) has ne = tt
 leaves-output code named output Store has ne = tt
 leaves-output code named output Restore has ne = tt
 
--- so a latch stays over a write that leaves it
+-- a latch stays over a write that leaves it
 pub cut-stays : WritesAreExact → (held : Held) (message : Message) (bytes : List ℕ) (output : ℕ) →
     IsWrite held.config.addr message bytes × (reply_of held bytes Stop ≡ Taken) →
     ((act : Act) → HasCode (message_code message) (output_in held.page message) act → LeavesVout output act) →

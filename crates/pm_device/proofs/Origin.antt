@@ -86,7 +86,7 @@ later-ever config past event cell word h = record {
   number = h.number;
 }
 
--- and where the cell didn't get its word in the store since, one since then
+-- where the cell didn't get its word in the store since, a later write carried it
 later-carried : (config : Config) (past : List Event) (event : Event) (cell : Cell) (word : ℕ) →
     loads cell (outcome_of config (kept config past) event) ≡ false →
     WasCarried config past cell word → WasCarried config (event ∷ past) cell word
@@ -158,7 +158,7 @@ heard-before (Reading output code word) past heard = heard.1
 HasOrigin : Config → List Event → Cell → ℕ → Type 0
 HasOrigin config past cell word = (word ≡ loaded_word config past cell) ⊎ WasCarried config past cell word
 
--- and so it is where the cell wasn't loaded since
+-- a word has its origin where the cell wasn't loaded since
 origin-later : (config : Config) (past : List Event) (event : Event) (cell : Cell) (word : ℕ) →
     loads cell (outcome_of config (kept config past) event) ≡ false →
     HasOrigin config past cell word → HasOrigin config (event ∷ past) cell word
@@ -277,7 +277,7 @@ module _ (map : SettingsAreAMap) (told : CellsAreToldApart) where
   unfolding now
   now-ever exact config past cell count heard here = kept-ever exact config past cell count heard here
 
-  -- and so has its word in the store
+  -- a cell has its word in the store
   kept-stored : (config : Config) (past : List Event) (cell : Cell) → IsCell 8 cell →
       word_at (kept config past).store cell ≡ stored_word config past cell
   unfolding kept stored_word

@@ -53,7 +53,7 @@ payload_for-length short held (WriteByte code byte) reads = cc
 payload_for-length short held (WriteWord code word) reads = cc
 payload_for-length short held (PagePlusWrite page code payload) reads = cc
 
--- so the bytes that answer a request are an answer to it
+-- the bytes that answer a request are an answer to it
 answer-fits : PayloadsAreShort → (held : Held) (request : Message) (bytes : List ℕ) →
     IsRequest held.config.addr request bytes →
     IsAnswer held.config.addr request (payload_for held request) (answer_bytes held request)
@@ -84,7 +84,7 @@ verdict-answers held (WriteByte code byte) e = cc
 verdict-answers held (WriteWord code word) e = cc
 verdict-answers held (PagePlusWrite page code payload) e = cc
 
--- so it is answered
+-- a request for what is answered gets its answer
 pub request-answered : RequestsAreExact → PayloadsAreShort → (held : Held) (request : Message) (bytes : List ℕ) →
     IsRequest held.config.addr request bytes → is_answered held.config request ≡ true →
     AnswersWith held bytes request (payload_for held request)
@@ -109,7 +109,7 @@ bytes_in : Heard → List ℕ
 bytes_in (Answer frame) = frame.items
 bytes_in _ = []
 
--- so two answers that are one have the same bytes
+-- two answers that are one have the same bytes
 answer-one : (items others : List ℕ) → Answer (record { items = items }) ≡ Answer (record { items = others }) → others ≡ items
 unfolding bytes_in
 answer-one items others e = sym (ap bytes_in e)
@@ -182,7 +182,7 @@ one-byte word h = omega (arith, h)
 two-bytes : (word : ℕ) → word % 256 + 256 * (word / 256) ≡ word
 two-bytes word = omega arith
 
--- so each accepted word is read back
+-- each accepted word is read back
 pub read-back : RegistersAreInTheTable → (cell : Cell) (word : ℕ) → cell_accepts cell word ≡ true →
     payload_word (payload_in (register_bytes (cell_code cell) word)) ≡ word
 unfolding line_of

@@ -31,7 +31,7 @@ noted faults fault Data e = rw e refl
 noted faults fault Pec e = rw e refl
 noted faults fault OtherCommunication e = rw e refl
 
--- so a refusal changes that bit alone
+-- a refusal changes that bit alone
 after-refused : (held : Held) (verdict : Verdict) (fault : DeviceFault) → reply_to held verdict ≡ Refused fault
     → after held (effect.Heard verdict) ≡ record held { faults = with_bit held.faults (fault_bit fault) }
 unfolding after
@@ -77,7 +77,7 @@ read-answered held (Takes act) answer e silent taken refused = absurd (taken (sy
 read-answered held (Refuses fault) answer e silent taken refused = absurd (refused fault (sym e))
 read-answered held (Answers request) answer e silent taken refused = (request, refl)
 
--- so what is neither silence, taken nor refused changes nothing
+-- what is neither silence, taken nor refused changes nothing
 pub next-answered : (held : Held) (bytes : List ℕ) (ending : Ending) → (reply_of held bytes ending ≡ Silent → ⊥)
     → (reply_of held bytes ending ≡ Taken → ⊥) → ((fault : DeviceFault) → reply_of held bytes ending ≡ Refused fault → ⊥)
     → next held (Hearing bytes ending) ≡ held
@@ -92,7 +92,7 @@ unset : (b before : Bool) → cond b false before ≡ true → before ≡ true
 unset true before e = cc
 unset false before e = e
 
--- so a bit that is set after it was set before
+-- a bit that is set after a taken write was set before it
 after-taken : (held : Held) (verdict : Verdict) (bit : CmlBit) → reply_to held verdict ≡ Taken
     → cml_at (after held (effect.Heard verdict)).faults bit ≡ true → cml_at held.faults bit ≡ true
 unfolding after
@@ -116,7 +116,7 @@ pub vout-looked_up : (config : Config) (past : List Event) (output : ℕ) → ou
 unfolding now
 vout-looked_up config past output there = ap (λ b. marked 0x08 b) (cut_at-each_output (vout_in config past) output there)
 
--- and those of STATUS_CML
+-- the bits of STATUS_CML are those of the events
 pub cml-looked_up : (config : Config) (past : List Event) (bit : CmlBit) → cml_at (now config past).faults bit ≡ cml_in config past bit
 unfolding now
 cml-looked_up config past Command = refl
@@ -131,7 +131,7 @@ unfolding is_output_cut
 cut-now config words output there cut = ap (λ b. b && is_cut (value_for config output) words output) (lt-ltb output config.count there)
     ∙ cut
 
--- so STATUS_VOUT shows it
+-- STATUS_VOUT shows that an output is cut
 pub now-shows : (config : Config) (past : List Event) (output : ℕ) → config.count ≤ 8 → output < config.count
     → is_cut (value_for config output) (now config past).words output ≡ true → status_vout (now config past) output ≡ 0x08
 unfolding now

@@ -52,7 +52,7 @@ has-act : ℕ → ℕ → ℕ → Line → Bool
 has-act output word code line =
     not (is_ever_written line.protection) || (eqb code command.page_plus_write || is_some (act_in code output word))
 
--- so a code that is written has an act
+-- a code that is written has an act
 written-act : (code output word : ℕ) → is_written code ≡ true → eqb code command.page_plus_write ≡ false →
     act_in code output word ≡ None → ⊥
 unfolding line_of has-act
@@ -121,7 +121,7 @@ act-not_answer held false false accepted act items e = cc
 act-not_answer held false true false act items e = cc
 act-not_answer held false true true act items e = cc
 
--- and not K2
+-- what an act comes to is not K2
 act-not_unknown : (held : Held) (away allowed accepted : Bool) (act : Act) →
     act-reply held away allowed accepted act ≡ Refused UnsupportedCode → ⊥
 unfolding act-reply
@@ -253,7 +253,7 @@ read-unknown exact held bytes e = go (request_fault held.config.addr bytes) refl
       absurd (request-known held some.0 some.1.reads
       (subst (λ m. reply_to held (read_verdict held.config m) ≡ Refused UnsupportedCode) places h))
 
--- and it does come of it
+-- a write of an unknown code is refused so
 pub unknown-write : (held : Held) (bytes : List ℕ) (place : ℕ) →
     write_fault held.config.addr bytes ≡ Some (frame.UnknownCode place) → reply_of held bytes Stop ≡ Refused UnsupportedCode
 unfolding reply_of verdict_of

@@ -43,7 +43,7 @@ pub word-of_start : (starts : List OutputStart) (output : ℕ) (register : Reg) 
 word-of_start starts output Operation = get_or-map (register_start Operation) starts output no_start
 word-of_start starts output register = get_or-map (register_start register) starts output no_start
 
--- so a word of the rows is the cell's start word
+-- a word of the rows is the cell's start word
 pub row-start : (config : Config) (row : List ℕ) (output : ℕ) (register : Reg) →
     row ≡ start_row (get_or config.starts output no_start) →
     get_or row (register_number register) 0 ≡ start_word config (Out output register)

@@ -82,7 +82,7 @@ cond-not_taken : (b : Bool) (x y : Verdict) (act : Act) → (x ≡ Takes act →
 cond-not_taken true x y act nx ny e = nx e
 cond-not_taken false x y act nx ny e = ny e
 
--- and so isn't what it results in
+-- what a read results in isn't taken
 read-not_taken : (config : Config) (message : Message) (act : Act) → read_verdict config message ≡ Takes act → ⊥
 read-not_taken config (ReadCoefficients code side) act e =
     cond-not_taken (answers_coefficients config code side) (Answers (ReadCoefficients code side)) (Refuses UnsupportedData) act (λ x. cc)
@@ -141,7 +141,7 @@ acts-on_code code output word false act e = go (register_of code) e where
 pub some-act : (x y : Act) → Some x ≡ Some y → x ≡ y
 some-act x y h = cc
 
--- so the act of any code names it
+-- the act of any code names it
 pub acts-on : (code output word : ℕ) (act : Act) → act_in code output word ≡ Some act → ActsOn output act
 acts-on code output word act e =
     first (eqb code command.page) (eqb code command.clear_faults) (eqb code command.status_vout) (eqb code command.status_cml) e
@@ -190,7 +190,7 @@ can-act count output (ClearFaults named) here on selected accepted = subst (λ n
 can-act count output (ClearVout named byte) here on selected accepted = subst (λ n. n < count) (sym on) here
 can-act count output _ here on selected accepted = tt
 
--- so an act that is taken can be done
+-- an act that is taken can be done
 pub taken-can : (config : Config) (words : Words) (page : ℕ) (message : Message) (act : Act) → IsTaken config words page message act
     → page < config.count → CanAct config.count act
 taken-can config words page message act h here =

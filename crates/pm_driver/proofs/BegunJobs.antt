@@ -82,7 +82,7 @@ job-quiet (host.Send RestoreUserAll) = refl
 none-more : (n : ℕ) → 0 + n ≡ n
 none-more n = omega arith
 
--- so it leads on
+-- begun jobs lead on
 pub jobs-lead : LawsOfLives → {B : Type 0} → (gives : B → Call → B → Type 0) → (held : B → Held) → (restarts : B → ℕ) → JobsLead gives held restarts
 jobs-lead laws gives held restarts summary bus job free = record {
   acts = Began job ∷ [];
@@ -195,7 +195,7 @@ since-stands laws summary held cell word there is says =
     ((laws.confirmed has.config has.passes has.events lived.lived).held cell word (there-of cell lived there)
     (subst (λ (h : Summary). standing_at h cell ≡ Confirmed word) (sym lived.host_is) says) is.since)
 
--- and what is held of it is possible
+-- what is held of a cell is possible
 since-among : LawsOfLives → (summary : Summary) (held : Held) (cell : Cell) →
     IsCell summary.setup.outputs cell → HasNoRestartSince cell summary held →
     is_possible (word_at held.words cell) (possible_at summary cell) ≡ true
@@ -249,7 +249,7 @@ last-begun job earlier (Began other ∷ acts) rest h =
     let jobs : other ≡ job = cc in ap (λ j. Some j) jobs
 last-begun job earlier (Renewed ∷ acts) rest h = cc
 
--- so the end of the job that a driver carried out says what it is worth
+-- the end of the job that a driver carried out says what it is worth
 pub leads-say : EndsAreTrue → {B : Type 0} (gives : B → Call → B → Type 0) (held : B → Held) (restarts : B → ℕ) (job : host.Job) (end : JobEnd) (old new : Driven B) →
     HasLife old.host (held old.bus) → Leads gives held restarts (Began job ∷ []) (Some end) old new → EndSays job new.host (held new.bus) end
 leads-say law gives held restarts job end old new has leads =
@@ -284,7 +284,7 @@ job-leads gives held restarts jobs compose asked end old new middle begins leads
       compose (Began begun ∷ []) [] None (Some end) old (record { host = host_next old.host (host.Accepted begun); bus = old.bus }) new
       first second
 
--- so there is a life
+-- a job that was carried out has a life
 pub job-lived : {B : Type 0} (gives : B → Call → B → Type 0) (held : B → Held) (restarts : B → ℕ) → JobsLead gives held restarts → LeadsCompose gives held restarts →
     (asked : Job) (end : JobEnd) (old new : Driven B) (middle : Summary) → HasLife old.host (held old.bus) →
     IsBegun old.host asked middle →

@@ -139,7 +139,7 @@ order-says apart host laws config passes before event cell word end read is tell
           (subst (AreTold setup) (all (Got bytes) told) (laws.followed.told config passes (event ∷ before) is.lived))
           (subst (λ e. last_job e ≡ Some (Order cell word)) (all (Got bytes) told) last) over says) over
 
--- and a check that is done with some word
+-- what a check says that is done with some word
 check-says : CellsAreToldApart → TranscriptsAreFollowed → LawsOfLives →
     (config : Config) (passes : ℕ) (before : List Event) (event : Event) (cell : Cell) →
     (is : IsLife config passes (event ∷ before) (now config passes (event ∷ before)).host (now config passes (event ∷ before)).device) →
@@ -193,7 +193,7 @@ nothing-found : (b : Bool) (shape : Shape) → cond b (Some None) None ≡ Some 
 nothing-found true shape h = cc
 nothing-found false shape h = cc
 
--- so the output has it
+-- the output has the format that was found
 learned-format : (setup : Setup) (entries : List Entry) (output : ℕ) (shape : Shape) → last_job entries ≡ Some (Learn output) →
     found setup output (told_since entries) ≡ Some (Some shape) → format_of_output setup entries output ≡ Some shape
 learned-format setup [] output shape last so = cc
@@ -204,7 +204,7 @@ learned-format setup (Finished acked ∷ before) output shape last so =
 learned-format setup (Got bytes ∷ before) output shape last so =
     format-in setup before (Got bytes ∷ told_since before) output shape (last_job before) last so
 
--- and the host holds the converter's
+-- the host holds the converter's format after a learn
 learn-says : TranscriptsAreFollowed → LawsOfLives →
     (config : Config) (passes : ℕ) (before : List Event) (event : Event) (output : ℕ) →
     (is : IsLife config passes (event ∷ before) (now config passes (event ∷ before)).host (now config passes (event ∷ before)).device) →

@@ -22,7 +22,7 @@ use Rattle.pm_driver.specs.Disturbed.{IsAskedPart, IsDisturbed, IsSentPart}
 pub restarted : (old new : Held) → new ≡ device_next old device.Restarted → IsDisturbed old true new
 restarted old new is = λ n. record { events = RestartDevice ∷ []; beside = (refl, tt); after = λ frame. sym is; count = omega arith }
 
--- or nothing
+-- nothing happens to the converter
 pub undisturbed : (held : Held) → IsDisturbed held false held
 undisturbed held = λ n. record { events = []; beside = tt; after = λ frame. refl; count = omega arith }
 
@@ -37,7 +37,7 @@ delivered packet bytes ending way old new bytes_are ending_is legal after = λ n
   after = sym (after ∙ ap₂ (λ b e. device_next old (device.Hearing b e)) bytes_are ending_is);
 }
 
--- or is lost
+-- a packet is lost
 pub lost : (packet : List ℕ) (held : Held) → IsSentPart packet held held
 lost packet held = λ n. record { events = []; may = tt; after = refl; count = omega arith }
 
@@ -111,7 +111,7 @@ lost-back request bytes given ending way needed old new some h = λ n. record {
   after = hears-after h;
 }
 
--- or comes back, legally
+-- an answer comes back legally
 pub came-back : (request bytes given came : List ℕ) (ending : Ending) (way : Arrival) (so : Back) (whole : Bool) (needed : ℕ)
     (old new : Held) →
     Hears request bytes given ending way old new → came ≡ back_bytes given so → whole ≡ is_heard_whole request bytes ending →

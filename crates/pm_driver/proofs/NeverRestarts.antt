@@ -28,7 +28,7 @@ none-part [] (suc n) none = refl
 none-part (fault ∷ plan) (suc n) none =
     let earlier = none-part plan n (omega arith) in omega arith
 
--- so a count of its restarts stays with each frame
+-- a count of a plan's restarts stays with each frame
 count-stays : (old new : SimulatedBus) → TurnsTo old new → none_in old.plan.now ≡ true →
     (restarts_so new ≡ restarts_so old) × (none_in new.plan.now ≡ true)
 count-stays old new turn none =
@@ -37,7 +37,7 @@ count-stays old new turn none =
       ap none_in turn.plan ∙ none,
     )
 
--- and with all tries of a patient bus
+-- the count stays with all tries of a patient bus
 sends-stays : (tries : ℕ) (frame : List ℕ) (acked : Bool) (old new : SimulatedBus) → sends_patiently tries_so tries frame old acked new →
     none_in old.plan.now ≡ true → (restarts_so new ≡ restarts_so old) × (none_in new.plan.now ≡ true)
 sends-stays zero frame acked old new gave none =

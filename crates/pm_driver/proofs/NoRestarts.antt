@@ -49,7 +49,7 @@ quiet-since config passes cell (event ∷ events) before none since =
 none-counted : (n was is : ℕ) → n + was ≡ is → is ≡ was → n ≡ 0
 none-counted n was is rose same = omega arith
 
--- so it is where something led
+-- no restart is counted where something led and the count stayed
 pub leads-since : {B : Type 0} (gives : B → Call → B → Type 0) (held : B → Held) (restarts : B → ℕ) → RestartsAreCounted gives held restarts
 leads-since gives held restarts acts end old new cell leads same is =
     let has = is.has in
@@ -65,7 +65,7 @@ leads-since gives held restarts acts end old new cell leads same is =
           (none-counted (restarts_in leads.events) (restarts old.bus) (restarts new.bus) leads.count same) is.since;
     }
 
--- and where a job was carried out
+-- no restart is counted where a job was carried out and the count stayed
 pub job-since : {B : Type 0} (gives : B → Call → B → Type 0) (held : B → Held) (restarts : B → ℕ) (o : Option host.Job) (end : JobEnd)
     (old new : Driven B) → IsSomeAnd o (λ begun. Leads gives held restarts (Began begun ∷ []) (Some end) old new) →
     restarts new.bus ≡ restarts old.bus → (cell : Cell) →
@@ -146,7 +146,7 @@ calls-none gives restarts is_so all old so (Called call ∷ acts) new calls =
 calls-none gives restarts is_so all old so (Began job ∷ acts) new calls = calls-none gives restarts is_so all old so acts new calls
 calls-none gives restarts is_so all old so (Renewed ∷ acts) new calls = calls-none gives restarts is_so all old so acts new calls
 
--- so a job restarts nothing
+-- a job restarts nothing
 pub jobs-none : {B : Type 0} (gives : B → Call → B → Type 0) (held : B → Held) (restarts : B → ℕ) → JobsRestartNothing gives held restarts
 jobs-none gives held restarts is_so all job old new (Err fault) runs so = (
   subst (λ (d : Driving _). is_so d.bus ≡ true) (sym runs.err) so,

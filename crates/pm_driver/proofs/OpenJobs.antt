@@ -77,7 +77,7 @@ taken-open s (Word cell) payload = ended-open (marked s (Good cell (word_in payl
 taken-open s (Mode output) payload = mode-open s output (mode_of (word_in payload))
 taken-open s (Coefficients output) payload = learned-open s output (result_ok (shape_in Direct (coefficients_of payload)))
 
--- or not
+-- what an answered or unanswered question leaves open
 asked-open : (s : Summary) (question : Question) (tries : ℕ) (payload : Option (List ℕ)) → IsOpen (asked s question tries payload)
 asked-open s question tries None =
     open-cond (eqb (tries + 1) s.setup.passes) (ends s Unknown) (goes_on s (Asks question (tries + 1))) (ended-open s Unknown) (λ h. refl)
@@ -105,7 +105,7 @@ stays-open s (Read request room came) busy h = go s.stage busy h where
   go None b e = cc
   go (Some stage) b e = answered-open (idle s) stage came e
 
--- and one that sends something has
+-- a host that sends something has an open job
 pub busy-host : (P : Message → Type 0) (s : Summary) → IsSomeAnd (sending_in s) P → is_busy s ≡ true
 busy-host P s h = go s.stage h where
   go : (stage : Option Stage) → IsSomeAnd (option_map stage_message stage) P → is_some stage ≡ true

@@ -51,7 +51,7 @@ sent-parts frame first a second b third c one two = record {
   count = restarts-on two.events one.events a b c one.count two.count;
 }
 
--- and a request behind a time in which it heard nothing
+-- a request behind a time in which the converter heard nothing is a request
 before-read : (request : List ℕ) (needed : ℕ) (came : List ℕ) (first : Held) (a : ℕ) (second : Held) (b : ℕ) (third : Held) (c : ℕ) →
     IsUnheard first a second b → IsAsked request needed second b came third c → IsAsked request needed first a came third c
 before-read request needed came first a second b third c one is =

@@ -21,7 +21,7 @@ one-left (suc fewer) tried tries count more = (fewer, refl)
 none-left : (left tried tries : ℕ) → left + tried ≡ tries → tries ≤ tried → left ≡ zero
 none-left left tried tries count over = omega arith
 
--- so many tries of a call were unheard: what the others that are left lead to, all of them do
+-- after this many unheard tries of a call: what the tries that are left lead to, all of them do
 pub record Waits {A : Type 0} (held : A → Held) (restarts : A → ℕ) (goes_on : ℕ → A → Type 0) (tries : ℕ) (old : A) (tried : ℕ) (now : A) : Type 0 where
   pub unheard : IsUnheard (held old) (restarts old) (held now) (restarts now)
   pub left : ℕ
@@ -61,7 +61,7 @@ waits-last held restarts goes_on tries old tried now waits more last =
     let one = one-left waits.left tried tries waits.count more in
     waits.goes (subst (λ n. goes_on n now) (sym one.1) (last one.0))
 
--- and none
+-- no tries are left
 pub waits-over : {A : Type 0} (held : A → Held) (restarts : A → ℕ) (goes_on : ℕ → A → Type 0) (tries : ℕ) (old : A) (tried : ℕ)
     (now : A) → Waits held restarts goes_on tries old tried now → tries ≤ tried → goes_on zero now → goes_on tries old
 waits-over held restarts goes_on tries old tried now waits over end =

@@ -30,7 +30,7 @@ none-next bus so = go (fault_next bus) refl so where
   go None e h = e
   go (Some fault) e h = cc
 
--- and none's is after a frame
+-- no fault is left after a frame either
 end-stays : (old new : SimulatedBus) → is_at_end old ≡ true → TurnsTo old new → is_at_end new ≡ true
 end-stays old new so turn =
     let none = none-next old so in
@@ -42,7 +42,7 @@ delivered-so : WholeFramesAreLegal → (frame : List ℕ) (held new : Held) → 
 delivered-so legal frame held new is =
     sym (is ∙ ap (λ b. cond b (device_next held (device.Hearing frame Stop)) held) (legal.write frame))
 
--- and so is a request
+-- a request arrives whole at the end of a plan
 asked-so : WholeFramesAreLegal → (request : List ℕ) (held new : Held) → new ≡ asked request held Whole → asked_whole held request ≡ new
 asked-so legal request held new is =
     sym (is ∙ ap (λ b. cond b (device_next held (device.Hearing request Restart)) (device_next held (device.Hearing [] Stop)))
@@ -61,7 +61,7 @@ came-so legal request needed held came is fits =
     (legal.request request) (not-longer needed (length answer) fits)
     ∙ ap (λ b. cond (not b) [] answer) (legal.answer request needed answer)))
 
--- so nothing disturbs its calls
+-- nothing disturbs the calls of a bus at the end of its plan
 simulated-so : WholeFramesAreLegal → AreUndisturbed gives_so device_in is_at_end
 simulated-so legal (Wrote frame acked) old new so gave =
     let by = subst (λ o. gives_by o old.device (Wrote frame acked) new.device) (none-next old so) gave.gives in
@@ -72,7 +72,7 @@ simulated-so legal (Read request room came) old new so gave =
       end-stays old new so gave.turn,
     )
 
--- nor the first try of a patient bus, which is its last
+-- nothing disturbs the first try of a patient bus, which is its last
 sends-so : WholeFramesAreLegal → (left : ℕ) (frame : List ℕ) (acked : Bool) (old new : SimulatedBus) → is_at_end old ≡ true →
     sends_patiently tries_so (suc left) frame old acked new →
     ((acked ≡ true) × (wrote_whole old.device frame ≡ new.device)) × (is_at_end new ≡ true)
@@ -136,7 +136,7 @@ patient-so legal call old new ready gave = go call gave where
         still gave.0 one.1,
       )
 
--- so orders go through
+-- orders go through at the end of a plan
 pub go-through : WholeFramesAreLegal → UndisturbedOrdersAreDone gives_so device_in restarts_so → OrdersGoThrough
 go-through legal law cell word (Err fault) old new has at_end allowed runs = record {
   done = tt;

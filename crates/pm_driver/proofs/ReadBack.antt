@@ -93,7 +93,7 @@ stage-is : (setup : Setup) (entries : List Entry) (job : Job) → open_job setup
 unfolding host_now stage_of
 stage-is setup entries job is = ap (option_map (λ j. job_stage setup j (told_since entries))) is
 
--- so its cell is there
+-- the cell of an open job is there
 stage-sound : TranscriptsAreFollowed → (setup : Setup) (entries : List Entry) (job : Job) → IsSetup setup → AreTold setup entries →
     open_job setup entries ≡ Some job → IsStage (host_now setup entries) (Some (job_stage setup job (told_since entries)))
 stage-sound laws setup entries job made told is =
@@ -117,7 +117,7 @@ check-there : TranscriptsAreFollowed → (setup : Setup) (entries : List Entry) 
 unfolding host_now
 check-there laws setup entries cell made told is = (stage-sound laws setup entries (Check cell) made told is).there
 
--- so is the output of a learn
+-- the output of an open learn is there
 learn-open : TranscriptsAreFollowed → (setup : Setup) (entries : List Entry) (output : ℕ) → IsSetup setup → AreTold setup entries →
     open_job setup entries ≡ Some (Learn output) → output < setup.outputs
 unfolding host_now
@@ -130,7 +130,7 @@ learn-open laws setup entries output made told is =
       go true stage = stage.there
       go false stage = stage.there
 
--- and the output of a learn that is told the end of a write, or bytes
+-- the output of a learn is there that is told the end of a write, or bytes
 pub learn-there : TranscriptsAreFollowed → (setup : Setup) (before : List Entry) (entry : Entry) (output : ℕ) → IsSetup setup →
     AreTold setup (entry ∷ before) → last_job (entry ∷ before) ≡ Some (Learn output) →
     ((acked : Bool) × (entry ≡ Finished acked)) ⊎ ((bytes : List ℕ) × (entry ≡ Got bytes)) → output < setup.outputs
@@ -163,7 +163,7 @@ order-read laws setup before bytes cell word end read made told last ended says 
       there = order-there laws setup before cell word made told.1 is;
     }
 
--- and no such order ends with a write
+-- no order that reads back ends with a write
 pub order-wrote : (setup : Setup) (before : List Entry) (acked : Bool) (cell : Cell) (word : ℕ) (end : JobEnd) (read : ℕ) →
     last_job before ≡ Some (Order cell word) →
     end_of setup (Finished acked ∷ before) ≡ Some end → word_in_end word end ≡ Some read → ⊥

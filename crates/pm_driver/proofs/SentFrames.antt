@@ -129,7 +129,7 @@ ends-so : (end last : Option JobEnd) → last ≡ end → EndsSo end last
 ends-so None last is = tt
 ends-so (Some end) last is = is
 
--- and it ended with the newest event
+-- an end is that of the newest event
 pub ends-told : (end : Option JobEnd) (events : List Event) → newest_tells events ≡ true → EndsTold end events
 ends-told None events tells = tt
 ends-told (Some end) events tells = tells
@@ -284,7 +284,7 @@ calls-go laws (Wrote frame acked) host old was new is may called =
 calls-go laws (Read request room came) host old was new is may called =
     (call-events laws (Read request room came) host old was new is may called).goes
 
--- so it leads on
+-- frames lead on
 pub frames-lead : LawsOfLives → {B : Type 0} → (gives : B → Call → B → Type 0) → (held : B → Held) → (restarts : B → ℕ) → FramesLead gives held restarts
 frames-lead laws gives held restarts call host old new may is so =
     let e = call-events laws call host (held old) (restarts old) (held new) (restarts new) may is in
@@ -311,7 +311,7 @@ told-leads gives held restarts lead call host after step old new may is so next_
     (subst (λ h. Leads gives held restarts [] (end_by (step_of host (told_of call))) (record { host = host; bus = old })
     (record { host = h; bus = new })) (sym next_is) (lead call host old new may is so))
 
--- and it leaves the job open where it didn't end
+-- a frame leaves the job open where it didn't end
 pub told-open : (call : Call) (host after : Summary) (step : Step) → is_busy host ≡ true → after ≡ host_next host (told_of call) →
     step ≡ step_of host (told_of call) → StaysOpen (Some step) after
 told-open call host after Next busy next_is step_is =

@@ -61,7 +61,7 @@ bytes-self : (xs : List ℕ) → bytes_eq xs xs ≡ true
 bytes-self [] = refl
 bytes-self (x ∷ xs) = ap₂ (λ a b. a && b) (eq-eqb x x refl) (bytes-self xs)
 
--- so they are heard legally, ended by a stop or by a repeated start
+-- whole frames are heard legally, ended by a stop or by a repeated start
 whole-legal : (frame : List ℕ) → is_legal_hearing frame frame Stop ≡ true
 unfolding is_legal_hearing
 whole-legal frame = ap (λ b. b || is_betrayed [] frame) (starts-self frame)
@@ -70,7 +70,7 @@ request-legal : (request : List ℕ) → is_legal_hearing request request Restar
 unfolding is_legal_hearing
 request-legal request = refl
 
--- and the own answer to a request comes back legally
+-- the own answer to a request comes back legally
 answer-legal : (request : List ℕ) (needed : ℕ) (answer : List ℕ) →
     is_legal_return request needed (bytes_eq request request) answer answer ≡ true
 unfolding is_legal_return
@@ -118,7 +118,7 @@ long-so wanted bytes none = go (nat_lt (length bytes) wanted) (nat_lt wanted (le
     go false true s l one two = cc
     go false false s l one two = grind (arith, nat_tests)
 
--- so a good answer for a cell is as long as a whole one
+-- a good answer for a cell is as long as a whole one
 good-long : (addr : ℕ) (cell : Cell) (word : ℕ) (bytes : List ℕ) → good_word addr cell bytes ≡ Some word →
     length bytes ≡ whole_answer (cell_read cell)
 unfolding good_payload answer_fault
@@ -209,7 +209,7 @@ not-idle host (Wrote frame acked) idle may =
 not-idle host (Read request room came) idle may =
     let busy = busy-host (λ message. IsRequest host.setup.addr message request) host may.0 in cc
 
--- so where it was asked for nothing, it did nothing
+-- a driver that was asked for nothing did nothing
 idle-acts : (host : Summary) → is_busy host ≡ false → (acts : List Act) → asked_in acts ≡ [] → AreDone host acts → acts ≡ []
 idle-acts host idle [] none done = refl
 idle-acts host idle (Called call ∷ before) none done =
@@ -285,7 +285,7 @@ step host held cell word entries setup goes acts middle new call (read frame req
     absurd (not-idle (host_by host acts) call
     (subst (λ (l : List Act). is_busy (host_by host l) ≡ false) (sym is) (goes frame request room writes reads).over) may)
 
--- and all of them
+-- all answers came so
 came-so : (host : Summary) (cell : Cell) (word : ℕ) (entries : List Entry) (setup : Setup) {B : Type 0}
     (gives : B → Call → B → Type 0) (held : B → Held) (is_so : B → Bool) → AreUndisturbed gives held is_so → (old : B) →
     is_so old ≡ true → is_busy host ≡ false → GoesThrough host (held old) cell word entries setup → (acts : List Act) (new : B) →

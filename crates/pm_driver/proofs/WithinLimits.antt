@@ -212,7 +212,7 @@ begun-within config output bounds (host.Send (ClearFaults o)) within = (λ s reg
 begun-within config output bounds (host.Send StoreUserAll) within = (λ s register other voltage is. cc, tt)
 begun-within config output bounds (host.Send RestoreUserAll) within = (λ s register other voltage is. cc, tt)
 
--- so they stay within where it carries out a job that its guard let begin
+-- words stay within limits where a driver carries out a job that its guard let begin
 job-within : LawsOfLives → {B : Type 0} (gives : B → Call → B → Type 0) (held : B → Held) (restarts : B → ℕ) (g : Guarded) (asked : Job)
     (begun : host.Job) (end : JobEnd) (bus : B) (new : Driven B) → guard_fault g asked ≡ None →
     accepted_job g.host asked ≡ Some begun →

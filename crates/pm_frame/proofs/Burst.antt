@@ -35,7 +35,7 @@ unfolding doubled_times
 doubled_times-lt zero r h = h
 doubled_times-lt (suc count) r h = doubled-lt (doubled_times count r)
 
--- and any number of steps leave nothing only of nothing
+-- any number of steps leave nothing only of nothing
 pub doubled_times-none : (count r : ℕ) → r < 2 ^ 8 → doubled_times count r ≡ 0 → r ≡ 0
 unfolding doubled_times
 doubled_times-none zero r h none = none

@@ -25,12 +25,12 @@ pub written-is_no_page_plus_read : (code : ℕ) → is_written code ≡ true →
 unfolding line_of
 written-is_no_page_plus_read code h = other_code is_written code command.page_plus_read refl h
 
--- nor is COEFFICIENTS,
+-- a code that is written isn't COEFFICIENTS
 pub written-is_no_coefficients : (code : ℕ) → is_written code ≡ true → eqb code command.coefficients ≡ false
 unfolding line_of
 written-is_no_coefficients code h = other_code is_written code command.coefficients refl h
 
--- and PAGE_PLUS_WRITE, which is not read
+-- a code that is read isn't PAGE_PLUS_WRITE
 pub read-is_no_page_plus_write : (code : ℕ) → is_read code ≡ true → eqb code command.page_plus_write ≡ false
 unfolding line_of
 read-is_no_page_plus_write code h = other_code is_read code command.page_plus_write refl h

@@ -125,7 +125,7 @@ unfolding is_odd ones_below residue
 is_odd-residue zero = refl
 is_odd-residue (suc i) = is_odd-doubled (residue i) (residue-lt i) ∙ is_odd-residue i
 
--- so each power of x leaves an odd number of ones,
+-- each power of x leaves an odd number of ones
 ones_below-residue : (i : ℕ) → ones_below (residue i) 8 % 2 ≡ 1
 unfolding is_odd
 ones_below-residue i = eqb-true _ _ (is_odd-residue i)
@@ -138,7 +138,7 @@ ones_below-bit (suc zero) i h = let one : 1 * residue i ≡ residue i =
     omega arith in ap (λ (x : ℕ). ones_below x 8 % 2) one ∙ ones_below-residue i
 ones_below-bit (suc (suc b)) i h = absurd (omega arith)
 
--- and a sum of them as many as bits are set, but for an even number
+-- a sum of powers has as many ones as bits are set, but for an even number
 ones_below-residues_of : (e after count : ℕ) → ones_below (residues_of e after count) 8 % 2 ≡ ones_below e count % 2
 unfolding ones_below residues_of
 ones_below-residues_of e after zero = refl
@@ -149,7 +149,7 @@ ones_below-residues_of e after (suc j) =
     let rest = ones_below-residues_of e after j in
     omega arith
 
--- so a change of an odd number of bits changes the PEC
+-- a change of an odd number of bits changes the PEC
 pub odd-betrayed : (sent heard : List ℕ) → AreBytes sent → AreBytes heard → length sent ≡ length heard → changed_bits sent heard % 2 ≡ 1
     → pec_of sent ≢ pec_of heard
 unfolding ones_below
@@ -185,7 +185,7 @@ clear_bit : (b r rest : ℕ) → b ≡ 0 → bit_xor (b * r) rest ≡ rest
 clear_bit b r rest h = let none : 0 * r ≡ 0 =
     omega arith in ap (λ (x : ℕ). bit_xor (x * r) rest) h ∙ ap (λ (x : ℕ). bit_xor x rest) none ∙ xor_zero_l rest
 
--- and a set one its power of x
+-- a set bit adds its power of x
 set_bit : (b r rest : ℕ) → b ≡ 1 → bit_xor (b * r) rest ≡ bit_xor r rest
 set_bit b r rest h = let one : 1 * r ≡ r = omega arith in ap (λ (x : ℕ). bit_xor (x * r) rest) h ∙ ap (λ (x : ℕ). bit_xor x rest) one
 
@@ -262,7 +262,7 @@ residues-apart p q less near same =
     let zero_distance : d ≡ 0 = residue-order d (omega arith) one in
     omega arith
 
--- so a change of two bits in at most 15 bytes changes the PEC
+-- a change of two bits in at most 15 bytes changes the PEC
 two-betrayed : (sent heard : List ℕ) → AreBytes sent → AreBytes heard → length sent ≡ length heard → length sent ≤ 15
     → changed_bits sent heard ≡ 2 → pec_of sent ≢ pec_of heard
 two-betrayed sent heard h k size short two same =
@@ -273,7 +273,7 @@ two-betrayed sent heard h k size short two same =
     sym found.is ∙ change-none sent heard h k size same in
     residues-apart (8 + (0 + found.low)) (8 + (0 + found.high)) (omega (arith, found.order)) (omega (arith, found.within)) none
 
--- and so does one of at most three
+-- a change of at most three bits in at most 15 bytes changes the PEC
 pub few-betrayed : (sent heard : List ℕ) → AreBytes sent → AreBytes heard → length sent ≡ length heard → sent ≢ heard → length sent ≤ 15
     → changed_bits sent heard ≤ 3 → pec_of sent ≢ pec_of heard
 few-betrayed sent heard h k size other short few same = go (changed_bits sent heard) refl few where

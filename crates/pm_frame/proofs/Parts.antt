@@ -34,7 +34,7 @@ payload_in-bytes Empty = refl
 payload_in-bytes (Byte byte) = refl
 payload_in-bytes (Word word) = ap (λ n. Word n) (omega arith)
 
--- and at most two bytes are those of the payload that they are
+-- at most two bytes are those of the payload that they are
 pub bytes-payload_in : (bytes : List ℕ) → length bytes ≤ 2 → get_or bytes 0 0 < 256 → payload_bytes (payload_in bytes) ≡ bytes
 bytes-payload_in [] h low = refl
 bytes-payload_in (byte ∷ []) h low = refl
@@ -57,7 +57,7 @@ is_read-plain code Empty = refl
 is_read-plain code (Byte byte) = refl
 is_read-plain code (Word word) = refl
 
--- and it fits where the code has a payload of that length
+-- a plain write fits where the code has a payload of that length
 pub fits-plain : (code : ℕ) (payload : Payload) → is_plain_write code ≡ true → payload_length code ≡ length (payload_bytes payload)
     → fits_layout (plain_write code payload) ≡ true
 fits-plain code Empty plain h = and_from _ _ plain (eq-eqb _ _ h)
@@ -91,7 +91,7 @@ message_in-carried first count page code payload last =
 short_part : (bytes : List ℕ) (place : ℕ) → length bytes ≤ place + 3 → length (slice_range bytes place (length bytes - 1)) ≤ 2
 short_part bytes place h = omega (arith, length-take (length bytes - 1 - place) (drop place bytes), length-drop place bytes)
 
--- and its first byte is a byte
+-- the first byte of such a part is a byte
 low_part : (bytes : List ℕ) (place : ℕ) → get_or bytes place 0 < 256 → get_or (slice_range bytes place (length bytes - 1)) 0 0 < 256
 low_part bytes place h = go (length bytes - 1 - place) where
   go : (n : ℕ) → get_or (take n (drop place bytes)) 0 0 < 256
@@ -104,7 +104,7 @@ message_code-plain code Empty = refl
 message_code-plain code (Byte byte) = refl
 message_code-plain code (Word word) = refl
 
--- and its payload, as bytes
+-- the payload of a plain write, as bytes
 message_payload-plain_write : (code : ℕ) (payload : Payload) → message_payload (plain_write code payload) ≡ payload_bytes payload
 message_payload-plain_write code Empty = refl
 message_payload-plain_write code (Byte byte) = refl

@@ -33,7 +33,7 @@ plain-none addr code h =
     (cond-false _ _ _ (not-true _ parts.1)
     ∙ none-or _ _ (plain_fault-none Read code parts.0) (none-rule _ (Long 2) (le-ltb 2 2 (omega arith))))
 
--- nor has a PAGE_PLUS_READ that fits,
+-- a PAGE_PLUS_READ that fits has no fault
 paged-none : (addr page code : ℕ) → is_carried code ≡ true → is_read code ≡ true
     → request_fault addr (sent addr (PagePlusRead page code)) ≡ None
 unfolding request_fault block_request_fault
@@ -42,7 +42,7 @@ paged-none addr page code carried h =
     none-or _ _ (opening_fault-none (write_address addr) command.page_plus_read (0x02 ∷ page ∷ code ∷ []))
     (none-or _ _ (length_fault-none 5 bytes refl) (none-or _ _ refl (none-or _ _ (carried_fault-none Read code carried h) refl)))
 
--- nor COEFFICIENTS, of any code and side
+-- COEFFICIENTS of any code and side has no fault
 coefficients-none : (addr code side : ℕ) → request_fault addr (sent addr (ReadCoefficients code side)) ≡ None
 unfolding request_fault block_request_fault
 coefficients-none addr code side =
@@ -176,7 +176,7 @@ request_fault-length addr bytes h = let found = request_fault-found addr bytes h
   of_message (PagePlusRead page code) bytes r = rw r.spelled refl
   of_message (ReadCoefficients code side) bytes r = rw r.spelled refl
 
--- so it has two bytes at least
+-- a request has two bytes at least
 at_least_two : (block : Bool) (n : ℕ) → n ≡ cond block 5 2 → 2 ≤ n
 at_least_two true n h = omega arith
 at_least_two false n h = omega arith

@@ -140,7 +140,7 @@ residues_of-last byte (suc j) h =
 
 -- ---- the packet error code
 
--- and the PEC is a byte
+-- the PEC is a byte
 pub pec_of-lt : (bytes : List ℕ) → pec_of bytes < 2 ^ 8
 unfolding pec_of
 pec_of-lt [] = omega arith

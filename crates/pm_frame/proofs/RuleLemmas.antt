@@ -16,7 +16,7 @@ use Rattle.pm_frame.proofs.Codes.{codes_of-is_known}
 pub eqb-same : (n : ℕ) → eqb n n ≡ true
 eqb-same n = eq-eqb n n refl
 
--- and at a greater one
+-- a test for one number fails at a greater one
 pub eqb-below : (m n : ℕ) → m < n → eqb n m ≡ false
 eqb-below m n h = ne_eqb n m (λ e. omega arith)
 
@@ -85,7 +85,7 @@ pub pec_fault-none : (before front : List ℕ) → pec_fault before (front ++ pe
 pec_fault-none before front =
     pec_fault-last before front _ ∙ none-rule _ (WrongPec (length front)) (not_from_true _ (eqb-same (pec_of (before ++ front))))
 
--- and bytes with no fault on it end in their PEC
+-- bytes with no fault of their PEC end in it
 pub pec_fault-found : (before front : List ℕ) (last : ℕ) → pec_fault before (front ++ last ∷ []) ≡ None → last ≡ pec_of (before ++ front)
 pec_fault-found before front last h =
     eqb-true _ _ (not-false _ (rule-none _ (WrongPec (length front)) (sym (pec_fault-last before front last) ∙ h)))

@@ -50,7 +50,7 @@ carried-whole first count page code payload last short are_bytes =
       plain = λ e. absurd (e refl);
     }
 
--- so those of any write,
+-- the bytes of any write are whole
 pub write-whole : (addr : ℕ) (message : Message) (bytes : List ℕ) → IsWrite addr message bytes → AreBytes bytes → IsWhole bytes
 write-whole addr message bytes h are_bytes =
     subst IsWhole (sym h.spelled) (go message h.writes h.fits (subst AreBytes h.spelled are_bytes)) where
@@ -67,7 +67,7 @@ write-whole addr message bytes h are_bytes =
       go (PagePlusRead page code) w f are_bytes = absurd (false≢true (sym w))
       go (ReadCoefficients code side) w f are_bytes = absurd (false≢true (sym w))
 
--- and those of any request
+-- the bytes of any request are whole
 pub request-whole : (addr : ℕ) (message : Message) (bytes : List ℕ) → IsRequest addr message bytes → AreBytes bytes → IsWhole bytes
 request-whole addr message bytes h are_bytes =
     subst IsWhole (sym h.spelled) (go message h.reads h.fits (subst AreBytes h.spelled are_bytes)) where

@@ -50,7 +50,7 @@ faultless addr bytes h =
     let pec = or-none _ _ size.1 in
     record { opening = opening.0; size = size.0; pec = pec.0; code = (or-none _ _ pec.1).0 }
 
--- and bytes with none in any group have no fault
+-- bytes with no fault in any group have no fault
 write_fault-none : (addr : ℕ) (bytes : List ℕ) → Faultless addr bytes → write_fault addr bytes ≡ None
 unfolding write_fault
 write_fault-none addr bytes h = none-or _ _ h.opening (none-or _ _ h.size (none-or _ _ h.pec (none-or _ _ h.code refl)))
@@ -182,7 +182,7 @@ record FoundCarried (bytes : List ℕ) : Type 0 where
   written : is_written (get_or bytes 4 0) ≡ true
   counted : get_or bytes 2 0 ≡ payload_length (get_or bytes 4 0) + 2
 
--- and those of a plain write
+-- what is found of a plain write
 record FoundPlain (bytes : List ℕ) : Type 0 where
   plain : is_plain_write (get_or bytes 1 0) ≡ true
   whole : length bytes ≡ payload_length (get_or bytes 1 0) + 3
@@ -304,7 +304,7 @@ write_fault-length addr bytes h = go (write_cases addr bytes (faultless addr byt
   go (inl f) = f.whole ∙ sym (cond-true _ _ _ f.plain)
   go (inr f) = f.whole ∙ sym (cond-false _ _ _ (ap is_plain_write f.is_wrapper ∙ and_right _ _ refl))
 
--- so it has three bytes at least
+-- a write has three bytes at least
 at_least : (plain : Bool) (n m k : ℕ) → n ≡ cond plain (m + 3) (k + 4) → 3 ≤ n
 at_least true n m k h = omega arith
 at_least false n m k h = omega arith

@@ -33,7 +33,7 @@ finished-spends : (s : Summary) (stage : Option Stage) (acked : Bool) → IsLeft
     → frames_left (finished s stage acked).after < frames_left (record s { stage = stage })
 finished-spends = search rules
 
--- so does a request that was sent, whatever came back
+-- a request that was sent spends a frame too, whatever came back
 answered-spends : (s : Summary) (stage : Option Stage) (bytes : List ℕ) → IsLeft s.setup.passes stage
     → sends_read (record s { stage = stage }) ≡ true
     → frames_left (answered s stage bytes).after < frames_left (record s { stage = stage })

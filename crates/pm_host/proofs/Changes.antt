@@ -219,7 +219,7 @@ record ModeIsKnown (setup : Setup) (output : ℕ) (told : List Entry) (byte : �
   none : coefficients_told setup output told ≡ None
   open' : is_none (learn_end setup output told) ≡ true
 
--- so does every open learn that has its mode
+-- every open learn that has its mode knows that mode
 mode_is_known : (setup : Setup) (output : ℕ) (told : List Entry) (byte : ℕ) → mode_told setup output told ≡ Some byte
     → is_none (learn_end setup output told) ≡ true → ModeIsKnown setup output told byte
 mode_is_known = search rules

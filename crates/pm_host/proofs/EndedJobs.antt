@@ -122,7 +122,7 @@ set-some : (formats : List (Option Shape)) (output : ℕ) (shape : Shape) → ou
     → get_or (set formats output (Some shape)) output None ≡ Some shape
 set-some formats output shape there = get_or-set_same formats output (Some shape) None there
 
--- and the others stay
+-- the formats of the other outputs stay
 set-others : (formats : List (Option Shape)) (output : ℕ) (shape : Shape) (other : ℕ) → other ≢ output
     → get_or (set formats output (Some shape)) other None ≡ get_or formats other None
 set-others formats output shape other apart = get_or-set_other formats output other (Some shape) None apart

@@ -64,7 +64,7 @@ formats_found = search rules
 formats_accepted : (setup : Setup) (job : Job) (formats : List (Option Shape)) → formats_more setup formats (Some job) [] ≡ formats
 formats_accepted = search rules
 
--- nor by the end of a write
+-- the end of a write changes no format
 formats_finished : (setup : Setup) (job : Option Job) (told : List Entry) (entry : Entry) (formats : List (Option Shape))
     → WritesBy setup job told
     → formats_more setup formats job (entry ∷ told) ≡ formats

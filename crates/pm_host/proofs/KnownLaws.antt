@@ -148,7 +148,7 @@ nil_possible : table places (possible_of []) ≡ all_any
 unfolding all_any table possible_of
 nil_possible = search rules
 
--- and nothing is said of any cell
+-- with no marks nothing is said of any cell
 unknown_all : replicate places Unknown ≡ all_unknown
 unfolding all_unknown
 unknown_all = search rules
@@ -169,7 +169,7 @@ restored_possible law before =
     ∙ ap (λ xs. set xs (place_of Protect) (possible_of before Protect)) any_table
     ∙ ap (λ p. set all_any (place_of Protect) p) (sym (known_now-possible law before Protect tt))
 
--- and what is said of the cells
+-- what is said of the cells after a restore
 restored_standing : CellsHavePlaces → (before : List Mark)
     → table places (standing_of (Restored ∷ before)) ≡ set all_unknown (place_of Protect) (known_standing (known_now before) Protect)
 restored_standing law before =

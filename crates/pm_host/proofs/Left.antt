@@ -58,7 +58,7 @@ turn-left s (Finished acked) some left = finished-left (idle s) s.stage acked le
 turn-left s (Got bytes) some left = answered-left (idle s) s.stage bytes left
 turn-left s Restarted some left = tt
 
--- so in each transcript
+-- the frames that are left are bounded in each transcript
 pub told-left : CellsHavePlaces → (setup : Setup) (entries : List Entry) → IsSetup setup → AreTold setup entries
     → IsLeft setup.passes (stage_of setup entries)
 unfolding now

@@ -87,7 +87,7 @@ put_none = search rules
 turn_after_write : (entry : Entry) (told : List Entry) → is_write_turn told ≡ true → is_write_turn (entry ∷ told) ≡ false
 turn_after_write = search rules
 
--- so that what held of its marks before still does
+-- what held of the marks before still holds where they are the same
 same_facts : (marks' before : List Mark) (cell : Cell) (word : ℕ) → marks' ≡ before
     → (is_possible word (possible_of before cell) ≡ true) × (standing_of before cell ≡ standing.Unknown)
     → (is_possible word (possible_of marks' cell) ≡ true) × (standing_of marks' cell ≡ standing.Unknown)
@@ -99,7 +99,7 @@ writes_order : (setup : Setup) (job : Option Job) (told : List Entry) (cell : Ce
     → (is_none (order_end setup cell word told) ≡ true) × (is_write_turn told ≡ true)
 writes_order = search rules
 
--- and reads in the other turn
+-- an order reads in the other turn
 reads_order : (setup : Setup) (job : Option Job) (told : List Entry) (cell : Cell) (word : ℕ) → job ≡ Some (Order cell word)
     → ReadsBy setup job told
     → (is_none (order_end setup cell word told) ≡ true) × (is_write_turn told ≡ false)
@@ -147,13 +147,13 @@ restore_newest : (job : Option Job) (told : List Entry) (before : List Mark) →
     → put_by job told ++ before ≡ Restored ∷ before
 restore_newest = search rules
 
--- and nothing is known of an output's cell
+-- after a restore nothing is known of an output's cell
 restored_facts : (marks' before : List Mark) (output : ℕ) (register : Reg) → marks' ≡ Restored ∷ before
     → (possible_of marks' (Out output register) ≡ Any) × (standing_of marks' (Out output register) ≡ standing.Unknown)
 unfolding possible_of
 restored_facts marks' before output register is = rw is (refl, refl)
 
--- so it is while a restore is open
+-- nothing is known of an output's cell while a restore is open
 pub open_restore : (setup : Setup) (entries : List Entry) (output : ℕ) (register : Reg)
     → open_job setup entries ≡ Some (Send RestoreUserAll)
     → (possible_of (marks setup entries) (Out output register) ≡ Any)
@@ -202,7 +202,7 @@ ordering {setup = setup} {cell = cell} {word = word} law entries pass made told 
       left = left;
     }
 
--- so its stage is sound, whichever turn it is
+-- the stage of an order is sound, whichever turn it is
 order_sound : (s : Summary) (cell : Cell) (word pass : ℕ) (turn' : Bool) → (pass < s.setup.passes → IsOrdering s cell word pass)
     → IsLeft s.setup.passes (Some (cond turn' (Writes cell word pass) (Reads cell word pass)))
     → IsStage s (Some (cond turn' (Writes cell word pass) (Reads cell word pass)))
@@ -215,7 +215,7 @@ learning : (setup : Setup) (entries : List Entry) (output m n : ℕ) (known : Bo
 unfolding now
 learning = search rules
 
--- so is that of each open job
+-- the stage of each open job is sound
 stage_sound : CellsHavePlaces → (setup : Setup) (entries : List Entry) (job : Option Job) → IsSetup setup → AreTold setup entries
     → open_job setup entries ≡ job
     → IsLeft setup.passes (option_map (λ j. job_stage setup j (told_since entries)) job)
@@ -243,7 +243,7 @@ stage_sound law setup entries (Some (Send sent)) made told is left =
       left = left;
     }
 
--- and with it what the host holds
+-- what the host holds is sound after each transcript
 pub now-sound : CellsHavePlaces → (setup : Setup) (entries : List Entry) → IsSetup setup → AreTold setup entries
     → IsSound (now setup entries)
 unfolding now stage_of
@@ -283,7 +283,7 @@ job_sent setup (Check cell) told there = read_sent setup cell there
 job_sent setup (Learn output) told there = learn_sent setup output (is_some (mode_told setup output told)) there
 job_sent setup (Send sent) told there = sends_command sent there
 
--- so is each frame that is sent
+-- each frame of an open job can be sent
 sent_step : (setup : Setup) (entries : List Entry) (job : Option Job) (m : Message) → AreTold setup entries → open_job setup entries ≡ job
     → option_map (λ j. job_message setup j (told_since entries)) job ≡ Some m → CanSend setup m
 sent_step setup entries None m told is sent = absurd (none-some m sent)

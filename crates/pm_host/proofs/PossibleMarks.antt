@@ -30,7 +30,7 @@ listed-end word other words =
     last true = refl
     last false = refl
 
--- so a word that joins others is possible too
+-- a word that joins others is possible too
 joined-words : (word other : ℕ) (possible : Possible) →
     is_possible other (joined possible word) ≡ (is_possible other possible || eqb word other)
 joined-words word other Any = refl

@@ -35,7 +35,7 @@ lt-times a b n h =
     let k : (up a + down b + 1) * n ≤ (up b + down a) * n = mul-le-mul_right n j in
     omega (arith, ints)
 
--- and back
+-- the other direction: a factor that both sides have can be left out
 le_from_times : (a b : ℤ) (n : ℕ) → 0 < n → (a *ℤ pos n) ≤ℤ (b *ℤ pos n) → a ≤ℤ b
 le_from_times a b n h le = by_lt_z b a (λ less. let k = lt-times b a n less in absurd (omega (arith, ints))) (λ p. p)
 
@@ -53,7 +53,7 @@ AtMost-above l h x den le less =
 pub is_at_most-true : (p q : Ratio) → AtMost p q → is_at_most p q ≡ true
 is_at_most-true = search rules
 
--- and where it doesn't hold
+-- the same test where it doesn't hold
 pub is_at_most-false : (p q : Ratio) → LessThan q p → is_at_most p q ≡ false
 is_at_most-false = search rules
 

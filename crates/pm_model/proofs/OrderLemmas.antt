@@ -20,7 +20,7 @@ use Rattle.pm_model.specs.OrderMachine.{IsOwnWord, IsAccepted}
 newest : {X : Type 0} → (x : X) (xs : List X) → Contains (x ∷ xs) x
 newest x xs = Contains-append_left (x ∷ []) xs x (Contains-push [] x)
 
--- and what the older ones have
+-- what the older ones have is had by all
 older : {X : Type 0} → (y x : X) (xs : List X) → Contains xs x → Contains (y ∷ xs) x
 older y x xs h = Contains-append_right (y ∷ []) xs x h
 
@@ -64,7 +64,7 @@ own-later : (start : Settings) (step : Step) (steps : List Step) (cell : Cell) (
 own-later start step steps cell word (inl e) = inl e
 own-later start step steps cell word (inr h) = inr (older step (Accept (Order cell word)) steps h)
 
--- and so are all
+-- words that are a run's own stay its own after one step more
 later : (start : Settings) (step : Step) (steps : List Step) (words : Words) →
     AreOwn start steps words → AreOwn start (step ∷ steps) words
 later start step steps words are = record {

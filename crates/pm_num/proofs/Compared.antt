@@ -12,7 +12,7 @@ is_less Less b e t = refl
 is_less Equal b e t = cc
 is_less Greater b e t = cc
 
--- and that for Greater.
+-- the test for Greater
 pub is_greater : (o : Ordering) (b : Bool) → b ≡ (ordering_index o == 2) → b ≡ true → o ≡ Greater
 is_greater Less b e t = cc
 is_greater Equal b e t = cc
@@ -25,7 +25,7 @@ at_least p q o b e f h =
     (λ less. let t = ap (λ (o : Ordering). ordering_index o == 0) (h.1 less) in cc)
     (λ le. le)
 
--- and one that is not greater is at most the other.
+-- a value that is not greater is at most the other
 pub at_most : (p q : Ratio) (o : Ordering) (b : Bool) → b ≡ (ordering_index o == 2) → b ≡ false → ((o ≡ Greater) ↔ LessThan q p)
     → AtMost p q
 at_most p q o b e f h =
@@ -37,6 +37,6 @@ at_most p q o b e f h =
 pub below_is_outside : (l g x : Ratio) → LessThan x l → (false ≡ true) ↔ IsBetween l g x
 below_is_outside l g x less = (λ e. cc, λ between. let le = between.from_least in absurd (omega (arith, ints)))
 
--- nor is what lies above the greatest.
+-- what lies above the greatest is outside
 pub above_is_outside : (l g x : Ratio) → LessThan g x → (false ≡ true) ↔ IsBetween l g x
 above_is_outside l g x less = (λ e. cc, λ between. let le = between.to_greatest in absurd (omega (arith, ints)))

@@ -26,7 +26,7 @@ nearest_from_rounded a q d h j =
     (λ at_most. by_lt_z q j (λ less. let k = lt-times q j d less in omega (arith, ints))
     (λ p. let same : q ≡ j = omega (arith, ints) in let e = ap (λ (z : ℤ). unsigned_abs (a -ℤ z *ℤ pos d)) same in omega arith))
 
--- and none that is as near is lower.
+-- no number that is as near is lower
 pub lower_from_rounded : (a q : ℤ) (d : ℕ) → IsRounded a (pos d) q → (j : ℤ)
     → unsigned_abs (a -ℤ j *ℤ pos d) ≤ unsigned_abs (a -ℤ q *ℤ pos d) → q ≤ℤ j
 lower_from_rounded a q d h j near =
@@ -37,7 +37,7 @@ pub above_from_rounded : (a q : ℤ) (d : ℕ) → 0 < d → IsRounded a (pos d)
 above_from_rounded a q d positive h l le =
     by_lt_z q l (λ less. let k = lt-times q l d less in absurd (omega (arith, ints))) (λ p. p)
 
--- and so from above.
+-- a multiple above bounds the rounded number from above
 pub below_from_rounded : (a q : ℤ) (d : ℕ) → 0 < d → IsRounded a (pos d) q → (g : ℤ) → a ≤ℤ (g *ℤ pos d) → q ≤ℤ g
 below_from_rounded a q d positive h g le =
     by_lt_z g q (λ less. let k = lt-times g q d less in absurd (omega (arith, ints))) (λ p. p)
@@ -71,7 +71,7 @@ same_product a b fits_p fits_q e is_p is_q = let f = simp to_z-of_z at e in cc
 pub product_at : {p q r s : ℤ} (a b : ℤ) → r ≡ p *ℤ q → p ≡ a → q ≡ b → s ≡ r → s ≡ a *ℤ b
 product_at {q = q} a b e is_p is_q is_s = is_s ∙ e ∙ ap (λ (z : ℤ). z *ℤ q) is_p ∙ ap (λ (z : ℤ). a *ℤ z) is_q
 
--- and is kept by its own.
+-- a product that fits is kept by its own factors
 pub product_kept : {p q : ℤ} (a b : ℤ) → p ≡ a → q ≡ b → SFits w128 (a *ℤ b) → to_z w128 (of_z w128 (p *ℤ q)) ≡ a *ℤ b
 product_kept {p} {q} a b e f h = ap (λ (z : ℤ). to_z w128 (of_z w128 (z *ℤ q))) e ∙ ap (λ (z : ℤ). to_z w128 (of_z w128 (a *ℤ z))) f
     ∙ to_z-of_z w128 (a *ℤ b) h

@@ -43,7 +43,7 @@ from_least : (m b r : ℤ) (x : Ratio) (q : ℤ) → IsPlace (direct_spacing m b
 from_least m b r x q h w le =
     h.above (sign m *ℤ signed 16 w) (subst (λ (v : Ratio). AtMost v x) (direct-at_place m b r w) le)
 
--- and at most that of a word whose value is at least x;
+-- a place is at most that of a word whose value is at least x
 to_greatest : (m b r : ℤ) (x : Ratio) (q : ℤ) → IsPlace (direct_spacing m b r) x q → (w : ℕ) → AtMost x (direct_value m b r w)
     → q ≤ℤ (sign m *ℤ signed 16 w)
 to_greatest m b r x q h w le =
@@ -55,7 +55,7 @@ pub record FitsWord (m q : ℤ) : Type 0 where
   pub above : neg_ℤ (pos 32768) ≤ℤ (sign m *ℤ q)
   pub below : (sign m *ℤ q) ≤ℤ pos 32767
 
--- so a number in the range has a place that a word has.
+-- a number in the range has a place that a word has
 direct-fits : (m b r : ℤ) (x : Ratio) (q : ℤ) → IsPlace (direct_spacing m b r) x q
     → IsBetween (direct_value m b r (direct_least m)) (direct_value m b r (direct_greatest m)) x → FitsWord m q
 direct-fits (pos n) b r x q h between =

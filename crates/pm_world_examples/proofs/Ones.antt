@@ -77,7 +77,7 @@ pub counted-none : (addr opening count : ℕ) (request : Message) → has_count 
     → good_payload addr request (ones_behind opening count) ≡ None
 counted-none addr opening count request has few = no_payload addr request _ (wrong_count addr opening count request has few)
 
--- so for each register
+-- ones are no answer for any register
 pub register-none : (addr opening count output : ℕ) (register : Reg)
     → good_payload addr (PagePlusRead output (register_code register)) (ones_behind opening count) ≡ None
 unfolding line_of

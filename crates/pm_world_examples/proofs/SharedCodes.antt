@@ -198,7 +198,7 @@ pub protect-shorter : (page code : ℕ) → Contains read_codes code
 unfolding is_longer
 protect-shorter page code there = ltb-true _ _ (passes_at is_longer read_codes code all_longer there)
 
--- and so is the one to a read of the coefficients
+-- the answer for WRITE_PROTECT is shorter than the one to a read of the coefficients
 pub protect-shortest : whole_answer (cell_read Protect) < whole_answer coefficients_read
 unfolding line_of
 protect-shortest = lit< tt

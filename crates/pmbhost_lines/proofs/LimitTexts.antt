@@ -10,7 +10,7 @@ use Rattle.pmbhost_lines.specs.declared.options.start_fault.StartFault.{StartFau
 abbrev NoColon : List ℕ → Type 0
 NoColon text = (i : ℕ) → i < length text → get_or text i 0 ≢ 58
 
--- nor in what follows its first character
+-- no colon stands in what follows the first character
 later : (c : ℕ) (cs : List ℕ) → NoColon (c ∷ cs) → NoColon cs
 later c cs none i lt = none (suc i) (omega arith)
 

@@ -15,7 +15,7 @@ table_is : PEC_OF_BYTE ≡ map code_of (range_with_len 0 256)
 unfolding pec_of residues_of residue doubled
 table_is = refl
 
--- so it has the code of a byte at the place of that number
+-- the table has the code of a byte at the place of that number
 read : (byte : ℕ) → byte < 2 ^ 8 → get_or PEC_OF_BYTE byte 0 ≡ pec_of (byte ∷ [])
 read byte h = ap (λ t. get_or t byte 0) table_is ∙ get_or-map-range_with_len code_of 0 256 byte byte 0 h (omega arith)
 

@@ -20,7 +20,7 @@ within (pos n) most den positive h =
     let small : n ≤ most = le_of_mul-le-mul_right below positive in
     omega (arith, ints)
 
--- so is the floor of a value that isn't beyond them
+-- the floor of a value that isn't beyond the numbers' ends lies within them
 near : (value : Ratio) (x : ℤ) → 0 < value.den → is_far value ≡ false → IsFloor value x → IsNear x
 near value x positive is floor =
     let parts = or_parts _ _ is in

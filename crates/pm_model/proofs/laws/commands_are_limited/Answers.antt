@@ -20,7 +20,7 @@ most selected least greatest =
     go false true false o c = c
     go false false crossed o c = o
 
--- nor is the least above it, where that isn't above the greatest
+-- the least isn't above what is commanded, where it isn't above the greatest
 floor : (selected least greatest : Ratio) → is_above least greatest ≡ false →
     is_above least (limited selected least greatest) ≡ false
 floor selected least greatest apart =

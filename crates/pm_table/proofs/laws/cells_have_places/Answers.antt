@@ -11,7 +11,7 @@ use Rattle.pm_table.proofs.laws.cells_have_places.Goals as goal
 register_at-number : (register : Reg) → register_at (register_number register) ≡ register
 register_at-number register = grind arith
 
--- and a number's register back to the number
+-- a number's register has that number
 register_number-at : (number : ℕ) → number < register_count
     → register_number (register_at number) ≡ number
 register_number-at number below = grind arith
@@ -21,7 +21,7 @@ output-of : (output number : ℕ) → number < register_count
     → (output * register_count + number) / register_count ≡ output
 output-of output number below = omega arith
 
--- and the register's number what is left over
+-- the register's number is what the division leaves over
 number-of : (output number : ℕ) → number < register_count
     → (output * register_count + number) % register_count ≡ number
 number-of output number below = omega arith
@@ -51,7 +51,7 @@ back (Out output register) there =
     (ap register_at (number-of output number below) ∙ register_at-number register)
 back Protect there = refl
 
--- and the place of a place's cell is that place
+-- the place of a place's cell is that place
 again : (place : ℕ) → place < places → place_of (cell_in place) ≡ place
 again place h = grind (arith, register_number-at (place % register_count) (omega arith))
 
