@@ -19,7 +19,7 @@ from proof_text import files_of, lemmas_of
 
 # A comment that begins so hangs on the line before it.
 MIDDLE = re.compile(r"(and|so|or|nor)\b", re.I)
-PROOFS = re.compile(r"\b(pm_\w+)(?:\.|::)proofs\b")
+PROOFS = re.compile(r"\b(pm\w*_\w+)(?:\.|::)proofs\b")
 # The modules of scripts/ that people run, or that these import: all but trials, rows and tools of the developers.
 TRIALS = re.compile(r"try_|compare_|check_|draw|diet|house|planted|proof_text|crate_copy|compiled|refuse|retell|run_program|search_"
                     r"|.*_rows|.*_faults|fake_|command_rows")
