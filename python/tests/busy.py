@@ -17,19 +17,23 @@ class Busy(kernel.Part):
         super().__init__(**named)
         self.ready = 0.0
 
+    def now(self):
+        """The time in seconds."""
+        return runs.CLOCK.until()
+
     def lasts(self, frame):
         """The milliseconds for which it is busy behind a write."""
         return self.for_ms
 
     def is_busy(self):
-        return runs.CLOCK.until() < self.ready
+        return self.now() < self.ready
 
     def hear(self, frame, ending):
         if self.is_busy() and (ending == "restart" or not self.is_ones):
             return ONES if self.is_ones else None
         answer = super().hear(frame, ending)
         if ending == "stop":
-            self.ready = runs.CLOCK.until() + self.lasts(frame) / 1000
+            self.ready = self.now() + self.lasts(frame) / 1000
         return answer
 
 
@@ -91,15 +95,19 @@ class Timed(Busy):
     """Each transfer takes half a millisecond. It is busy for so long behind each write, and 400 ms behind a store; where it
     acknowledges meanwhile, its reads are ones, and it may drop what is written."""
 
-    def __init__(self, for_ms, is_ones, drops):
-        super().__init__()
+    def __init__(self, for_ms, is_ones, drops, **named):
+        super().__init__(**named)
         self.for_ms, self.is_ones, self.drops = for_ms, is_ones, drops
 
     def lasts(self, frame):
         return 400 if frame[1] == STORE_USER_ALL else self.for_ms
 
-    def hear(self, frame, ending):
+    def pass_time(self):
+        """The time that a transfer takes."""
         runs.CLOCK.now += 0.0005
+
+    def hear(self, frame, ending):
+        self.pass_time()
         if self.drops and self.is_busy() and ending == "stop":
             return []
         return super().hear(frame, ending)

@@ -87,9 +87,9 @@ class Part:
     # Of a byte that isn't acknowledged, behind an address that is.
     refusal = errno.EREMOTEIO
 
-    def __init__(self, modes=(0x14, 0x14), coefficients=(1, 0, 3)):
+    def __init__(self, modes=(0x14, 0x14), coefficients=(1, 0, 3), address=BASE["address"]):
         outputs = [(mode, dict(BASE["outputs"][0][1])) for mode in modes]
-        self.converter = Both({**BASE, "count": len(outputs), "outputs": outputs, "coefficients": coefficients})
+        self.converter = Both({**BASE, "address": address, "count": len(outputs), "outputs": outputs, "coefficients": coefficients})
         self.lines, self.answers = [], []
 
     def restart(self):

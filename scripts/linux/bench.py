@@ -7,15 +7,20 @@ FOLDER gets the sockets: i2c.sock is for a device of i2c-virtio, whose failed tr
 one of gpio-virtio, whose lines 0 and 1 are SDA and SCL. With --vcd the waveform of both goes to wire.vcd. It ends when
 the guest has gone.
 
-At address 0A of the first bus, text is taken: `part WORDS` puts a part there (parts.py), as made; `adapter errno` or
-`adapter count` says who asks; `plan WORD ..` has a mishap for each coming transfer; `restart` restarts the part. A read
-there tells as JSON what the part holds, and the transfers so far. A read of a byte at 0B tells the error of the last
+At address 0A of the first bus, text is taken: `part WORDS` puts a part there (parts.py), as made; `beside WORDS` another one,
+at an address of its own, whose transfers meet no mishap; `adapter errno` or `adapter count` says who asks; `plan WORD ..` has a
+mishap for each coming transfer; `restart` restarts the part; `low sda` and `low scl` have a line of the wire held low until
+`low none`. A read there tells as JSON what the parts hold, each word that a register of the first held since it was put there
+(`ever`), and the transfers so far. A read of a byte at 0B tells the error of the last
 failed transfer, by its number, for an adapter that answers errors. The mishaps are those of python/tests/kernel.py, and
 
     lostall   as `lost`, and of a read no message goes, where `lost` lets the first one go
     cut       the last byte that comes back is FF
     half      a write is cut before its last byte, and fails
+    power     the part restarts inside its answer, whose bytes behind the first are FF; a write is heard before it
     flip      a bit of a write's last byte but one is changed on its way, and the write is acknowledged
+    sdaK      on the wire alone: SDA is held low behind K bytes of the frame, until the fourth stop
+    sclK      on the wire alone: SCL is held low behind K bytes of the frame, until the fourth stop
     stale     on the wire alone: the read address isn't acknowledged, and the next one that comes alone gets the answer
     held      it is under way until the guest takes the file `held` away
 """
@@ -47,11 +52,14 @@ class Bench:
     def __init__(self, folder):
         self.folder = folder
         self.has_errors = False
+        # What the wire does where a line is held low or let go.
+        self.settle = lambda: None
         self.put(["proved"])
 
     def put(self, words):
-        self.part, self.address = parts.made(words)
-        self.plan, self.count, self.error = [], 0, 0
+        part, self.address = parts.made(words)
+        self.part = parts.Watched(part)
+        self.parts, self.plan, self.count, self.error, self.low = {self.address: self.part}, [], 0, 0, None
 
     def mishap(self):
         """What befalls the transfer that begins."""
@@ -72,10 +80,16 @@ class Bench:
             time.sleep(0.01)
 
     def say(self, text):
-        """Takes a line of the guest's."""
-        kind, *words = text.split()
+        """Takes a line of the guest's. What is no line, as a quick write of i2cdetect, says nothing."""
+        kind, *words = text.split() or [""]
         if kind == "part":
             self.put(words)
+        elif kind == "beside":
+            part, address = parts.made(words)
+            self.parts[address] = parts.Watched(part)
+        elif kind == "low":
+            self.low = None if words == ["none"] else words[0]
+            self.settle()
         elif kind == "adapter":
             self.has_errors = words == ["errno"]
         elif kind == "plan":
@@ -85,7 +99,9 @@ class Bench:
 
     def told(self):
         told = {"held": parts.held(self.part), "page": self.part.converter.page, "count": self.count, "plan": self.plan,
-                "kind": type(self.part.converter).__name__, "maxima": getattr(self.part, "maxima", list)()}
+                "kind": type(self.part.converter).__name__, "maxima": getattr(self.part, "maxima", list)(),
+                "cells": parts.cells(self.part), "ever": self.part.told_ever(),
+                "beside": {f"{address:02X}": parts.held(part) for address, part in self.parts.items() if part is not self.part}}
         return json.dumps(told).encode("ascii")
 
     def at_bench(self, address, written, count):

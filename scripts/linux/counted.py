@@ -57,14 +57,24 @@ class Adapter(vhost.FrontEnd):
         if address in (BENCH, ERROR):
             return [bench.at_bench(address, each.written, each.count) for each in messages]
         bench.error = errno.ENXIO
-        if address != bench.address:
+        if address not in bench.parts:
             return [FAILED] * len(messages)
+        if address != bench.address:
+            return self.beside(messages)
         if [each.count is None for each in messages] == [True]:
             return [self.write(messages[0], bench.mishap())]
         if [each.count is None for each in messages] == [True, False]:
             return self.read(*messages, bench.mishap())
         # A read alone: the address is acknowledged, and the lines stay high.
         return [b"\xff" * each.count if each.count is not None else FAILED for each in messages]
+
+    def beside(self, messages):
+        """A transfer of a part beside, which meets no mishap."""
+        part, frame = self.bench.parts[messages[0].address], [2 * messages[0].address, *messages[0].written]
+        if [each.count is None for each in messages] == [True]:
+            return [FAILED if part.hear(frame, "stop") is None else b""]
+        answer = part.hear(frame, "restart") if len(messages) == 2 else None
+        return [b"", FAILED] if answer is None else [b"", bytes([*answer[1:], *[0xFF] * messages[1].count][:messages[1].count])]
 
     def is_unheard(self, mishap):
         """The transfer fails, and the part doesn't hear it."""
@@ -92,7 +102,7 @@ class Adapter(vhost.FrontEnd):
             return [FAILED if is_first else b"", FAILED]
         if mishap == "empty":
             return [b"", b""]
-        got = bytes([*answer[1:], *[0xFF] * back.count][:back.count])
+        got = bytes([*answer[1:2 if mishap == "power" else None], *[0xFF] * back.count][:back.count])
         if mishap == "damaged":
             got = got[:-1] + bytes([got[-1] ^ 4])
         return [b"", got[:-1] + b"\xff" if mishap == "cut" else got]
@@ -109,4 +119,6 @@ class Adapter(vhost.FrontEnd):
                 bench.error = errno.EAGAIN
                 return None
         answer = bench.part.hear(frame, ending)
+        if mishap == "power":
+            bench.part.restart()
         return None if mishap in ("lost", "lostall", "short0h") else answer

@@ -8,7 +8,7 @@ import os
 from counted import BENCH
 from pmhost.bus.linux import I2C_M_RD, I2C_RDWR, Message, Messages
 
-ROOM = 1024
+ROOM = 4096
 FOLDER = os.environ.get("FOLDER", "")
 
 

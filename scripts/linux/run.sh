@@ -21,6 +21,9 @@
 #   commands  the commands of docs/bus.md
 #   programs  examples/c/i2c_dev.c and examples/pmbhost/drive.py under each fault
 #   captures  one run, told by pmhost's trace, the kernel's tracepoints and the waveform of the wires
+#   drawn     jobs of every kind under drawn faults, all registers asked behind (SEED and LISTS in the environment)
+#   lines     lines that are held low, at rest and behind each byte
+#   patience  parts that are busy behind each write or away behind a store, by missing acknowledgements and by ones
 #   together  both hosts at once, a part that is unplugged, a pmhost that is killed
 #
 # What is wrong is printed, each trial's own last line, and last how many runs passed and failed in all.
@@ -32,15 +35,16 @@ root=$(cd "$here/../.." && pwd)
 start "$@"
 command -v i2ctransfer > /dev/null || [ -x /usr/sbin/i2ctransfer ] || refuse "no i2ctransfer: install i2c-tools"
 began=$(date +%s)
-kinds="faults rows commands captures together programs"
+kinds="faults rows commands captures together programs patience drawn lines"
 gcc -O2 -Wall -Wextra -Werror -I"$root/crates/pm_host_c/include" "$root/examples/c/i2c_dev.c" "$archive" -o "$CACHE/i2c_dev" ||
     refuse "examples/c/i2c_dev.c doesn't build"
 names=()
 for kind in $kinds; do
     # The bit by bit one takes longest: it begins first.
     for bus in 5 0 1; do
-        names+=("$kind$bus")
-        VCD=$([ $kind$bus = captures5 ] && echo 1) trial $kind$bus $kind $bus
+        names+=("$kind$bus") drawn=()
+        [ $kind != drawn ] || drawn=("${SEED-7}" "${LISTS-60}")
+        VCD=$([ $kind$bus = captures5 ] && echo 1) trial $kind$bus $kind $bus "${drawn[@]}"
     done
 done
 wait

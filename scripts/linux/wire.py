@@ -43,6 +43,9 @@ class Wire:
         self.frame, self.answer, self.mishap = [], [], "ok"
         # The part has acknowledged its address since the start; addresses that it won't acknowledge; stops while held.
         self.is_open, self.refusals, self.stops, self.kept = False, 0, 0, None
+        # The part that was addressed, and the line that it holds low whatever the part does.
+        self.addressed, self.held_low = bench.part, None
+        bench.settle = self.settle
         if vcd:
             vcd.write(VCD_HEAD)
 
@@ -51,16 +54,17 @@ class Wire:
         if self.host[line] == value:
             return
         self.host[line] = value
-        if line == SDA and value and self.host[SCL] and not self.part[SCL]:
+        if line == SDA and value and (self.host[SCL] and not self.part[SCL] or self.held_low is not None):
             self.stops += 1
             if self.stops > MORE_TRIES:
-                self.part, self.state = [1, 1], "idle"
+                self.part, self.state, self.held_low = [1, 1], "idle", None
         self.settle()
 
     def settle(self):
         """Each change of a line is seen by the part, which may change SDA in turn."""
         while True:
-            sda, scl = self.host[SDA] & self.part[SDA], self.host[SCL] & self.part[SCL]
+            low = {"sda": SDA, "scl": SCL}.get(self.bench.low, self.held_low)
+            sda, scl = (self.host[line] & self.part[line] & (line != low) for line in (SDA, SCL))
             if (sda, scl) == (self.sda, self.scl):
                 return
             was_sda, was_scl, self.sda, self.scl = self.sda, self.scl, sda, scl
@@ -112,16 +116,19 @@ class Wire:
         """A byte came. Whether it is acknowledged; the state after it."""
         if self.state == "write":
             self.frame.append(self.byte)
+            if self.mishap in (f"sda{len(self.frame)}", f"scl{len(self.frame)}"):
+                self.held_low, self.stops = {"sda": SDA, "scl": SCL}[self.mishap[:3]], 0
             return not self.refuses_byte()
         return self.acknowledges_address(self.byte >> 1, self.byte & 1)
 
     def acknowledges_address(self, address, reads):
-        if address != self.bench.address or self.refusals:
+        if address not in self.bench.parts or address == self.bench.address and self.refusals:
             self.refusals -= bool(self.refusals and address == self.bench.address)
             self.state = "ignore"
             return False
+        self.addressed = self.bench.parts[address]
         if not self.is_open and self.kept is None:
-            self.mishap = self.bench.mishap()
+            self.mishap = self.bench.mishap() if address == self.bench.address else "ok"
         if self.is_unheard():
             return False
         self.is_open = True
@@ -135,7 +142,7 @@ class Wire:
         if self.mishap == "hung" and not self.is_open:
             self.part[SCL], self.stops, self.state = 0, 0, "ignore"
             return True
-        if self.mishap not in ("deaf", "short0") and self.bench.part.refusal != ABSENT:
+        if self.mishap not in ("deaf", "short0") and self.addressed.refusal != ABSENT:
             return False
         self.state, self.refusals = "ignore", MORE_TRIES
         return True
@@ -171,11 +178,14 @@ class Wire:
         if self.mishap == "false":
             return [0xFF]
         if self.mishap == "twice":
-            self.bench.part.hear(frame, "restart")
-        found = self.bench.part.hear(frame, "restart")
+            self.addressed.hear(frame, "restart")
+        found = self.addressed.hear(frame, "restart")
         if found is None:
             return None
         answer = found[1:]
+        if self.mishap == "power":
+            self.addressed.restart()
+            return answer[:1]
         if self.mishap == "empty":
             return [0] * 16
         if answer and self.mishap == "damaged":
@@ -192,7 +202,9 @@ class Wire:
         if mishap == "flip" and len(frame) > 2:
             frame[-2] ^= 1
         for _ in range(2 if mishap == "twice" else 1):
-            self.bench.part.hear(frame, "stop")
+            self.addressed.hear(frame, "stop")
+        if mishap == "power":
+            self.addressed.restart()
 
 
 class Lines(vhost.FrontEnd):
