@@ -20,13 +20,13 @@ plan_fault_words (Protected register) = codes "P7 Protected"
 -- the number of a fault as `pm.h` has it, which no other fault has
 abbrev pub plan_fault_number : PlanFault → ℕ
 plan_fault_number Busy = host_fault_number host.Busy
-plan_fault_number FormatUnknown = 0x41
-plan_fault_number (BelowLimit register) = 0x42
-plan_fault_number (AboveLimit register) = 0x43
-plan_fault_number (NotKnown cell) = 0x44
-plan_fault_number (BelowMin register) = 0x45
-plan_fault_number (AboveMax register) = 0x46
-plan_fault_number (Protected register) = 0x47
+plan_fault_number FormatUnknown = 0x61
+plan_fault_number (BelowLimit register) = 0x62
+plan_fault_number (AboveLimit register) = 0x63
+plan_fault_number (NotKnown cell) = 0x64
+plan_fault_number (BelowMin register) = 0x65
+plan_fault_number (AboveMax register) = 0x66
+plan_fault_number (Protected register) = 0x67
 
 -- the command code of the register that a fault is about, or of WRITE_PROTECT
 abbrev pub plan_fault_code : PlanFault → Option ℕ

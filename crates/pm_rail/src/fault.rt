@@ -47,20 +47,20 @@ impl PlanFault {
         }
     }
 
-    /// The number of the fault as `pm.h` has it, 41h to 47h; H3 has its own.
+    /// The number of the fault as `pm.h` has it, 61h to 67h; H3 has its own.
     pub fn number(self) -> u8
         ensures number { result ≡ plan_fault_number self }
         ensures some { result ≢ 0 }
     {
         match self {
             PlanFault::Busy => HostFault::Busy.number(),
-            PlanFault::FormatUnknown => 0x41,
-            PlanFault::BelowLimit(_) => 0x42,
-            PlanFault::AboveLimit(_) => 0x43,
-            PlanFault::NotKnown(_) => 0x44,
-            PlanFault::BelowMin(_) => 0x45,
-            PlanFault::AboveMax(_) => 0x46,
-            PlanFault::Protected(_) => 0x47,
+            PlanFault::FormatUnknown => 0x61,
+            PlanFault::BelowLimit(_) => 0x62,
+            PlanFault::AboveLimit(_) => 0x63,
+            PlanFault::NotKnown(_) => 0x64,
+            PlanFault::BelowMin(_) => 0x65,
+            PlanFault::AboveMax(_) => 0x66,
+            PlanFault::Protected(_) => 0x67,
         }
     }
 

@@ -399,41 +399,41 @@ fn a_plan_is_refused_for_what_comes_first(rt: HostRuntime) {
 // Each fault as programs print it, its number and the code of its register.
 static LETTERS: [(PlanFault, &str, u8, Option<u8>); 8] = [
     (PlanFault::Busy, "H3 Busy", 3, None),
-    (PlanFault::FormatUnknown, "P1 FormatUnknown", 0x41, None),
+    (PlanFault::FormatUnknown, "P1 FormatUnknown", 0x61, None),
     (
         PlanFault::BelowLimit(Reg::VoutMax),
         "P2 BelowLimit",
-        0x42,
+        0x62,
         Some(0x24),
     ),
     (
         PlanFault::AboveLimit(Reg::VoutCommand),
         "P3 AboveLimit",
-        0x43,
+        0x63,
         Some(0x21),
     ),
     (
         PlanFault::NotKnown(Cell::Protect),
         "P4 NotKnown",
-        0x44,
+        0x64,
         Some(0x10),
     ),
     (
         PlanFault::BelowMin(Reg::MarginHigh),
         "P5 BelowMin",
-        0x45,
+        0x65,
         Some(0x25),
     ),
     (
         PlanFault::AboveMax(Reg::MarginLow),
         "P6 AboveMax",
-        0x46,
+        0x66,
         Some(0x26),
     ),
     (
         PlanFault::Protected(Reg::VoutMin),
         "P7 Protected",
-        0x47,
+        0x67,
         Some(0x2B),
     ),
 ];
