@@ -1,6 +1,8 @@
+pub mod Bounding
 pub mod Compared
 pub mod Rounding
 pub mod SlopePlaces
 pub mod Spaced
+pub mod SpelledBounds
 pub mod Spellings
 pub mod UnsignedPlaces

@@ -1,11 +1,11 @@
 -- Floors and rounded quotients of whole numbers.
-use Rattle.std.proofs.Common.{◌≡◌, ℕ, ◌*◌, ◌<◌, ◌≤◌, ℤ, pos, negsuc, ◌+ℤ◌, ◌-ℤ◌, ◌*ℤ◌, ◌<ℤ◌, ◌≤ℤ◌, unsigned_abs, ap, ◌∙◌, subst, sym, arith}
+use Rattle.std.proofs.Common.{◌≡◌, ℕ, ◌*◌, ◌<◌, ◌≤◌, ℤ, ◌-◌, ◌^◌, pos, negsuc, ◌+ℤ◌, ◌-ℤ◌, ◌*ℤ◌, ◌<ℤ◌, ◌≤ℤ◌, unsigned_abs, ap, ◌∙◌, subst, sym, arith}
 use Rattle.std.specs.Int.{int_div_euclid}
 use Rattle.std.proofs.lemmas.Int.{ints, by_lt_z, to_z-of_z, unsigned_abs-mul}
 use mir.Syntax.{w128}
 use mir.Val.{SFits, to_z, of_z}
-use Rattle.pm_num.specs.Steps.{IsFloor, IsRounded}
-use Rattle.pm_num.specs.Lemmas.Integers.{lt-times}
+use Rattle.pm_num.specs.Steps.{IsFloor, IsCeiling, IsRounded}
+use Rattle.pm_num.specs.Lemmas.Integers.{lt-times, sub-times}
 
 -- The quotient whose remainder is not negative is the floor, for a positive divisor.
 pub floor-int_div_euclid : (a d : ℤ) → pos 0 <ℤ d → IsFloor a d (int_div_euclid a d)
@@ -80,9 +80,51 @@ product_kept {p} {q} a b e f h = ap (λ (z : ℤ). to_z w128 (of_z w128 (z *ℤ 
 pub product_size : {r : ℤ} (a b : ℤ) → r ≡ a *ℤ b → unsigned_abs r ≡ unsigned_abs a * unsigned_abs b
 product_size a b e = ap unsigned_abs e ∙ unsigned_abs-mul a b
 
--- The rounded quotient of the numbers that are meant; b, e and r are what the code computes.
-pub rounded_at : {b e q r : ℤ} (a d : ℤ) → IsRounded b e q → b ≡ a → e ≡ d → r ≡ q → IsRounded a d r
-rounded_at {e = e} {q = q} a d h is_b is_e is_r =
-    let f = subst (λ (z : ℤ). IsRounded z e q) is_b h in
-    let g = subst (λ (z : ℤ). IsRounded a z q) is_e f in
-    subst (λ (z : ℤ). IsRounded a d z) (sym is_r) g
+-- A quotient of the numbers that are meant, whatever is said of it; b, e and r are what the code computes.
+pub quotient_at : {b e q r : ℤ} (P : ℤ → ℤ → ℤ → Type 0) (a d : ℤ) → P b e q → b ≡ a → e ≡ d → r ≡ q → P a d r
+quotient_at {e = e} {q = q} P a d h is_b is_e is_r =
+    let f = subst (λ (z : ℤ). P z e q) is_b h in
+    let g = subst (λ (z : ℤ). P a z q) is_e f in
+    subst (λ (z : ℤ). P a d z) (sym is_r) g
+
+-- Whole bounds of the quotient a / d bound k.
+pub record IsWithinWhole (a : ℤ) (d : ℕ) (k : ℤ) : Type 0 where
+  pub above : (l : ℤ) → (l *ℤ pos d) ≤ℤ a → l ≤ℤ k
+  pub below : (g : ℤ) → a ≤ℤ (g *ℤ pos d) → k ≤ℤ g
+
+-- They bound the rounded quotient,
+pub IsWithinWhole-rounded : (a k : ℤ) (d : ℕ) → 0 < d → IsRounded a (pos d) k → IsWithinWhole a d k
+IsWithinWhole-rounded a k d positive h =
+    record { above = above_from_rounded a k d positive h; below = below_from_rounded a k d positive h }
+
+-- the quotient rounded down,
+pub IsWithinWhole-floor : (a k : ℤ) (d : ℕ) → 0 < d → IsFloor a (pos d) k → IsWithinWhole a d k
+IsWithinWhole-floor a k d positive h = record {
+  above = λ l le. by_lt_z k l (λ less. let i = lt-times k l d less in absurd (omega (arith, ints))) (λ p. p);
+  below = λ g le. by_lt_z g k (λ less. let i = lt-times g k d less in absurd (omega (arith, ints))) (λ p. p);
+}
+
+-- and the quotient rounded up.
+pub IsWithinWhole-ceiling : (a k : ℤ) (d : ℕ) → 0 < d → IsCeiling a (pos d) k → IsWithinWhole a d k
+IsWithinWhole-ceiling a k d positive h = record {
+  above = λ l le. by_lt_z k l (λ less. let i = lt-times k l d less in absurd (omega (arith, ints))) (λ p. p);
+  below = λ g le. by_lt_z g k (λ less. let i = lt-times g k d less in absurd (omega (arith, ints))) (λ p. p);
+}
+
+-- A quotient rounded down is no larger than its dividend.
+pub floor_size : {b e q : ℤ} (d : ℤ) → pos 0 <ℤ d → unsigned_abs b < 2 ^ 120 → IsFloor b e q → e ≡ d → unsigned_abs q ≤ 2 ^ 120
+floor_size {b = b} {q = q} (pos d) positive small h is_e =
+    let f = subst (λ (z : ℤ). IsFloor b z q) is_e h in
+    let whole = IsWithinWhole-floor b q d (omega (arith, ints)) f in
+    let from : negsuc (2 ^ 120 - 1) ≤ℤ q = whole.above (negsuc (2 ^ 120 - 1)) (omega (arith, ints)) in
+    let to : q ≤ℤ pos (2 ^ 120) = whole.below (pos (2 ^ 120)) (omega (arith, ints)) in
+    omega (arith, ints)
+floor_size (negsuc d) positive small h is_e = absurd (omega (arith, ints))
+
+-- The least whole number not below a quotient is the floor of its negative, negated; b, e and r are what the code computes.
+pub ceiling-floor : {b e q r : ℤ} (a d : ℤ) → pos 0 <ℤ d → IsFloor b e q → b ≡ pos 0 -ℤ a → e ≡ d → r ≡ pos 0 -ℤ q → IsCeiling a d r
+ceiling-floor {b = b} {q = q} a (pos d) positive h is_b is_e is_r =
+    let f = subst (λ (z : ℤ). IsFloor b z q) is_e h in
+    let negative : (pos 0 -ℤ q) *ℤ pos d ≡ pos 0 -ℤ q *ℤ pos d = sub-times (pos 0) q d ∙ omega (arith, ints) in
+    subst (λ (z : ℤ). IsCeiling a (pos d) z) (sym is_r) (record { reached = omega (arith, ints); next_below = omega (arith, ints) })
+ceiling-floor a (negsuc d) positive h is_b is_e is_r = absurd (omega (arith, ints))

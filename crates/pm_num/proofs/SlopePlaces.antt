@@ -5,12 +5,14 @@ use Rattle.std.proofs.lemmas.Int.{ints}
 use Rattle.std.proofs.Math.Nat.{pow-le-pow_right}
 use Rattle.std.proofs.lemmas.Nat.{mul-le}
 use borrow.Author.Differences.{product_is}
+use Rattle.pm_num.specs.Bounds.{IsAtMost, IsAtLeast}
 use Rattle.pm_num.specs.Ratio.{Ratio, AtMost, IsBetween}
 use Rattle.pm_num.specs.Value.{upper, lower, sign, signed, direct_value, direct_least, direct_greatest}
 use Rattle.pm_num.specs.Nearest.{IsNearest, one_rank}
 use Rattle.pm_num.specs.Formats.{IsDecimal}
-use Rattle.pm_num.specs.Steps.{Spacing, IsPlace, at_place, direct_spacing}
-use Rattle.pm_num.proofs.Spaced.{nearest_word, between_along}
+use Rattle.pm_num.specs.Steps.{Spacing, IsWithinPlaces, IsPlace, IsPlaceBelow, IsPlaceAbove, at_place, direct_spacing}
+use Rattle.pm_num.proofs.Spaced.{nearest_word, word_below, word_above, between_along}
+use Rattle.pm_num.specs.Lemmas.Slope.{direct-within, direct-least_met}
 
 -- A sign times a product.
 sign-times : (m a : ℤ) (n : ℕ) → (sign m *ℤ a) *ℤ pos n ≡ sign m *ℤ (a *ℤ pos n)
@@ -38,13 +40,13 @@ direct-at_place m b r w =
     ap (λ (z : ℤ). let v : Ratio = record { num = z; den = unsigned_abs m * upper 10 r } in v) g
 
 -- A place of the grid is at least that of a word whose value is at most x,
-from_least : (m b r : ℤ) (x : Ratio) (q : ℤ) → IsPlace (direct_spacing m b r) x q → (w : ℕ) → AtMost (direct_value m b r w) x
+from_least : (m b r : ℤ) (x : Ratio) (q : ℤ) → IsWithinPlaces (direct_spacing m b r) x q → (w : ℕ) → AtMost (direct_value m b r w) x
     → (sign m *ℤ signed 16 w) ≤ℤ q
 from_least m b r x q h w le =
     h.above (sign m *ℤ signed 16 w) (subst (λ (v : Ratio). AtMost v x) (direct-at_place m b r w) le)
 
 -- a place is at most that of a word whose value is at least x
-to_greatest : (m b r : ℤ) (x : Ratio) (q : ℤ) → IsPlace (direct_spacing m b r) x q → (w : ℕ) → AtMost x (direct_value m b r w)
+to_greatest : (m b r : ℤ) (x : Ratio) (q : ℤ) → IsWithinPlaces (direct_spacing m b r) x q → (w : ℕ) → AtMost x (direct_value m b r w)
     → q ≤ℤ (sign m *ℤ signed 16 w)
 to_greatest m b r x q h w le =
     h.below (sign m *ℤ signed 16 w) (subst (λ (v : Ratio). AtMost x v) (direct-at_place m b r w) le)
@@ -56,7 +58,7 @@ pub record FitsWord (m q : ℤ) : Type 0 where
   pub below : (sign m *ℤ q) ≤ℤ pos 32767
 
 -- a number in the range has a place that a word has
-direct-fits : (m b r : ℤ) (x : Ratio) (q : ℤ) → IsPlace (direct_spacing m b r) x q
+direct-fits : (m b r : ℤ) (x : Ratio) (q : ℤ) → IsWithinPlaces (direct_spacing m b r) x q
     → IsBetween (direct_value m b r (direct_least m)) (direct_value m b r (direct_greatest m)) x → FitsWord m q
 direct-fits (pos n) b r x q h between =
     let l = from_least (pos n) b r x q h 0x8000 between.from_least in
@@ -69,9 +71,9 @@ direct-fits (negsuc n) b r x q h between =
 
 -- The same at the range l to g and the grid s that the code passed.
 pub found_fits : {x : Ratio} {q : ℤ} {l g : Ratio} {s : Spacing} (m b r : ℤ) → l ≡ direct_value m b r (direct_least m)
-    → g ≡ direct_value m b r (direct_greatest m) → IsBetween l g x → s ≡ direct_spacing m b r → IsPlace s x q → FitsWord m q
+    → g ≡ direct_value m b r (direct_greatest m) → IsBetween l g x → s ≡ direct_spacing m b r → IsWithinPlaces s x q → FitsWord m q
 found_fits {x} {q} {l} {g} m b r e f between is h =
-    direct-fits m b r x q (subst (λ (t : Spacing). IsPlace t x q) is h) (between_along l _ g _ x e f between)
+    direct-fits m b r x q (subst (λ (t : Spacing). IsWithinPlaces t x q) is h) (between_along l _ g _ x e f between)
 
 -- A product with the sign of m, at the number that the code passed.
 pub signed_at : (m q p s : ℤ) → s ≡ sign m *ℤ p → p ≡ q → s ≡ sign m *ℤ q
@@ -89,6 +91,26 @@ direct-nearest {x} {q} {w} m b r den is_s place word is =
     let h = subst (λ (t : Spacing). IsPlace t x q) is_s place in
     nearest_word (λ u. sign m *ℤ signed 16 u) (direct_spacing m b r) (λ u _. direct-at_place m b r u) den word
     (sign_back m (signed 16 w) q is) h.nearest h.lowest
+
+-- The word at the place rounded down is the number rounded down,
+pub direct-at_most : {x : Ratio} {q : ℤ} {w : ℕ} {s : Spacing} (m b r : ℤ) → s ≡ direct_spacing m b r → IsPlaceBelow s x q → w < 2 ^ 16
+    → signed 16 w ≡ sign m *ℤ q → IsAtMost (direct_value m b r) one_rank x w
+direct-at_most {x} {q} {w} m b r is_s place word is =
+    let h = subst (λ (t : Spacing). IsPlaceBelow t x q) is_s place in
+    word_below (λ u. sign m *ℤ signed 16 u) (direct_spacing m b r) (λ u _. direct-at_place m b r u) word (sign_back m (signed 16 w) q is) h
+
+-- and that at the place rounded up is the number rounded up.
+pub direct-at_least : {x : Ratio} {q : ℤ} {w : ℕ} {s : Spacing} (m b r : ℤ) → s ≡ direct_spacing m b r → IsPlaceAbove s x q → w < 2 ^ 16
+    → signed 16 w ≡ sign m *ℤ q → IsAtLeast (direct_value m b r) one_rank x w
+direct-at_least {x} {q} {w} m b r is_s place word is =
+    let h = subst (λ (t : Spacing). IsPlaceAbove t x q) is_s place in
+    word_above (λ u. sign m *ℤ signed 16 u) (direct_spacing m b r) (λ u _. direct-at_place m b r u) word (sign_back m (signed 16 w) q is) h
+
+-- The least value is at most the greatest.
+pub direct-ordered : (m b r : ℤ) → AtMost (direct_value m b r (direct_least m)) (direct_value m b r (direct_greatest m))
+direct-ordered m b r =
+    let met = direct-least_met m b r in
+    subst (λ (v : Ratio). AtMost v (direct_value m b r (direct_greatest m))) met.2 (direct-within m b r met.0 met.1).to_greatest
 
 -- A coefficient times a part of a power of ten is in bounds.
 pub coefficient_times_ten : (a b : ℕ) → a ≤ 2 ^ 15 → b ≤ 10 ^ 12 → a * b ≤ 2 ^ 55

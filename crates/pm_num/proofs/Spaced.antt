@@ -3,10 +3,12 @@ use Rattle.std.proofs.Common.{◌≡◌, ℕ, ◌*◌, ◌<◌, ℤ, pos, ◌+�
 use Rattle.std.proofs.lemmas.Int.{ints}
 use Rattle.pm_num.specs.Ratio.{Ratio, AtMost, IsBetween}
 use Rattle.pm_num.specs.Nearest.{Near, IsNearest, one_rank}
-use Rattle.pm_num.specs.Steps.{IsRounded, Spacing, at_place}
+use Rattle.pm_num.specs.Steps.{IsFloor, IsCeiling, IsRounded, Spacing, IsWithinPlaces, IsPlaceBelow, IsPlaceAbove, at_place}
 use Rattle.pm_num.specs.Lemmas.Integers.{sub-times, times-times, le-times}
 use Rattle.pm_num.specs.Lemmas.Over.{Over, apart, near_over, near_over_back}
-use Rattle.pm_num.proofs.Rounding.{nearest_from_rounded, lower_from_rounded, above_from_rounded, below_from_rounded}
+use Rattle.pm_num.specs.Bounds.{IsAtMost, IsAtLeast}
+use Rattle.pm_num.proofs.Rounding.{nearest_from_rounded, lower_from_rounded}
+use Rattle.pm_num.proofs.Rounding.{IsWithinWhole, IsWithinWhole-floor, IsWithinWhole-ceiling}
 
 -- The numerator of the number at k, over the grid's denominator.
 abbrev place_num : Spacing → ℤ → ℤ
@@ -50,19 +52,32 @@ lowest_on_grid g x q h r j near =
     let n = near_over_back x (Over-at_place g j h) (Over-at_place g q h) near in
     lower_from_rounded (moved_num g x) q (g.step * x.den) r j (omega arith)
 
--- at least each place below x,
-pub above_on_grid : (g : Spacing) (x : Ratio) (q : ℤ) → 0 < g.step * x.den → IsRounded (moved_num g x) (pos (g.step * x.den)) q → (j : ℤ)
-    → AtMost (at_place g j) x → j ≤ℤ q
-above_on_grid g x q h r j le =
-    let e = distance g x j in
-    above_from_rounded (moved_num g x) q (g.step * x.den) h r j (omega (arith, ints))
+-- and whole bounds of x are bounds of what has those of its quotient.
+pub within_from_whole : (g : Spacing) (x : Ratio) (q : ℤ) → IsWithinWhole (moved_num g x) (g.step * x.den) q → IsWithinPlaces g x q
+within_from_whole g x q whole = record {
+  above = λ j le. let e = distance g x j in whole.above j (omega (arith, ints));
+  below = λ j le. let e = distance g x j in whole.below j (omega (arith, ints));
+}
 
--- and at most each above it.
-pub below_on_grid : (g : Spacing) (x : Ratio) (q : ℤ) → 0 < g.step * x.den → IsRounded (moved_num g x) (pos (g.step * x.den)) q → (j : ℤ)
-    → AtMost x (at_place g j) → q ≤ℤ j
-below_on_grid g x q h r j le =
-    let e = distance g x j in
-    below_from_rounded (moved_num g x) q (g.step * x.den) h r j (omega (arith, ints))
+-- The place rounded down is the greatest whose number isn't above x,
+pub IsPlaceBelow-floor : (g : Spacing) (x : Ratio) (q : ℤ) → 0 < g.step * x.den → IsFloor (moved_num g x) (pos (g.step * x.den)) q
+    → IsPlaceBelow g x q
+IsPlaceBelow-floor g x q h r =
+    let d = distance g x q in
+    record {
+      reached = omega (arith, ints);
+      within = within_from_whole g x q (IsWithinWhole-floor (moved_num g x) q (g.step * x.den) h r);
+    }
+
+-- and the place rounded up the least whose number isn't below it.
+pub IsPlaceAbove-ceiling : (g : Spacing) (x : Ratio) (q : ℤ) → 0 < g.step * x.den → IsCeiling (moved_num g x) (pos (g.step * x.den)) q
+    → IsPlaceAbove g x q
+IsPlaceAbove-ceiling g x q h r =
+    let d = distance g x q in
+    record {
+      reached = omega (arith, ints);
+      within = within_from_whole g x q (IsWithinWhole-ceiling (moved_num g x) q (g.step * x.den) h r);
+    }
 
 -- A higher place has a greater number.
 ordered_on_grid : (g : Spacing) (q j : ℤ) → q ≤ℤ j → AtMost (at_place g q) (at_place g j)
@@ -84,6 +99,36 @@ nearest_word {value = value} {w = w} {q = q} place g values den word is nearest 
           let near_place = rw (value_w, values u h) at near in
           rw (value_w, values u h) (ordered_on_grid g q (place u) (lowest (place u) near_place));
       spelling = λ u h same. omega arith;
+    }
+
+-- The word of the greatest number that isn't above x is x rounded down,
+pub word_below : {value : ℕ → Ratio} {x : Ratio} {w : ℕ} {q : ℤ} (place : ℕ → ℤ) (g : Spacing)
+    → ((u : ℕ) → u < 2 ^ 16 → value u ≡ at_place g (place u)) → w < 2 ^ 16 → q ≡ place w → IsPlaceBelow g x q
+    → IsAtMost value one_rank x w
+word_below {value = value} {w = w} {q = q} place g values word is h =
+    let value_w : value w ≡ at_place g q = values w word ∙ ap (at_place g) (sym is) in
+    record {
+      word = word;
+      reached = rw value_w h.reached;
+      greatest = λ u k le.
+          let at = rw (values u k) at le in
+          rw (value_w, values u k) (ordered_on_grid g (place u) q (h.within.above (place u) at));
+      spelling = λ u k same. omega arith;
+    }
+
+-- and the word of the least number that isn't below it is x rounded up.
+pub word_above : {value : ℕ → Ratio} {x : Ratio} {w : ℕ} {q : ℤ} (place : ℕ → ℤ) (g : Spacing)
+    → ((u : ℕ) → u < 2 ^ 16 → value u ≡ at_place g (place u)) → w < 2 ^ 16 → q ≡ place w → IsPlaceAbove g x q
+    → IsAtLeast value one_rank x w
+word_above {value = value} {w = w} {q = q} place g values word is h =
+    let value_w : value w ≡ at_place g q = values w word ∙ ap (at_place g) (sym is) in
+    record {
+      word = word;
+      reached = rw value_w h.reached;
+      least = λ u k le.
+          let at = rw (values u k) at le in
+          rw (value_w, values u k) (ordered_on_grid g q (place u) (h.within.below (place u) at));
+      spelling = λ u k same. omega arith;
     }
 
 -- The range, at the bounds that the code passed.

@@ -10,21 +10,22 @@ use Rattle.pm_num.specs.Ratio.{Ratio}
 use Rattle.pm_num.specs.Value.{exponent, mantissa, linear11_value}
 use Rattle.pm_num.specs.Nearest.{preference, linear11_rank, IsNearest}
 use Rattle.pm_num.specs.Formats.{IsExponent}
-use Rattle.pm_num.specs.Steps.{IsRounded, place_of, IsSpelling, IsFar, IsLarge, IsPreferred, IsPlaceFor}
+use Rattle.pm_num.specs.Steps.{IsFloor, IsCeiling, IsRounded, place_of, IsSpelling, IsFar, IsLarge, IsPreferred, IsPlaceFor}
 use Rattle.pm_num.specs.Lemmas.Integers.{times-times, times-swap, le-times, le_from_times, same_from_times}
 use Rattle.pm_num.specs.Lemmas.Over.{apart, near_over, near_over_back, at_most_over, same_over_back}
 use Rattle.pm_num.specs.Lemmas.Spelling.{IsExponent-exponent, IsSpelling-word, Over-linear11}
-use Rattle.pm_num.proofs.Rounding.{nearest_from_rounded, lower_from_rounded, above_from_rounded, below_from_rounded}
+use Rattle.pm_num.proofs.Rounding.{nearest_from_rounded, lower_from_rounded}
+use Rattle.pm_num.proofs.Rounding.{IsWithinWhole, IsWithinWhole-rounded, IsWithinWhole-floor, IsWithinWhole-ceiling}
 
 -- The power at a greater place, in two parts.
-split_power : (i j : ℕ) → i ≤ j → 2 ^ j ≡ 2 ^ (j - i) * 2 ^ i
+pub split_power : (i j : ℕ) → i ≤ j → 2 ^ j ≡ 2 ^ (j - i) * 2 ^ i
 split_power i j h =
     let e : j - i + i ≡ j = omega arith in
     let f = ap (λ (k : ℕ). 2 ^ k) e in
     omega (arith, pow-add 2 (j - i) i)
 
 -- A number at a greater place, as a mantissa at a lower one.
-lowered : (y : ℤ) (i j : ℕ) → i ≤ j → y *ℤ pos (2 ^ j) ≡ (y *ℤ pos (2 ^ (j - i))) *ℤ pos (2 ^ i)
+pub lowered : (y : ℤ) (i j : ℕ) → i ≤ j → y *ℤ pos (2 ^ j) ≡ (y *ℤ pos (2 ^ (j - i))) *ℤ pos (2 ^ i)
 lowered y i j h = ap (λ (n : ℕ). y *ℤ pos n) (split_power i j h) ∙ sym (times-times y (2 ^ (j - i)) (2 ^ i))
 
 -- t stands no nearer to a / d than a multiple j of the place's unit, and where it is as near it is not lower.
@@ -34,7 +35,7 @@ record Covers (a : ℤ) (d p : ℕ) (t : ℤ) : Type 0 where
   no_lower : unsigned_abs (a -ℤ t *ℤ pos d) ≤ unsigned_abs (a -ℤ multiple *ℤ pos (d * 2 ^ p)) → (multiple *ℤ pos (2 ^ p)) ≤ℤ t
 
 -- The product with both, in either order.
-unit_times : (j : ℤ) (d p : ℕ) → j *ℤ pos (d * 2 ^ p) ≡ (j *ℤ pos (2 ^ p)) *ℤ pos d
+pub unit_times : (j : ℤ) (d p : ℕ) → j *ℤ pos (d * 2 ^ p) ≡ (j *ℤ pos (2 ^ p)) *ℤ pos d
 unit_times j d p = sym (times-times j d (2 ^ p)) ∙ times-swap j d (2 ^ p)
 
 -- A multiple covers itself.
@@ -148,7 +149,7 @@ rank_by_place (negsuc m) (negsuc n) h k low high =
     omega arith
 
 -- The preferred spelling of a number ranks first among its spellings.
-preferred_first : {e f : ℤ} (y z : ℤ) → IsExponent e → IsExponent f → IsPreferred y (place_of e) → IsSpelling z (place_of f)
+pub preferred_first : {e f : ℤ} (y z : ℤ) → IsExponent e → IsExponent f → IsPreferred y (place_of e) → IsSpelling z (place_of f)
     → z *ℤ pos (2 ^ place_of f) ≡ y *ℤ pos (2 ^ place_of e) → preference e ≤ preference f
 preferred_first {e} {f} y z he hf p s same =
     rank_by_place e f he hf
@@ -156,7 +157,7 @@ preferred_first {e} {f} y z he hf p s same =
     (λ high. large_lowest y z (place_of e) (place_of f) (p.large high) s same)
 
 -- The number that a word spells, over 2^16.
-abbrev spelled : ℕ → ℤ
+abbrev pub spelled : ℕ → ℤ
 spelled w = mantissa w *ℤ pos (2 ^ place_of (exponent w))
 
 -- A word that spells the rounded number, and prefers its spelling, is the nearest one.
@@ -187,29 +188,47 @@ pub record IsUnsettled (p : ℕ) (k : ℤ) : Type 0 where
   pub below : k ≤ℤ pos 1024
   pub far : 16 < p → IsFar k
 
--- Above the lowest place the rounded mantissa is a large one,
-rounded_far : (x : Ratio) (p : ℕ) (k : ℤ) → IsPlaceFor x p → IsRounded (x.num *ℤ pos (2 ^ 16)) (pos (x.den * 2 ^ p)) k → 0 < x.den * 2 ^ p
-    → 0 < p → IsFar k
-rounded_far x p k h r unit positive =
-    let a = x.num *ℤ pos (2 ^ 16) in
+-- Above the lowest place the mantissa is a large one, whichever way it was rounded,
+mantissa_far : (x : Ratio) (p : ℕ) (k : ℤ) → IsPlaceFor x p → IsWithinWhole (x.num *ℤ pos (2 ^ 16)) (x.den * 2 ^ p) k → 0 < p → IsFar k
+mantissa_far x p k h whole positive =
     let e = ap (λ (n : ℕ). x.den * n) (split_power 1 p (omega arith)) in
     let far = h.least (p - 1) (omega arith) in
     by_lt_z x.num (pos 0)
-    (λ negative. inl (below_from_rounded a k (x.den * 2 ^ p) unit r (neg_ℤ (pos 512)) (omega (arith, ints))))
-    (λ at_least. inr (above_from_rounded a k (x.den * 2 ^ p) unit r (pos 512) (omega (arith, ints))))
+    (λ negative. inl (whole.below (neg_ℤ (pos 512)) (omega (arith, ints))))
+    (λ at_least. inr (whole.above (pos 512) (omega (arith, ints))))
 
 -- and within its bounds at any.
+pub IsUnsettled-whole : (x : Ratio) (p : ℕ) (k : ℤ) → IsPlaceFor x p → IsWithinWhole (x.num *ℤ pos (2 ^ 16)) (x.den * 2 ^ p) k
+    → IsUnsettled p k
+IsUnsettled-whole x p k h whole =
+    let reached = h.reached in
+    record {
+      above = whole.above (neg_ℤ (pos 1024)) (omega (arith, ints));
+      below = whole.below (pos 1024) (omega (arith, ints));
+      far = λ high. mantissa_far x p k h whole (omega arith);
+    }
+
+-- The unit of a place, over the denominator of the number, is positive.
+pub unit_above : (x : Ratio) (p : ℕ) → IsPlaceFor x p → 0 < x.den * 2 ^ p
+unit_above x p h = mul-pos h.den (pow_pos p)
+
+-- A rounded mantissa is so,
 pub IsUnsettled-rounded : (x : Ratio) (p : ℕ) (k : ℤ) → IsPlaceFor x p → IsRounded (x.num *ℤ pos (2 ^ 16)) (pos (x.den * 2 ^ p)) k
     → IsUnsettled p k
 IsUnsettled-rounded x p k h r =
-    let a = x.num *ℤ pos (2 ^ 16) in
-    let unit : 0 < x.den * 2 ^ p = mul-pos h.den (pow_pos p) in
-    let reached = h.reached in
-    record {
-      above = above_from_rounded a k (x.den * 2 ^ p) unit r (neg_ℤ (pos 1024)) (omega (arith, ints));
-      below = below_from_rounded a k (x.den * 2 ^ p) unit r (pos 1024) (omega (arith, ints));
-      far = λ high. rounded_far x p k h r unit (omega arith);
-    }
+    IsUnsettled-whole x p k h (IsWithinWhole-rounded (x.num *ℤ pos (2 ^ 16)) k (x.den * 2 ^ p) (unit_above x p h) r)
+
+-- one that is rounded down,
+pub IsUnsettled-floor : (x : Ratio) (p : ℕ) (k : ℤ) → IsPlaceFor x p → IsFloor (x.num *ℤ pos (2 ^ 16)) (pos (x.den * 2 ^ p)) k
+    → IsUnsettled p k
+IsUnsettled-floor x p k h r =
+    IsUnsettled-whole x p k h (IsWithinWhole-floor (x.num *ℤ pos (2 ^ 16)) k (x.den * 2 ^ p) (unit_above x p h) r)
+
+-- and one that is rounded up.
+pub IsUnsettled-ceiling : (x : Ratio) (p : ℕ) (k : ℤ) → IsPlaceFor x p → IsCeiling (x.num *ℤ pos (2 ^ 16)) (pos (x.den * 2 ^ p)) k
+    → IsUnsettled p k
+IsUnsettled-ceiling x p k h r =
+    IsUnsettled-whole x p k h (IsWithinWhole-ceiling (x.num *ℤ pos (2 ^ 16)) k (x.den * 2 ^ p) (unit_above x p h) r)
 
 -- Half the mantissa at the next place.
 pub halved : (y h : ℤ) (p : ℕ) → y ≡ h *ℤ pos 2 → h *ℤ pos (2 ^ (p + 1)) ≡ y *ℤ pos (2 ^ p)

@@ -1,5 +1,6 @@
 -- What the crate promises.
 pub mod AnyFormat
+pub mod Bounds
 pub mod FaultWords
 pub mod Formats
 pub mod Laws

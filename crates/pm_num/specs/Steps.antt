@@ -1,5 +1,5 @@
-use Rattle.std.specs.Prelude.{◌≢◌, ℕ, ◌+◌, ◌-◌, ◌*◌, ◌^◌, ◌<◌, ◌≤◌, ℤ, pos, negsuc, neg_ℤ, int_rem, ◌+ℤ◌, ◌-ℤ◌, ◌*ℤ◌, ◌<ℤ◌, ◌≤ℤ◌, unsigned_abs, ◌⊎◌}
-use Rattle.pm_num.specs.Ratio.{Ratio, AtMost}
+use Rattle.std.specs.Prelude.{◌≡◌, ◌≢◌, ℕ, ◌+◌, ◌-◌, ◌*◌, ◌^◌, ◌<◌, ◌≤◌, ℤ, pos, negsuc, neg_ℤ, int_rem, ◌+ℤ◌, ◌-ℤ◌, ◌*ℤ◌, ◌<ℤ◌, ◌≤ℤ◌, unsigned_abs, ◌⊎◌}
+use Rattle.pm_num.specs.Ratio.{Ratio, AtMost, IsBetween}
 use Rattle.pm_num.specs.Value.{upper, lower, sign}
 use Rattle.pm_num.specs.Nearest.{Near}
 
@@ -15,6 +15,11 @@ pub record IsFloor (a d q : ℤ) : Type 0 where
 pub record IsRounded (a d q : ℤ) : Type 0 where
   pub below : (pos 2 *ℤ (q *ℤ d)) <ℤ (pos 2 *ℤ a +ℤ d)
   pub above : (pos 2 *ℤ a) ≤ℤ (pos 2 *ℤ (q *ℤ d) +ℤ d)
+
+-- q is the least whole number not below a / d.
+pub record IsCeiling (a d q : ℤ) : Type 0 where
+  pub reached : a ≤ℤ (q *ℤ d)
+  pub next_below : (q *ℤ d) <ℤ (a +ℤ d)
 
 -- Evenly spaced numbers: the one at k is (k * step - offset) / den.
 pub record Spacing : Type 0 where
@@ -33,12 +38,36 @@ direct_spacing m b r = record {
   offset = sign m *ℤ (b *ℤ pos (upper 10 r));
 }
 
--- The number at q is the nearest to x, of two the lower; whole bounds of x are bounds of q.
+-- Whole bounds of x are bounds of q.
+pub record IsWithinPlaces (g : Spacing) (x : Ratio) (q : ℤ) : Type 0 where
+  pub above : (j : ℤ) → AtMost (at_place g j) x → j ≤ℤ q
+  pub below : (j : ℤ) → AtMost x (at_place g j) → q ≤ℤ j
+
+-- The number at q is the nearest to x, of two the lower.
 pub record IsPlace (g : Spacing) (x : Ratio) (q : ℤ) : Type 0 where
   pub nearest : (j : ℤ) → Near x (at_place g q) (at_place g j)
   pub lowest : (j : ℤ) → Near x (at_place g j) (at_place g q) → q ≤ℤ j
-  pub above : (j : ℤ) → AtMost (at_place g j) x → j ≤ℤ q
-  pub below : (j : ℤ) → AtMost x (at_place g j) → q ≤ℤ j
+  pub within : IsWithinPlaces g x q
+
+-- The number at q is the greatest that isn't above x.
+pub record IsPlaceBelow (g : Spacing) (x : Ratio) (q : ℤ) : Type 0 where
+  pub reached : AtMost (at_place g q) x
+  pub within : IsWithinPlaces g x q
+
+-- The number at q is the least that isn't below x.
+pub record IsPlaceAbove (g : Spacing) (x : Ratio) (q : ℤ) : Type 0 where
+  pub reached : AtMost x (at_place g q)
+  pub within : IsWithinPlaces g x q
+
+-- y is x, or the greatest value where x lies above it.
+pub record IsCapped (least greatest x y : Ratio) : Type 0 where
+  pub between : IsBetween least greatest y
+  pub either : (y ≡ x) ⊎ ((y ≡ greatest) × AtMost greatest x)
+
+-- y is x, or the least value where x lies below it.
+pub record IsRaised (least greatest x y : Ratio) : Type 0 where
+  pub between : IsBetween least greatest y
+  pub either : (y ≡ x) ⊎ ((y ≡ least) × AtMost x least)
 
 -- The sizes that the code takes.
 pub record IsSpacing (den step offset : ℤ) : Type 0 where

@@ -4,6 +4,7 @@ ghost use Rattle.std.specs.Prelude.{◌≡◌};
 ghost use Rattle.pm_num.specs.AnyFormat.{any_value};
 ghost use Rattle.pm_num.specs.Ratio.{is_above};
 
+use crate::bounds::BoundFormat;
 use crate::direct::Direct;
 use crate::fault::NumFault;
 use crate::frac::Frac;
@@ -91,6 +92,24 @@ impl NumFormat for AnyFormat {
             AnyFormat::Linear11 => Linear11.nearest(x),
             AnyFormat::Ulinear16(format) => format.nearest(x),
             AnyFormat::Direct(format) => format.nearest(x),
+        }
+    }
+}
+
+impl BoundFormat for AnyFormat {
+    fn round_down(&self, x: Frac) -> Result<u16, NumFault> {
+        match self {
+            AnyFormat::Linear11 => Linear11.round_down(x),
+            AnyFormat::Ulinear16(format) => format.round_down(x),
+            AnyFormat::Direct(format) => format.round_down(x),
+        }
+    }
+
+    fn round_up(&self, x: Frac) -> Result<u16, NumFault> {
+        match self {
+            AnyFormat::Linear11 => Linear11.round_up(x),
+            AnyFormat::Ulinear16(format) => format.round_up(x),
+            AnyFormat::Direct(format) => format.round_up(x),
         }
     }
 }

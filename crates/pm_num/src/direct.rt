@@ -10,8 +10,9 @@ ghost use Rattle.pm_num.specs.declared.fault.NumFault.TheVariants.{ZeroSlope, Ex
 ghost use Rattle.pm_num.specs.Lemmas.OneWord.{one_from_nearest};
 ghost use Rattle.pm_num.specs.Lemmas.Slope.{direct-has_den, direct-within, direct-one_word, direct-least_met, direct-greatest_met};
 
+use crate::bounds::BoundFormat;
 use crate::fault::NumFault;
-use crate::format::in_range;
+use crate::format::{capped, in_range, raised};
 use crate::frac::Frac;
 use crate::grid::Grid;
 use crate::num_format::NumFormat;
@@ -171,5 +172,17 @@ impl NumFormat for Direct {
     fn nearest(&self, x: Frac) -> Result<u16, NumFault> {
         in_range(&x, &self.least(), &self.greatest())?;
         Ok(word_of(self.times_sign(self.grid().nearest(&x))))
+    }
+}
+
+impl BoundFormat for Direct {
+    fn round_down(&self, x: Frac) -> Result<u16, NumFault> {
+        let x = capped(x, &self.least(), &self.greatest())?;
+        Ok(word_of(self.times_sign(self.grid().floor(&x))))
+    }
+
+    fn round_up(&self, x: Frac) -> Result<u16, NumFault> {
+        let x = raised(x, &self.least(), &self.greatest())?;
+        Ok(word_of(self.times_sign(self.grid().ceiling(&x))))
     }
 }

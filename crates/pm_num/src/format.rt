@@ -3,6 +3,9 @@ ghost use Rattle.std.specs.Prelude.{◌≡◌, ℕ, ◌^◌, ◌<◌, ◌↔◌,
 ghost use Rattle.pm_num.specs.Ratio.{Ratio, AtMost, SameValue, IsBetween};
 ghost use Rattle.pm_num.specs.Nearest.{IsNearest, IsOutside, IsValue, Near};
 ghost use Rattle.pm_num.specs.NearestWord.{nearest_word};
+ghost use Rattle.std.specs.Result.{result_err};
+ghost use Rattle.pm_num.specs.Bounds.{below_fault, above_fault};
+ghost use Rattle.pm_num.specs.Steps.{IsCapped, IsRaised};
 
 use crate::fault::NumFault;
 use crate::frac::Frac;
@@ -39,4 +42,34 @@ pub(crate) fn in_range(x: &Frac, least: &Frac, greatest: &Frac) -> Result<(), Nu
         return Err(NumFault::AboveGreatest);
     }
     Ok(())
+}
+
+/// `x`, or `greatest` where `x` lies above it. N3 [`NumFault::BelowLeast`] where it lies below `least`.
+pub(crate) fn capped(x: Frac, least: &Frac, greatest: &Frac) -> Result<Frac, NumFault>
+    requires { AtMost least.now greatest.now }
+    ensures fault { result_err result ≡ below_fault least.now x }
+    ensures capped { IfOk result (IsCapped least.now greatest.now x) }
+{
+    if x.cmp_value(least) == Ordering::Less {
+        return Err(NumFault::BelowLeast);
+    }
+    if x.cmp_value(greatest) == Ordering::Greater {
+        return Ok(*greatest);
+    }
+    Ok(x)
+}
+
+/// `x`, or `least` where `x` lies below it. N4 [`NumFault::AboveGreatest`] where it lies above `greatest`.
+pub(crate) fn raised(x: Frac, least: &Frac, greatest: &Frac) -> Result<Frac, NumFault>
+    requires { AtMost least.now greatest.now }
+    ensures fault { result_err result ≡ above_fault greatest.now x }
+    ensures raised { IfOk result (IsRaised least.now greatest.now x) }
+{
+    if x.cmp_value(greatest) == Ordering::Greater {
+        return Err(NumFault::AboveGreatest);
+    }
+    if x.cmp_value(least) == Ordering::Less {
+        return Ok(*least);
+    }
+    Ok(x)
 }

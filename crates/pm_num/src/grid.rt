@@ -1,10 +1,10 @@
-//! Evenly spaced numbers, and which of them is nearest to a fraction.
+//! Evenly spaced numbers, and which of them is nearest to a fraction, at most it or at least it.
 
 ghost use Rattle.std.specs.Prelude.{◌≡◌, ◌^◌, ◌*◌, ◌<◌, ℤ, pos, ◌+ℤ◌, ◌*ℤ◌, ◌<ℤ◌, unsigned_abs};
-ghost use Rattle.pm_num.specs.Steps.{IsSpacing, IsPlace};
+ghost use Rattle.pm_num.specs.Steps.{IsSpacing, IsPlace, IsPlaceBelow, IsPlaceAbove};
 
 use crate::frac::Frac;
-use crate::whole::{product, rounded};
+use crate::whole::{ceiling, floor, product, rounded};
 use std::marker::Model;
 
 /// The numbers `(k * step - offset) / den`, one for each whole `k`.
@@ -85,5 +85,19 @@ impl Grid {
         ensures { IsPlace self.now x.now result }
     {
         rounded(self.moved(x), self.spacing(x))
+    }
+
+    /// The `k` of the greatest number that is not above `x`.
+    pub fn floor(&self, x: &Frac) -> i128
+        ensures { IsPlaceBelow self.now x.now result }
+    {
+        floor(self.moved(x), self.spacing(x))
+    }
+
+    /// The `k` of the least number that is not below `x`.
+    pub fn ceiling(&self, x: &Frac) -> i128
+        ensures { IsPlaceAbove self.now x.now result }
+    {
+        ceiling(self.moved(x), self.spacing(x))
     }
 }

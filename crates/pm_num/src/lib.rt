@@ -20,6 +20,7 @@
 #![tactic(auto)]
 
 mod any_format;
+mod bounds;
 mod direct;
 mod fault;
 mod format;
@@ -33,6 +34,7 @@ mod ulinear16;
 mod whole;
 
 pub use any_format::AnyFormat;
+pub use bounds::{BoundFormat, at_least, at_most};
 pub use direct::Direct;
 pub use fault::NumFault;
 pub use format::canonical;

@@ -1,22 +1,23 @@
 //! LINEAR11.
 
-ghost use Rattle.std.specs.Prelude.{◌≡◌, ℕ, ◌*◌, ◌^◌, ◌<◌, ◌≤◌, pos, neg_ℤ, ◌-ℤ◌, ◌*ℤ◌, ◌≤ℤ◌, unsigned_abs};
+ghost use Rattle.std.specs.Prelude.{◌≡◌, ℕ, ◌*◌, ◌^◌, ◌<◌, ◌≤◌, pos, neg_ℤ, ◌-ℤ◌, ◌*ℤ◌, ◌<ℤ◌, ◌≤ℤ◌, unsigned_abs};
 ghost use Rattle.pm_num.specs.Ratio.{IsBetween};
 ghost use Rattle.pm_num.specs.Value.{upper, exponent, mantissa, linear11_value, linear11_least, linear11_greatest};
 ghost use Rattle.pm_num.specs.Nearest.{linear11_rank};
 ghost use Rattle.pm_num.specs.Formats.{IsExponent};
-ghost use Rattle.pm_num.specs.Steps.{IsRounded, IsSpelling, IsFar, IsLarge, IsPreferred, IsPlaceFor};
+ghost use Rattle.pm_num.specs.Steps.{IsFloor, IsCeiling, IsRounded, IsSpelling, IsFar, IsLarge, IsPreferred, IsPlaceFor};
 ghost use Rattle.pm_num.specs.Lemmas.OneWord.{one_from_nearest};
 ghost use Rattle.pm_num.specs.Lemmas.Unsigned.{lower-positive};
 ghost use Rattle.pm_num.specs.Lemmas.Spelling.{linear11-within, linear11-one_word};
 ghost use Rattle.std.proofs.Common.{refl, lit<};
 
+use crate::bounds::BoundFormat;
 use crate::fault::NumFault;
-use crate::format::in_range;
+use crate::format::{capped, in_range, raised};
 use crate::frac::Frac;
 use crate::num_format::NumFormat;
 use crate::power::{lower_of_two, power_of_two, upper_of_two};
-use crate::whole::{product, rounded};
+use crate::whole::{ceiling, floor, product, rounded};
 
 /// LINEAR11 of PMBus 1.3 Part II: a word stands for `Y * 2^N`, with the exponent `N` in bits 15:11
 /// and the mantissa `Y` in bits 10:0, both in two's complement.
@@ -79,6 +80,22 @@ impl NumFormat for Linear11 {
     }
 }
 
+impl BoundFormat for Linear11 {
+    fn round_down(&self, x: Frac) -> Result<u16, NumFault> {
+        let x = capped(x, &self.least(), &self.greatest())?;
+        let place = place_for(&x);
+        let mantissa = mantissa_below(&x, place);
+        Ok(word_of(preferred(settled(mantissa, place))))
+    }
+
+    fn round_up(&self, x: Frac) -> Result<u16, NumFault> {
+        let x = raised(x, &self.least(), &self.greatest())?;
+        let place = place_for(&x);
+        let mantissa = mantissa_above(&x, place);
+        Ok(word_of(preferred(settled(mantissa, place))))
+    }
+}
+
 // Bits 15:11 in two's complement.
 fn exponent_of(word: u16) -> i8
     ensures value { result ≡ exponent word }
@@ -134,15 +151,46 @@ fn least_place(size: u128, unit: u128) -> u32
     place
 }
 
+// `x` times 2^16, which is a numerator over `place_unit`.
+fn scaled_number(x: &Frac) -> i128
+    ensures value { result ≡ x.now.num *ℤ pos (2 ^ 16) }
+    ensures small { unsigned_abs result < 2 ^ 120 }
+{
+    product(x.num(), 1 << UNIT_PLACE)
+}
+
+// The unit of `place`, times the denominator of `x`.
+fn place_unit(x: &Frac, place: u32) -> i128
+    requires { place ≤ 31 }
+    ensures value { result ≡ pos (x.now.den * 2 ^ place) }
+    ensures positive { pos 0 <ℤ result }
+    ensures small { unsigned_abs result < 2 ^ 120 }
+{
+    product(x.den(), power_of_two(place))
+}
+
 // The mantissa, at `place`, of the multiple of that place's unit that is nearest to `x`.
 fn mantissa_at(x: &Frac, place: u32) -> i128
     requires { place ≤ 31 }
     ensures { IsRounded (x.now.num *ℤ pos (2 ^ 16)) (pos (x.now.den * 2 ^ place)) result }
 {
-    rounded(
-        product(x.num(), 1 << UNIT_PLACE),
-        product(x.den(), power_of_two(place)),
-    )
+    rounded(scaled_number(x), place_unit(x, place))
+}
+
+// The mantissa, at `place`, of the greatest multiple of that place's unit that is not above `x`.
+fn mantissa_below(x: &Frac, place: u32) -> i128
+    requires { place ≤ 31 }
+    ensures { IsFloor (x.now.num *ℤ pos (2 ^ 16)) (pos (x.now.den * 2 ^ place)) result }
+{
+    floor(scaled_number(x), place_unit(x, place))
+}
+
+// The mantissa, at `place`, of the least multiple of that place's unit that is not below `x`.
+fn mantissa_above(x: &Frac, place: u32) -> i128
+    requires { place ≤ 31 }
+    ensures { IsCeiling (x.now.num *ℤ pos (2 ^ 16)) (pos (x.now.den * 2 ^ place)) result }
+{
+    ceiling(scaled_number(x), place_unit(x, place))
 }
 
 // A spelling of `mantissa * 2^(place - 16)` that a word has; above place 16 the one of the lowest

@@ -9,8 +9,9 @@ ghost use Rattle.pm_num.specs.Lemmas.OneWord.{one_from_nearest};
 ghost use Rattle.pm_num.specs.Lemmas.Unsigned.{lower-positive, ulinear16-within, ulinear16-one_word};
 ghost use Rattle.std.proofs.Common.{refl, lit<};
 
+use crate::bounds::BoundFormat;
 use crate::fault::NumFault;
-use crate::format::in_range;
+use crate::format::{capped, in_range, raised};
 use crate::frac::Frac;
 use crate::grid::Grid;
 use crate::num_format::NumFormat;
@@ -101,5 +102,17 @@ impl NumFormat for Ulinear16 {
     fn nearest(&self, x: Frac) -> Result<u16, NumFault> {
         in_range(&x, &self.least(), &self.greatest())?;
         Ok(self.grid().nearest(&x) as u16)
+    }
+}
+
+impl BoundFormat for Ulinear16 {
+    fn round_down(&self, x: Frac) -> Result<u16, NumFault> {
+        let x = capped(x, &self.least(), &self.greatest())?;
+        Ok(self.grid().floor(&x) as u16)
+    }
+
+    fn round_up(&self, x: Frac) -> Result<u16, NumFault> {
+        let x = raised(x, &self.least(), &self.greatest())?;
+        Ok(self.grid().ceiling(&x) as u16)
     }
 }

@@ -1,7 +1,7 @@
 //! Quotients of whole numbers.
 
 ghost use Rattle.std.specs.Prelude.{◌≡◌, ◌*◌, ◌^◌, ◌<◌, ◌≤◌, pos, ◌*ℤ◌, ◌<ℤ◌, unsigned_abs};
-ghost use Rattle.pm_num.specs.Steps.{IsFloor, IsRounded};
+ghost use Rattle.pm_num.specs.Steps.{IsFloor, IsCeiling, IsRounded};
 
 /// The greatest whole number that is not above `a / d`.
 pub fn floor(a: i128, d: i128) -> i128
@@ -9,6 +9,15 @@ pub fn floor(a: i128, d: i128) -> i128
     ensures { IsFloor a d result }
 {
     a.div_euclid(d)
+}
+
+/// The least whole number that is not below `a / d`.
+pub fn ceiling(a: i128, d: i128) -> i128
+    requires positive { pos 0 <ℤ d }
+    requires small { unsigned_abs a < 2 ^ 120 }
+    ensures { IsCeiling a d result }
+{
+    -floor(-a, d)
 }
 
 /// The whole number nearest to `a / d`; of two that are equally near, the lower.

@@ -74,7 +74,7 @@ pub near_over_back : {v u : Ratio} {c : ℕ} {s t : ℤ} (x : Ratio) → Over c 
 near_over_back x p q near = crossed_back (crossed_gaps x p q) p.den q.den near
 
 -- Both cross products, times c.
-cross_over : (v u : Ratio) (c : ℕ) (s : ℤ) → Over c s v → (v.num *ℤ pos u.den) *ℤ pos c ≡ (s *ℤ pos v.den) *ℤ pos u.den
+pub cross_over : (v u : Ratio) (c : ℕ) (s : ℤ) → Over c s v → (v.num *ℤ pos u.den) *ℤ pos c ≡ (s *ℤ pos v.den) *ℤ pos u.den
 cross_over v u c s h =
     let e = ap (λ (z : ℤ). z *ℤ pos u.den) h.is in
     let f = times-swap v.num u.den c in
@@ -104,3 +104,49 @@ same_over_back {v} {u} {c} {s} {t} p q same =
     let l : s ≤ℤ t = at_most_over_back p q (omega (arith, ints)) in
     let g : t ≤ℤ s = at_most_over_back q p (omega (arith, ints)) in
     omega (arith, ints)
+
+-- A number over c is at most x exactly where its cross product with x says so,
+pub at_most_from_cross : {v : Ratio} {c : ℕ} {s : ℤ} (x : Ratio) → Over c s v → (s *ℤ pos x.den) ≤ℤ (x.num *ℤ pos c) → AtMost v x
+at_most_from_cross {v} {c} {s} x p le =
+    let e = cross_over v x c s p in
+    let f = le-times (s *ℤ pos x.den) (x.num *ℤ pos c) v.den le in
+    let g = times-swap s v.den x.den in
+    let h = times-swap x.num c v.den in
+    le_from_times (v.num *ℤ pos x.den) (x.num *ℤ pos v.den) c p.common (omega (arith, ints))
+
+-- in both directions,
+pub cross_from_at_most : {v : Ratio} {c : ℕ} {s : ℤ} (x : Ratio) → Over c s v → AtMost v x → (s *ℤ pos x.den) ≤ℤ (x.num *ℤ pos c)
+cross_from_at_most {v} {c} {s} x p le =
+    let e = cross_over v x c s p in
+    let f = le-times (v.num *ℤ pos x.den) (x.num *ℤ pos v.den) c le in
+    let g = times-swap s v.den x.den in
+    let h = times-swap x.num c v.den in
+    le_from_times (s *ℤ pos x.den) (x.num *ℤ pos c) v.den p.den (omega (arith, ints))
+
+-- and x is at most it likewise,
+pub at_least_from_cross : {v : Ratio} {c : ℕ} {s : ℤ} (x : Ratio) → Over c s v → (x.num *ℤ pos c) ≤ℤ (s *ℤ pos x.den) → AtMost x v
+at_least_from_cross {v} {c} {s} x p le =
+    let e = cross_over v x c s p in
+    let f = le-times (x.num *ℤ pos c) (s *ℤ pos x.den) v.den le in
+    let g = times-swap s v.den x.den in
+    let h = times-swap x.num c v.den in
+    le_from_times (x.num *ℤ pos v.den) (v.num *ℤ pos x.den) c p.common (omega (arith, ints))
+
+-- in both directions.
+pub cross_from_at_least : {v : Ratio} {c : ℕ} {s : ℤ} (x : Ratio) → Over c s v → AtMost x v → (x.num *ℤ pos c) ≤ℤ (s *ℤ pos x.den)
+cross_from_at_least {v} {c} {s} x p le =
+    let e = cross_over v x c s p in
+    let f = le-times (x.num *ℤ pos v.den) (v.num *ℤ pos x.den) c le in
+    let g = times-swap s v.den x.den in
+    let h = times-swap x.num c v.den in
+    le_from_times (x.num *ℤ pos c) (s *ℤ pos x.den) v.den p.den (omega (arith, ints))
+
+-- What is at most a number is at most what that is at most.
+pub at_most-trans : (p q r : Ratio) → 0 < q.den → AtMost p q → AtMost q r → AtMost p r
+at_most-trans p q r den h k =
+    let e = le-times (p.num *ℤ pos q.den) (q.num *ℤ pos p.den) r.den h in
+    let f = le-times (q.num *ℤ pos r.den) (r.num *ℤ pos q.den) p.den k in
+    let g = times-swap p.num q.den r.den in
+    let i = times-swap q.num p.den r.den in
+    let j = times-swap r.num q.den p.den in
+    le_from_times (p.num *ℤ pos r.den) (r.num *ℤ pos p.den) q.den den (omega (arith, ints))

@@ -10,14 +10,14 @@ pub times_sign-requires : goal.times_sign-requires
 times_sign-requires c =
     let f = c.args.self.now in
     let h = found_fits f.m f.b f.r c.least.ensures c.greatest.ensures (c.in_ok-in_range.ensures.inside.0 refl) c.grid.ensures
-    c.nearest.ensures in
+    c.nearest.ensures.within in
     omega (arith, ints)
 
 pub word_of-requires-clause-above : goal.word_of-requires-clause-above
 word_of-requires-clause-above c =
     let f = c.args.self.now in
     let h = found_fits f.m f.b f.r c.least.ensures c.greatest.ensures (c.in_ok-in_range.ensures.inside.0 refl) c.grid.ensures
-    c.nearest.ensures in
+    c.nearest.ensures.within in
     let e = signed_at f.m c.nearest.result _ c.times_sign.result c.times_sign.ensures.value (omega (arith, ints)) in
     omega (arith, ints)
 
@@ -25,7 +25,7 @@ pub word_of-requires-clause-below : goal.word_of-requires-clause-below
 word_of-requires-clause-below c =
     let f = c.args.self.now in
     let h = found_fits f.m f.b f.r c.least.ensures c.greatest.ensures (c.in_ok-in_range.ensures.inside.0 refl) c.grid.ensures
-    c.nearest.ensures in
+    c.nearest.ensures.within in
     let e = signed_at f.m c.nearest.result _ c.times_sign.result c.times_sign.ensures.value (omega (arith, ints)) in
     omega (arith, ints)
 
@@ -33,7 +33,7 @@ pub returns-clause-word : goal.returns-clause-word
 returns-clause-word c =
     let f = c.args.self.now in
     let h = found_fits f.m f.b f.r c.least.ensures c.greatest.ensures (c.in_ok-in_range.ensures.inside.0 refl) c.grid.ensures
-    c.nearest.ensures in
+    c.nearest.ensures.within in
     let e = signed_at f.m c.nearest.result _ c.times_sign.result c.times_sign.ensures.value (omega (arith, ints)) in
     let word : c.word_of.result < 2 ^ 16 = omega arith in
     let back : to_z w128 (of_z w128 c.times_sign.result) ≡ c.times_sign.result = omega (arith, ints) in

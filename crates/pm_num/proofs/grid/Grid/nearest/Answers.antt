@@ -3,8 +3,8 @@ use Rattle.std.specs.Int.{w128}
 use Rattle.std.proofs.Common.{to_z, of_z}
 use Rattle.std.proofs.lemmas.Int.{ints}
 use Rattle.pm_num.specs.Steps.{IsRounded}
-use Rattle.pm_num.proofs.Rounding.{rounded_at}
-use Rattle.pm_num.proofs.Spaced.{moved_num, nearest_on_grid, lowest_on_grid, above_on_grid, below_on_grid}
+use Rattle.pm_num.proofs.Rounding.{quotient_at, IsWithinWhole-rounded}
+use Rattle.pm_num.proofs.Spaced.{moved_num, nearest_on_grid, lowest_on_grid, within_from_whole}
 use Rattle.pm_num.proofs.grid.Grid.nearest.Goals as goal
 
 -- The rounded quotient that the code computes is that of the moved number.
@@ -14,7 +14,7 @@ place : (c : goal.After-rounded)
 place c =
     let g = c.args.self.now in
     let x = c.args.x.now in
-    rounded_at (moved_num g x) (pos (g.step * x.den)) c.rounded.ensures
+    quotient_at IsRounded (moved_num g x) (pos (g.step * x.den)) c.rounded.ensures
     (omega (arith, ints)) (omega (arith, ints)) (omega (arith, ints))
 
 -- The denominator is positive,
@@ -32,6 +32,6 @@ returns c =
     record {
       nearest = nearest_on_grid g x _ (den_above c) (place c);
       lowest = lowest_on_grid g x _ (den_above c) (place c);
-      above = above_on_grid g x _ (spacing_above c) (place c);
-      below = below_on_grid g x _ (spacing_above c) (place c);
+      within = within_from_whole g x _
+          (IsWithinWhole-rounded (moved_num g x) _ (g.step * x.den) (spacing_above c) (place c));
     }

@@ -19,8 +19,8 @@ place c = subst (λ (g : Spacing). IsPlace g c.args.x c.nearest.result) c.grid.e
 -- which is a word.
 in_word : (c : goal.After-nearest) → (pos 0 ≤ℤ c.nearest.result) × (c.nearest.result ≤ℤ pos 65535)
 in_word c = (
-  ulinear16-above c.args.self.now.n c.args.x c.nearest.result (place c) (between c),
-  ulinear16-below c.args.self.now.n c.args.x c.nearest.result (place c) (between c),
+  ulinear16-above c.args.self.now.n c.args.x c.nearest.result (place c).within (between c),
+  ulinear16-below c.args.self.now.n c.args.x c.nearest.result (place c).within (between c),
 )
 
 pub overflow_cast-result : goal.overflow_cast-result

@@ -1,0 +1,14 @@
+use Rattle.std.proofs.Common.{◌*◌, ◌<◌, pos, arith}
+use Rattle.std.proofs.lemmas.Int.{ints}
+use Rattle.pm_num.specs.Steps.{IsCeiling}
+use Rattle.pm_num.proofs.Rounding.{quotient_at}
+use Rattle.pm_num.proofs.Spaced.{moved_num, IsPlaceAbove-ceiling}
+use Rattle.pm_num.proofs.grid.Grid.ceiling.Goals as goal
+
+pub returns : goal.returns
+returns c =
+    let g = c.args.self.now in
+    let x = c.args.x.now in
+    let spacing_above : 0 < g.step * x.den = omega (arith, ints, c.spacing.ensures.positive) in
+    IsPlaceAbove-ceiling g x _ spacing_above
+    (quotient_at IsCeiling (moved_num g x) (pos (g.step * x.den)) c.ceiling.ensures (omega (arith, ints)) (omega (arith, ints)) (omega (arith, ints)))
