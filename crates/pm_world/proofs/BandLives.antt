@@ -52,7 +52,7 @@ band-of (Some shape) known own band agree is =
     ap (λ (s : Shape). band_with s known (operations (known Operation))) (sym (agree shape refl)) ∙ same
 
 -- a word that decides is possible
-stands : (possible : Possible) (word : ℕ) → (possible ≢ Any → is_possible word possible ≡ true) → is_possible word possible ≡ true
+pub stands : (possible : Possible) (word : ℕ) → (possible ≢ Any → is_possible word possible ≡ true) → is_possible word possible ≡ true
 stands Any word held = refl
 stands (Words words) word held = held (λ (e : Words words ≡ Any). cc)
 
