@@ -32,7 +32,7 @@ pub fn push_spaced_bytes(text: &mut AnswerText, bytes: &[u8])
 }
 
 /// Appends a word as four hexadecimal digits.
-#[tactic(auto, using(pm_lines::proofs::Joins::joins), unfolding(pm_lines::specs::Numbers::hex_word))]
+#[tactic(auto, using(pm_lines::specs::Lemmas::Joins::joins), unfolding(pm_lines::specs::Numbers::hex_word))]
 pub fn push_word(text: &mut AnswerText, word: u16)
     requires { array_vec_len text.old + 4 ≤ 192 }
     ensures word { text.new.items ≡ text.old.items ++ hex_word word }

@@ -3,15 +3,15 @@ use Rattle.std.proofs.Common.{◌≡◌, ℕ, ◌+◌, ◌-◌, ◌<◌, ◌≤�
 use Rattle.std.proofs.Common.{drop}
 use Rattle.std.proofs.Common.{refl, sym, ap, ◌∙◌, arith, append_assoc, append-nil, length-append}
 use Rattle.std.specs.List.{enumerate_from, fold, list_any}
-use Rattle.std.proofs.lemmas.List.{map-append, take_all}
+use Rattle.std.proofs.lemmas.List.{map-append, nil_from_length, take_all}
 use Rattle.std.proofs.lemmas.List.Elements.{filter-append}
 use Rattle.std.proofs.lemmas.List.Sums.{fold-append}
 use Rattle.pm_lines.specs.Lines.{has_bytes, is_line_feed, is_skipped, is_unskipped, lines_of, unskipped_from, without_empty_last}
 use Rattle.pm_lines.specs.Lines.{without_return}
 use Rattle.pm_trace.specs.Marks.{ended, since}
 use Rattle.pm_trace.specs.OpenLines.{IsAtLineFeed}
-use Rattle.pm_decode.proofs.PutLemmas.{no_bytes}
 use Rattle.pm_trace.specs.Lemmas.Marks.{ended-mark, ended-other, since-mark, since-other}
+use Rattle.pm_trace.specs.Lemmas.Runs.{taken-unmarked, told-append, told-unmarked}
 use Rattle.pm_trace.specs.Lemmas.Said.{enumerate_from-snoc, length-map, length-snoc, lines_at_end}
 use Rattle.pm_values.specs.Taught.{taught_from, untaught}
 use Rattle.pm_decode.specs.CaptureText.{capture_text, counts_text, line_text, lines_text}
@@ -75,7 +75,7 @@ said-mark options bytes b is =
     ∙ lines_said-snoc options.times (map without_return (ended is_line_feed bytes)) (without_return (since is_line_feed bytes))
     ∙ ap (λ l. lines_said options.times (map without_return (ended is_line_feed bytes)) ++ l) (ended_here options bytes)
 
--- and with another byte
+-- what is said stays the same with a byte more that is no line feed
 said-other : (times : Bool) (bytes : List ℕ) (b : ℕ) → is_line_feed b ≡ false → said times (bytes ++ b ∷ []) ≡ said times bytes
 unfolding said
 said-other times bytes b other = ap (λ l. lines_said times (map without_return l)) (ended-other is_line_feed bytes b other)
@@ -102,7 +102,7 @@ heard_more options bytes = by (skips_timed (kept_of options bytes).line)
     by true = ap (heard_of options.all) (append-nil (said options.times bytes))
     by false = heard_of-snoc options.all (said options.times bytes) entry
 
--- and what is written of it
+-- the text of a line that ends is the one that is written of it
 text_here : (options : TellOptions) (bytes : List ℕ)
     → lines_text options (taught_from untaught (map judged_in (said options.times bytes))) (ended_entries options bytes)
     ≡ text_ended (kept_of options bytes)
@@ -203,36 +203,18 @@ kept_with kept bytes = record kept { taken = kept.taken + length bytes; line = f
 kept_at : Kept → ℕ → TimedLine → Kept
 kept_at kept taken line = record kept { taken = taken; line = line }
 
--- bytes without a line feed go to the line
-pub next_plain : (kept : Kept) (bytes : List ℕ) → list_any is_line_feed bytes ≡ false → next kept bytes ≡ kept_with kept bytes
+-- no byte leaves what was kept
+none_came : (kept : Kept) → kept ≡ kept_with kept []
+unfolding kept_at
+none_came kept = let same : kept.taken ≡ kept.taken + 0 = omega arith in ap (λ t. kept_at kept t kept.line) same
+
+-- a byte that is no line feed goes to the line and its time
+one_came : (kept : Kept) (x : ℕ) (xs : List ℕ) → is_line_feed x ≡ false → kept_with (kept_takes kept x) xs ≡ kept_with kept (x ∷ xs)
 unfolding kept_takes kept_at
-next_plain kept [] plain = let same : kept.taken ≡ kept.taken + 0 = omega arith in ap (λ t. kept_at kept t kept.line) same
-next_plain kept (x ∷ xs) plain = by (eqb x 10) refl (next_plain (kept_takes kept x) xs)
-  where
-    by : (b : Bool) → eqb x 10 ≡ b
-        → (list_any is_line_feed xs ≡ false → next (kept_takes kept x) xs ≡ kept_with (kept_takes kept x) xs)
-        → next kept (x ∷ xs) ≡ kept_with kept (x ∷ xs)
-    by true is rest = let marked = rw is at plain in absurd (cc)
-    by false is rest =
-        let tail = rest (rw is at plain) in
-        let takes : kept_takes kept x ≡ kept_at kept (kept.taken + 1) (timed_takes kept.line x) = rw is refl in
-        let many : kept.taken + 1 + length xs ≡ kept.taken + length (x ∷ xs) = omega arith in
-        tail ∙ ap (λ k. kept_with k xs) takes ∙ ap (λ t. kept_at kept t (fold timed_takes (timed_takes kept.line x) xs)) many
-
--- and say nothing yet
-pub told_plain : (kept : Kept) (bytes : List ℕ) → list_any is_line_feed bytes ≡ false → told kept bytes ≡ []
-told_plain kept [] plain = refl
-told_plain kept (x ∷ xs) plain = by (eqb x 10) refl (told_plain (kept_takes kept x) xs)
-  where
-    by : (b : Bool) → eqb x 10 ≡ b → (list_any is_line_feed xs ≡ false → told (kept_takes kept x) xs ≡ []) → told kept (x ∷ xs) ≡ []
-    by true is rest = let marked = rw is at plain in absurd (cc)
-    by false is rest = rw is (rest (rw is at plain))
-
--- what bytes and further ones say
-pub told-append : (kept : Kept) (xs ys : List ℕ) → told kept (xs ++ ys) ≡ told kept xs ++ told (next kept xs) ys
-told-append kept [] ys = refl
-told-append kept (x ∷ xs) ys = rw (told-append (kept_takes kept x) xs ys)
-    (sym (append_assoc _ (told (kept_takes kept x) xs) (told (next (kept_takes kept x) xs) ys)))
+one_came kept x xs is =
+    let takes : kept_takes kept x ≡ kept_at kept (kept.taken + 1) (timed_takes kept.line x) = rw is refl in
+    let many : kept.taken + 1 + length xs ≡ kept.taken + length (x ∷ xs) = omega arith in
+    ap (λ k. kept_with k xs) takes ∙ ap (λ t. kept_at kept t (fold timed_takes (timed_takes kept.line x) xs)) many
 
 -- ---- the end
 
@@ -345,23 +327,28 @@ module _ (old : Kept) (bytes rest : List ℕ) (line : TimedLine) (passes : Passe
       ap (λ n. record old { taken = old.taken + n; line = fold timed_takes old.line passes.front }) count
       ∙ ap (λ l. record old { taken = old.taken + (length bytes - length rest); line = l }) (sym passes.line)
 
+  -- what is kept behind the bytes that the line took
+  front_passed : next old passes.front ≡ passed
+  front_passed =
+      taken-unmarked is_line_feed kept_takes kept_with none_came one_came old passes.front passes.plain ∙ passed_is
+
   next_passed : next old bytes ≡ next passed rest
   next_passed =
-      ap (next old) passes.split ∙ fold-append kept_takes old passes.front rest
-      ∙ ap (λ k. next k rest) (next_plain old passes.front passes.plain ∙ passed_is)
+      ap (next old) passes.split ∙ fold-append kept_takes old passes.front rest ∙ ap (λ k. next k rest) front_passed
 
   told_passed : told old bytes ≡ told passed rest
   told_passed =
-      ap (told old) passes.split ∙ told-append old passes.front rest
-      ∙ ap (λ l. l ++ told (next old passes.front) rest) (told_plain old passes.front passes.plain)
-      ∙ ap (λ k. told k rest) (next_plain old passes.front passes.plain ∙ passed_is)
+      ap (told old) passes.split ∙ told-append is_line_feed kept_takes text_ended old passes.front rest
+      ∙ ap (λ l. l ++ told (next old passes.front) rest)
+      (told-unmarked is_line_feed kept_takes text_ended old passes.front passes.plain)
+      ∙ ap (λ k. told k rest) front_passed
 
   -- no line feed came
   pub next_none : length rest < 1 → next old bytes ≡ passed
-  next_none none = next_passed ∙ ap (next passed) (no_bytes rest (omega arith))
+  next_none none = next_passed ∙ ap (next passed) (nil_from_length rest (omega arith))
 
   pub told_none : length rest < 1 → told old bytes ≡ []
-  told_none none = told_passed ∙ ap (told passed) (no_bytes rest (omega arith))
+  told_none none = told_passed ∙ ap (told passed) (nil_from_length rest (omega arith))
 
   -- what follows the line feed
   abbrev behind : List ℕ

@@ -114,7 +114,7 @@ module _ {R W : Type 0} (options : TellOptions) (run : Run R W) where
   lines_cut failed (front, short, given, cut) =
       (failed, said_text options front, inl (front, short, given, refl), cut)
 
-  -- or of the whole text
+  -- X5: a prefix of the whole text was written
   pub text_cut : IsFalse run.reader'.failed → IsTrue run.writer'.failed → (input : List ℕ)
       → IsWhole (most_bytes options.long) (run.remaining run.reader.inner) (run.remaining run.reader'.inner) input
       → AppendsFront (run.contents run.writer.inner) (run.contents run.writer'.inner) (capture_text options input)
@@ -137,7 +137,7 @@ pub hears_at : (r1 r2 : Option (List ℕ)) (text text' : List ℕ) (old new : Ke
 hears_at r1 r2 text text' old new result count is heard =
     let P : Result ℕ TextFault → Type 0 = λ r. IfOk r (λ count. Hears r1 r2 text text' old new count) in subst P is heard
 
--- and where none was
+-- what stops the hearing where no piece was read
 pub stops_at : (r1 r2 : Option (List ℕ)) (text text' : List ℕ) (old : Kept) (result : Result ℕ TextFault) (fault : TextFault)
     → result ≡ Err fault → IfErr result (λ fault. StopsHearing r1 r2 text text' old fault) → StopsHearing r1 r2 text text' old fault
 stops_at r1 r2 text text' old result fault is stopped =

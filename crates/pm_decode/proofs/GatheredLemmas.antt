@@ -2,7 +2,7 @@
 use Rattle.std.proofs.Common.{◌≡◌, ℕ, ◌+◌, ◌<◌, ◌≤◌, ◌≢◌, Bool, List, [], ◌++◌, length, take, drop}
 use Rattle.std.proofs.Common.{Option, Result, Ok, Err, IfOk, IfErr, IsFalse, IsTrue, ◌↔◌}
 use Rattle.std.proofs.Common.{refl, sym, ap, subst, ◌∙◌, arith, append_assoc, append-nil, length-append, length-drop, take-append-drop}
-use Rattle.std.proofs.lemmas.List.{length-take}
+use Rattle.std.proofs.lemmas.List.{length-take, nil_from_length}
 use Rattle.std.specs.Prelude.{MatchResult}
 use Rattle.std.specs.Io.KnownBytes.{Appends, Consumes, IsAtEnd}
 use Rattle.std.proofs.KnownBytes.{Appends-nil, Appends-trans, Consumes-nil, Consumes-trans}
@@ -11,27 +11,29 @@ use Rattle.pm_lines.specs.declared.fault.TextFault.TheVariants.{Syntax, BadHex, 
 use Rattle.pm_lines.specs.Streams.{AppendsFront}
 use Rattle.pm_trace.specs.TraceText.{end_of}
 use Rattle.pm_trace.specs.Written.{Puts}
-use Rattle.pm_lines.specs.Lines.{lines_of, unskipped_from}
+use Rattle.pm_lines.specs.Lines.{is_line_feed, lines_of, unskipped_from}
 use Rattle.pm_trace.specs.Counts.{counts_of}
 use Rattle.pm_trace.specs.declared.decode_end.DecodeEnd.{DecodeEnd}
 use Rattle.pm_trace.specs.declared.decode_end.DecodeEnd.TheVariants.{Clean}
 use Rattle.pm_decode.specs.Hearing.{heard_of}
 use Rattle.pm_decode.specs.Readings.{entries_of}
-use Rattle.pm_decode.proofs.PutLemmas.{AppendsFront-behind, as_all, no_bytes}
+use Rattle.pm_decode.proofs.PutLemmas.{AppendsFront-behind, as_all}
 use Rattle.pm_decode.specs.CaptureText.{capture_end, capture_text, counts_text}
-use Rattle.pm_decode.specs.Capturing.{Kept, kept_at_end, kept_of, most_bytes, next, said, said_text, told, told_at_end}
+use Rattle.pm_decode.specs.Capturing.{Kept, kept_at_end, kept_of, kept_takes, most_bytes, next, said, said_text, text_ended, told}
+use Rattle.pm_decode.specs.Capturing.{told_at_end}
+use Rattle.pm_trace.specs.Lemmas.Runs.{told-append}
 use Rattle.pm_decode.specs.LongEngine.{IsWhole}
 use Rattle.pm_decode.specs.WrittenCaptures.{Gathered, Hears, StopsBytes, StopsHearing, WrittenCapture}
 use Rattle.pm_decode.specs.declared.options.TellOptions.{TellOptions}
 use Rattle.pm_decode.proofs.CapturingLemmas.{capture_text-end, heard-end, kept_of-append, length_kept, next-taken, options_kept}
-use Rattle.pm_decode.proofs.CapturingLemmas.{said_text-append, told-append}
+use Rattle.pm_decode.proofs.CapturingLemmas.{said_text-append}
 
 -- no bytes say nothing
 said_none : (options : TellOptions) → said_text options [] ≡ []
 unfolding said
 said_none options = refl
 
--- and end well
+-- a capture of no bytes ends well
 nothing_end : (options : TellOptions) → Clean ≡ capture_end options []
 unfolding entries_of unskipped_from lines_of heard_of counts_of
 nothing_end options = refl
@@ -138,7 +140,7 @@ module _ (options : TellOptions) (r0 r1 w0 w1 : Option (List ℕ)) (bytes text :
         Consumes-trans r0 r1 r2 bytes (front ++ more) gathered.given given,
         cut_behind (bytes ++ (front ++ more)) (told (next old front) more)
             (lines_more (front ++ more)
-            ∙ ap (λ l. gathered.done ++ (text ++ l)) (told-append old front more)
+            ∙ ap (λ l. gathered.done ++ (text ++ l)) (told-append is_line_feed kept_takes text_ended old front more)
             ∙ ap (λ l. gathered.done ++ l) (sym (append_assoc text (told old front) (told (next old front) more)))
             ∙ ap (λ l. gathered.done ++ (l ++ told (next old front) more)) (sym is)) short,
       )
@@ -271,7 +273,7 @@ module _ (options : TellOptions) (r0 r1 w0 w1 w2 : Option (List ℕ)) (input : L
 
   -- a capture without bytes
   pub none_input : old.taken ≡ 0 → input ≡ []
-  none_input none = no_bytes input (sym (length_kept options input) ∙ sym (ap (λ k. k.taken) written.kept_is) ∙ none)
+  none_input none = nil_from_length input (sym (length_kept options input) ∙ sym (ap (λ k. k.taken) written.kept_is) ∙ none)
 
   -- its text was written whole
   pub none_all : old.taken ≡ 0 → (text : List ℕ) → text ≡ capture_text options [] → Appends w1 w2 text
@@ -282,7 +284,7 @@ module _ (options : TellOptions) (r0 r1 w0 w1 w2 : Option (List ℕ)) (input : L
       subst P (ap (λ l. l ++ text) nothing ∙ is ∙ ap (capture_text options) (sym (none_input none)))
       (Appends-trans w0 w1 w2 (said_text options input) text written.text appended)
 
-  -- or a prefix of it
+  -- where there was no byte, a prefix of the text of no bytes was written
   pub none_front : old.taken ≡ 0 → (text : List ℕ) → text ≡ capture_text options [] → AppendsFront w1 w2 text
       → AppendsFront w0 w2 (capture_text options input)
   none_front none text is short =
@@ -290,7 +292,7 @@ module _ (options : TellOptions) (r0 r1 w0 w1 w2 : Option (List ℕ)) (input : L
       AppendsFront-behind w0 w1 w2 (said_text options input) text [] (capture_text options input) written.text short
       (ap (capture_text options) (none_input none) ∙ sym is ∙ sym (append-nil text) ∙ ap (λ l. l ++ (text ++ [])) (sym nothing))
 
-  -- and so it ends
+  -- where there was no byte, the capture ends well
   pub none_end : old.taken ≡ 0 → Clean ≡ capture_end options input
   none_end none = nothing_end options ∙ ap (capture_end options) (sym (none_input none))
 
@@ -305,7 +307,7 @@ stops_memory old text new_text bytes part room is (rest, split) some =
     let whole : bytes ≡ part ++ more = sym (take-append-drop room bytes) ∙ ap (λ l. l ++ more) (sym is) in (
       rest ++ told (next old part) more,
       omega (arith, some, ap length whole, length-append part more),
-      ap (λ l. text ++ told old l) whole ∙ ap (λ l. text ++ l) (told-append old part more)
+      ap (λ l. text ++ told old l) whole ∙ ap (λ l. text ++ l) (told-append is_line_feed kept_takes text_ended old part more)
           ∙ sym (append_assoc text (told old part) (told (next old part) more))
           ∙ ap (λ l. l ++ told (next old part) more) split ∙ append_assoc new_text rest (told (next old part) more),
     )

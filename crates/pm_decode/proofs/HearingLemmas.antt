@@ -94,7 +94,7 @@ heard_one all heard entry = by (other_code all entry)
     by None = let more = one (judged_in entry) in omega (arith, more)
     by (Some code) = omega (arith, total_one_more heard.others code)
 
--- and is written
+-- the text of two lists of lines is that of the first, and that of the second with what the first taught
 pub lines_text-append : (options : TellOptions) (taught : Taught) (xs ys : List Entry)
     → lines_text options taught (xs ++ ys) ≡ lines_text options taught xs ++ lines_text options (taught_from taught (map judged_in xs)) ys
 lines_text-append options taught [] ys = refl

@@ -104,7 +104,7 @@ module _ (vout : Option AnyFormat) (long : Bool) where
   unfolding entries_of trace_of
   end_by text = ap end_of (heard_by (unskipped_from 1 text))
 
-  -- so a telling without options is the engine that decodes
+  -- a telling without options is the engine that decodes
   pub plain_engine : telling (plain_options vout long) ≡ decoding
   plain_engine = λ i. record {
     whole = λ input. Ok (plain_text input i, end_by input i);

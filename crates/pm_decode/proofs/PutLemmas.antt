@@ -29,11 +29,6 @@ puts_all w1 w2 text left none puts = let P : List ℕ → Type 0 = λ l. Puts w1
 pub as_all : (a b : Option (List ℕ)) (one two : List ℕ) → one ≡ two → Appends a b one → Appends a b two
 as_all a b one two is all = let P : List ℕ → Type 0 = λ l. Appends a b l in subst P is all
 
--- a list without a byte
-pub no_bytes : (bytes : List ℕ) → length bytes ≡ 0 → bytes ≡ []
-no_bytes [] none = refl
-no_bytes (x ∷ xs) none = absurd (omega (arith, none))
-
 -- whether a read failed
 pub read_at : (result : Result ℕ TextFault) (count : ℕ) (failed : Bool) → result ≡ Ok count
     → MatchResult result (λ _. IsFalse failed) (λ fault. IsTrue failed ↔ (fault ≡ Read)) → IsFalse failed

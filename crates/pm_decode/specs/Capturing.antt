@@ -5,7 +5,7 @@ use Rattle.std.specs.Prelude.{ℕ, ◌+◌, ◌-◌, ◌^◌, ◌≤◌, Bool, i
 use Rattle.std.specs.List.{enumerate_from, fold}
 use Rattle.pm_lines.specs.Lines.{is_line_feed, is_unskipped, without_return}
 use Rattle.pm_lines.specs.Streams.{max_text}
-use Rattle.pm_trace.specs.Marks.{ended, since}
+use Rattle.pm_trace.specs.Marks.{ended, since, told_at_marks}
 use Rattle.pm_values.specs.Taught.{untaught}
 use Rattle.pm_decode.specs.CaptureText.{line_text, lines_text}
 use Rattle.pm_decode.specs.Hearing.{Heard, heard_lines, heard_of, heard_with}
@@ -81,8 +81,7 @@ next kept bytes = fold kept_takes kept bytes
 
 -- what is written of the lines that end within further bytes
 abbrev pub told : Kept → List ℕ → List ℕ
-told kept [] = []
-told kept (byte ∷ bytes) = (if is_line_feed byte then text_ended kept else []) ++ told (kept_takes kept byte) bytes
+told kept bytes = told_at_marks is_line_feed kept_takes text_ended kept bytes
 
 -- the end of all bytes, which ends a line that has some
 abbrev pub kept_at_end : Kept → Kept

@@ -29,7 +29,7 @@ pub(crate) fn push_counts(
 }
 
 // The same as it is told to a person.
-#[tactic(auto, using(pm_lines::proofs::Joins::joins), unfolding(crate::specs::CaptureText::plain_counts))]
+#[tactic(auto, using(pm_lines::specs::Lemmas::Joins::joins), unfolding(crate::specs::CaptureText::plain_counts))]
 fn push_plain_counts(text: &mut String, all: bool, heard: &Heard) -> Result<(), AllocError>
     requires { heard_lines heard.now < 2 ^ 64 }
     ensures { OnOk result (string_bytes text.new ≡ string_bytes text.old ++ plain_counts all heard.now) }
@@ -55,7 +55,7 @@ fn push_others(text: &mut String, others: &Others) -> Result<(), AllocError>
 }
 
 // The line of another code, where it was carried.
-#[tactic(auto, using(pm_lines::proofs::Joins::joins))]
+#[tactic(auto, using(pm_lines::specs::Lemmas::Joins::joins))]
 fn push_other(text: &mut String, others: &Others, code: u8) -> Result<(), AllocError>
     ensures { OnOk result (string_bytes text.new ≡ string_bytes text.old ++ other_line others.now code) }
 {
@@ -70,7 +70,7 @@ fn push_other(text: &mut String, others: &Others, code: u8) -> Result<(), AllocE
 }
 
 // The line of the counts.
-#[tactic(auto, using(pm_lines::proofs::Joins::joins), unfolding(crate::specs::CaptureText::totals_line))]
+#[tactic(auto, using(pm_lines::specs::Lemmas::Joins::joins), unfolding(crate::specs::CaptureText::totals_line))]
 fn push_totals(text: &mut String, all: bool, heard: &Heard) -> Result<(), AllocError>
     requires { heard_lines heard.now < 2 ^ 64 }
     ensures { OnOk result (string_bytes text.new ≡ string_bytes text.old ++ totals_line all heard.now) }
@@ -85,7 +85,7 @@ fn push_totals(text: &mut String, all: bool, heard: &Heard) -> Result<(), AllocE
 }
 
 // The end of that line: how many lines had a fault and were bad.
-#[tactic(auto, using(pm_lines::proofs::Joins::joins))]
+#[tactic(auto, using(pm_lines::specs::Lemmas::Joins::joins))]
 fn push_faults(text: &mut String, faults: u64, bad: u64) -> Result<(), AllocError>
     ensures { OnOk result (string_bytes text.new ≡ string_bytes text.old ++ faults_text faults bad) }
 {
@@ -97,7 +97,7 @@ fn push_faults(text: &mut String, faults: u64, bad: u64) -> Result<(), AllocErro
 }
 
 // How often other codes were carried.
-#[tactic(auto, using(pm_lines::proofs::Joins::joins))]
+#[tactic(auto, using(pm_lines::specs::Lemmas::Joins::joins))]
 fn push_others_total(text: &mut String, all: bool, others: &Others) -> Result<(), AllocError>
     ensures { OnOk result (string_bytes text.new ≡ string_bytes text.old ++ others_total all others.now) }
 {

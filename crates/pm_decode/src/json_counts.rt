@@ -13,7 +13,7 @@ use pm_table::Code;
 use std::alloc::AllocError;
 
 /// Appends an object for each code that was carried, and the one of the counts, to a text.
-#[tactic(auto, using(pm_lines::proofs::Joins::joins), unfolding(crate::specs::CaptureText::json_counts))]
+#[tactic(auto, using(pm_lines::specs::Lemmas::Joins::joins), unfolding(crate::specs::CaptureText::json_counts))]
 pub(crate) fn push_json_counts(
     text: &mut String,
     all: bool,
@@ -32,7 +32,7 @@ pub(crate) fn push_json_counts(
 }
 
 // The object of a code.
-#[tactic(auto, using(pm_lines::proofs::Joins::joins), unfolding(crate::specs::JsonText::count_json))]
+#[tactic(auto, using(pm_lines::specs::Lemmas::Joins::joins), unfolding(crate::specs::JsonText::count_json))]
 fn push_count(text: &mut String, code: u8, count: u64) -> Result<(), AllocError>
     ensures { OnOk result (string_bytes text.new ≡ string_bytes text.old ++ count_json (code, count)) }
 {
@@ -55,7 +55,7 @@ fn push_others(text: &mut String, others: &Others) -> Result<(), AllocError>
 }
 
 // The object of another code, where it was carried.
-#[tactic(auto, using(pm_lines::proofs::Joins::joins))]
+#[tactic(auto, using(pm_lines::specs::Lemmas::Joins::joins))]
 fn push_other(text: &mut String, others: &Others, code: u8) -> Result<(), AllocError>
     ensures { OnOk result (string_bytes text.new ≡ string_bytes text.old ++ other_json others.now code) }
 {
@@ -70,7 +70,7 @@ fn push_other(text: &mut String, others: &Others, code: u8) -> Result<(), AllocE
 }
 
 // The object of the counts.
-#[tactic(auto, using(pm_lines::proofs::Joins::joins), unfolding(crate::specs::JsonText::totals_json))]
+#[tactic(auto, using(pm_lines::specs::Lemmas::Joins::joins), unfolding(crate::specs::JsonText::totals_json))]
 fn push_totals(text: &mut String, all: bool, heard: &Heard) -> Result<(), AllocError>
     requires { heard_lines heard.now < 2 ^ 64 }
     ensures { OnOk result (string_bytes text.new ≡ string_bytes text.old ++ totals_json all heard.now) }
@@ -84,7 +84,7 @@ fn push_totals(text: &mut String, all: bool, heard: &Heard) -> Result<(), AllocE
 }
 
 // How often other codes were carried.
-#[tactic(auto, using(pm_lines::proofs::Joins::joins))]
+#[tactic(auto, using(pm_lines::specs::Lemmas::Joins::joins))]
 fn push_others_total(text: &mut String, all: bool, others: &Others) -> Result<(), AllocError>
     ensures { OnOk result (string_bytes text.new ≡ string_bytes text.old ++ others_json all others.now) }
 {
@@ -95,7 +95,7 @@ fn push_others_total(text: &mut String, all: bool, others: &Others) -> Result<()
 }
 
 // The end of that object: how many lines had a fault and were bad.
-#[tactic(auto, using(pm_lines::proofs::Joins::joins))]
+#[tactic(auto, using(pm_lines::specs::Lemmas::Joins::joins))]
 fn push_faults(text: &mut String, faults: u64, bad: u64) -> Result<(), AllocError>
     ensures { OnOk result (string_bytes text.new ≡ string_bytes text.old ++ faults_json faults bad) }
 {

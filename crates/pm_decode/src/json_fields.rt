@@ -8,7 +8,7 @@ use pm_values::push_spaced;
 use std::alloc::AllocError;
 
 /// Appends a key behind other fields to a text.
-#[tactic(auto, using(pm_lines::proofs::Joins::joins), unfolding(crate::specs::JsonText::key))]
+#[tactic(auto, using(pm_lines::specs::Lemmas::Joins::joins), unfolding(crate::specs::JsonText::key))]
 pub(crate) fn push_key(text: &mut String, name: &str) -> Result<(), AllocError>
     ensures { OnOk result (string_bytes text.new ≡ string_bytes text.old ++ key name.now) }
 {
@@ -18,7 +18,7 @@ pub(crate) fn push_key(text: &mut String, name: &str) -> Result<(), AllocError>
 }
 
 /// Appends a field with a text of signs of which none has to be escaped.
-#[tactic(auto, using(pm_lines::proofs::Joins::joins), unfolding(crate::specs::JsonText::text_field))]
+#[tactic(auto, using(pm_lines::specs::Lemmas::Joins::joins), unfolding(crate::specs::JsonText::text_field))]
 pub(crate) fn push_text_field(text: &mut String, name: &str, value: &str) -> Result<(), AllocError>
     ensures { OnOk result (string_bytes text.new ≡ string_bytes text.old ++ text_field name.now value.now) }
 {
@@ -29,7 +29,7 @@ pub(crate) fn push_text_field(text: &mut String, name: &str, value: &str) -> Res
 }
 
 /// Appends a field with a byte in hexadecimal, as a text.
-#[tactic(auto, using(pm_lines::proofs::Joins::joins), unfolding(crate::specs::JsonText::text_field))]
+#[tactic(auto, using(pm_lines::specs::Lemmas::Joins::joins), unfolding(crate::specs::JsonText::text_field))]
 pub(crate) fn push_hex_field(text: &mut String, name: &str, byte: u8) -> Result<(), AllocError>
     ensures { OnOk result (string_bytes text.new ≡ string_bytes text.old ++ text_field name.now (hex_byte byte)) }
 {
@@ -40,7 +40,7 @@ pub(crate) fn push_hex_field(text: &mut String, name: &str, byte: u8) -> Result<
 }
 
 /// Appends a field with a number.
-#[tactic(auto, using(pm_lines::proofs::Joins::joins), unfolding(crate::specs::JsonText::number_field))]
+#[tactic(auto, using(pm_lines::specs::Lemmas::Joins::joins), unfolding(crate::specs::JsonText::number_field))]
 pub(crate) fn push_number_field(
     text: &mut String,
     name: &str,
@@ -67,7 +67,7 @@ pub(crate) fn push_number_field_if(
 }
 
 /// Appends bytes in hexadecimal, with a space between two of them.
-#[tactic(auto, using(pm_lines::proofs::Joins::joins))]
+#[tactic(auto, using(pm_lines::specs::Lemmas::Joins::joins))]
 fn push_hex_words(text: &mut String, bytes: &[u8]) -> Result<(), AllocError>
     ensures { OnOk result (string_bytes text.new ≡ string_bytes text.old ++ hex_words bytes.now) }
 {
@@ -79,7 +79,7 @@ fn push_hex_words(text: &mut String, bytes: &[u8]) -> Result<(), AllocError>
 }
 
 /// Appends a field with bytes, where there are some.
-#[tactic(auto, using(pm_lines::proofs::Joins::joins), unfolding(crate::specs::JsonText::bytes_field, crate::specs::JsonText::text_field))]
+#[tactic(auto, using(pm_lines::specs::Lemmas::Joins::joins), unfolding(crate::specs::JsonText::bytes_field, crate::specs::JsonText::text_field))]
 pub(crate) fn push_bytes_field(
     text: &mut String,
     name: &str,

@@ -20,7 +20,7 @@ use pm_values::{Lessons, Packet, packet_value, push_spaced};
 use std::alloc::AllocError;
 
 /// Appends the fields of a packet as the command table has it.
-#[tactic(auto, using(pm_lines::proofs::Joins::joins))]
+#[tactic(auto, using(pm_lines::specs::Lemmas::Joins::joins))]
 pub(crate) fn push_judged_fields(
     text: &mut String,
     options: &TellOptions,
@@ -45,7 +45,7 @@ pub(crate) fn push_judged_fields(
 }
 
 // What a packet says that was accepted.
-#[tactic(auto, using(pm_lines::proofs::Joins::joins))]
+#[tactic(auto, using(pm_lines::specs::Lemmas::Joins::joins))]
 fn push_message_fields(
     text: &mut String,
     options: &TellOptions,
@@ -67,7 +67,7 @@ fn push_message_fields(
 }
 
 // The page that a packet names, its code, its payload and its value.
-#[tactic(auto, using(pm_lines::proofs::Joins::joins))]
+#[tactic(auto, using(pm_lines::specs::Lemmas::Joins::joins))]
 fn push_plain_fields(
     text: &mut String,
     options: &TellOptions,
@@ -93,7 +93,7 @@ fn push_plain_fields(
 }
 
 // A code, and its name.
-#[tactic(auto, using(pm_lines::proofs::Joins::joins))]
+#[tactic(auto, using(pm_lines::specs::Lemmas::Joins::joins))]
 fn push_code_fields(text: &mut String, code: u8) -> Result<(), AllocError>
     ensures { OnOk result (string_bytes text.new ≡ string_bytes text.old ++ code_fields code) }
 {
@@ -102,7 +102,7 @@ fn push_code_fields(text: &mut String, code: u8) -> Result<(), AllocError>
 }
 
 // Where a payload goes, and the payload.
-#[tactic(auto, using(pm_lines::proofs::Joins::joins))]
+#[tactic(auto, using(pm_lines::specs::Lemmas::Joins::joins))]
 fn push_payload_fields(
     text: &mut String,
     payload: &[u8],
@@ -121,7 +121,7 @@ fn push_payload_fields(
 }
 
 // What was written, or that nothing was.
-#[tactic(auto, using(pm_lines::proofs::Joins::joins))]
+#[tactic(auto, using(pm_lines::specs::Lemmas::Joins::joins))]
 fn push_sent_fields(text: &mut String, payload: &[u8]) -> Result<(), AllocError>
     ensures { OnOk result (string_bytes text.new ≡ string_bytes text.old ++ sent_fields payload.now) }
 {
@@ -137,7 +137,7 @@ fn sent_direction(payload: &[u8]) -> &'static str
 }
 
 // What coefficients were asked of, and the coefficients.
-#[tactic(auto, using(pm_lines::proofs::Joins::joins))]
+#[tactic(auto, using(pm_lines::specs::Lemmas::Joins::joins))]
 fn push_coefficients_fields(
     text: &mut String,
     code: u8,
@@ -154,7 +154,7 @@ fn push_coefficients_fields(
 }
 
 // The three numbers of an answer as a field.
-#[tactic(auto, using(pm_lines::proofs::Joins::joins), unfolding(crate::specs::JsonText::text_field))]
+#[tactic(auto, using(pm_lines::specs::Lemmas::Joins::joins), unfolding(crate::specs::JsonText::text_field))]
 fn push_numbers_field(text: &mut String, coefficients: Coefficients) -> Result<(), AllocError>
     ensures { OnOk result (string_bytes text.new
         ≡ string_bytes text.old ++ text_field (codes "value") (numbers_json coefficients)) }
@@ -166,7 +166,7 @@ fn push_numbers_field(text: &mut String, coefficients: Coefficients) -> Result<(
 }
 
 // The three numbers of an answer.
-#[tactic(auto, using(pm_lines::proofs::Joins::signed_joins), unfolding(crate::specs::JsonText::numbers_json))]
+#[tactic(auto, using(pm_lines::specs::Lemmas::Joins::signed_joins), unfolding(crate::specs::JsonText::numbers_json))]
 fn push_numbers(text: &mut String, coefficients: Coefficients) -> Result<(), AllocError>
     ensures { OnOk result (string_bytes text.new ≡ string_bytes text.old ++ numbers_json coefficients) }
 {
@@ -179,7 +179,7 @@ fn push_numbers(text: &mut String, coefficients: Coefficients) -> Result<(), All
 }
 
 // A packet with a fault.
-#[tactic(auto, using(pm_lines::proofs::Joins::joins))]
+#[tactic(auto, using(pm_lines::specs::Lemmas::Joins::joins))]
 fn push_fault_fields(
     text: &mut String,
     values: bool,
@@ -198,7 +198,7 @@ fn push_fault_fields(
 }
 
 // A fault, and its place.
-#[tactic(auto, using(pm_lines::proofs::Joins::joins))]
+#[tactic(auto, using(pm_lines::specs::Lemmas::Joins::joins))]
 fn push_kind_fields(text: &mut String, fault: FrameFault) -> Result<(), AllocError>
     ensures { OnOk result (string_bytes text.new ≡ string_bytes text.old ++ kind_fields fault) }
 {
@@ -224,7 +224,7 @@ fn direction(is_read: bool) -> &'static str
 }
 
 // All bytes of a packet, where they are wanted.
-#[tactic(auto, using(pm_lines::proofs::Joins::joins), unfolding(crate::specs::JsonText::text_field))]
+#[tactic(auto, using(pm_lines::specs::Lemmas::Joins::joins), unfolding(crate::specs::JsonText::text_field))]
 fn push_whole_field(text: &mut String, values: bool, packet: &Packet<'_>) -> Result<(), AllocError>
     ensures { OnOk result (string_bytes text.new ≡ string_bytes text.old
         ++ whole_field values packet.now.write.now (option_map (λ bytes. bytes.now) packet.now.read)) }
@@ -239,7 +239,7 @@ fn push_whole_field(text: &mut String, values: bool, packet: &Packet<'_>) -> Res
 }
 
 // All bytes of a packet, with a slash before those that were read.
-#[tactic(auto, using(pm_lines::proofs::Joins::joins), unfolding(crate::specs::JsonText::whole_words))]
+#[tactic(auto, using(pm_lines::specs::Lemmas::Joins::joins), unfolding(crate::specs::JsonText::whole_words))]
 fn push_whole_words(text: &mut String, packet: &Packet<'_>) -> Result<(), AllocError>
     ensures { OnOk result (string_bytes text.new ≡ string_bytes text.old
         ++ whole_words packet.now.write.now (option_map (λ bytes. bytes.now) packet.now.read)) }
@@ -264,7 +264,7 @@ fn push_whole_words(text: &mut String, packet: &Packet<'_>) -> Result<(), AllocE
 }
 
 /// Appends the fields of a packet that is told by its code and bytes.
-#[tactic(auto, using(pm_lines::proofs::Joins::joins))]
+#[tactic(auto, using(pm_lines::specs::Lemmas::Joins::joins))]
 pub(crate) fn push_other_fields(
     text: &mut String,
     addr: u8,
@@ -300,7 +300,7 @@ fn push_name_field(text: &mut String, code: u8) -> Result<(), AllocError>
 }
 
 // What was written and read.
-#[tactic(auto, using(pm_lines::proofs::Joins::joins))]
+#[tactic(auto, using(pm_lines::specs::Lemmas::Joins::joins))]
 fn push_other_payload(text: &mut String, packet: &Packet<'_>) -> Result<(), AllocError>
     ensures { OnOk result (string_bytes text.new ≡ string_bytes text.old
         ++ other_payload packet.now.write.now (option_map (λ bytes. bytes.now) packet.now.read)) }

@@ -25,7 +25,7 @@ pub(crate) fn push_value_fields(text: &mut String, value: Option<Value>) -> Resu
 }
 
 // The fields of a value.
-#[tactic(auto, using(pm_lines::proofs::Joins::joins))]
+#[tactic(auto, using(pm_lines::specs::Lemmas::Joins::joins))]
 fn push_fields_of(text: &mut String, value: Value) -> Result<(), AllocError>
     ensures { OnOk result (string_bytes text.new ≡ string_bytes text.old ++ value_fields value) }
 {
@@ -43,7 +43,7 @@ fn push_fields_of(text: &mut String, value: Value) -> Result<(), AllocError>
 }
 
 // A fraction in lowest terms.
-#[tactic(auto, using(pm_lines::proofs::Joins::joins), unfolding(crate::specs::JsonText::text_field))]
+#[tactic(auto, using(pm_lines::specs::Lemmas::Joins::joins), unfolding(crate::specs::JsonText::text_field))]
 fn push_fraction_field(text: &mut String, fraction: Fraction) -> Result<(), AllocError>
     ensures { OnOk result (string_bytes text.new
         ≡ string_bytes text.old ++ text_field (codes "value") (fraction_text fraction)) }
@@ -55,7 +55,7 @@ fn push_fraction_field(text: &mut String, fraction: Fraction) -> Result<(), Allo
 }
 
 // A fraction as it stands.
-#[tactic(auto, using(pm_lines::proofs::Joins::joins), unfolding(crate::specs::JsonText::text_field))]
+#[tactic(auto, using(pm_lines::specs::Lemmas::Joins::joins), unfolding(crate::specs::JsonText::text_field))]
 fn push_ratio_field(text: &mut String, ratio: Frac) -> Result<(), AllocError>
     ensures { OnOk result (string_bytes text.new
         ≡ string_bytes text.old ++ text_field (codes "value") (ratio_text ratio)) }
@@ -67,7 +67,7 @@ fn push_ratio_field(text: &mut String, ratio: Frac) -> Result<(), AllocError>
 }
 
 // A voltage, and its whole microvolts.
-#[tactic(auto, using(pm_lines::proofs::Joins::joins))]
+#[tactic(auto, using(pm_lines::specs::Lemmas::Joins::joins))]
 fn push_volts_fields(text: &mut String, ratio: Frac) -> Result<(), AllocError>
     ensures { OnOk result (string_bytes text.new ≡ string_bytes text.old ++ value_fields (Value.Volts ratio)) }
 {
@@ -78,7 +78,7 @@ fn push_volts_fields(text: &mut String, ratio: Frac) -> Result<(), AllocError>
 }
 
 // The mode of an output.
-#[tactic(auto, using(pm_lines::proofs::Joins::joins), unfolding(crate::specs::JsonText::text_field))]
+#[tactic(auto, using(pm_lines::specs::Lemmas::Joins::joins), unfolding(crate::specs::JsonText::text_field))]
 fn push_mode_field(text: &mut String, mode: VoutMode) -> Result<(), AllocError>
     ensures { OnOk result (string_bytes text.new
         ≡ string_bytes text.old ++ text_field (codes "value") (mode_text mode)) }
@@ -90,7 +90,7 @@ fn push_mode_field(text: &mut String, mode: VoutMode) -> Result<(), AllocError>
 }
 
 // The names of the bits that are set.
-#[tactic(auto, using(pm_lines::proofs::Joins::joins))]
+#[tactic(auto, using(pm_lines::specs::Lemmas::Joins::joins))]
 fn push_flags_field(text: &mut String, status: Status, bits: u16) -> Result<(), AllocError>
     ensures { OnOk result (string_bytes text.new ≡ string_bytes text.old ++ value_fields (Value.Flags status bits)) }
 {

@@ -35,7 +35,7 @@ pub(crate) fn push_bad_line(
 }
 
 // The same as an object of JSON.
-#[tactic(auto, using(pm_lines::proofs::Joins::joins), unfolding(crate::specs::CaptureText::json_line))]
+#[tactic(auto, using(pm_lines::specs::Lemmas::Joins::joins), unfolding(crate::specs::CaptureText::json_line))]
 fn push_bad_json(
     text: &mut String,
     options: &TellOptions,
@@ -52,7 +52,7 @@ fn push_bad_json(
 }
 
 // The same as it is told to a person.
-#[tactic(auto, using(pm_lines::proofs::Joins::joins), unfolding(crate::specs::CaptureText::plain_line))]
+#[tactic(auto, using(pm_lines::specs::Lemmas::Joins::joins), unfolding(crate::specs::CaptureText::plain_line))]
 fn push_bad_plain(
     text: &mut String,
     options: &TellOptions,
@@ -103,7 +103,7 @@ pub(crate) fn push_packet_line(
 }
 
 // The same as an object of JSON.
-#[tactic(auto, using(pm_lines::proofs::Joins::joins), unfolding(crate::specs::CaptureText::json_line))]
+#[tactic(auto, using(pm_lines::specs::Lemmas::Joins::joins), unfolding(crate::specs::CaptureText::json_line))]
 fn push_packet_json(
     text: &mut String,
     options: &TellOptions,
@@ -130,7 +130,7 @@ fn push_packet_json(
 }
 
 // The same as it is told to a person.
-#[tactic(auto, using(pm_lines::proofs::Joins::joins), unfolding(crate::specs::CaptureText::plain_line))]
+#[tactic(auto, using(pm_lines::specs::Lemmas::Joins::joins), unfolding(crate::specs::CaptureText::plain_line))]
 fn push_packet_plain(
     text: &mut String,
     options: &TellOptions,
@@ -159,7 +159,7 @@ fn push_packet_plain(
 }
 
 // The time of a packet, where it is known.
-#[tactic(auto, using(pm_lines::proofs::Joins::joins))]
+#[tactic(auto, using(pm_lines::specs::Lemmas::Joins::joins))]
 fn push_time(text: &mut String, time: Option<u64>) -> Result<(), AllocError>
     ensures { OnOk result (string_bytes text.new ≡ string_bytes text.old ++ time_text time) }
 {
@@ -172,7 +172,7 @@ fn push_time(text: &mut String, time: Option<u64>) -> Result<(), AllocError>
 }
 
 // What stands behind a packet's text: its value, or its bytes where it has a fault.
-#[tactic(auto, using(pm_lines::proofs::Joins::joins))]
+#[tactic(auto, using(pm_lines::specs::Lemmas::Joins::joins))]
 fn push_extra(
     text: &mut String,
     options: &TellOptions,
@@ -199,7 +199,7 @@ fn push_extra(
 }
 
 // All bytes of a packet.
-#[tactic(auto, using(pm_lines::proofs::Joins::joins))]
+#[tactic(auto, using(pm_lines::specs::Lemmas::Joins::joins))]
 fn push_bytes(text: &mut String, packet: &Packet<'_>) -> Result<(), AllocError>
     ensures { OnOk result (string_bytes text.new ≡ string_bytes text.old ++ bytes_text (packet_in packet.now)) }
 {

@@ -98,7 +98,7 @@ unskipped-few first text =
       length-slice_split is_line_feed text,
     )
 
--- nor one that is not skipped
+-- an empty text has no line that is not skipped
 pub unskipped-nil : (first : ℕ) → unskipped_from first [] ≡ []
 unfolding unskipped_from
 unskipped-nil first = rw lines-nil refl
@@ -185,6 +185,6 @@ lines-counted text rest after some =
 pub unskipped-end : (first : ℕ) (text : List ℕ) → eqb (length text) 0 ≡ true → unskipped_from first text ≡ []
 unskipped-end first text empty = ap (unskipped_from first) (empty_nil text empty) ∙ unskipped-nil first
 
--- nor a line
+-- a text of no bytes has no line
 pub lines-end : (text : List ℕ) → eqb (length text) 0 ≡ true → lines_of text ≡ []
 lines-end text empty = ap lines_of (empty_nil text empty) ∙ lines-nil

@@ -112,7 +112,7 @@ pub all_paired : (line before now rest : List ℕ) → now ≡ before ++ paired_
 all_paired line before now rest is behind none =
     rw (line_read line, ← behind, nil_from_length rest (omega (arith, none)), is) refl
 
--- and one that has more
+-- a line whose pairs are followed by more writes no bytes
 pub not_paired : (line rest : List ℕ) → rest ≡ behind_pairs line → 1 ≤ length rest → bytes_of (words_of line) ≡ None
 not_paired line rest behind some = line_read line ∙ by (behind_pairs line) (omega (arith, ap length behind))
   where

@@ -29,7 +29,7 @@ decimal_digit c e = grind (arith, nat_tests)
 digit_decimal : (c : ℕ) → IsInRange 48 57 c → digit c ≡ c - 48
 digit_decimal c h = grind (arith, nat_tests)
 
--- which is below 10
+-- a decimal digit is below 10
 digit_below : (c : ℕ) → IsInRange 48 57 c → nat_lt (digit c) 10 ≡ true
 digit_below c h = let e = digit_decimal c h in grind (arith, nat_tests)
 
@@ -41,7 +41,7 @@ decimal_test = record {
   more = λ c cs h e. ap₂ (λ x y. x && y) (digit_below c h) e;
 }
 
--- and so is their value
+-- the value of decimal digits weighs them as `std` does
 decimal_weights : WeighsDigits (place_sum 10)
 decimal_weights = record {
   empty = refl;
@@ -69,7 +69,7 @@ fits_minus : (bits n : ℕ) → fits bits (neg_ℤ (pos n)) ≡ true → n ≤ 2
 fits_minus bits zero e = omega arith
 fits_minus bits (suc n) e = ltb-true _ _ e
 
--- and back
+-- a negative number fits where its digits are no more than a power of two
 minus_fits : (bits n : ℕ) → n ≤ 2 ^ (bits - 1) → fits bits (neg_ℤ (pos n)) ≡ true
 minus_fits bits zero h = lt-ltb 0 (2 ^ (bits - 1)) (pow_pos (bits - 1))
 minus_fits bits (suc n) h = lt-ltb n (2 ^ (bits - 1)) h
@@ -186,7 +186,7 @@ small_read r text h plus =
 digit_ascii : (base c : ℕ) → base ≤ 16 → nat_lt (digit c) base ≡ true → c < 128
 digit_ascii base c within e = grind (arith, nat_tests)
 
--- so are digits
+-- digits are ASCII
 digits_ascii : (base : ℕ) → base ≤ 16 → (text : List ℕ) → are_digits base text ≡ true → IsAscii text
 digits_ascii base within [] e i = lit< tt
 digits_ascii base within (c ∷ cs) e zero = digit_ascii base c within (and_parts (nat_lt (digit c) base) _ e).0
@@ -206,7 +206,7 @@ natural_ascii base within text broken =
 pub natural_none : (base : ℕ) → base ≤ 16 → (text : List ℕ) → ¬ (IsUtf8 text) → natural_of base text ≡ None
 natural_none base within text broken = natural_ascii base within text (λ h. broken (IsUtf8-from_ascii text h))
 
--- nor a number with a sign
+-- bytes that are no text write no number with a sign
 pub decimal_none : (text : List ℕ) → ¬ (IsUtf8 text) → decimal_of text ≡ None
 decimal_none [] broken = refl
 decimal_none (c ∷ cs) broken = go (eqb c 45) (Decides-eqb c 45)

@@ -37,7 +37,7 @@ before-passed : (byte : ℕ) (bytes : List ℕ) → is_space byte ≡ false
     → before_first is_space (byte ∷ bytes) ≡ byte ∷ before_first is_space bytes
 before-passed byte bytes is = rw is (take_next (position_or_len is_space bytes) byte bytes)
 
--- and what stands behind the first space is the same
+-- a byte before the first space changes nothing of what stands behind that space
 after-passed : (byte : ℕ) (bytes : List ℕ) → is_space byte ≡ false
     → after_first is_space (byte ∷ bytes) ≡ after_first is_space bytes
 after-passed byte bytes is = rw is (drop_next (position_or_len is_space bytes) byte bytes)

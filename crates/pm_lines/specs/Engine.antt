@@ -9,7 +9,7 @@ use Rattle.pm_lines.specs.declared.fault.TextFault.TheVariants.{TooLong, Read, W
 
 -- what an engine makes of its input
 pub record Engine (T : Type 0) : Type 0 where
-  -- of all of an input that isn't too long: the text that is written of it and how the engine ends, or its fault
+  -- what an input that isn't too long gives: the text that is written of it and how the engine ends, or its fault
   pub whole : List ℕ → Result (List ℕ × T) TextFault
   -- what is written of a front of the input, before its end is known; none where nothing is
   pub early : Option (List ℕ → List ℕ)

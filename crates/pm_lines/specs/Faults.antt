@@ -45,7 +45,7 @@ IsOfText Write = ⊥
 IsOfText Memory = ⊤
 IsOfText (Setup fault) = ⊥
 
--- and those of what a text asks for
+-- the faults of what a text asks for
 abbrev pub IsOfInput : TextFault → Type 0
 IsOfInput (Syntax line) = ⊤
 IsOfInput (BadHex line) = ⊤

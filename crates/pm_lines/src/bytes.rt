@@ -41,7 +41,7 @@ pub fn push_bytes(line: Line<'_>, bytes: &mut Vec<u8>) -> Result<(), TextFault>
 
 // Appends the bytes that the pairs of digits at the beginning write, and gives what follows them.
 // Where memory was refused, some of the bytes may be there.
-#[tactic(auto, using(crate::proofs::Joins::joins))]
+#[tactic(auto, using(crate::specs::Lemmas::Joins::joins))]
 fn push_pairs<'a>(digits: &'a [u8], bytes: &mut Vec<u8>) -> Result<&'a [u8], AllocError>
     ensures all { OnOk result (bytes.new.items ≡ bytes.old.items ++ paired_bytes digits.entry.now) }
     ensures rest { IfOk result (λ rest. rest.now ≡ behind_pairs digits.entry.now) }

@@ -20,7 +20,7 @@ const PAIRS: &str = "\
     E0E1E2E3E4E5E6E7E8E9EAEBECEDEEEFF0F1F2F3F4F5F6F7F8F9FAFBFCFDFEFF";
 
 /// Appends a number in decimal. Takes memory as the text grows.
-#[tactic(auto, using(crate::proofs::Joins::digit_joins))]
+#[tactic(auto, using(crate::specs::Lemmas::Joins::digit_joins))]
 pub fn push_decimal(text: &mut String, number: u64) -> Result<(), AllocError>
     ensures { OnOk result (string_bytes text.new ≡ string_bytes text.old ++ decimal number) }
 {
@@ -50,7 +50,7 @@ pub fn push_hex(text: &mut String, byte: u8) -> Result<(), AllocError>
 
 /// Appends a word in hexadecimal, as four digits in upper case. Takes memory as the text
 /// grows.
-#[tactic(auto, using(crate::proofs::Joins::joins), unfolding(crate::specs::Numbers::hex_word))]
+#[tactic(auto, using(crate::specs::Lemmas::Joins::joins), unfolding(crate::specs::Numbers::hex_word))]
 pub fn push_hex_word(text: &mut String, word: u16) -> Result<(), AllocError>
     ensures { OnOk result (string_bytes text.new ≡ string_bytes text.old ++ hex_word word) }
 {
@@ -60,7 +60,7 @@ pub fn push_hex_word(text: &mut String, word: u16) -> Result<(), AllocError>
 
 /// Appends a number in hexadecimal; `bytes` is the number, low byte first. Takes memory as the text
 /// grows.
-#[tactic(auto, using(crate::proofs::Joins::joins))]
+#[tactic(auto, using(crate::specs::Lemmas::Joins::joins))]
 pub fn push_hex_number(text: &mut String, bytes: &[u8]) -> Result<(), AllocError>
     ensures { OnOk result (string_bytes text.new ≡ string_bytes text.old ++ hex_number bytes.now) }
 {

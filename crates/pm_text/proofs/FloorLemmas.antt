@@ -1,20 +1,11 @@
 -- The whole microvolts of a value are the quotient whose remainder isn't negative.
-use Rattle.std.proofs.Common.{◌≡◌, ◌^◌, ◌<◌, ℕ, ℤ, pos, negsuc, ◌+ℤ◌, ◌*ℤ◌, ◌≤ℤ◌, ◌<ℤ◌, arith}
+use Rattle.std.proofs.Common.{◌≡◌, ◌^◌, ◌<◌, ℤ, pos, ◌*ℤ◌, ◌≤ℤ◌, arith}
 use Rattle.std.specs.Int.{int_div_euclid}
 use Rattle.std.proofs.lemmas.Int.{ints, by_lt_z}
 use Rattle.pm_num.specs.Lemmas.Integers.{lt-times}
 use Rattle.pm_num.specs.Ratio.{AtMost, Ratio, micros}
+use Rattle.pm_values.specs.Lemmas.Floor.{passed, reached}
 use Rattle.pm_text.specs.Report.{floor_micros}
-
--- the quotient's multiple is reached
-reached : (a : ℤ) (d : ℕ) → 0 < d → (int_div_euclid a (pos d) *ℤ pos d) ≤ℤ a
-reached (pos a) d positive = omega (arith, ints)
-reached (negsuc a) d positive = omega (arith, ints)
-
--- and the next one isn't
-passed : (a : ℤ) (d : ℕ) → 0 < d → a <ℤ (int_div_euclid a (pos d) *ℤ pos d +ℤ pos d)
-passed (pos a) d positive = omega (arith, ints)
-passed (negsuc a) d positive = omega (arith, ints)
 
 -- the greatest whole microvolts that are not above a value
 pub floor-is : (value : Ratio) (k : ℤ) → 0 < value.den → AtMost (micros k) value → ((j : ℤ) → AtMost (micros j) value → j ≤ℤ k)

@@ -18,7 +18,7 @@ named_into make (line ∷ lines) text = here (bytes_eq text line.0) (named_into 
     here true rest = refl
     here false rest = rest
 
--- and it reads what that line reads
+-- such a line reads what the line of its name reads
 pub made_of_one : {A B : Type 0} (make : A → B) (lines : List (List ℕ × Field A)) (left : WordsLeft) →
     one_of (lines_into make lines) left ≡ made_into make (one_of lines) left
 made_of_one {A} {B} make lines left = at (word left)

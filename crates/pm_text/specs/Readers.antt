@@ -37,7 +37,7 @@ abbrev pub ReadsTo : {S A : Type 0} → Result (Unit {0}) ScenarioFault → A �
 ReadsTo (Ok done) x left read = read ≡ Ok (x, left)
 ReadsTo (Err fault) x left read = read ≡ Err fault
 
--- and where nothing is said of what is left
+-- the same of a call that tells nothing of what is left
 abbrev pub IsRead : {A : Type 0} → Result (Unit {0}) ScenarioFault → A → Result A ScenarioFault → Type 0
 IsRead (Ok done) x read = read ≡ Ok x
 IsRead (Err fault) x read = read ≡ Err fault

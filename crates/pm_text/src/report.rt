@@ -42,7 +42,7 @@ pub fn render_report(alloc: Global, run: &Ran) -> Result<String, TextFault>
     Ok(text)
 }
 
-#[tactic(auto, using(pm_lines::proofs::Joins::joins), unfolding(crate::specs::Report::report_text))]
+#[tactic(auto, using(pm_lines::specs::Lemmas::Joins::joins), unfolding(crate::specs::Report::report_text))]
 fn push_report(text: &mut String, form: Form, run: &Ran) -> Result<(), AllocError>
     ensures { OnOk result (string_bytes text.new ≡ string_bytes text.old
         ++ report_text form run.now.world run.now.taken run.now.stop) }
@@ -52,7 +52,7 @@ fn push_report(text: &mut String, form: Form, run: &Ran) -> Result<(), AllocErro
 }
 
 // How many events were taken, and why the next one wasn't.
-#[tactic(auto, using(pm_lines::proofs::Joins::joins))]
+#[tactic(auto, using(pm_lines::specs::Lemmas::Joins::joins))]
 fn push_first_line(text: &mut String, taken: u64, stop: &Option<Stop>) -> Result<(), AllocError>
     ensures { OnOk result (string_bytes text.new
         ≡ string_bytes text.old ++ first_line taken stop.now) }
@@ -73,7 +73,7 @@ fn push_first_line(text: &mut String, taken: u64, stop: &Option<Stop>) -> Result
 }
 
 // The letters and the name of a cause, and the host's refusal after S4.
-#[tactic(auto, using(pm_lines::proofs::Joins::joins))]
+#[tactic(auto, using(pm_lines::specs::Lemmas::Joins::joins))]
 fn push_cause(text: &mut String, cause: Cause) -> Result<(), AllocError>
     ensures { OnOk result (string_bytes text.new ≡ string_bytes text.old ++ cause_text cause) }
 {
@@ -86,7 +86,7 @@ fn push_cause(text: &mut String, cause: Cause) -> Result<(), AllocError>
 }
 
 // The lines that follow the first one.
-#[tactic(auto, using(pm_lines::proofs::Joins::joins), unfolding(crate::specs::Report::world_lines))]
+#[tactic(auto, using(pm_lines::specs::Lemmas::Joins::joins), unfolding(crate::specs::Report::world_lines))]
 fn push_world(text: &mut String, form: Form, world: &World) -> Result<(), AllocError>
     ensures { OnOk result (string_bytes text.new
         ≡ string_bytes text.old ++ world_lines form world.now) }
@@ -111,7 +111,7 @@ fn seen_words(seen: bool) -> &'static str
 }
 
 // STATUS_CML.
-#[tactic(auto, using(pm_lines::proofs::Joins::joins), unfolding(crate::specs::Report::cml_line))]
+#[tactic(auto, using(pm_lines::specs::Lemmas::Joins::joins), unfolding(crate::specs::Report::cml_line))]
 fn push_cml(text: &mut String, world: &World) -> Result<(), AllocError>
     ensures { OnOk result (string_bytes text.new ≡ string_bytes text.old ++ cml_line world.now) }
 {
@@ -121,7 +121,7 @@ fn push_cml(text: &mut String, world: &World) -> Result<(), AllocError>
 }
 
 // The open job, or how the last one ended.
-#[tactic(auto, using(pm_lines::proofs::Joins::joins), unfolding(crate::specs::Report::job_line))]
+#[tactic(auto, using(pm_lines::specs::Lemmas::Joins::joins), unfolding(crate::specs::Report::job_line))]
 fn push_job(text: &mut String, world: &World) -> Result<(), AllocError>
     ensures { OnOk result (string_bytes text.new ≡ string_bytes text.old ++ job_line world.now) }
 {
@@ -131,7 +131,7 @@ fn push_job(text: &mut String, world: &World) -> Result<(), AllocError>
 }
 
 // `pending` where a job is open, and how the last one ended otherwise.
-#[tactic(auto, using(pm_lines::proofs::Joins::joins))]
+#[tactic(auto, using(pm_lines::specs::Lemmas::Joins::joins))]
 fn push_job_words(text: &mut String, is_open: bool, end: Option<JobEnd>) -> Result<(), AllocError>
     ensures { OnOk result (string_bytes text.new
         ≡ string_bytes text.old ++ job_text is_open end) }

@@ -147,7 +147,7 @@ module _ {W E : Type 0} (w : Writers W E) where
     refused_as fault is other why =
         (Refused (refusal_status fault) (refusal_words fault), (fault, refl, refl, why), refused _ _ (is.unwritten other) is.said)
 
-    -- so each refusal is said; where the writer failed, the line was cut short
+    -- each refusal of `number` is said; where the writer failed, the line was cut short
     pub number_refused : (fault : NumberFault) → NumberRefusal fault
         → (end : End) × NumberEnds asked end × Ends w (refusal_status fault) end
     number_refused OneOf is = refused_as OneOf is (λ e. cc) (is.line OneOf tt refl)

@@ -134,7 +134,7 @@ stepped : (one : Given) (rows : List Row) → has_row (option_name one.option) r
     → walked number_built.rules [] (with_rows rows) (option_word one) ≡ with_rows (rows ++ row one ∷ [])
 stepped one rows none = stepped_as one.option one.text rows ∙ ap with_rows (rows_used one rows none)
 
--- and the step has no fault
+-- a step of an option without a row has no fault
 turn_passes : (option : NumberOption) (text : Text) (rows : List Row) → has_row (option_name option) rows ≡ false
     → turn_fault number_built [] (with_rows rows) (option_word (record { option = option; text = text })) ≡ []
 unfolding clap_on_literals
@@ -153,7 +153,7 @@ walk_over (one ∷ rest) rows new once =
     ∙ walk_over rest (rows ++ row one ∷ []) (all_new_after one rows rest parts.1 apart.0) apart.1
     ∙ ap with_rows (append_assoc rows (row one ∷ []) (map row rest))
 
--- and none of them has a fault
+-- the walk over new options has no fault
 walk_passes : (given : List Given) (rows : List Row) → list_all (is_new rows) given ≡ true → is_once given ≡ true
     → walk_fault number_built [] (with_rows rows) (map option_word given) ≡ []
 unfolding walk_fault
@@ -176,14 +176,14 @@ no_default rows a none = ap (λ ds. cond (has_row a.id rows) rows (default_rows 
     same true = refl
     same false = refl
 
--- so do several
+-- rules without a default add no row
 no_defaults : (rules : List Rule) (rows : List Row) → list_all (λ a. is_empty a.defaults) rules ≡ true → fold with_default rows rules ≡ rows
 no_defaults [] rows none = refl
 no_defaults (a ∷ rest) rows none =
     let parts = both (is_empty a.defaults) _ none in
     ap (λ rs. fold with_default rs rest) (no_default rows a (is_nil a.defaults parts.0)) ∙ no_defaults rest rows parts.1
 
--- and none of them has a fault of a default
+-- rules without a default have no fault of a default
 defaults_pass : (rules : List Rule) (rows : List Row) → list_all (λ a. is_empty a.defaults) rules ≡ true → defaults_fault rows rules ≡ []
 unfolding defaults_fault
 defaults_pass [] rows none = refl
@@ -236,7 +236,7 @@ own_steps w found = or_else found (or_else (settle_fault number_built.rules numb
 abbrev top : Shape
 top = (built pmb).top
 
--- and those of the whole command line
+-- the steps of the whole command line
 abbrev whole_steps : Walk → Kinds → Kinds
 whole_steps w found = or_else found (or_else (entered_fault (built pmb) w.stopped) (or_else
     (settle_fault top.rules top.args_override_self w.held)
@@ -250,12 +250,12 @@ own_level given once =
     ∙ ap (λ k. or_else k (check_fault number_built (finished number_built.rules (with_rows (map row given)).held) false))
     (defaults_pass number_built.rules (map row given) refl)
 
--- nor has the walk of the whole command line
+-- the walk of the whole command line has no fault
 whole_walk : (words : List Text) → walk_fault top (names_of (built pmb)) (walk_from nothing_held) (codes "number" ∷ words) ≡ []
 unfolding clap_on_literals
 whole_walk words = stopped_fault top (names_of (built pmb)) (walk_from nothing_held) (codes "number", []) words
 
--- so the whole command line has none
+-- the whole command line has no fault
 pub number_passes : (program : Text) (given : List Given) → is_once given ≡ true → fault_of pmb (number_words program given) ≡ []
 unfolding defaults_fault
 number_passes program given once =

@@ -20,7 +20,7 @@ one_word Linear11 can_be = linear11-one_word
 one_word (Ulinear16 n) can_be = ulinear16-one_word n
 one_word (Direct m b r) can_be = direct-one_word m b r can_be.0
 
--- so a question asks for one word at most
+-- a question asks for one word at most
 same_word : (value : ℕ → Ratio) (rank : ℕ → ℕ) → IsOneWord value rank → (asked : Asked) (u w : ℕ) → IsWordFor value rank asked u
     → IsWordFor value rank asked w → u ≡ w
 same_word value rank one (Word given) u w h k = h ∙ sym k
@@ -33,7 +33,7 @@ same_floor v j k h i =
     let down : k ≤ℤ j = h.greatest k i.reached in
     omega (arith, ints)
 
--- so a question has one answer at most
+-- a question has one answer at most
 same_answer : (value : ℕ → Ratio) (rank : ℕ → ℕ) → IsOneWord value rank → (asked : Asked) (x y : Answer) → IsAnswer value rank asked x
     → IsAnswer value rank asked y → x ≡ y
 same_answer value rank one asked x y h k =
@@ -42,7 +42,7 @@ same_answer value rank one asked x y h k =
     let floor = same_floor y.value x.millionths y.millionths (subst (λ (v : Ratio). IsFloorMicro v x.millionths) same h.floor) k.floor in
     λ i. record { word = word i; value = same i; millionths = floor i }
 
--- and one text
+-- a question has one text at most
 pub one_text : (asked : Question) → IsFormat asked.format → (a b : List ℕ) → IsNumberText (Ok asked) a → IsNumberText (Ok asked) b → a ≡ b
 one_text asked can_be a b h k =
     h.2 ∙ ap line_of (same_answer (value_in asked.format) (rank_in asked.format)

@@ -18,7 +18,7 @@ Text = List ℕ
 abbrev NoColon : Text → Type 0
 NoColon text = (i : ℕ) → i < length text → get_or text i 0 ≢ 58
 
--- nor in what follows its first character
+-- no colon stands in what follows the first character of a text without one
 later : (c : ℕ) (cs : Text) → NoColon (c ∷ cs) → NoColon cs
 later c cs none i lt = none (suc i) (omega arith)
 
@@ -50,7 +50,7 @@ cut_at_colon text (Some found) h =
 abbrev has_colon : Text → Bool
 has_colon = list_any (λ c. eqb c 58)
 
--- so it isn't digits alone
+-- a text with a colon isn't digits alone
 no_digits : (text : Text) → has_colon text ≡ true → are_digits 10 text ≡ false
 no_digits [] e = absurd (true≢false (sym e))
 no_digits (c ∷ cs) e = go (eqb c 58) refl e (no_digits cs)
@@ -72,7 +72,7 @@ no_natural text e = let none : are_digits 10 text ≡ false = no_digits text e i
     go true b e = rw e refl
     go false b e = refl
 
--- nor an integer
+-- a text with a colon writes no integer
 no_decimal : (text : Text) → has_colon text ≡ true → decimal_of text ≡ None
 no_decimal [] e = refl
 no_decimal (c ∷ cs) e = go (eqb c 45) refl
@@ -85,7 +85,7 @@ no_decimal (c ∷ cs) e = go (eqb c 45) refl
         ap (option_map (λ n. neg_ℤ (pos n))) (no_natural cs some)
     go false is = ap (option_map (λ n. pos n)) (no_natural (c ∷ cs) e)
 
--- nor an integer of this many bits
+-- a text with a colon writes no integer of this many bits
 no_signed : (bits : ℕ) (text : Text) → has_colon text ≡ true → signed_of bits text ≡ None
 no_signed bits text e = ap (option_and_then (λ z. cond (fits bits z) (Some z) None)) (no_decimal text e)
 
@@ -109,7 +109,7 @@ some_parts (c ∷ cs) = go (eqb c 58) (some_parts cs)
     go true p = ([], parts cs, refl)
     go false p = (c ∷ p.0, p.1, ap (before_parts c) p.2)
 
--- so it is its own one part, or has several
+-- a text is its own one part, or has several
 shape : (text : Text) → (parts text ≡ text ∷ []) ⊎ Several text
 shape [] = inl refl
 shape (c ∷ cs) = go (eqb c 58) refl (shape cs)
@@ -152,7 +152,7 @@ ulinear16_parts text = go (shape text)
     go (inr s) = ap (λ (ps : List Text). format_by (codes "ulinear16" ∷ ps)) s.are ∙ few s.first s.second s.more
         ∙ sym (ap (option_and_then exponent_format) (no_signed 8 text s.colon))
 
--- so does the exponent of DIRECT
+-- the exponent of DIRECT may be read whole, as that of ULINEAR16
 pub direct_parts : (m b r : Text)
     → format_by (codes "direct" ∷ m ∷ b ∷ parts r) ≡ direct_format (signed_of 16 m) (signed_of 16 b) (signed_of 8 r)
 direct_parts m b r = go (shape r)

@@ -55,7 +55,7 @@ module _ (least greatest : Ratio) (range : IsRange least greatest) (k : ℤ) (sm
   same_fault e ZeroSlope out h = absurd h.1
   same_fault e ExponentRange out h = absurd h.1
 
-  -- and a value that is refused isn't inside
+  -- a value that is refused isn't inside
   not_inside : (fault : NumFault) → RefusesValue least greatest (Nearest k) fault → IsBetween least greatest (micros k) → ⊥
   not_inside BelowLeast h inside = not_below (micros k) least inside.from_least h.1
   not_inside AboveGreatest h inside = not_below greatest (micros k) inside.to_greatest h.1
@@ -63,7 +63,7 @@ module _ (least greatest : Ratio) (range : IsRange least greatest) (k : ℤ) (sm
   not_inside ZeroSlope h inside = h.1
   not_inside ExponentRange h inside = h.1
 
-  -- so a call that takes just the values inside refuses the others, each for where it lies
+  -- a call that takes just the values inside refuses the others, each for where it lies
   pub refused_outside : (r : Result ℕ NumFault) → (IsOk r ↔ IsBetween least greatest (micros k))
       → IfErr r (IsOutside least greatest (micros k))
       → (fault : NumFault) → (r ≡ Err fault) ↔ RefusesValue least greatest (Nearest k) fault

@@ -16,7 +16,7 @@ not_of_slope : (least greatest : Ratio) (asked : Asked) → RefusesValue least g
 not_of_slope least greatest (Word word) h = h
 not_of_slope least greatest (Nearest k) h = h.1
 
--- nor for an exponent
+-- no value is refused for an exponent
 not_of_exponent : (least greatest : Ratio) (asked : Asked) → RefusesValue least greatest asked ExponentRange → ⊥
 not_of_exponent least greatest (Word word) h = h
 not_of_exponent least greatest (Nearest k) h = h.1
@@ -57,6 +57,6 @@ module _ (m b r : ℤ) (slope : m ≢ pos 0) (decimal : IsDecimal r) (asked : As
   none AboveGreatest h = h
   none TooLarge h = h
 
-  -- so what is refused of its value is what is refused of the question
+  -- what is refused of a value in DIRECT is what is refused of the question
   pub direct_refused : (fault : NumFault) → (res ≡ Err fault) ↔ Refuses (record { format = Direct m b r; asked = asked }) fault
   direct_refused = refused_by_value (record { format = Direct m b r; asked = asked }) (slope, decimal) none res by_value

@@ -51,7 +51,7 @@ pub held_after-push : (held : Held) (done : List Event) (event : Event)
 held_after-push held [] event = refl
 held_after-push held (first ∷ done) event = held_after-push (next held first) done event
 
--- and what is written of it
+-- what is written of one event more
 pub event_lines-push : (held : Held) (done : List Event) (event : Event)
     → event_lines held (done ++ event ∷ []) ≡ event_lines held done ++ as_line (event_words (held_after held done) event)
 event_lines-push held [] event = append-nil _
@@ -64,7 +64,7 @@ unskipped-nil : unskipped_from 1 [] ≡ []
 unfolding unskipped_from lines_of
 unskipped-nil = refl
 
--- so a text with a line that isn't skipped has bytes
+-- a text with a line that isn't skipped has bytes
 pub unskipped-some : (text : List ℕ) → 0 < length (unskipped_from 1 text) → 0 < length text
 unskipped-some [] some = let none : length (unskipped_from 1 []) ≡ 0 = ap length unskipped-nil in absurd (omega arith)
 unskipped-some (x ∷ xs) some = omega arith
@@ -75,7 +75,7 @@ pub printed-text : (input : List ℕ) (events : List Event) → events_in (unski
 unfolding printed_text
 printed-text input events are = ap text_by are
 
--- or the fault of one of its lines
+-- an input with a faulty line has that line's fault in the place of a text
 pub printed-fault : (input : List ℕ) (fault : TextFault) → events_in (unskipped_from 1 input) ≡ Err fault → printed_text input ≡ Err fault
 unfolding printed_text
 printed-fault input fault is = ap text_by is
@@ -88,7 +88,7 @@ lines-more {other = other} start held done event written is same added =
     added ∙ ap (λ t. t ++ as_line (event_words held other)) written ∙ ap (λ h. event_lines start done ++ as_line (event_words h other)) is
     ∙ ap (λ e. event_lines start done ++ as_line (event_words (held_after start done) e)) same ∙ sym (event_lines-push start done event)
 
--- and the converter holds what that event leaves
+-- the converter holds what one event more leaves
 pub held-more : {held after : Held} {other : Event} (start : Held) (done : List Event) (event : Event)
     → held ≡ held_after start done → other ≡ event → after ≡ next held other → after ≡ held_after start (done ++ event ∷ [])
 held-more {other = other} start done event is same one =

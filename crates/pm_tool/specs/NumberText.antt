@@ -30,7 +30,7 @@ value_in Linear11 = linear11_value
 value_in (Ulinear16 n) = ulinear16_value n
 value_in (Direct m b r) = direct_value m b r
 
--- which of several words for one value comes first
+-- the rank that says which of several words for one value comes first
 abbrev pub rank_in : FormatText → ℕ → ℕ
 rank_in Linear11 = linear11_rank
 rank_in (Ulinear16 n) = one_rank

@@ -229,7 +229,7 @@ pub decoded_lines : (old new : Holding) (pieces : List (List ℕ)) (lines : List
 decoded_lines old new pieces lines is decodes =
     sym ((ends_all [] old new pieces lines (fresh old is) decodes).lines_are ∙ ap (λ l. l ++ lines) said_none)
 
--- and these are counted
+-- the counts are those of the lines of the pieces joined
 pub decoded_counts : (old new : Holding) (pieces : List (List ℕ)) (lines : List Told) → IsFresh old → Decodes old pieces lines new
     → new.kept.counts ≡ counts_of (trace_of (concat pieces))
 decoded_counts old new pieces lines is decodes = (ends_all [] old new pieces lines (fresh old is) decodes).counts

@@ -6,6 +6,7 @@ use Rattle.std.proofs.lemmas.List.Sums.{fold-append}
 use Rattle.pm_lines.specs.Lines.{is_line_feed}
 use Rattle.pm_trace.specs.Decoding.{Kept, kept_takes, next, told, some_told, line_ended, line_told}
 use Rattle.pm_trace.specs.OpenLines.{line_takes}
+use Rattle.pm_trace.specs.Lemmas.Runs.{taken-unmarked, told-append, told-unmarked}
 use Rattle.pm_trace.specs.declared.decoder.open_line.OpenLine.{OpenLine}
 
 -- what is kept where bytes without a line feed come
@@ -19,36 +20,26 @@ kept_with kept bytes = record kept {
 kept_at : Kept → ℕ → OpenLine → Kept
 kept_at kept taken line = record kept { taken = taken; line = line }
 
+-- what is kept where no byte came is what was kept
+none_with : (kept : Kept) → kept ≡ kept_with kept []
+unfolding kept_at
+none_with kept = let same : kept.taken ≡ kept.taken + 0 = omega arith in ap (λ t. kept_at kept t kept.line) same
+
+-- a byte that is no line feed goes to the line
+more_with : (kept : Kept) (x : ℕ) (xs : List ℕ) → is_line_feed x ≡ false → kept_with (kept_takes kept x) xs ≡ kept_with kept (x ∷ xs)
+unfolding kept_takes kept_at
+more_with kept x xs is =
+    let takes : kept_takes kept x ≡ kept_at kept (kept.taken + 1) (line_takes kept.line x) = rw is refl in
+    let many : kept.taken + 1 + length xs ≡ kept.taken + length (x ∷ xs) = omega arith in
+    ap (λ k. kept_with k xs) takes ∙ ap (λ t. kept_at kept t (fold line_takes (line_takes kept.line x) xs)) many
+
 -- bytes without a line feed go to the line
 pub next_plain : (kept : Kept) (bytes : List ℕ) → list_any is_line_feed bytes ≡ false → next kept bytes ≡ kept_with kept bytes
-unfolding kept_takes kept_at
-next_plain kept [] plain = let same : kept.taken ≡ kept.taken + 0 = omega arith in ap (λ t. kept_at kept t kept.line) same
-next_plain kept (x ∷ xs) plain = by (eqb x 10) refl (next_plain (kept_takes kept x) xs)
-  where
-    by : (b : Bool) → eqb x 10 ≡ b
-        → (list_any is_line_feed xs ≡ false → next (kept_takes kept x) xs ≡ kept_with (kept_takes kept x) xs)
-        → next kept (x ∷ xs) ≡ kept_with kept (x ∷ xs)
-    by true is rest = let marked = rw is at plain in absurd (cc)
-    by false is rest =
-        let tail = rest (rw is at plain) in
-        let takes : kept_takes kept x ≡ kept_at kept (kept.taken + 1) (line_takes kept.line x) = rw is refl in
-        let many : kept.taken + 1 + length xs ≡ kept.taken + length (x ∷ xs) = omega arith in
-        tail ∙ ap (λ k. kept_with k xs) takes ∙ ap (λ t. kept_at kept t (fold line_takes (line_takes kept.line x) xs)) many
+next_plain = taken-unmarked is_line_feed kept_takes kept_with none_with more_with
 
--- and say nothing yet
+-- bytes without a line feed say nothing
 pub told_plain : (kept : Kept) (bytes : List ℕ) → list_any is_line_feed bytes ≡ false → told kept bytes ≡ []
-told_plain kept [] plain = refl
-told_plain kept (x ∷ xs) plain = by (eqb x 10) refl (told_plain (kept_takes kept x) xs)
-  where
-    by : (b : Bool) → eqb x 10 ≡ b → (list_any is_line_feed xs ≡ false → told (kept_takes kept x) xs ≡ []) → told kept (x ∷ xs) ≡ []
-    by true is rest = let marked = rw is at plain in absurd (cc)
-    by false is rest = rw is (rest (rw is at plain))
-
--- what bytes and further ones say
-pub told-append : (kept : Kept) (xs ys : List ℕ) → told kept (xs ++ ys) ≡ told kept xs ++ told (next kept xs) ys
-told-append kept [] ys = refl
-told-append kept (x ∷ xs) ys = rw (told-append (kept_takes kept x) xs ys) (sym (append_assoc _ (told (kept_takes kept x) xs) (told (next
-    (kept_takes kept x) xs) ys)))
+told_plain = told-unmarked is_line_feed kept_takes (λ kept. some_told (line_told kept))
 
 -- a line feed after bytes without one
 pub next_ended : (kept : Kept) (front : List ℕ) → list_any is_line_feed front ≡ false
@@ -57,9 +48,9 @@ unfolding kept_takes
 next_ended kept front plain =
     fold-append kept_takes kept front (10 ∷ []) ∙ ap (λ k. kept_takes k 10) (next_plain kept front plain)
 
--- and the line is told
+-- a line feed after bytes without one tells their line
 pub told_ended : (kept : Kept) (front : List ℕ) → list_any is_line_feed front ≡ false
     → told kept (front ++ 10 ∷ []) ≡ some_told (line_told (kept_with kept front))
 told_ended kept front plain =
-    told-append kept front (10 ∷ []) ∙ rw (told_plain kept front plain, next_plain kept front plain)
+    told-append is_line_feed kept_takes (λ kept. some_told (line_told kept)) kept front (10 ∷ []) ∙ rw (told_plain kept front plain, next_plain kept front plain)
     (append-nil (some_told (line_told (kept_with kept front))))

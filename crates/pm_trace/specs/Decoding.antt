@@ -11,7 +11,7 @@ use Rattle.pm_trace.specs.declared.decoder.intake.Intake.TheVariants.{Open, Fini
 use Rattle.pm_trace.specs.declared.fed.Fed.{Fed}
 use Rattle.pm_trace.specs.declared.decoder.open_line.OpenLine.{OpenLine}
 use Rattle.pm_lines.specs.Lines.{has_bytes, is_line_feed, is_unskipped, without_return}
-use Rattle.pm_trace.specs.Marks.{ended, since}
+use Rattle.pm_trace.specs.Marks.{ended, since, told_at_marks}
 use Rattle.pm_trace.specs.Trace.{Told, told_of}
 use Rattle.pm_trace.specs.Counts.{Counts, counts_of, counts_with, IsNewCode}
 use Rattle.pm_trace.specs.OpenLines.{line_of, line_takes, is_begun, is_skipped_kind, open_judged}
@@ -72,10 +72,7 @@ next kept bytes = fold kept_takes kept bytes
 
 -- what the lines say that end within further bytes
 abbrev pub told : Kept → List ℕ → List Told
-told kept [] = []
-told kept (byte ∷ bytes) =
-    (if is_line_feed byte then some_told (line_told kept) else [])
-    ++ told (kept_takes kept byte) bytes
+told kept bytes = told_at_marks is_line_feed kept_takes (λ kept. some_told (line_told kept)) kept bytes
 
 -- the end of all bytes, which ends a line that has some
 abbrev pub kept_at_end : Kept → Kept

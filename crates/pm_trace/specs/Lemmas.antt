@@ -3,4 +3,5 @@ pub mod Counts
 pub mod Marks
 pub mod OpenLines
 pub mod PlainLines
+pub mod Runs
 pub mod Said

@@ -1,6 +1,6 @@
 -- A list that is cut at its marks: the pieces that end at a mark, and what stands since the last
 -- mark; what stands before the first mark, and after it.
-use Rattle.std.specs.Prelude.{ℕ, Bool, cond, List, [], ◌∷◌}
+use Rattle.std.specs.Prelude.{ℕ, Bool, cond, List, [], ◌∷◌, ◌++◌}
 use Rattle.std.specs.List.{list_any}
 
 -- the first of the pieces begins with this byte
@@ -28,3 +28,9 @@ before mark (byte ∷ bytes) = cond (mark byte) [] (byte ∷ before mark bytes)
 abbrev pub after : (ℕ → Bool) → List ℕ → List ℕ
 after mark [] = []
 after mark (byte ∷ bytes) = cond (mark byte) bytes (after mark bytes)
+
+-- what is told of bytes that are taken one after another: at each mark what was kept before it tells
+abbrev pub told_at_marks : {K A : Type 0} → (ℕ → Bool) → (K → ℕ → K) → (K → List A) → K → List ℕ → List A
+told_at_marks mark takes tells kept [] = []
+told_at_marks mark takes tells kept (byte ∷ bytes) =
+    cond (mark byte) (tells kept) [] ++ told_at_marks mark takes tells (takes kept byte) bytes

@@ -7,7 +7,7 @@ use pm_table::Code;
 use std::alloc::AllocError;
 
 /// Appends the line of a code to a text.
-#[tactic(auto, using(pm_lines::proofs::Joins::joins), unfolding(crate::specs::TraceText::count_line))]
+#[tactic(auto, using(pm_lines::specs::Lemmas::Joins::joins), unfolding(crate::specs::TraceText::count_line))]
 pub fn push_count(text: &mut String, code: u8, count: u64) -> Result<(), AllocError>
     ensures { OnOk result (string_bytes text.new ≡ string_bytes text.old ++ count_line (code, count)) }
 {

@@ -14,7 +14,7 @@ use pm_table::{Code, Coefficients};
 use std::alloc::AllocError;
 
 /// Appends the text of a line to a text, with the line's number and without a line feed.
-#[tactic(auto, using(pm_lines::proofs::Joins::joins), unfolding(crate::specs::TraceText::told_text))]
+#[tactic(auto, using(pm_lines::specs::Lemmas::Joins::joins), unfolding(crate::specs::TraceText::told_text))]
 pub(crate) fn push_line(text: &mut String, number: u64, shown: &Shown<'_>) -> Result<(), AllocError>
     ensures { OnOk result (string_bytes text.new
         ≡ string_bytes text.old ++ told_text (number, judged_in shown.now)) }
@@ -25,7 +25,7 @@ pub(crate) fn push_line(text: &mut String, number: u64, shown: &Shown<'_>) -> Re
 }
 
 /// Appends what the line of this number says to a text.
-#[tactic(auto, using(pm_lines::proofs::Joins::joins))]
+#[tactic(auto, using(pm_lines::specs::Lemmas::Joins::joins))]
 pub fn push_shown(text: &mut String, number: u64, shown: &Shown<'_>) -> Result<(), AllocError>
     ensures { OnOk result (string_bytes text.new
         ≡ string_bytes text.old ++ judged_text number (judged_in shown.now)) }
@@ -56,7 +56,7 @@ fn push_address(text: &mut String, addr: Option<u8>) -> Result<(), AllocError>
 }
 
 // The letter and the name of a packet's fault, and its place.
-#[tactic(auto, using(pm_lines::proofs::Joins::joins))]
+#[tactic(auto, using(pm_lines::specs::Lemmas::Joins::joins))]
 fn push_fault(text: &mut String, fault: FrameFault) -> Result<(), AllocError>
     ensures { OnOk result (string_bytes text.new ≡ string_bytes text.old ++ frame_fault_text fault) }
 {
@@ -65,7 +65,7 @@ fn push_fault(text: &mut String, fault: FrameFault) -> Result<(), AllocError>
 }
 
 // The place of a fault, where it has one.
-#[tactic(auto, using(pm_lines::proofs::Joins::joins))]
+#[tactic(auto, using(pm_lines::specs::Lemmas::Joins::joins))]
 fn push_place(text: &mut String, place: Option<usize>) -> Result<(), AllocError>
     ensures { OnOk result (string_bytes text.new ≡ string_bytes text.old ++ place_text place) }
 {
@@ -77,7 +77,7 @@ fn push_place(text: &mut String, place: Option<usize>) -> Result<(), AllocError>
 }
 
 // A space, and what a packet says that was accepted.
-#[tactic(auto, using(pm_lines::proofs::Joins::joins), unfolding(crate::specs::TraceText::plain_text))]
+#[tactic(auto, using(pm_lines::specs::Lemmas::Joins::joins), unfolding(crate::specs::TraceText::plain_text))]
 fn push_packet(
     text: &mut String,
     view: &FrameView<'_>,
@@ -95,7 +95,7 @@ fn push_packet(
 }
 
 // A space, the page that a packet names, its code's name, and what it carries.
-#[tactic(auto, using(pm_lines::proofs::Joins::joins), unfolding(crate::specs::TraceText::plain_text))]
+#[tactic(auto, using(pm_lines::specs::Lemmas::Joins::joins), unfolding(crate::specs::TraceText::plain_text))]
 fn push_plain(
     text: &mut String,
     view: &FrameView<'_>,
@@ -116,7 +116,7 @@ fn push_plain(
 }
 
 // A space, and the page where one is named: one that a converter may have is put as one text.
-#[tactic(auto, using(pm_lines::proofs::Joins::digit_joins))]
+#[tactic(auto, using(pm_lines::specs::Lemmas::Joins::digit_joins))]
 fn push_page(text: &mut String, page: Option<u8>) -> Result<(), AllocError>
     ensures { OnOk result (string_bytes text.new
         ≡ string_bytes text.old ++ (codes " " ++ page_text page)) }
@@ -140,7 +140,7 @@ fn push_page(text: &mut String, page: Option<u8>) -> Result<(), AllocError>
 }
 
 // What a write carries.
-#[tactic(auto, using(pm_lines::proofs::Joins::joins))]
+#[tactic(auto, using(pm_lines::specs::Lemmas::Joins::joins))]
 fn push_written(text: &mut String, payload: &[u8]) -> Result<(), AllocError>
     ensures { OnOk result (string_bytes text.new
         ≡ string_bytes text.old ++ written_text payload.now) }
@@ -163,7 +163,7 @@ pub fn answered<'a>(answer: Option<&'a [u8]>) -> &'a [u8]
 }
 
 // A space, what coefficients were asked of, and the coefficients that were answered.
-#[tactic(auto, using(pm_lines::proofs::Joins::joins))]
+#[tactic(auto, using(pm_lines::specs::Lemmas::Joins::joins))]
 fn push_coefficients(text: &mut String, code: u8, side: u8, answer: &[u8]) -> Result<(), AllocError>
     ensures { OnOk result (string_bytes text.new ≡ string_bytes text.old
         ++ (codes " " ++ (asked_text code side ++ numbers_text (coefficients_of answer.now)))) }
@@ -174,7 +174,7 @@ fn push_coefficients(text: &mut String, code: u8, side: u8, answer: &[u8]) -> Re
 }
 
 // A space, and the code and the side that coefficients were asked of.
-#[tactic(auto, using(pm_lines::proofs::Joins::joins), unfolding(crate::specs::TraceText::asked_text))]
+#[tactic(auto, using(pm_lines::specs::Lemmas::Joins::joins), unfolding(crate::specs::TraceText::asked_text))]
 fn push_asked(text: &mut String, code: u8, side: u8) -> Result<(), AllocError>
     ensures { OnOk result (string_bytes text.new
         ≡ string_bytes text.old ++ (codes " " ++ asked_text code side)) }
@@ -187,7 +187,7 @@ fn push_asked(text: &mut String, code: u8, side: u8) -> Result<(), AllocError>
 }
 
 // The three numbers of an answer.
-#[tactic(auto, using(pm_lines::proofs::Joins::signed_joins), unfolding(crate::specs::TraceText::numbers_text))]
+#[tactic(auto, using(pm_lines::specs::Lemmas::Joins::signed_joins), unfolding(crate::specs::TraceText::numbers_text))]
 fn push_numbers(text: &mut String, coefficients: Coefficients) -> Result<(), AllocError>
     ensures { OnOk result (string_bytes text.new
         ≡ string_bytes text.old ++ numbers_text coefficients) }
@@ -198,7 +198,7 @@ fn push_numbers(text: &mut String, coefficients: Coefficients) -> Result<(), All
 }
 
 // A name, and a number after it.
-#[tactic(auto, using(pm_lines::proofs::Joins::joins))]
+#[tactic(auto, using(pm_lines::specs::Lemmas::Joins::joins))]
 fn push_named(text: &mut String, name: &str, number: i128) -> Result<(), AllocError>
     ensures { OnOk result (string_bytes text.new
         ≡ string_bytes text.old ++ (name.now ++ signed_decimal number)) }

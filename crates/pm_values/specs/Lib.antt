@@ -5,3 +5,5 @@ pub mod Statuses
 pub mod Taught
 pub mod Values
 pub mod ValueText
+-- How it is kept.
+pub mod Lemmas

@@ -65,7 +65,7 @@ taught_by taught (Faulty addr read fault) = taught
 taught_by taught BadSyntax = taught
 taught_by taught BadHex = taught
 
--- and behind several
+-- what is known behind several lines
 abbrev pub taught_from : Taught → List Judged → Taught
 taught_from taught lines = fold taught_by taught lines
 

@@ -26,7 +26,7 @@ operation_text On = codes "on"
 operation_text MarginLow = codes "on, margin low"
 operation_text MarginHigh = codes "on, margin high"
 
--- which writes a byte of WRITE_PROTECT lets through
+-- the writes that a byte of WRITE_PROTECT lets through
 abbrev pub protection_text : ℕ → List ℕ
 protection_text byte = if byte == 0x00 then codes "all writes"
     else (if byte == 0x20 then codes "writes of WRITE_PROTECT, OPERATION, PAGE and VOUT_COMMAND"

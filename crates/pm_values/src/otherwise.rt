@@ -62,7 +62,7 @@ fn reads_from(first: u8, read: Option<&[u8]>) -> bool
 }
 
 /// Appends bytes in hexadecimal to a text, each with a space before it.
-#[tactic(auto, using(pm_lines::proofs::Joins::joins))]
+#[tactic(auto, using(pm_lines::specs::Lemmas::Joins::joins))]
 pub fn push_spaced(text: &mut String, bytes: &[u8]) -> Result<(), AllocError>
     ensures { OnOk result (string_bytes text.new ≡ string_bytes text.old ++ spaced bytes.now) }
 {
@@ -75,7 +75,7 @@ pub fn push_spaced(text: &mut String, bytes: &[u8]) -> Result<(), AllocError>
 }
 
 /// Appends a packet by its code and bytes to a text.
-#[tactic(auto, using(pm_lines::proofs::Joins::joins), unfolding(crate::specs::Otherwise::other_text))]
+#[tactic(auto, using(pm_lines::specs::Lemmas::Joins::joins), unfolding(crate::specs::Otherwise::other_text))]
 pub fn push_otherwise(text: &mut String, addr: u8, packet: &Packet<'_>) -> Result<(), AllocError>
     ensures { OnOk result (string_bytes text.new ≡ string_bytes text.old
         ++ other_text addr packet.now.write.now (option_map (λ bytes. bytes.now) packet.now.read)) }
@@ -97,7 +97,7 @@ fn verdict(is_right: bool) -> &'static str
 }
 
 // The name of a code that the table has.
-#[tactic(auto, using(pm_lines::proofs::Joins::joins))]
+#[tactic(auto, using(pm_lines::specs::Lemmas::Joins::joins))]
 fn push_named(text: &mut String, code: u8) -> Result<(), AllocError>
     ensures { OnOk result (string_bytes text.new ≡ string_bytes text.old ++ named code) }
 {
@@ -109,7 +109,7 @@ fn push_named(text: &mut String, code: u8) -> Result<(), AllocError>
 }
 
 // What was written and read.
-#[tactic(auto, using(pm_lines::proofs::Joins::joins))]
+#[tactic(auto, using(pm_lines::specs::Lemmas::Joins::joins))]
 fn push_carried(text: &mut String, packet: &Packet<'_>) -> Result<(), AllocError>
     ensures { OnOk result (string_bytes text.new ≡ string_bytes text.old
         ++ carried_text packet.now.write.now (option_map (λ bytes. bytes.now) packet.now.read)) }
@@ -135,7 +135,7 @@ fn push_sent(text: &mut String, bytes: &[u8]) -> Result<(), AllocError>
 }
 
 // What was written, where something was.
-#[tactic(auto, using(pm_lines::proofs::Joins::joins))]
+#[tactic(auto, using(pm_lines::specs::Lemmas::Joins::joins))]
 fn push_written(text: &mut String, bytes: &[u8]) -> Result<(), AllocError>
     ensures { OnOk result (string_bytes text.new ≡ string_bytes text.old ++ written_text bytes.now) }
 {

@@ -14,7 +14,7 @@ use pm_table::{Operation, VoutMode};
 use std::alloc::AllocError;
 
 /// Appends a space and a value to a text, where there is a value, as ` 13517/4096 3300048 uV`.
-#[tactic(auto, using(pm_lines::proofs::Joins::joins))]
+#[tactic(auto, using(pm_lines::specs::Lemmas::Joins::joins))]
 pub fn push_known(text: &mut String, value: Option<Value>) -> Result<(), AllocError>
     ensures { OnOk result (string_bytes text.new ≡ string_bytes text.old ++ known_text value) }
 {
@@ -26,7 +26,7 @@ pub fn push_known(text: &mut String, value: Option<Value>) -> Result<(), AllocEr
 }
 
 // Appends a value to a text.
-#[tactic(auto, using(pm_lines::proofs::Joins::joins), unfolding(crate::specs::ValueText::value_text))]
+#[tactic(auto, using(pm_lines::specs::Lemmas::Joins::joins), unfolding(crate::specs::ValueText::value_text))]
 fn push_value(text: &mut String, value: Value) -> Result<(), AllocError>
     ensures { OnOk result (string_bytes text.new ≡ string_bytes text.old ++ value_text value) }
 {
@@ -82,7 +82,7 @@ pub fn protection_words(byte: u8) -> &'static str
 }
 
 /// Appends the mode of an output to a text, as `ULINEAR16 -12` or `DIRECT`.
-#[tactic(auto, using(pm_lines::proofs::Joins::signed_joins))]
+#[tactic(auto, using(pm_lines::specs::Lemmas::Joins::signed_joins))]
 pub fn push_mode(text: &mut String, mode: VoutMode) -> Result<(), AllocError>
     ensures { OnOk result (string_bytes text.new ≡ string_bytes text.old ++ mode_text mode) }
 {
@@ -96,7 +96,7 @@ pub fn push_mode(text: &mut String, mode: VoutMode) -> Result<(), AllocError>
 }
 
 /// Appends a fraction to a text, as `12/1`.
-#[tactic(auto, using(pm_lines::proofs::Joins::joins))]
+#[tactic(auto, using(pm_lines::specs::Lemmas::Joins::joins))]
 pub fn push_fraction(text: &mut String, fraction: Fraction) -> Result<(), AllocError>
     ensures { OnOk result (string_bytes text.new ≡ string_bytes text.old ++ fraction_text fraction) }
 {
@@ -106,7 +106,7 @@ pub fn push_fraction(text: &mut String, fraction: Fraction) -> Result<(), AllocE
 }
 
 /// Appends a fraction to a text as it stands, as `13517/4096`.
-#[tactic(auto, using(pm_lines::proofs::Joins::joins))]
+#[tactic(auto, using(pm_lines::specs::Lemmas::Joins::joins))]
 pub fn push_ratio(text: &mut String, ratio: Frac) -> Result<(), AllocError>
     ensures { OnOk result (string_bytes text.new ≡ string_bytes text.old ++ ratio_text ratio) }
 {
@@ -116,7 +116,7 @@ pub fn push_ratio(text: &mut String, ratio: Frac) -> Result<(), AllocError>
 }
 
 // A voltage, and its whole microvolts.
-#[tactic(auto, using(pm_lines::proofs::Joins::joins), unfolding(crate::specs::ValueText::value_text))]
+#[tactic(auto, using(pm_lines::specs::Lemmas::Joins::joins), unfolding(crate::specs::ValueText::value_text))]
 fn push_volts(text: &mut String, ratio: Frac) -> Result<(), AllocError>
     ensures { OnOk result (string_bytes text.new ≡ string_bytes text.old ++ value_text (Value.Volts ratio)) }
 {
@@ -144,7 +144,7 @@ fn push_flags(text: &mut String, status: Status, bits: u16) -> Result<(), AllocE
 }
 
 /// Appends the names of the bits that are set to a text, with a text around each name, and one between two of them.
-#[tactic(auto, using(pm_lines::proofs::Joins::joins))]
+#[tactic(auto, using(pm_lines::specs::Lemmas::Joins::joins))]
 pub fn push_names(
     text: &mut String,
     between: &str,
@@ -167,7 +167,7 @@ pub fn push_names(
 }
 
 // Appends a name with a text around it, and another text before both.
-#[tactic(auto, using(pm_lines::proofs::Joins::joins))]
+#[tactic(auto, using(pm_lines::specs::Lemmas::Joins::joins))]
 fn push_name(text: &mut String, before: &str, around: &str, name: &str) -> Result<(), AllocError>
     ensures { OnOk result (string_bytes text.new ≡ string_bytes text.old
         ++ (before.now ++ (around.now ++ (name.now ++ around.now)))) }

@@ -30,7 +30,7 @@ pub fn reply_text(reply: &Reply) -> AnswerText
 }
 
 // Appends the words of an answer to a text that is empty.
-#[tactic(auto, using(pm_lines::proofs::Joins::joins), unfolding(crate::specs::ReplyText::reply_words))]
+#[tactic(auto, using(pm_lines::specs::Lemmas::Joins::joins), unfolding(crate::specs::ReplyText::reply_words))]
 fn push_reply(text: &mut AnswerText, reply: &Reply)
     requires { array_vec_len text.old ≡ 0 }
     ensures words { text.new.items ≡ text.old.items ++ reply_words reply.now }
@@ -66,7 +66,7 @@ fn short_words(refusal: Refusal) -> &'static str
 }
 
 // Appends what the converter answered to a frame.
-#[tactic(auto, using(pm_lines::proofs::Joins::joins))]
+#[tactic(auto, using(pm_lines::specs::Lemmas::Joins::joins))]
 fn push_heard(text: &mut AnswerText, heard: &Heard)
     requires { array_vec_len text.old ≡ 0 }
     ensures words { text.new.items ≡ text.old.items ++ heard_words heard.now }
@@ -87,7 +87,7 @@ fn push_heard(text: &mut AnswerText, heard: &Heard)
 }
 
 // Appends the letter and the name of the converter's refusal, and the frame's fault after K1.
-#[tactic(auto, using(pm_lines::proofs::Joins::joins))]
+#[tactic(auto, using(pm_lines::specs::Lemmas::Joins::joins))]
 fn push_device_fault(text: &mut AnswerText, fault: &DeviceFault)
     requires { array_vec_len text.old ≤ 8 }
     ensures words { text.new.items ≡ text.old.items ++ device_fault_text fault.now }
@@ -109,7 +109,7 @@ fn device_words(fault: DeviceFault) -> &'static str
 }
 
 // Appends the letter and the name of a frame's fault, and its place.
-#[tactic(auto, using(pm_lines::proofs::Joins::joins))]
+#[tactic(auto, using(pm_lines::specs::Lemmas::Joins::joins))]
 fn push_frame_fault(text: &mut AnswerText, fault: FrameFault)
     requires { array_vec_len text.old ≤ 41 }
     ensures words { text.new.items ≡ text.old.items ++ frame_fault_text fault }
@@ -132,7 +132,7 @@ fn frame_words(fault: FrameFault) -> &'static str
 }
 
 // Appends an output, whether it is on, and what it commands.
-#[tactic(auto, using(pm_lines::proofs::Joins::joins))]
+#[tactic(auto, using(pm_lines::specs::Lemmas::Joins::joins))]
 fn push_output(text: &mut AnswerText, output: u8, on: bool, volts: Frac)
     requires { array_vec_len text.old ≡ 0 }
     ensures words { text.new.items ≡ text.old.items
@@ -145,7 +145,7 @@ fn push_output(text: &mut AnswerText, output: u8, on: bool, volts: Frac)
 }
 
 // Appends the number of an output, and whether it is on.
-#[tactic(auto, using(pm_lines::proofs::Joins::joins), unfolding(pm_text::specs::Report::output_head, pm_text::specs::Report::on_text))]
+#[tactic(auto, using(pm_lines::specs::Lemmas::Joins::joins), unfolding(pm_text::specs::Report::output_head, pm_text::specs::Report::on_text))]
 fn push_head(text: &mut AnswerText, output: u8, on: bool)
     requires { array_vec_len text.old ≡ 0 }
     ensures words { text.new.items ≡ text.old.items ++ output_head output on }
@@ -164,7 +164,7 @@ fn push_head(text: &mut AnswerText, output: u8, on: bool)
 }
 
 // Appends a voltage: the fraction as it stands, and the whole microvolts.
-#[tactic(auto, using(pm_lines::proofs::Joins::joins), unfolding(pm_text::specs::Report::voltage_text))]
+#[tactic(auto, using(pm_lines::specs::Lemmas::Joins::joins), unfolding(pm_text::specs::Report::voltage_text))]
 fn push_volts(text: &mut AnswerText, volts: Frac)
     requires { array_vec_len text.old ≤ 32 }
     ensures words { text.new.items ≡ text.old.items ++ voltage_text volts }
@@ -179,7 +179,7 @@ fn push_volts(text: &mut AnswerText, volts: Frac)
 }
 
 // Appends the word of a cell, and the one that it has in the store, where it has one.
-#[tactic(auto, using(pm_lines::proofs::Joins::joins))]
+#[tactic(auto, using(pm_lines::specs::Lemmas::Joins::joins))]
 fn push_words(text: &mut AnswerText, cell: Cell, word: u16, stored: Option<u16>)
     requires { array_vec_len text.old ≡ 0 }
     ensures words { text.new.items ≡ text.old.items
@@ -195,7 +195,7 @@ fn push_words(text: &mut AnswerText, cell: Cell, word: u16, stored: Option<u16>)
 }
 
 // Appends the status registers of an output, and the device's.
-#[tactic(auto, using(pm_lines::proofs::Joins::joins))]
+#[tactic(auto, using(pm_lines::specs::Lemmas::Joins::joins))]
 fn push_status(text: &mut AnswerText, byte: u8, word: u16, vout: u8, cml: u8)
     requires { array_vec_len text.old ≡ 0 }
     ensures words { text.new.items ≡ text.old.items ++ (codes "status " ++ (hex_byte byte ++ (codes " " ++ (hex_word word

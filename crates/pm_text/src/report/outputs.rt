@@ -22,7 +22,7 @@ pub(crate) fn push_outputs(text: &mut String, form: Form, world: &World) -> Resu
 }
 
 // The lines of an output.
-#[tactic(auto, using(pm_lines::proofs::Joins::joins), unfolding(crate::specs::Report::output_lines))]
+#[tactic(auto, using(pm_lines::specs::Lemmas::Joins::joins), unfolding(crate::specs::Report::output_lines))]
 fn push_output(text: &mut String, form: Form, world: &World, output: u8) -> Result<(), AllocError>
     requires { output < world.now.device.config.count }
     ensures { OnOk result (string_bytes text.new
@@ -35,7 +35,7 @@ fn push_output(text: &mut String, form: Form, world: &World, output: u8) -> Resu
 }
 
 // What an output commands.
-#[tactic(auto, using(pm_lines::proofs::Joins::joins), unfolding(crate::specs::Report::commanded_line))]
+#[tactic(auto, using(pm_lines::specs::Lemmas::Joins::joins), unfolding(crate::specs::Report::commanded_line))]
 fn push_commanded(
     text: &mut String,
     output: u8,
@@ -52,7 +52,7 @@ fn push_commanded(
 }
 
 // The number of an output, and whether it is on.
-#[tactic(auto, using(pm_lines::proofs::Joins::joins), unfolding(crate::specs::Report::output_head, crate::specs::Report::on_text))]
+#[tactic(auto, using(pm_lines::specs::Lemmas::Joins::joins), unfolding(crate::specs::Report::output_head, crate::specs::Report::on_text))]
 fn push_head(text: &mut String, output: u8, is_on: bool) -> Result<(), AllocError>
     ensures { OnOk result (string_bytes text.new
         ≡ string_bytes text.old ++ output_head output is_on) }
@@ -80,7 +80,7 @@ fn push_registers(
 }
 
 // A voltage: the fraction as it stands, and the whole microvolts.
-#[tactic(auto, using(pm_lines::proofs::Joins::signed_joins), unfolding(crate::specs::Report::voltage_text))]
+#[tactic(auto, using(pm_lines::specs::Lemmas::Joins::signed_joins), unfolding(crate::specs::Report::voltage_text))]
 fn push_voltage(text: &mut String, value: Frac) -> Result<(), AllocError>
     ensures { OnOk result (string_bytes text.new
         ≡ string_bytes text.old ++ voltage_text value) }
@@ -102,7 +102,7 @@ pub fn microvolts(value: Frac) -> i128
 }
 
 // The status registers of an output.
-#[tactic(auto, using(pm_lines::proofs::Joins::joins), unfolding(crate::specs::Report::status_line))]
+#[tactic(auto, using(pm_lines::specs::Lemmas::Joins::joins), unfolding(crate::specs::Report::status_line))]
 fn push_status(text: &mut String, world: &World, output: u8) -> Result<(), AllocError>
     requires { output < world.now.device.config.count }
     ensures { OnOk result (string_bytes text.new

@@ -28,7 +28,7 @@ pub(crate) fn push_register(
 }
 
 /// Appends the line of a cell, under this name.
-#[tactic(auto, using(pm_lines::proofs::Joins::joins), unfolding(crate::specs::Report::setting_line))]
+#[tactic(auto, using(pm_lines::specs::Lemmas::Joins::joins), unfolding(crate::specs::Report::setting_line))]
 pub(crate) fn push_setting(
     text: &mut String,
     form: Form,
@@ -49,7 +49,7 @@ pub(crate) fn push_setting(
 }
 
 // What the host says of a cell, and what texts of this form tell more of it.
-#[tactic(auto, using(pm_lines::proofs::Joins::joins))]
+#[tactic(auto, using(pm_lines::specs::Lemmas::Joins::joins))]
 fn push_said(text: &mut String, form: Form, world: &World, cell: Cell) -> Result<(), AllocError>
     requires { IsCell world.now.device.config.count cell }
     ensures { OnOk result (string_bytes text.new ≡ string_bytes text.old
@@ -64,7 +64,7 @@ fn push_said(text: &mut String, form: Form, world: &World, cell: Cell) -> Result
 }
 
 // What the host says of a cell.
-#[tactic(auto, using(pm_lines::proofs::Joins::joins))]
+#[tactic(auto, using(pm_lines::specs::Lemmas::Joins::joins))]
 fn push_standing(text: &mut String, cell: Cell, standing: Standing) -> Result<(), AllocError>
     ensures { OnOk result (string_bytes text.new
         ≡ string_bytes text.old ++ standing_text cell standing) }
@@ -79,7 +79,7 @@ fn push_standing(text: &mut String, cell: Cell, standing: Standing) -> Result<()
 }
 
 // The words that a cell may hold.
-#[tactic(auto, using(pm_lines::proofs::Joins::joins))]
+#[tactic(auto, using(pm_lines::specs::Lemmas::Joins::joins))]
 fn push_possible(text: &mut String, cell: Cell, possible: Possible) -> Result<(), AllocError>
     ensures { OnOk result (string_bytes text.new
         ≡ string_bytes text.old ++ (codes " possible" ++ possible_text cell possible)) }
@@ -103,7 +103,7 @@ fn push_words(text: &mut String, cell: Cell, words: &[u16]) -> Result<(), AllocE
 }
 
 // One word, after a space.
-#[tactic(auto, using(pm_lines::proofs::Joins::joins))]
+#[tactic(auto, using(pm_lines::specs::Lemmas::Joins::joins))]
 fn push_spaced(text: &mut String, cell: Cell, word: u16) -> Result<(), AllocError>
     ensures { OnOk result (string_bytes text.new
         ≡ string_bytes text.old ++ (codes " " ++ cell_text cell word)) }

@@ -57,7 +57,7 @@ fn with_value(word: u16, value: Frac) -> Answer
 const ROOM: usize = 96;
 
 /// The line of an answer. Takes memory once.
-#[tactic(auto, using(pm_lines::proofs::Joins::signed_joins))]
+#[tactic(auto, using(pm_lines::specs::Lemmas::Joins::signed_joins))]
 pub(crate) fn line(alloc: Global, answer: &Answer) -> Result<String, AllocError>
     ensures { IfOk result (λ text. string_bytes text ≡ line_of answer.now) }
 {

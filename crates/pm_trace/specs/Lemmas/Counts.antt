@@ -61,7 +61,7 @@ found_bound es code count found = omega (arith, ap (λ number. unwrap_or number 
         by true is rest = rw is (omega arith)
         by false is rest = rw is (omega (arith, rest))
 
--- nor is the number at a place
+-- no number at a place is more than the total
 pub place_bound : (es : List (ℕ × ℕ)) (place count : ℕ) → slice_get (values_of es) place ≡ Some count → count ≤ total_of es
 place_bound [] zero count is = absurd (cc)
 place_bound [] (suc place) count is = absurd (cc)

@@ -252,7 +252,7 @@ has_slash-is line = by (list_any is_slash line) (list_any is_slash (after is_sla
     by true false = refl
     by false more = refl
 
--- and a second one likewise
+-- a second slash was seen where the line has two
 pub has_more-is : (line : List ℕ) → has_more_slashes (slashes_of line) ≡ list_any is_slash (after is_slash line)
 has_more-is line = by (list_any is_slash line) (list_any is_slash (after is_slash line)) (no_more line)
   where

@@ -29,7 +29,7 @@ ascii-all (b ∷ bs) e = go (nat_lt b 128) refl e (ascii-all bs) where
   go true below rest others = IsAscii-cons b bs (grind (arith, nat_tests, below)) (others rest)
   go false above rest others = cc
 
--- so a place within them parts two of them
+-- a place within the digits parts two of them
 boundary : (place : ℕ) → place ≤ 512 → IsCharBoundary pairs place
 boundary place h = IsCharBoundary-from_ascii pairs place (ascii-all pairs refl) h
 

@@ -44,12 +44,12 @@ hear_met : (program : Text) → subcommand_of pmb (program ∷ codes "hear" ∷ 
 unfolding clap_on_literals
 hear_met program = refl
 
--- and finds no fault
+-- the parser finds no fault in `hear` alone
 hear_passes : (program : Text) → fault_of pmb (program ∷ codes "hear" ∷ []) ≡ []
 unfolding clap_on_literals
 hear_passes program = refl
 
--- so `hear` is chosen
+-- `hear` is chosen where its rows are asked for
 hear_chosen : (rows : List Row) (chosen : Chosen) → Asks (codes "hear") rows chosen → chosen ≡ Hear
 hear_chosen rows Hear asks = refl
 hear_chosen rows Replay asks = apart 104 114 (ap first_byte asks) refl
@@ -61,12 +61,12 @@ replay_met : (program : Text) → subcommand_of pmb (program ∷ codes "replay" 
 unfolding clap_on_literals
 replay_met program = refl
 
--- and finds no fault
+-- the parser finds no fault in `replay` alone
 replay_passes : (program : Text) → fault_of pmb (program ∷ codes "replay" ∷ []) ≡ []
 unfolding clap_on_literals
 replay_passes program = refl
 
--- so `replay` is chosen
+-- `replay` is chosen where its rows are asked for
 replay_chosen : (rows : List Row) (chosen : Chosen) → Asks (codes "replay") rows chosen → chosen ≡ Replay
 replay_chosen rows Hear asks = apart 114 104 (ap first_byte asks) refl
 replay_chosen rows Replay asks = refl
@@ -78,12 +78,12 @@ decode_met : (program : Text) → subcommand_of pmb (program ∷ codes "decode" 
 unfolding clap_on_literals
 decode_met program = refl
 
--- and finds no fault
+-- the parser finds no fault in `decode` alone
 decode_passes : (program : Text) → fault_of pmb (program ∷ codes "decode" ∷ []) ≡ []
 unfolding clap_on_literals
 decode_passes program = refl
 
--- so `decode` is chosen
+-- `decode` is chosen where its rows are asked for
 decode_chosen : (rows : List Row) (chosen : Chosen) → Asks (codes "decode") rows chosen → chosen ≡ Decode
 decode_chosen rows Hear asks = apart 100 104 (ap first_byte asks) refl
 decode_chosen rows Replay asks = apart 100 114 (ap first_byte asks) refl
