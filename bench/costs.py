@@ -19,21 +19,22 @@ import tempfile
 
 import measured
 import program
+from tally import Tally
 
 BY_DRIVER, BY_PATIENT, WITHIN_LIMITS, A_WORD = 1.1, 1.05, 1.2, 100
 FORMATS = ("linear", "direct")
 
 
 def beside(name, taken, other, bound):
-    """A row of two counts. Whether the first is at most so many times the second."""
+    """A row of two counts: its name, and whether the first is at most so many times the second."""
     print(f"| {name} | {taken:.0f} | {other:.0f} | {taken / other:.3f} | {bound} |", flush=True)
-    return taken / other <= bound
+    return name, taken / other <= bound
 
 
 def a_word(name, taken):
-    """A row of a band. Whether it takes at most the bound for each listed word."""
+    """A row of a band: its name, and whether it takes at most the bound for each listed word."""
     print(f"| {name} | {taken:.1f} | | | {A_WORD} |", flush=True)
-    return taken <= A_WORD
+    return name, taken <= A_WORD
 
 
 def over_driver(driver, bands, folder):
@@ -82,8 +83,10 @@ def main():
         archive = measured.value_behind("--archive") or built(["rt", "lib", "--backend", "rattle"], "crates/pm_host_c", library)
         print("| what | instructions | beside | ratio | at most |\n|---|---|---|---|---|")
         checks = [*over_driver(driver, bands, folder), *over_pm_c(archive, folder)]
-    print(f"{sum(checks)} passed, {len(checks) - sum(checks)} failed")
-    sys.exit(0 if all(checks) else 1)
+    tally = Tally()
+    for name, is_within in checks:
+        tally.tell(name, [] if is_within else ["above its bound"])
+    sys.exit(tally.end())
 
 
 main()

@@ -14,6 +14,7 @@ import sys
 sys.dont_write_bytecode = True
 
 from program import ROOT, answer_help  # noqa: E402
+from tally import Tally  # noqa: E402
 
 WIDTHS = {"uint8_t": "u8", "int8_t": "i8", "uint16_t": "u16", "int16_t": "i16", "int64_t": "i64", "uint64_t": "u64", "char": "u8",
           "c_uint8": "u8", "c_int8": "i8", "c_uint16": "u16", "c_int16": "i16", "c_int64": "i64", "c_uint64": "u64", "c_char": "u8"}
@@ -213,16 +214,13 @@ def structs():
 
 def main():
     answer_help(__doc__)
-    passed = failed = 0
+    tally = Tally()
     for what, types, layers in [*calls(), *refusals(), *letters(), *sizes(), *structs()]:
         if not types:
             layers = {"crates": None}
         for layer, found in layers.items():
-            passed, failed = passed + (found == types), failed + (found != types)
-            if found != types:
-                print(f"{what}: {layer} has {found}, and the types {types}")
-    print(f"{passed} passed, {failed} failed")
-    return 1 if failed else 0
+            tally.tell(what, [] if found == types else [f"{layer} has {found}, and the types {types}"])
+    return tally.end()
 
 
 if __name__ == "__main__":

@@ -23,7 +23,7 @@ case ${1-} in
 esac
 folder=$(mktemp -d)
 trap 'rm -rf "$folder"' EXIT
-passed=0 failed=0
+. scripts/tally.sh
 
 # counted NAME PASSED FAILED STATUS: a part's tests; one that ends badly without a test that failed has failed once
 counted() {
@@ -37,14 +37,13 @@ counted() {
 # lacks NAME TOOL: a part that can't be tried
 lacks() {
     echo "$1: no $2 on this machine"
-    [ "${PACKAGES_REQUIRED-}" != 1 ] || failed=$((failed + 1))
+    [ "${PACKAGES_REQUIRED-}" != 1 ] || tell 1
 }
 
 ended() {
     times > "$folder/times" # (of this shell's own children: no pipe)
     awk -F'[ms ]+' 'NR == 2 {printf "%.0f processor seconds\n", $1 * 60 + $2 + $3 * 60 + $4}' "$folder/times"
-    echo "$passed passed, $failed failed"
-    [ "$failed" = 0 ]; exit
+    end_tally; exit
 }
 
 # left_by_ci NAME: the archive of a crate over the libraries that `rt ci` left, or a failure where one isn't there

@@ -30,6 +30,7 @@ import time
 from compiled import add_probe, compile_faults, uncompiled
 from crate_copy import CrateCopy, crates_below, read, taken, why_not
 from program import answer_help
+from tally import Tally
 
 # what is said of a function that only stands on one that isn't proved
 BELOW = re.compile(r": no proof: (it calls|its contract rests)")
@@ -307,12 +308,10 @@ def main():
     unknown = [crate for crate in (words if is_compile else words[:1]) if crate not in crates_below()]
     if unknown:
         sys.exit("no crate has the name %s" % ", ".join(unknown))
-    if is_compile:
-        passed, failed = compile_crates(words or crates_below(), jobs)
-    else:
-        passed, failed = try_crate(words[0], words[1:], folder, flags, jobs)
-    print("%d passed, %d failed" % (passed, failed))
-    sys.exit(1 if failed else 0)
+    tally = Tally()
+    tally.passed, tally.failed = (compile_crates(words or crates_below(), jobs) if is_compile
+                                  else try_crate(words[0], words[1:], folder, flags, jobs))
+    sys.exit(tally.end())
 
 
 if __name__ == "__main__":

@@ -23,6 +23,7 @@ from plain.converter import COMMAND, MAX, PROTECT, Converter  # noqa: E402
 from plain.host import Host  # noqa: E402
 from plain.packets import answer_shape  # noqa: E402
 from program import ROOT, seed_and_count  # noqa: E402
+from tally import Tally  # noqa: E402
 
 # What the program uses of the crates, of which each stands on others.
 USED = ("pm_driver", "pm_lines")
@@ -151,18 +152,15 @@ def main():
     if not shutil.which("rt"):
         sys.exit("no rt on the path: it builds the program that runs the plans")
     runs = list(plans(random.Random(seed), pairs))
-    found, failed = [], 0
+    found, tally = [], Tally()
     with tempfile.TemporaryDirectory(prefix="try-driver-") as folder:
         home = built(folder)
         for start in range(0, len(runs), BATCH):
             found += told(home, runs[start:start + BATCH])
     for (passes, jobs, plan), line in zip(runs, found):
         wanted = plain_line(passes, jobs, plan)
-        if line != wanted:
-            failed += 1
-            print(f"{passes} {jobs} {''.join(plan)}:{line}\n  the plain model:{wanted}")
-    print(f"{len(runs) - failed} passed, {failed} failed")
-    return 1 if failed else 0
+        tally.tell(f"{passes} {jobs} {''.join(plan)}", [] if line == wanted else [f"{line}\n  the plain model:{wanted}"])
+    return tally.end()
 
 
 if __name__ == "__main__":

@@ -24,6 +24,7 @@ from plain.packets import CODES, TABLE, length_of, name_of, pec  # noqa: E402
 from plain.part import PlainPart  # noqa: E402
 from pmhost.programs import NoAnswer, PartProgram, path_of  # noqa: E402
 from program import seed_and_count  # noqa: E402
+from tally import Tally  # noqa: E402
 
 WRITE, REQUEST = "B0 05 04 00 21 CD 34 5A", "B0 06 02 00 21 /"
 TAKEN = (WRITE, "taken")
@@ -229,8 +230,9 @@ def main():
         faults = [str(fault)]
     tried = len(STORIES) + len(ENDS) + len(SETUPS) + 6
     print("\n".join([*faults, f"{len(STORIES)} stories, {tried - len(STORIES)} ends, {wanted} lines of seed {seed}"]))
-    print(f"{tried + wanted - len(faults)} passed, {len(faults)} failed")
-    return 1 if faults else 0
+    tally = Tally()
+    tally.passed, tally.failed = tried + wanted - len(faults), len(faults)
+    return tally.end()
 
 
 if __name__ == "__main__":

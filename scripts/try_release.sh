@@ -15,7 +15,8 @@ cd "$(dirname "$0")/.."
 release=$1 root=$2
 [ -x "$root/usr/bin/dpkg" ] || { echo "try_release.sh: $root is no Debian root: --help says how one is made" >&2; exit 2; }
 [ "$(id -u)" = 0 ] || { echo "try_release.sh: be root, since it goes into the root by chroot" >&2; exit 2; }
-passed=0 failed=0 work=/tmp/pm-host-trial
+. scripts/tally.sh
+work=/tmp/pm-host-trial
 rm -rf "${root:?}$work"
 mkdir -p "$root$work"
 cp -r examples scripts python docs README.md "$root$work/"
@@ -24,9 +25,9 @@ cp "$release"/*x86_64.tar.gz "$release"/*amd64.deb "$root$work/"
 # step NAME COMMANDS: they run in the root, by a shell, with no network of their own
 step() {
     if chroot "$root" /usr/bin/env -i PATH=/usr/sbin:/usr/bin:/sbin:/bin LC_ALL=C.UTF-8 sh -ec "cd $work; $2" > "$root$work/log" 2>&1; then
-        passed=$((passed + 1)); echo "$1: ok"
+        tell 0; echo "$1: ok"
     else
-        failed=$((failed + 1)); echo "$1: FAILED"; tail -5 "$root$work/log"
+        tell 1; echo "$1: FAILED"; tail -5 "$root$work/log"
     fi
 }
 
@@ -52,5 +53,4 @@ else
 fi
 step "removed" 'dpkg -r pm-host && for each in lib/libpm_host_c.a lib/libpm_device_c.a include/pm.h include/pm_part.h bin/pmbpart; do ! test -e /usr/$each || exit 1; done'
 rm -rf "${root:?}$work"
-echo "$passed passed, $failed failed"
-[ "$failed" = 0 ]
+end_tally

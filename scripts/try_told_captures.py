@@ -19,6 +19,7 @@ import time
 sys.dont_write_bytecode = True
 
 import program  # noqa: E402
+from tally import Tally  # noqa: E402
 from told_rows import ALL, FAULTS, GROUPS, REFUSED, STATUS, STATUS_CODES, WHOLE  # noqa: E402
 
 JSON = "--json"
@@ -297,20 +298,17 @@ def main():
     engine = Plain() if "--plain" in sys.argv else Program()
     if sys.argv[1:] not in ([], ["--plain"]):
         sys.exit(__doc__.strip())
-    passed = failed = left_out = 0
+    tally, left_out = Tally(), 0
     for name, found in checks(engine):
         if found is None:
             left_out += 1
             continue
-        wrong = [*faults_of(found)]
-        print("".join(f"{name}: {it}\n" for it in wrong), end="", flush=True)
-        passed, failed = passed + (not wrong), failed + bool(wrong)
+        tally.tell(name, faults_of(found))
     if isinstance(engine, Plain):
         print("the plain model was tried: memory, pipes and streams weren't")
     if left_out:
         print(f"this decode has no {JSON}: {left_out} trials were left out")
-    print(f"{passed} passed, {failed} failed")
-    return 1 if failed else 0
+    return tally.end()
 
 
 if __name__ == "__main__":

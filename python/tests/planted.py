@@ -15,9 +15,10 @@ import tempfile
 sys.dont_write_bytecode = True
 HERE = os.path.dirname(os.path.abspath(__file__))
 ROOT = os.path.dirname(os.path.dirname(HERE))
-sys.path.insert(0, os.path.join(HERE, "data"))
+sys.path[:0] = [os.path.join(HERE, "data"), os.path.join(ROOT, "scripts")]
 
 from planted_rows import PLANTED  # noqa: E402
+from tally import Tally  # noqa: E402
 
 
 def copied(folder):
@@ -62,7 +63,7 @@ def main():
     rows = [row for row in PLANTED if not names or row[0] in names]
     if "-h" in names or "--help" in names or not rows:
         sys.exit(__doc__.strip())
-    passed = 0
+    tally = Tally()
     with tempfile.TemporaryDirectory() as folder:
         copied(folder)
         for test in sorted({row[-1] for row in rows}):
@@ -71,10 +72,10 @@ def main():
                 sys.exit(f"{test} fails with no bug: {ran.stderr.strip().splitlines()[-1]}")
         for row in rows:
             is_found, said = planted(folder, row)
-            passed += is_found
-            print(f"{row[0]}: {'found' if is_found else 'NOT FOUND'}: {row[-1]}: {said}", flush=True)
-    print(f"{passed} passed, {len(rows) - passed} failed")
-    return 0 if passed == len(rows) else 1
+            tally.tell(row[0], [] if is_found else [f"not found: {row[-1]}: {said}"])
+            if is_found:
+                print(f"{row[0]}: found: {row[-1]}: {said}", flush=True)
+    return tally.end()
 
 
 if __name__ == "__main__":

@@ -17,6 +17,10 @@ import sys
 from concurrent.futures import ThreadPoolExecutor
 
 ROOT = os.path.dirname(os.path.dirname(os.path.dirname(os.path.abspath(__file__))))
+sys.path.insert(0, os.path.join(ROOT, "scripts"))
+
+from tally import Tally  # noqa: E402
+
 COMMANDS = {"hear": "*.frames", "replay": "*.scenario", "decode": "*.trace"}
 SESSION = ["order 0 VOUT_COMMAND 34CD", "order 1 VOUT_MAX 1000", "order - WRITE_PROTECT 40", "volts 0 VOUT_COMMAND 3300000", "check 0 VOUT_COMMAND",
            "check - WRITE_PROTECT", "learn 0", "clear 1", "store", "restore", "finished ack", "finished nack", "got B1 02 CD 34 B9", "got B1 01 14 4E",
@@ -101,15 +105,13 @@ def main():
     rows = [("pmb", it) for it in examples()] + [("pmb", it) for it in texts(count)] + [("pmbhost", it) for it in sessions(lines)]
     with ThreadPoolExecutor(os.cpu_count()) as pool:
         ends = list(pool.map(lambda row: same(both[row[0]], row[1][1], row[1][2]), rows))
-    kinds = {}
+    kinds, tally = {}, Tally()
     for (_, (kind, words, _)), is_same in zip(rows, ends):
         kinds.setdefault(kind, []).append(is_same)
-        if not is_same:
-            print(f"{kind}: differs: {' '.join(words)}")
+        tally.tell(kind, [] if is_same else [f"differs: {' '.join(words)}"])
     for kind, found in kinds.items():
         print(f"{kind}: {sum(found)} of {len(found)} the same")
-    print(f"{sum(ends)} passed, {len(ends) - sum(ends)} failed")
-    sys.exit(not all(ends))
+    sys.exit(tally.end())
 
 
 main()

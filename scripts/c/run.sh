@@ -42,14 +42,14 @@ if [ -z "$built" ]; then
 fi
 archives=("$built/libpm_host_c.a" "$built/libpm_device_c.a") llvm=()
 [ -f "$built/llvm_pm_c.a" ] && [ -f "$built/llvm_pm_part.a" ] && llvm=("$built/llvm_pm_c.a" "$built/llvm_pm_part.a")
-passed=0 failed=0
+. scripts/tally.sh
 
 # told NAME STATUS: the line of a program, whose output is in $folder/out and wanted in $folder/wanted
 told() {
     if [ "$2" = 0 ] && cmp -s "$folder/wanted" "$folder/out"; then
-        passed=$((passed + 1)); echo "$1: ok"
+        tell 0; echo "$1: ok"
     else
-        failed=$((failed + 1)); echo "$1: FAILED (status $2)"; head -5 "$folder/log" "$folder/out"
+        tell 1; echo "$1: FAILED (status $2)"; head -5 "$folder/log" "$folder/out"
     fi
 }
 
@@ -60,9 +60,9 @@ bound() {
     needed=$(readelf -p .comment "$1" | grep -o 'stack-bytes=[0-9]*' | cut -d= -f2)
     promised=$(sed -n "s/^#define $most \([0-9]*\)$/\1/p" crates/pm_host_c/include/pm.h crates/pm_device_c/include/pm_part.h)
     if [ "${needed:-none}" != none ] && [ "$needed" -le "$promised" ]; then
-        passed=$((passed + 1)); echo "$(basename "$1") stack: ok, $needed of $most, $promised"
+        tell 0; echo "$(basename "$1") stack: ok, $needed of $most, $promised"
     else
-        failed=$((failed + 1)); echo "$(basename "$1") stack: FAILED, ${needed:-no stack-bytes} of $most, $promised"
+        tell 1; echo "$(basename "$1") stack: FAILED, ${needed:-no stack-bytes} of $most, $promised"
     fi
 }
 
@@ -149,9 +149,9 @@ rows() {
         ended=$?
         cat "$folder/log" >> "$folder/out"
         if [ "$ended" = "$status" ] && cmp -s "$folder/wanted" "$folder/out"; then
-            passed=$((passed + 1))
+            tell 0
         else
-            failed=$((failed + 1)); echo "$1, $arguments with '$mishaps': FAILED (status $ended)"; cat "$folder/out"
+            tell 1; echo "$1, $arguments with '$mishaps': FAILED (status $ended)"; cat "$folder/out"
         fi
     done
     echo "$1: $row rows"
@@ -223,9 +223,9 @@ int main(void) {' row=0
         if $2 $headers -Werror=unused-result -c "$folder/asks.c" -o "$folder/object" > "$folder/log" 2>&1 &&
             ! $2 $headers -Werror=unused-result -c "$folder/drops.c" -o "$folder/object" > "$folder/log" 2>&1 &&
             grep -q 'unused-result' "$folder/log"; then
-            passed=$((passed + 1))
+            tell 0
         else
-            failed=$((failed + 1)); echo "$1, a dropped ${call%%(*}: FAILED, no warning"; cat "$folder/log"
+            tell 1; echo "$1, a dropped ${call%%(*}: FAILED, no warning"; cat "$folder/log"
         fi
     done < <(asked_calls)
     echo "$1, dropped answers: $row rows"
@@ -304,8 +304,7 @@ for each in $compilers; do
     done
 done
 if [ -n "$only_gcc" ]; then
-    echo "$passed passed, $failed failed"
-    [ "$failed" = 0 ]; exit
+    end_tally; exit
 fi
 
 # installed NAME WANTED SOURCE WORDS ..: a program over what scripts/install.sh installs, found by pkg-config
@@ -367,5 +366,4 @@ if command -v python3 > /dev/null && python3 -c 'import venv, ensurepip' 2> /dev
 else
     echo "python3 with venv: not on this machine"
 fi
-echo "$passed passed, $failed failed"
-[ "$failed" = 0 ]
+end_tally

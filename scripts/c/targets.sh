@@ -237,6 +237,6 @@ for each in $names; do
 done
 echo "x86-64, the last of $seeds seeds: $(tail -1 "$folder/same.wanted")"
 table
+. scripts/tally.sh
 passed=$(cat "$folder"/*.said | grep -c ': ok$') failed=$(cat "$folder"/*.said | grep -c ': FAILED')
-echo "$passed passed, $failed failed"
-[ "$failed" = 0 ]
+end_tally

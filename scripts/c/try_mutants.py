@@ -16,6 +16,10 @@ import tempfile
 
 sys.dont_write_bytecode = True
 ROOT = os.path.dirname(os.path.dirname(os.path.dirname(os.path.abspath(__file__))))
+sys.path.insert(0, os.path.join(ROOT, "scripts"))
+
+from tally import Tally  # noqa: E402
+
 HEADER, BUS = "crates/pm_host_c/include/pm.h", "examples/c/i2c_dev.c"
 HOST, NUMBER, PART, DONE = (f"rust/src/{name}.rs" for name in ("host", "number", "part", "done"))
 WRITE, COUNT = "write(context, frame.bytes, frame.length) == PM_ACKED", "came == 0 || came > room ? 0 : came + 1"
@@ -186,16 +190,16 @@ def main():
     if words[:1] != ["--built"] or len(words) < 2 or not os.path.isfile(os.path.join(words[1], "libpm_host_c.a")):
         print("try_mutants.py: give --built FOLDER, one with libpm_host_c.a and libpm_device_c.a", file=sys.stderr)
         return 2
-    noticed = missed = 0
+    tally = Tally()
     with tempfile.TemporaryDirectory() as folder:
         for name, test, ask in mutants(Copy(folder, os.path.abspath(words[1]))):
             if words[2:] and not any(word in name for word in words[2:]):
                 continue
             wrong = ask()
-            noticed, missed = noticed + (not wrong), missed + bool(wrong)
-            print(f"{name}: {wrong or f'noticed by {test}'}", flush=True)
-    print(f"{noticed} passed, {missed} failed")
-    return int(missed > 0)
+            tally.tell(name, [wrong] if wrong else [])
+            if not wrong:
+                print(f"{name}: noticed by {test}", flush=True)
+    return tally.end()
 
 
 if __name__ == "__main__":

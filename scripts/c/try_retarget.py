@@ -3,11 +3,14 @@
 
     scripts/c/try_retarget.py
 """
+import os
 import sys
 
 sys.dont_write_bytecode = True
+sys.path.insert(1, os.path.dirname(os.path.dirname(os.path.abspath(__file__))))
 
 from retarget import Refused, processor, rewritten  # noqa: E402
+from tally import Tally  # noqa: E402
 
 LIKE = 'target datalayout = "e-m:e-p:32:32-i64:64-v128:64:128-a:0:32-n32-S64"\ntarget triple = "thumbv7em-none-unknown-eabi"\n'
 MODULE = '''; ModuleID = 'module.bc'
@@ -119,26 +122,19 @@ def main():
     if {"-h", "--help"} & set(sys.argv):
         print(__doc__.strip())
         return 0
-    failed, text = [], rewritten(MODULE, processor(LIKE), 4)
+    tally, text = Tally(), rewritten(MODULE, processor(LIKE), 4)
     for what, wanted in REWRITTEN:
-        if text.count(wanted) != 1:
-            failed.append(what)
+        tally.tell(what, [] if text.count(wanted) == 1 else [f"{text.count(wanted)} times"])
     kept = rewritten(MODULE, processor(LIKE), 8)
     for wanted in ("%r1 = load { i8, ptr }, ptr %a0, align 8", "ptrtoaddr", "sdiv i128 %r3, %r4", "alloca ptr, align 8", "zeroext i8 @pm_pec"):
-        if wanted not in kept:
-            failed.append(f"with pointers of 8 bytes: {wanted}")
+        tally.tell(f"with pointers of 8 bytes, {wanted}", [] if wanted in kept else ["isn't there"])
     for old, new, wanted in REFUSED:
         found = refusal(MODULE.replace(old, new, 1), LIKE)
-        if old not in MODULE or wanted not in found:
-            failed.append(f"{new}: {found}")
+        tally.tell(new, [] if old in MODULE and wanted in found else [found])
     for like, wanted in ((LIKE.replace('"e-', '"E-'), "the processor has the high byte first"), ("", "the module that is to be like has no layout or no triple")):
-        if wanted not in refusal(MODULE, like):
-            failed.append(wanted)
-    for each in failed:
-        print(f"FAILED: {each}")
-    count = len(REWRITTEN) + 5 + len(REFUSED) + 2
-    print(f"{count - len(failed)} passed, {len(failed)} failed")
-    return 1 if failed else 0
+        found = refusal(MODULE, like)
+        tally.tell(wanted, [] if wanted in found else [found])
+    return tally.end()
 
 
 sys.exit(main())

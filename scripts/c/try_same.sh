@@ -17,7 +17,7 @@ kit=$(dirname "$(dirname "$(realpath "$(command -v rt)")")")
 clang=$kit/toolchain/bin/clang
 folder=$(mktemp -d)
 trap 'rm -rf "$folder"' EXIT
-passed=0 failed=0
+. scripts/tally.sh
 
 # line NAME PLANTED: what same.c says of the library with a bug in it
 line() {
@@ -43,7 +43,7 @@ line() {
 
 # says NAME PLANTED WHETHER: counts one row, which is right where WHETHER is 0
 says() {
-    if [ "$3" = 0 ]; then passed=$((passed + 1)); echo "$1 $2: ok"; else failed=$((failed + 1)); echo "$1 $2: FAILED"; fi
+    if [ "$3" = 0 ]; then tell 0; echo "$1 $2: ok"; else tell 1; echo "$1 $2: FAILED"; fi
 }
 
 # part NAME: the archive of the part, in which nothing is planted
@@ -63,7 +63,7 @@ wanted=$("$folder/wanted.run")
 for name in cortex-m4 rv32imac; do
     lacking=$(lacks "$name")
     if [ -n "$lacking" ]; then echo "$name: not on this machine: $lacking"; continue; fi
-    part $name || { echo "$name: FAILED, the part isn't built"; failed=$((failed + 1)); continue; }
+    part $name || { echo "$name: FAILED, the part isn't built"; tell 1; continue; }
     [ "$(line $name nothing)" = "$wanted" ]; says $name nothing $?
     for planted in struct count; do
         found=$(line $name $planted)
@@ -72,5 +72,4 @@ for name in cortex-m4 rv32imac; do
     line $name twice | grep -q ', 0 not widened$'; says $name "twice, widened" $?
     line $name twice-narrow | grep -q ', [1-9][0-9]* not widened$'; says $name "twice, not widened" $?
 done
-echo "$passed passed, $failed failed"
-[ "$failed" = 0 ]
+end_tally

@@ -44,14 +44,13 @@ gcc -I"$root/crates/pm_host_c/include" "$work/program/tree/examples/c/i2c_dev.c"
 CACHE=$work/cache tried program programs 0
 names="$names program"
 wait
-passed=0 failed=0
+. "$here/../tally.sh"
 for name in $names; do
     if grep -qE ' passed, [1-9][0-9]* failed$' "$work/$name/guest/said" 2> /dev/null; then
-        passed=$((passed + 1)); echo "$name: found"
+        tell 0; echo "$name: found"
         sed "s/^/    /; s/\(.\{150\}\).*/\1 ../" "$work/$name/guest/said"
     else
-        failed=$((failed + 1)); echo "$name: NOT FOUND"; tail -5 "$work/$name/boot" "$work/$name/guest/said"
+        tell 1; echo "$name: NOT FOUND"; tail -5 "$work/$name/boot" "$work/$name/guest/said"
     fi
 done
-echo "$passed passed, $failed failed"
-[ "$failed" = 0 ]
+end_tally

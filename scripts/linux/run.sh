@@ -49,7 +49,7 @@ for kind in $kinds; do
 done
 wait
 python3 "$here/waveform.py" "$work/captures5" > "$work/waveform" 2>&1
-passed=0 failed=0
+. "$here/../tally.sh"
 # count NAME FILE: what a trial said, and its last line's numbers.
 count() {
     local last
@@ -65,5 +65,4 @@ for name in "${names[@]}"; do count "$name" "$work/$name/said"; done
 if command -v sigrok-cli > /dev/null; then count waveform "$work/waveform"; else cat "$work/waveform"; fi
 [ -z "${KEEP-}" ] || cp -r "$work" "$KEEP"
 echo "$(($(date +%s) - began)) s, $at_once guests at once"
-echo "$passed passed, $failed failed"
-[ "$failed" = 0 ]
+end_tally

@@ -6,6 +6,7 @@ import subprocess
 
 from guest_bus import Bench
 from kernel_driver import PER_VOLT, Driver
+from tally import Tally
 
 BOARD = "/run/board"
 
@@ -41,5 +42,6 @@ def main(words):
     held = outputs()
     said = shown(f"cat {BOARD}/set0")
     is_seen = held[1] == 3 * PER_VOLT and held[0] != 3 * PER_VOLT and said == "3000000\n"
-    print("1 passed, 0 failed" if is_seen else "0 passed, 1 failed")
-    return 0 if is_seen else 1
+    tally = Tally()
+    tally.tell("a word on the wrong output", [] if is_seen else [f"{held} are held, and it says {said!r}"])
+    return tally.end()

@@ -41,7 +41,7 @@ for each in limit regulator polled ours sharpest; do
     [ "$(cat "$work/$each/ended" 2> /dev/null)" = "status 0" ] || why $each
 done
 sed 's/^/not as before: /' <(grep -vxFf <(sed 's/^bus\.py, /pmhost, /' "$here/results/two_hosts.txt") "$work/table") | tee "$work/others"
+. "$here/../tally.sh"
 failed=$(wc -l < "$work/others") passed=$(wc -l < "$work/table")
 passed=$((passed - failed))
-echo "$passed passed, $failed failed"
-[ "$failed" = 0 ]
+end_tally

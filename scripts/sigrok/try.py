@@ -29,6 +29,7 @@ from plain import draw_captures  # noqa: E402
 from plain.trace import parts_of  # noqa: E402
 from pmhost.capture import trace  # noqa: E402
 from pmhost.capture.vcd import waveform  # noqa: E402
+from tally import Tally  # noqa: E402
 from try_told_captures import Plain, Program, traces, wanted_of  # noqa: E402
 
 CAPTURES = os.path.join(program.ROOT, "python/tests/data/captures")
@@ -216,15 +217,12 @@ def main():
     if len(words) > 2 or not all(re.fullmatch("[0-9]{1,9}", word) for word in words):
         sys.exit(__doc__.strip())
     seed, texts = [*map(int, words), *[1, 60][len(words):]]
-    engine, passed, failed = Plain() if "--plain" in sys.argv else Program(), 0, 0
+    engine, tally = Plain() if "--plain" in sys.argv else Program(), Tally()
     for name, found in checks(engine, seed, texts):
-        wrong = [*found]
-        print("".join(f"{name}: {it}\n" for it in wrong), end="", flush=True)
-        passed, failed = passed + (not wrong), failed + bool(wrong)
+        tally.tell(name, found)
     if not shutil.which("sigrok-cli"):
         print("no sigrok-cli here: the waveforms weren't decoded")
-    print(f"{passed} passed, {failed} failed")
-    return 1 if failed else 0
+    return tally.end()
 
 
 if __name__ == "__main__":

@@ -12,14 +12,14 @@ folder=$(realpath "$1")
 cd "$(dirname "$0")"
 work=$(mktemp -d)
 trap 'rm -rf "$work"; [ -z "${server-}" ] || kill "$server" 2> /dev/null' EXIT
-passed=0 failed=0
+. ../tally.sh
 if command -v node > /dev/null; then
     node --no-warnings --experimental-wasm-memory64 rows.mjs "$folder" > "$work/rows" 2> "$work/log"
     grep -v ' passed, ' "$work/rows"
     if tail -1 "$work/rows" | grep -qx '[0-9]* passed, [0-9]* failed'; then
         read -r passed _ failed _ <<< "$(tail -1 "$work/rows" | tr -d ,)"
     else
-        failed=$((failed + 1)); echo "the rows under node end before their last line:"; grep -m 1 'Error' "$work/log"
+        tell 1; echo "the rows under node end before their last line:"; grep -m 1 'Error' "$work/log"
     fi
 else
     echo "node: not on this machine: nodejs"
@@ -33,17 +33,16 @@ if [ -n "$browser" ] && command -v python3 > /dev/null; then
     timeout 60 "$browser" --headless --no-sandbox --disable-gpu --virtual-time-budget=5000 --dump-dom "$page/index.html" \
         > "$work/page" 2> "$work/log"
     if grep -q 'data-shown="done false true true"' "$work/page"; then
-        passed=$((passed + 1))
+        tell 0
     else
-        failed=$((failed + 1)); echo "the page doesn't show its first example:"; tail -3 "$work/log"
+        tell 1; echo "the page doesn't show its first example:"; tail -3 "$work/log"
     fi
     if grep -q '<div class="verdict bad">It says: success. 3.3 V reached output 0.' "$work/page"; then
-        passed=$((passed + 1))
+        tell 0
     else
-        failed=$((failed + 1)); echo "the page doesn't say what went wrong"
+        tell 1; echo "the page doesn't say what went wrong"
     fi
 else
     echo "a browser: not on this machine: chromium"
 fi
-echo "$passed passed, $failed failed"
-[ "$failed" = 0 ]
+end_tally

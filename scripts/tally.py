@@ -1,4 +1,4 @@
-"""How many runs of a trial passed."""
+"""How many runs of a trial passed: what each trial of this folder that is run by hand counts by, and its last line."""
 
 
 class Tally:
