@@ -230,8 +230,10 @@ def not_told(arguments: argparse.Namespace, part: Pmbus, why: str) -> Answer:
 def is_accepted(arguments: argparse.Namespace, part: Pmbus, register: str, wanted: int | None, held: tuple[int, ...] | None,
                 word: int | None) -> bool:
     """Whether the part made a word of the ordered one that is near enough: it wasn't possible before, and lies within the limits."""
+    if wanted is None or word is None or held is None or word in held:
+        return False
     form = part.host.format(arguments.output)
-    if form is None or wanted is None or word is None or held is None or word in held:
+    if form is None:
         return False
     try:
         part.host.copy().order(arguments.output, register, word)
