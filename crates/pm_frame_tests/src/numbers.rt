@@ -1,5 +1,6 @@
 //! The formats of numbers at known words and numbers.
 
+mod bounds;
 mod example;
 mod search;
 

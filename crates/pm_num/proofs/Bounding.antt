@@ -1,9 +1,12 @@
 -- Rounding down and up of a number beyond the range: what is found for the nearer end is found for the number.
-use Rattle.std.proofs.Common.{◌≡◌, ℕ, ◌<◌, ◌^◌, ⊎_elim, subst, sym, arith}
+use Rattle.std.proofs.Common.{◌≡◌, ℕ, ◌*◌, ◌<◌, ◌≤◌, ◌^◌, ⊎_elim, ap, subst, sym, arith}
+use Rattle.std.proofs.Math.Nat.{le_of_mul-le-mul_right}
 use Rattle.std.proofs.lemmas.Int.{ints}
 use Rattle.pm_num.specs.Bounds.{IsAtMost, IsAtLeast}
-use Rattle.pm_num.specs.Ratio.{Ratio, AtMost, IsBetween}
+use Rattle.pm_num.specs.Nearest.{gap, IsNearest, IsValue}
+use Rattle.pm_num.specs.Ratio.{Ratio, AtMost, SameValue, IsBetween}
 use Rattle.pm_num.specs.Steps.{IsCapped, IsRaised}
+use Rattle.pm_num.specs.Lemmas.OneWord.{at_most_both}
 use Rattle.pm_num.specs.Lemmas.Over.{at_most-trans}
 
 -- Every word's value lies between these two.
@@ -55,3 +58,75 @@ capped_along {x} {y} l m g k e f h =
 pub raised_along : {x y : Ratio} (l m g k : Ratio) → l ≡ m → g ≡ k → IsRaised l g x y → IsRaised m k x y
 raised_along {x} {y} l m g k e f h =
     subst (λ (v : Ratio). IsRaised v k x y) e (subst (λ (v : Ratio). IsRaised l v x y) f h)
+
+-- A word that ranks first among those of its value is the nearest word for each number of that value.
+nearest_for_same : {value : ℕ → Ratio} {rank : ℕ → ℕ} (x : Ratio) (w : ℕ) → w < 2 ^ 16 → 0 < x.den → 0 < (value w).den
+    → SameValue (value w) x → ((u : ℕ) → u < 2 ^ 16 → SameValue (value u) (value w) → rank w ≤ rank u) → IsNearest value rank x w
+nearest_for_same {value} {rank} x w word den own same spelling =
+    let none : gap x (value w) ≡ 0 = omega (arith, ints) in
+    record {
+      word = word;
+      nearest = λ u h. let e = ap (λ (n : ℕ). n * (value u).den) none in omega arith;
+      lowest = λ u h near.
+          let e = ap (λ (n : ℕ). n * (value u).den) none in
+          let f : gap x (value u) * (value w).den ≤ 0 * (value w).den = omega arith in
+          let g : gap x (value u) ≤ 0 = le_of_mul-le-mul_right f own in
+          at_most-trans (value w) x (value u) den (omega (arith, ints)) (omega (arith, ints));
+      spelling = spelling;
+    }
+
+-- The word for a number rounded down is the one that is sent for its own value,
+pub nearest-at_most : {value : ℕ → Ratio} {rank : ℕ → ℕ} {x : Ratio} {w : ℕ} → 0 < (value w).den → IsAtMost value rank x w
+    → IsNearest value rank (value w) w
+nearest-at_most {value} {rank} {x} {w} den is = nearest_for_same (value w) w is.word den den (omega (arith, ints)) is.spelling
+
+-- so is that for a number rounded up,
+pub nearest-at_least : {value : ℕ → Ratio} {rank : ℕ → ℕ} {x : Ratio} {w : ℕ} → 0 < (value w).den → IsAtLeast value rank x w
+    → IsNearest value rank (value w) w
+nearest-at_least {value} {rank} {x} {w} den is = nearest_for_same (value w) w is.word den den (omega (arith, ints)) is.spelling
+
+-- and of two of them each is the nearest word for the value of the first.
+pub nearest-at_most_both : {value : ℕ → Ratio} {rank : ℕ → ℕ} {x : Ratio} {u w : ℕ} → 0 < (value u).den → 0 < (value w).den
+    → IsAtMost value rank x u → IsAtMost value rank x w → IsNearest value rank (value u) w
+nearest-at_most_both {value} {rank} {x} {u} {w} den own first second =
+    let p = first.greatest w second.word second.reached in
+    let q = second.greatest u first.word first.reached in
+    nearest_for_same (value u) w second.word den own (at_most_both (value w) (value u) p q) second.spelling
+
+-- Rounded up it is so too.
+pub nearest-at_least_both : {value : ℕ → Ratio} {rank : ℕ → ℕ} {x : Ratio} {u w : ℕ} → 0 < (value u).den → 0 < (value w).den
+    → IsAtLeast value rank x u → IsAtLeast value rank x w → IsNearest value rank (value u) w
+nearest-at_least_both {value} {rank} {x} {u} {w} den own first second =
+    let p = first.least w second.word second.reached in
+    let q = second.least u first.word first.reached in
+    nearest_for_same (value u) w second.word den own (at_most_both (value w) (value u) q p) second.spelling
+
+-- At and beyond the greatest value the word rounded down has that value,
+pub end-at_most : {value : ℕ → Ratio} {rank : ℕ → ℕ} {lowest highest x : Ratio} {w : ℕ} → AllBetween value lowest highest
+    → IsValue value highest → AtMost highest x → IsAtMost value rank x w → SameValue (value w) highest
+end-at_most {value} {rank} {highest = highest} {x = x} {w = w} between met beyond is =
+    let at = subst (λ (v : Ratio). AtMost v x) (sym met.2) beyond in
+    let reached = subst (λ (v : Ratio). AtMost v (value w)) met.2 (is.greatest met.0 met.1 at) in
+    at_most_both (value w) highest (between w is.word).to_greatest reached
+
+-- and at and beyond the least the word rounded up has that.
+pub end-at_least : {value : ℕ → Ratio} {rank : ℕ → ℕ} {lowest highest x : Ratio} {w : ℕ} → AllBetween value lowest highest
+    → IsValue value lowest → AtMost x lowest → IsAtLeast value rank x w → SameValue (value w) lowest
+end-at_least {value} {rank} {lowest = lowest} {x = x} {w = w} between met beyond is =
+    let at = subst (λ (v : Ratio). AtMost x v) (sym met.2) beyond in
+    let reached = subst (λ (v : Ratio). AtMost (value w) v) met.2 (is.least met.0 met.1 at) in
+    at_most_both (value w) lowest reached (between w is.word).from_least
+
+-- Where a word has the number's value, so has the word rounded down,
+pub hit-at_most : {value : ℕ → Ratio} {rank : ℕ → ℕ} {x : Ratio} {u w : ℕ} → u < 2 ^ 16 → 0 < (value u).den → SameValue (value u) x
+    → IsAtMost value rank x w → SameValue (value w) x
+hit-at_most {value} {rank} {x} {u} {w} word den same is =
+    let up = is.greatest u word (omega (arith, ints)) in
+    at_most_both (value w) x is.reached (at_most-trans x (value u) (value w) den (omega (arith, ints)) up)
+
+-- and the word rounded up.
+pub hit-at_least : {value : ℕ → Ratio} {rank : ℕ → ℕ} {x : Ratio} {u w : ℕ} → u < 2 ^ 16 → 0 < (value u).den → SameValue (value u) x
+    → IsAtLeast value rank x w → SameValue (value w) x
+hit-at_least {value} {rank} {x} {u} {w} word den same is =
+    let down = is.least u word (omega (arith, ints)) in
+    at_most_both (value w) x (at_most-trans (value w) (value u) x den down (omega (arith, ints))) is.reached

@@ -1,5 +1,4 @@
 pub mod Bounding
-pub mod Compared
 pub mod Rounding
 pub mod SlopePlaces
 pub mod Spaced

@@ -7,6 +7,7 @@ use Rattle.pm_num.specs.declared.fault.NumFault.{NumFault}
 use Rattle.pm_num.specs.declared.fault.NumFault.TheVariants.{BelowLeast, AboveGreatest}
 use Rattle.pm_num.specs.declared.ulinear16.Ulinear16.{Ulinear16}
 use Rattle.pm_num.specs.AnyFormat.{InUlinear16, InDirect, shape_of}
+use Rattle.pm_num.specs.Bounds.{IsAtMost, IsAtLeast}
 use Rattle.pm_num.specs.Nearest.{IsNearest, IsOutside, Near}
 use Rattle.pm_num.specs.NearestWord.{nearest_word}
 use Rattle.pm_num.specs.Parameters.{HasExponent, HasCoefficients}
@@ -47,3 +48,15 @@ pub record NearestWordsHold (value : ℕ → Ratio) (rank : ℕ → ℕ) : Type 
       AtMost (value w) (value u)
   -- it is the one that is found among all words
   pub found : (x : Ratio) (w : ℕ) → IsNearest value rank x w → nearest_word value rank x ≡ Some w
+
+-- what the words of bounds are: rounded down and up there is one word at most, the one that is sent for its own value; at and
+-- beyond an end of the range its value is that end; and where a word has the number's value, so has its word
+pub record BoundsHold (value : ℕ → Ratio) (rank : ℕ → ℕ) (lowest highest : Ratio) : Type 0 where
+  pub one_down : (x : Ratio) (u w : ℕ) → IsAtMost value rank x u → IsAtMost value rank x w → u ≡ w
+  pub one_up : (x : Ratio) (u w : ℕ) → IsAtLeast value rank x u → IsAtLeast value rank x w → u ≡ w
+  pub own_down : (x : Ratio) (w : ℕ) → IsAtMost value rank x w → IsNearest value rank (value w) w
+  pub own_up : (x : Ratio) (w : ℕ) → IsAtLeast value rank x w → IsNearest value rank (value w) w
+  pub end_down : (x : Ratio) (w : ℕ) → AtMost highest x → IsAtMost value rank x w → SameValue (value w) highest
+  pub end_up : (x : Ratio) (w : ℕ) → AtMost x lowest → IsAtLeast value rank x w → SameValue (value w) lowest
+  pub hit_down : (x : Ratio) (u w : ℕ) → u < 2 ^ 16 → SameValue (value u) x → IsAtMost value rank x w → SameValue (value w) x
+  pub hit_up : (x : Ratio) (u w : ℕ) → u < 2 ^ 16 → SameValue (value u) x → IsAtLeast value rank x w → SameValue (value w) x

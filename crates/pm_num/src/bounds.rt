@@ -35,8 +35,7 @@ pub fn at_most<F: BoundFormat>(format: &F, microvolts: i64) -> Result<u16, NumFa
     ensures word { IfOk result (IsAtMost (F.value format.now) (F.rank format.now) (micros microvolts)) }
     ensures fault { result_err result ≡ at_most_fault (F.lowest format.now) microvolts }
 {
-    let x = micro(microvolts)?;
-    format.round_down(x)
+    format.round_down(micro(microvolts)?)
 }
 
 /// The word of the least value that is not below this number of microvolts. N5
@@ -47,6 +46,5 @@ pub fn at_least<F: BoundFormat>(format: &F, microvolts: i64) -> Result<u16, NumF
     ensures word { IfOk result (IsAtLeast (F.value format.now) (F.rank format.now) (micros microvolts)) }
     ensures fault { result_err result ≡ at_least_fault (F.highest format.now) microvolts }
 {
-    let x = micro(microvolts)?;
-    format.round_up(x)
+    format.round_up(micro(microvolts)?)
 }

@@ -1,11 +1,12 @@
 //! What the numeric formats have in common.
-ghost use Rattle.std.specs.Prelude.{◌≡◌, ℕ, ◌^◌, ◌<◌, ◌↔◌, IsOk, IfOk, IfErr, Some};
-ghost use Rattle.pm_num.specs.Ratio.{Ratio, AtMost, SameValue, IsBetween};
+ghost use Rattle.std.specs.Prelude.{◌≡◌, ℕ, ◌^◌, ◌<◌, ◌↔◌, IsOk, OnOk, IfOk, IfErr, Some};
+ghost use Rattle.pm_num.specs.Ratio.{Ratio, AtMost, LessThan, SameValue, IsBetween};
 ghost use Rattle.pm_num.specs.Nearest.{IsNearest, IsOutside, IsValue, Near};
 ghost use Rattle.pm_num.specs.NearestWord.{nearest_word};
 ghost use Rattle.std.specs.Result.{result_err};
 ghost use Rattle.pm_num.specs.Bounds.{below_fault, above_fault};
 ghost use Rattle.pm_num.specs.Steps.{IsCapped, IsRaised};
+ghost use Rattle.pm_num.specs.declared.fault.NumFault.TheVariants.{BelowLeast, AboveGreatest};
 
 use crate::fault::NumFault;
 use crate::frac::Frac;
@@ -35,41 +36,62 @@ pub(crate) fn in_range(x: &Frac, least: &Frac, greatest: &Frac) -> Result<(), Nu
     ensures inside { IsOk result ↔ IsBetween least.now greatest.now x.now }
     ensures refused { IfErr result (IsOutside least.now greatest.now x.now) }
 {
-    if x.cmp_value(least) == Ordering::Less {
-        return Err(NumFault::BelowLeast);
+    match not_below(x, least) {
+        Ok(()) => not_above(x, greatest),
+        Err(fault) => Err(fault),
     }
-    if x.cmp_value(greatest) == Ordering::Greater {
-        return Err(NumFault::AboveGreatest);
-    }
-    Ok(())
 }
 
-/// `x`, or `greatest` where `x` lies above it. N3 [`NumFault::BelowLeast`] where it lies below `least`.
+/// `x`, or `greatest` where `x` lies above it. N3 where it lies below `least`.
 pub(crate) fn capped(x: Frac, least: &Frac, greatest: &Frac) -> Result<Frac, NumFault>
     requires { AtMost least.now greatest.now }
     ensures fault { result_err result ≡ below_fault least.now x }
     ensures capped { IfOk result (IsCapped least.now greatest.now x) }
 {
-    if x.cmp_value(least) == Ordering::Less {
-        return Err(NumFault::BelowLeast);
+    match not_below(&x, least) {
+        Ok(()) => match not_above(&x, greatest) {
+            Ok(()) => Ok(x),
+            Err(_) => Ok(*greatest),
+        },
+        Err(fault) => Err(fault),
     }
-    if x.cmp_value(greatest) == Ordering::Greater {
-        return Ok(*greatest);
-    }
-    Ok(x)
 }
 
-/// `x`, or `least` where `x` lies below it. N4 [`NumFault::AboveGreatest`] where it lies above `greatest`.
+/// `x`, or `least` where `x` lies below it. N4 where it lies above `greatest`.
 pub(crate) fn raised(x: Frac, least: &Frac, greatest: &Frac) -> Result<Frac, NumFault>
     requires { AtMost least.now greatest.now }
     ensures fault { result_err result ≡ above_fault greatest.now x }
     ensures raised { IfOk result (IsRaised least.now greatest.now x) }
 {
+    match not_above(&x, greatest) {
+        Ok(()) => match not_below(&x, least) {
+            Ok(()) => Ok(x),
+            Err(_) => Ok(*least),
+        },
+        Err(fault) => Err(fault),
+    }
+}
+
+// N3 [`NumFault::BelowLeast`] where `x` lies below `least`.
+fn not_below(x: &Frac, least: &Frac) -> Result<(), NumFault>
+    ensures fault { result_err result ≡ below_fault least.now x.now }
+    ensures inside { OnOk result (AtMost least.now x.now) }
+    ensures refused { IfErr result (λ fault. (fault ≡ BelowLeast) × LessThan x.now least.now) }
+{
+    if x.cmp_value(least) == Ordering::Less {
+        return Err(NumFault::BelowLeast);
+    }
+    Ok(())
+}
+
+// N4 [`NumFault::AboveGreatest`] where `x` lies above `greatest`.
+fn not_above(x: &Frac, greatest: &Frac) -> Result<(), NumFault>
+    ensures fault { result_err result ≡ above_fault greatest.now x.now }
+    ensures inside { OnOk result (AtMost x.now greatest.now) }
+    ensures refused { IfErr result (λ fault. (fault ≡ AboveGreatest) × LessThan greatest.now x.now) }
+{
     if x.cmp_value(greatest) == Ordering::Greater {
         return Err(NumFault::AboveGreatest);
     }
-    if x.cmp_value(least) == Ordering::Less {
-        return Ok(*least);
-    }
-    Ok(x)
+    Ok(())
 }

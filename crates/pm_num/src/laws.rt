@@ -1,7 +1,7 @@
 //! Laws over the definitions alone: each is the contract of a function with an empty body, and what
 //! it says stands in the definitions, under its name.
 
-ghost use Rattle.pm_num.specs.Laws.{RefusalsTellTheSide, ParametersAreTheShape, FoundWordsAreNearest, NearestWordsHold};
+ghost use Rattle.pm_num.specs.Laws.{BoundsHold, RefusalsTellTheSide, ParametersAreTheShape, FoundWordsAreNearest, NearestWordsHold};
 
 use crate::num_format::NumFormat;
 
@@ -27,4 +27,11 @@ pub fn found_words_are_nearest()
 /// value; and it is the one that is found among all words.
 pub fn nearest_words_hold<F: NumFormat>(format: &F)
     ensures { NearestWordsHold (F.value format.now) (F.rank format.now) }
+{}
+
+/// What the words of bounds are in every format: there is one word at most for a number rounded down,
+/// and one for it rounded up; each is the word that is sent for its own value; at and beyond an end of
+/// the range its value is that end, and it is the number's own value where a word has that.
+pub fn bounds_hold<F: NumFormat>(format: &F)
+    ensures { BoundsHold (F.value format.now) (F.rank format.now) (F.lowest format.now) (F.highest format.now) }
 {}

@@ -40,7 +40,8 @@ pub use fault::NumFault;
 pub use format::canonical;
 pub use frac::{Frac, micro};
 pub use laws::{
-    found_words_are_nearest, nearest_words_hold, parameters_are_the_shape, refusals_tell_the_side,
+    bounds_hold, found_words_are_nearest, nearest_words_hold, parameters_are_the_shape,
+    refusals_tell_the_side,
 };
 pub use linear11::Linear11;
 pub use num_format::NumFormat;

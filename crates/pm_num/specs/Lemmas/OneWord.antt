@@ -29,7 +29,7 @@ abbrev pub IsOneWord : (ℕ → Ratio) → (ℕ → ℕ) → Type 0
 IsOneWord value rank = (u w : ℕ) → u < 2 ^ 16 → w < 2 ^ 16 → SameValue (value u) (value w) → rank u ≡ rank w → u ≡ w
 
 -- Two numbers that are each at most the other are one value.
-at_most_both : (p q : Ratio) → AtMost p q → AtMost q p → SameValue p q
+pub at_most_both : (p q : Ratio) → AtMost p q → AtMost q p → SameValue p q
 at_most_both p q h k = omega (arith, ints)
 
 -- There is one word for x at most.
