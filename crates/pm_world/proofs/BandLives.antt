@@ -42,7 +42,7 @@ use Rattle.pm_world.proofs.Lives.{IsLived}
 use Rattle.pm_world.proofs.Seen.{possible-held}
 
 -- the band that a host gives is that of the converter's format
-band-of : (format : Option Shape) (known : Known) (own : Shape) (band : Band) →
+pub band-of : (format : Option Shape) (known : Known) (own : Shape) (band : Band) →
     ((shape : Shape) → format ≡ Some shape → shape ≡ own) →
     option_map (λ shape. band_with shape known (operations (known Operation))) format ≡ Some band →
     band_with own known (operations (known Operation)) ≡ band
