@@ -12,6 +12,8 @@ It prints a line for each finding, and has status 1 if there is one. With --plac
     code       a command code in two digits outside pm_table, where it has a name
     registers  the registers are listed outside pm_table
     laws       a record of laws in proofs, where the law has a name in the definitions of its crate
+    proofs     a crate names the proofs of another: a lemma that crates above need stands in specs/Lemmas
+    lemma      a lemma that is proved a second time, under whatever name
     page       a refusal of a type isn't in docs/refusals.md, or one of the page or of a help is in no type
     example    an example of a comment stands in no test, word for word
     edit       a text that a planted bug replaces doesn't stand once in its file
@@ -23,6 +25,7 @@ import os
 import re
 import sys
 
+import house
 import planted
 import refusals
 from crate_copy import crates_below, read
@@ -219,6 +222,47 @@ def page(src):
                         yield path, number, "page", "no type has %s %s" % refusal
 
 
+# A crate that isn't kept to it yet.
+NAMES_PROOFS = ("pmbhost_lines",)
+# Lemmas that stand twice yet, by their crates: each that goes leaves this list, and none comes to it.
+TWICE = {
+    "pm_device": "less-true map-none",
+    "pm_driver": "both-so bytes-self entries-more first-none in-format later-none long-so none-more now-config "
+                 "reads-so request-legal whole-legal writes-so",
+    "pm_frame": "bytes-more doubled-lt length_fault-found pec_of-lt residue-lt residues_of-lt same_from_sum",
+    "pm_host": "all_any-length first_none le-times le_from_times lt-times reads_cell reads_question times-swap "
+               "times-times writes_cell",
+    "pm_host_c": "at_most within",
+    "pm_limits": "head not-above second",
+    "pm_model": "not-above true-there zero-on",
+    "pm_num": "at_most from_T le-times le_from_times lt-times power times-swap times-times within",
+    "pm_rail": "below-count head not-above tail unmapped",
+    "pm_table": "register_at-number",
+    "pm_text": "not-above",
+    "pm_world": "and-both any-length cell-there doubled-byte entries-more from_T in-format now-config one-more "
+                "pec-byte question-reads reads-cell register_at-number residue-byte residues-byte same_bytes "
+                "whole-hearing write-heard write-kind",
+    "pm_world_examples": "cancel_left sized",
+    "pmbhost_lines": "long_asks",
+    "pmbpart_lines": "long_asks",
+}
+
+
+def foreign(crates):
+    """Places where a crate names the proofs of another."""
+    for path, number, name in house.lower_proofs(crates):
+        if path.split("/")[1] not in NAMES_PROOFS:
+            yield path, number, "proofs", "a lemma of %s belongs in its specs/Lemmas" % name
+
+
+def twins(crates):
+    """Lemmas that are proved a second time."""
+    for _, those in house.doubled_lemmas(crates):
+        new = [(path, number, name) for path, number, name in those if name not in TWICE.get(path.split("/")[1], "").split()]
+        for path, number, name in new:
+            yield path, number, "lemma", "%s stands %d times: %s" % (name, len(those), ", ".join(sorted({it[0] for it in those})))
+
+
 def stripped(text):
     """A text's lines without the space around them."""
     return "\n".join(line.strip() for line in text.split("\n"))
@@ -259,6 +303,8 @@ def findings(crates):
             yield from registers(path, lines)
     for path, lines in proofs:
         yield from laws(path, lines)
+    yield from foreign(crates)
+    yield from twins(crates)
     yield from unrun(crates)
     yield from planted.findings(crates)
 

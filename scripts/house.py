@@ -56,8 +56,9 @@ DATA = re.compile(r"(Type 0|ℕ|Bool|(List|Option) \S+)$")
 
 
 def is_short(lemma):
-    """Whether a head states nothing: that of a function to types or to data, or of a constant."""
-    return bool(DATA.search(lemma.head)) or "→" not in lemma.head and "≡" not in lemma.head
+    """Whether a head states nothing: that of a definition, of a function to types or to data, or of a constant."""
+    is_definition = re.match(r"(pub )?(abbrev|unfoldable) ", lemma.text)
+    return bool(is_definition or DATA.search(lemma.head)) or "→" not in lemma.head and "≡" not in lemma.head
 
 
 def comments(crates):

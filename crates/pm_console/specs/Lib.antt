@@ -1,5 +1,6 @@
 -- What the crate promises.
 pub mod Arguments
+pub mod HeardText
 pub mod Options
 pub mod Refusals
 pub mod Usage

@@ -7,7 +7,7 @@ ghost use Rattle.pm_console.specs.Serving.{TalkEnds, UsageEnds, over};
 
 use crate::port::Port;
 use crate::speaker::Speaker;
-use crate::talk::{converse, hand_on};
+use crate::talk::{converse, write_answer};
 use crate::{Usage, misuse, refuse_memory, say, usage_of};
 use pm_lines::{Sink, TextFault};
 use std::alloc::Global;
@@ -46,7 +46,7 @@ pub fn show_usage<P: Port, E: Write>(
 {
     match usage_of(alloc, error) {
         Usage::Shown(text) => {
-            match hand_on(port, text.as_str().as_bytes()) {
+            match write_answer(port, text.as_str().as_bytes()) {
                 Ok(()) => 0,
                 Err(_) => refuse(errors, program, TextFault::Write),
             }

@@ -51,12 +51,12 @@ fn answer_next<S: Speaker, P: Port>(speaker: &mut S, port: &mut P) -> Result<boo
 {
     let mut line = KeptLine::new();
     match read_line(port, &mut line) {
-        Ok(true) => answer_kept(speaker, port, line.as_slice(), true),
+        Ok(true) => answer_line(speaker, port, line.as_slice(), true),
         Ok(false) => {
             if line.is_empty() {
                 return Ok(false);
             }
-            answer_kept(speaker, port, line.as_slice(), false)
+            answer_line(speaker, port, line.as_slice(), false)
         }
         Err(fault) => Err(fault),
     }
@@ -91,7 +91,7 @@ fn keep(line: &mut KeptLine, byte: u8)
 }
 
 // Answers a line: writes the answer and flushes it. `more` is handed on.
-fn answer_kept<S: Speaker, P: Port>(
+fn answer_line<S: Speaker, P: Port>(
     speaker: &mut S,
     port: &mut P,
     line: &[u8],
@@ -104,14 +104,14 @@ fn answer_kept<S: Speaker, P: Port>(
         × IsCutShort P.goes port.old port.new (S.speech.text speaker.old line.now)) }
 {
     let text = speaker.answer(line);
-    match hand_on(port, text.as_slice()) {
+    match write_answer(port, text.as_slice()) {
         Ok(()) => Ok(more),
         Err(fault) => Err(fault),
     }
 }
 
 /// Writes a whole text and flushes it. X5 where that failed; then a prefix of it was written.
-pub fn hand_on<P: Port>(port: &mut P, text: &[u8]) -> Result<(), TextFault>
+pub fn write_answer<P: Port>(port: &mut P, text: &[u8]) -> Result<(), TextFault>
     ensures ok { OnOk result (P.goes port.old (handed_on text.now) port.new) }
     ensures err { IfErr result (λ fault. (fault ≡ TextFault.Write)
         × IsCutShort P.goes port.old port.new text.now) }

@@ -2,7 +2,7 @@
 use Rattle.std.proofs.Common.{◌≡◌, ◌+◌, ◌≤◌, Bool, false, [], ap, arith}
 use Rattle.pm_trace.specs.Counts.{counts_of}
 use Rattle.pm_decode.specs.Capturing.{IsBounded, Kept}
-use Rattle.pm_decode.specs.Hearing.{Heard, heard_lines, heard_of}
+use Rattle.pm_decode.specs.Hearing.{HeardLines, heard_lines, heard_of}
 use Rattle.pm_decode.specs.TimedLines.{timed_of}
 use Rattle.pm_decode.specs.declared.options.TellOptions.{TellOptions}
 use Rattle.pm_decode.specs.declared.timed_line.TimedLine.{TimedLine}
@@ -13,12 +13,12 @@ unfolding timed_of
 unbegun line times is = ap (λ l. l.is_begun) is
 
 -- no line was heard yet
-unheard : (heard : Heard) → heard ≡ heard_of false [] → heard_lines heard ≡ 0
+unheard : (heard : HeardLines) → heard ≡ heard_of false [] → heard_lines heard ≡ 0
 unfolding heard_of counts_of
 unheard heard is = ap heard_lines is
 
 -- a capture of which no byte was taken and no line heard keeps the bounds of its counts
-pub bounded_none : (options : TellOptions) (heard : Heard) (line : TimedLine) (times : Bool) → heard ≡ heard_of false []
+pub bounded_none : (options : TellOptions) (heard : HeardLines) (line : TimedLine) (times : Bool) → heard ≡ heard_of false []
     → line ≡ timed_of times []
     → IsBounded (record { options = options; taken = 0; ended = 0; heard = heard; line = line })
 bounded_none options heard line times none fresh =
@@ -27,7 +27,7 @@ bounded_none options heard line times none fresh =
     record { heard = omega (arith, few); ended = rw none_there (omega arith); taken = omega arith }
 
 -- a capture keeps the bounds of its counts where a line ends of which a byte was taken, and at most one more is heard
-pub bounded_ended : (old : Kept) (heard : Heard) (line : TimedLine) (times : Bool) → IsBounded old
+pub bounded_ended : (old : Kept) (heard : HeardLines) (line : TimedLine) (times : Bool) → IsBounded old
     → line ≡ timed_of times [] → heard_lines heard ≤ heard_lines old.heard + 1 → old.ended + 1 ≤ old.taken
     → IsBounded (record old { ended = old.ended + 1; heard = heard; line = line })
 bounded_ended old heard line times bounded fresh few room =

@@ -7,12 +7,12 @@ use Rattle.std.proofs.lemmas.List.{map-append}
 use Rattle.std.proofs.lemmas.List.Elements.{filter-append, filter_map-append}
 use Rattle.std.proofs.lemmas.List.Sums.{fold-append}
 use Rattle.pm_trace.specs.Counts.{counted, counts_of, lines_in, one_counted, one_more}
-use Rattle.pm_trace.specs.Trace.{Judged, Told, Accepted, Faulty, BadSyntax, BadHex}
+use Rattle.pm_trace.specs.Trace.{Judged, ToldLine, Accepted, Faulty, BadSyntax, BadHex}
 use Rattle.pm_trace.specs.Lemmas.Counts.{total_one_more}
 use Rattle.pm_trace.specs.Lemmas.Said.{counts_of-snoc}
 use Rattle.pm_values.specs.Taught.{Taught, taught_by, taught_from, untaught}
 use Rattle.pm_decode.specs.CaptureText.{line_text, lines_text}
-use Rattle.pm_decode.specs.Hearing.{Heard, counted_with, heard_lines, heard_of, heard_with, is_usual, other_code, told_in}
+use Rattle.pm_decode.specs.Hearing.{HeardLines, counted_with, heard_lines, heard_of, heard_with, is_usual, other_code, told_in}
 use Rattle.pm_decode.specs.Readings.{Entry, judged_in}
 use Rattle.pm_decode.specs.declared.options.TellOptions.{TellOptions}
 
@@ -36,7 +36,7 @@ pub heard_of-snoc : (all : Bool) (entries : List Entry) (entry : Entry)
 unfolding heard_of
 heard_of-snoc all entries entry = by (other_code all entry) refl
   where
-    lines : List Told
+    lines : List ToldLine
     lines = map told_in (filter (is_usual all) entries)
 
     codes_before : List ℕ
@@ -81,7 +81,7 @@ heard_of-snoc all entries entry = by (other_code all entry) refl
     }
 
 -- one line more is one more that is counted
-pub heard_one : (all : Bool) (heard : Heard) (entry : Entry) → heard_lines (heard_with all heard entry) ≡ heard_lines heard + 1
+pub heard_one : (all : Bool) (heard : HeardLines) (entry : Entry) → heard_lines (heard_with all heard entry) ≡ heard_lines heard + 1
 heard_one all heard entry = by (other_code all entry)
   where
     one : (judged : Judged) → lines_in (one_counted heard.counts judged) ≡ lines_in heard.counts + 1

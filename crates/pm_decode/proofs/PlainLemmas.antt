@@ -21,7 +21,7 @@ use Rattle.pm_trace.specs.declared.line_fault.LineFault.{LineFault}
 use Rattle.pm_trace.specs.declared.trace_line.TraceLine.{TraceLine}
 use Rattle.pm_values.specs.Taught.{Taught, taught_by, untaught}
 use Rattle.pm_decode.specs.CaptureText.{capture_text, counts_text, line_text, lines_text, plain_counts, plain_line, totals_line}
-use Rattle.pm_decode.specs.Hearing.{Heard, heard_of, is_usual, other_code, told_in}
+use Rattle.pm_decode.specs.Hearing.{HeardLines, heard_of, is_usual, other_code, told_in}
 use Rattle.pm_decode.specs.Laws.{plain_options}
 use Rattle.pm_decode.specs.Readings.{Entry, entries_of, entry_of, judged_in}
 
@@ -77,13 +77,13 @@ module _ (vout : Option AnyFormat) (long : Bool) where
   others_by lines = ap counted (no_codes (map (entry_of false) lines))
 
   -- the counts
-  totals_by : (heard : Heard) → heard.others ≡ [] → totals_line false heard ≡ trace_totals heard.counts
+  totals_by : (heard : HeardLines) → heard.others ≡ [] → totals_line false heard ≡ trace_totals heard.counts
   unfolding totals_line trace_totals
   totals_by heard none =
       let count : lines_in heard.counts + 0 ≡ lines_in heard.counts = omega arith in
       rw none (rw count (simp append_assoc))
 
-  counts_by : (heard : Heard) → heard.others ≡ [] → counts_text (plain_options vout long) heard ≡ trace_counts heard.counts
+  counts_by : (heard : HeardLines) → heard.others ≡ [] → counts_text (plain_options vout long) heard ≡ trace_counts heard.counts
   unfolding plain_counts
   counts_by heard none = ap (λ l. flat_map count_line heard.counts.codes ++ l) (totals_by heard none)
 

@@ -13,7 +13,7 @@ use Rattle.pm_values.specs.Otherwise.{other_text, spaced}
 use Rattle.pm_values.specs.Taught.{Taught, taught_by, untaught}
 use Rattle.pm_values.specs.ValueText.{known_text}
 use Rattle.pm_values.specs.Values.{packet_value}
-use Rattle.pm_decode.specs.Hearing.{Heard, heard_of, heard_lines, other_address}
+use Rattle.pm_decode.specs.Hearing.{HeardLines, heard_of, heard_lines, other_address}
 use Rattle.pm_decode.specs.JsonText.{count_json, judged_fields, number_field_if, other_fields, other_jsons, text_field, totals_json}
 use Rattle.pm_decode.specs.Readings.{Entry, entries_of, judged_in}
 use Rattle.pm_decode.specs.declared.options.TellOptions.{TellOptions}
@@ -117,21 +117,21 @@ others_total all others = if all then codes " other " ++ decimal (total_of other
 abbrev pub faults_text : ℕ → ℕ → List ℕ
 faults_text faults bad = codes " faults " ++ (decimal faults ++ (codes " bad " ++ (decimal bad ++ codes "\n")))
 
-unfoldable pub totals_line : Bool → Heard → List ℕ
+unfoldable pub totals_line : Bool → HeardLines → List ℕ
 totals_line all heard = codes "lines " ++ (decimal (heard_lines heard) ++ (codes " accepted "
     ++ (decimal heard.counts.accepted ++ (others_total all heard.others
     ++ faults_text heard.counts.faults heard.counts.bad))))
 
 -- the counts as they are told to a person, and as objects of JSON
-unfoldable pub plain_counts : Bool → Heard → List ℕ
+unfoldable pub plain_counts : Bool → HeardLines → List ℕ
 plain_counts all heard = flat_map count_line heard.counts.codes
     ++ ((if all then other_lines heard.others 256 else []) ++ totals_line all heard)
 
-unfoldable pub json_counts : Bool → Heard → List ℕ
+unfoldable pub json_counts : Bool → HeardLines → List ℕ
 json_counts all heard = flat_map count_json heard.counts.codes
     ++ ((if all then other_jsons heard.others 256 else []) ++ totals_json all heard)
 
-abbrev pub counts_text : TellOptions → Heard → List ℕ
+abbrev pub counts_text : TellOptions → HeardLines → List ℕ
 counts_text options heard = if options.json then json_counts options.all heard else plain_counts options.all heard
 
 -- ---- the whole

@@ -8,7 +8,7 @@ use Rattle.pm_lines.specs.Streams.{max_text}
 use Rattle.pm_trace.specs.Marks.{ended, since, told_at_marks}
 use Rattle.pm_values.specs.Taught.{untaught}
 use Rattle.pm_decode.specs.CaptureText.{line_text, lines_text}
-use Rattle.pm_decode.specs.Hearing.{Heard, heard_lines, heard_of, heard_with}
+use Rattle.pm_decode.specs.Hearing.{HeardLines, heard_lines, heard_of, heard_with}
 use Rattle.pm_decode.specs.Readings.{Entry, entry_of}
 use Rattle.pm_decode.specs.TimedLines.{skips_timed, timed_of, timed_read, timed_takes}
 use Rattle.pm_decode.specs.declared.options.TellOptions.{TellOptions}
@@ -22,7 +22,7 @@ pub record Kept : Type 0 where
   pub options : TellOptions
   pub taken : ℕ
   pub ended : ℕ
-  pub heard : Heard
+  pub heard : HeardLines
   pub line : TimedLine
 
 -- the lines that a line feed ended, those that are skipped apart
@@ -51,7 +51,7 @@ abbrev pub entry_ended : Kept → Entry
 entry_ended kept = (kept.ended + 1, timed_read kept.line)
 
 -- what is heard where a line ends here, and what is written of it
-abbrev pub heard_ended : Kept → Heard
+abbrev pub heard_ended : Kept → HeardLines
 heard_ended kept = if skips_timed kept.line then kept.heard
     else heard_with kept.options.all kept.heard (entry_ended kept)
 

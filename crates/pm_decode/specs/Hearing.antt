@@ -3,7 +3,7 @@
 use Rattle.std.specs.Prelude.{ℕ, ◌+◌, Bool, not, if◌then◌else◌, List, map, filter, slice_index, is_some, Option, Some, None, Result, Ok, Err}
 use Rattle.std.specs.List.{filter_map}
 use Rattle.pm_trace.specs.Counts.{Counts, counted, counts_of, lines_in, one_counted, one_more, total_of}
-use Rattle.pm_trace.specs.Trace.{Judged, Told, parts_judged}
+use Rattle.pm_trace.specs.Trace.{Judged, ToldLine, parts_judged}
 use Rattle.pm_trace.specs.declared.line_fault.LineFault.{LineFault}
 use Rattle.pm_trace.specs.declared.trace_line.TraceLine.{TraceLine}
 use Rattle.pm_values.specs.Otherwise.{address_otherwise}
@@ -31,18 +31,18 @@ other_code all entry = other_code_in all entry.1.parts
 abbrev pub is_usual : Bool → Entry → Bool
 is_usual all entry = not (is_some (other_code all entry))
 
-abbrev pub told_in : Entry → Told
+abbrev pub told_in : Entry → ToldLine
 told_in entry = (entry.0, judged_in entry)
 
 -- what is known: what was taught, the counts of the lines that are told as the command table has them, and how often
 -- each other code was carried
-pub record Heard : Type 0 where
+pub record HeardLines : Type 0 where
   pub taught : Taught
   pub counts : Counts
   pub others : List (ℕ × ℕ)
 
 -- behind these lines; `all` says whether other codes are told by themselves
-unfoldable pub heard_of : Bool → List Entry → Heard
+unfoldable pub heard_of : Bool → List Entry → HeardLines
 heard_of all entries = record {
   taught = taught_from untaught (map judged_in entries);
   counts = counts_of (map told_in (filter (is_usual all) entries));
@@ -50,13 +50,13 @@ heard_of all entries = record {
 }
 
 -- how many lines there were
-abbrev pub heard_lines : Heard → ℕ
+abbrev pub heard_lines : HeardLines → ℕ
 heard_lines heard = lines_in heard.counts + total_of heard.others
 
 -- ---- one line more
 
 -- a line of an other code, or one of a usual packet
-abbrev pub counted_with : Heard → Option ℕ → Judged → Heard
+abbrev pub counted_with : HeardLines → Option ℕ → Judged → HeardLines
 counted_with heard None judged = record heard {
   taught = taught_by heard.taught judged;
   counts = one_counted heard.counts judged;
@@ -66,5 +66,5 @@ counted_with heard (Some code) judged = record heard {
   others = one_more heard.others code;
 }
 
-abbrev pub heard_with : Bool → Heard → Entry → Heard
+abbrev pub heard_with : Bool → HeardLines → Entry → HeardLines
 heard_with all heard entry = counted_with heard (other_code all entry) (judged_in entry)

@@ -22,7 +22,7 @@ use Rattle.pm_values.specs.ValueText.{fraction_text, mode_text, operation_text, 
 use Rattle.pm_values.specs.Values.{carried, millionths, packet_value}
 use Rattle.pm_values.specs.declared.value.Value.{Value}
 use Rattle.pm_values.specs.declared.value.Value.TheVariants.{Reading, Volts, Operates, Protects, Scales, Flags}
-use Rattle.pm_decode.specs.Hearing.{Heard, heard_lines}
+use Rattle.pm_decode.specs.Hearing.{HeardLines, heard_lines}
 
 -- ---- fields
 
@@ -192,7 +192,7 @@ others_json all others = if all then number_field (codes "other") (total_of othe
 abbrev pub faults_json : ℕ → ℕ → List ℕ
 faults_json faults bad = number_field (codes "faults") faults ++ (number_field (codes "bad") bad ++ codes "}\n")
 
-unfoldable pub totals_json : Bool → Heard → List ℕ
+unfoldable pub totals_json : Bool → HeardLines → List ℕ
 totals_json all heard = codes "{\"lines\":" ++ (decimal (heard_lines heard)
     ++ (number_field (codes "accepted") heard.counts.accepted ++ (others_json all heard.others
     ++ faults_json heard.counts.faults heard.counts.bad)))

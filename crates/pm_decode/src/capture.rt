@@ -5,10 +5,10 @@ ghost use Rattle.pm_decode.specs.Hearing.{heard_lines, heard_with};
 ghost use Rattle.pm_decode.specs.TimedLines.{skips_timed, timed_read};
 
 use crate::counts_text::push_counts;
-use crate::heard::Heard;
+use crate::heard_lines::HeardLines;
 use crate::options::TellOptions;
 use crate::timed_line::TimedLine;
-use crate::told::Told;
+use crate::told_text::ToldText;
 use pm_lines::MAX_TEXT;
 use pm_trace::DecodeEnd;
 use std::alloc::{AllocError, Global};
@@ -18,7 +18,7 @@ use std::marker::Model;
 #[derive(Debug, Drop)]
 pub(crate) struct Capture {
     options: TellOptions,
-    heard: Heard,
+    heard: HeardLines,
     line: TimedLine,
     // How many bytes were taken.
     taken: u64,
@@ -50,7 +50,7 @@ impl Capture {
     {
         Capture {
             options: *options,
-            heard: Heard::new(alloc),
+            heard: HeardLines::new(alloc),
             line: TimedLine::new(options.times),
             taken: 0,
             ended: 0,
@@ -78,7 +78,7 @@ impl Capture {
 
     /// Takes the bytes, and gathers what the lines say that end with them. Where memory is refused, the lines before are
     /// gathered.
-    pub(crate) fn take(&mut self, bytes: &[u8], gathered: &mut Told) -> Result<(), AllocError>
+    pub(crate) fn take(&mut self, bytes: &[u8], gathered: &mut ToldText) -> Result<(), AllocError>
         requires { self.old.taken + length bytes.now ≤ most_bytes self.old.options.long }
         ensures kept { OnOk result (self.new ≡ next self.old bytes.now) }
         ensures told { OnOk result (gathered.new ≡ gathered.old ++ told self.old bytes.now) }
@@ -118,7 +118,7 @@ impl Capture {
     }
 
     // Ends the line, and gathers what it says, if it isn't skipped.
-    fn end_line(&mut self, gathered: &mut Told) -> Result<(), AllocError>
+    fn end_line(&mut self, gathered: &mut ToldText) -> Result<(), AllocError>
         requires { self.old.ended + 1 ≤ self.old.taken }
         ensures kept { OnOk result (self.new ≡ line_ended self.old) }
         ensures told { OnOk result (gathered.new ≡ gathered.old ++ text_ended self.old) }
@@ -145,7 +145,7 @@ impl Capture {
     }
 
     /// Ends the capture: a last line ends here that has bytes and no line feed.
-    pub(crate) fn finish(&mut self, gathered: &mut Told) -> Result<(), AllocError>
+    pub(crate) fn finish(&mut self, gathered: &mut ToldText) -> Result<(), AllocError>
         ensures kept { OnOk result (self.new ≡ kept_at_end self.old) }
         ensures told { OnOk result (gathered.new ≡ gathered.old ++ told_at_end self.old) }
     {
@@ -185,11 +185,11 @@ impl Capture {
 // Gathers what a line says that ends here, with its number, and has it heard, if it isn't skipped.
 #[tactic(auto, using(crate::proofs::HearingLemmas::heard_one))]
 fn hear_line(
-    heard: &mut Heard,
+    heard: &mut HeardLines,
     options: &TellOptions,
     number: u64,
     line: &TimedLine,
-    gathered: &mut Told,
+    gathered: &mut ToldText,
 ) -> Result<(), AllocError>
     requires { heard_lines heard.old + 1 < 2 ^ 64 }
     ensures heard { OnOk result (heard.new ≡ (if skips_timed line.now then heard.old

@@ -4,7 +4,7 @@ ghost use Rattle.pm_trace.specs.Counts.{total_of};
 ghost use Rattle.pm_decode.specs.CaptureText.{counts_text, faults_text, json_counts, other_line, other_lines, others_total, plain_counts, totals_line};
 ghost use Rattle.pm_decode.specs.Hearing.{heard_lines};
 
-use crate::heard::Heard;
+use crate::heard_lines::HeardLines;
 use crate::json_counts::push_json_counts;
 use crate::options::TellOptions;
 use crate::others::Others;
@@ -16,7 +16,7 @@ use std::alloc::AllocError;
 pub(crate) fn push_counts(
     text: &mut String,
     options: &TellOptions,
-    heard: &Heard,
+    heard: &HeardLines,
 ) -> Result<(), AllocError>
     requires { heard_lines heard.now < 2 ^ 64 }
     ensures { OnOk result (string_bytes text.new ≡ string_bytes text.old ++ counts_text options.now heard.now) }
@@ -30,7 +30,7 @@ pub(crate) fn push_counts(
 
 // The same as it is told to a person.
 #[tactic(auto, using(pm_lines::specs::Lemmas::Joins::joins), unfolding(crate::specs::CaptureText::plain_counts))]
-fn push_plain_counts(text: &mut String, all: bool, heard: &Heard) -> Result<(), AllocError>
+fn push_plain_counts(text: &mut String, all: bool, heard: &HeardLines) -> Result<(), AllocError>
     requires { heard_lines heard.now < 2 ^ 64 }
     ensures { OnOk result (string_bytes text.new ≡ string_bytes text.old ++ plain_counts all heard.now) }
 {
@@ -71,7 +71,7 @@ fn push_other(text: &mut String, others: &Others, code: u8) -> Result<(), AllocE
 
 // The line of the counts.
 #[tactic(auto, using(pm_lines::specs::Lemmas::Joins::joins), unfolding(crate::specs::CaptureText::totals_line))]
-fn push_totals(text: &mut String, all: bool, heard: &Heard) -> Result<(), AllocError>
+fn push_totals(text: &mut String, all: bool, heard: &HeardLines) -> Result<(), AllocError>
     requires { heard_lines heard.now < 2 ^ 64 }
     ensures { OnOk result (string_bytes text.new ≡ string_bytes text.old ++ totals_line all heard.now) }
 {

@@ -5,7 +5,7 @@ ghost use Rattle.pm_decode.specs.CaptureText.{json_counts};
 ghost use Rattle.pm_decode.specs.Hearing.{heard_lines};
 ghost use Rattle.pm_decode.specs.JsonText.{count_json, faults_json, other_json, other_jsons, others_json, totals_json};
 
-use crate::heard::Heard;
+use crate::heard_lines::HeardLines;
 use crate::json_fields::push_number_field;
 use crate::others::Others;
 use pm_lines::{push_decimal, push_hex};
@@ -17,7 +17,7 @@ use std::alloc::AllocError;
 pub(crate) fn push_json_counts(
     text: &mut String,
     all: bool,
-    heard: &Heard,
+    heard: &HeardLines,
 ) -> Result<(), AllocError>
     requires { heard_lines heard.now < 2 ^ 64 }
     ensures { OnOk result (string_bytes text.new ≡ string_bytes text.old ++ json_counts all heard.now) }
@@ -71,7 +71,7 @@ fn push_other(text: &mut String, others: &Others, code: u8) -> Result<(), AllocE
 
 // The object of the counts.
 #[tactic(auto, using(pm_lines::specs::Lemmas::Joins::joins), unfolding(crate::specs::JsonText::totals_json))]
-fn push_totals(text: &mut String, all: bool, heard: &Heard) -> Result<(), AllocError>
+fn push_totals(text: &mut String, all: bool, heard: &HeardLines) -> Result<(), AllocError>
     requires { heard_lines heard.now < 2 ^ 64 }
     ensures { OnOk result (string_bytes text.new ≡ string_bytes text.old ++ totals_json all heard.now) }
 {

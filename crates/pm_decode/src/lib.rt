@@ -4,13 +4,29 @@
 //!
 //! It reads the same lines as `pm_trace` and judges packets by it. What a packet means, and what the
 //! capture itself teaches of the formats of voltages, is as `pm_values` has it. [`decode`] is [`tell`]
-//! without an option: the text of a trace.
+//! without an option: the text of a trace. With what payloads mean:
+//!
+//! ```
+//! fn told<R: Read, W: Write>(alloc: Global, trace: R, paper: W) -> Result<W, TextFault> {
+//!     let options = TellOptions {
+//!         values: true, // a voltage in volts, a status register bit by bit
+//!         vout: None,   // the format that the trace itself teaches
+//!         all: false,
+//!         long: false,
+//!         times: false,
+//!         json: false,
+//!     };
+//!     let mut sink = Sink::new(paper);
+//!     tell(alloc, &mut Source::new(trace), &mut sink, &options)?;
+//!     Ok(sink.into_inner())
+//! }
+//! ```
 #![tactic(auto)]
 
 mod capture;
 mod counts_text;
 mod decoding;
-mod heard;
+mod heard_lines;
 mod json_counts;
 mod json_fields;
 mod json_text;
@@ -21,7 +37,7 @@ mod options;
 mod others;
 mod telling;
 mod timed_line;
-mod told;
+mod told_text;
 
 pub use decoding::decode;
 pub use laws::plain_captures_are_traces;

@@ -14,7 +14,7 @@ ghost use Rattle.pm_decode.specs.WrittenCaptures.{Hears, StopsBytes, StopsHearin
 
 use crate::capture::Capture;
 use crate::options::TellOptions;
-use crate::told::Told;
+use crate::told_text::ToldText;
 use pm_lines::{Sink, Source, TextFault};
 use pm_trace::DecodeEnd;
 use std::alloc::{AllocError, Global};
@@ -62,7 +62,7 @@ pub fn tell<R: Read, W: Write>(
     ensures faults { IfErr result IsOfDecode }
 {
     let mut capture = Capture::new(alloc, options);
-    let mut told = Told::new(alloc);
+    let mut told = ToldText::new(alloc);
     tell_all(reader, writer, options, &mut capture, &mut told)
 }
 
@@ -72,7 +72,7 @@ fn tell_all<R: Read, W: Write>(
     writer: &mut Sink<W>,
     options: &TellOptions,
     capture: &mut Capture,
-    told: &mut Told,
+    told: &mut ToldText,
 ) -> Result<DecodeEnd, TextFault>
     requires reader { IsFalse reader.old.failed }
     requires writer { IsFalse writer.old.failed }
@@ -99,7 +99,7 @@ fn hear_pieces<R: Read, W: Write>(
     writer: &mut Sink<W>,
     options: &TellOptions,
     capture: &mut Capture,
-    told: &mut Told,
+    told: &mut ToldText,
 ) -> Result<(), TextFault>
     requires reader { IsFalse reader.old.failed }
     requires writer { IsFalse writer.old.failed }
@@ -128,7 +128,7 @@ fn hear_pieces<R: Read, W: Write>(
 fn hear_piece<R: Read>(
     reader: &mut Source<R>,
     capture: &mut Capture,
-    told: &mut Told,
+    told: &mut ToldText,
     piece: &mut [u8; PIECE],
 ) -> Result<usize, TextFault>
     requires reader { IsFalse reader.old.failed }
@@ -145,7 +145,7 @@ fn hear_piece<R: Read>(
 }
 
 // Gathers what the lines say that end in these bytes.
-fn hear_bytes(capture: &mut Capture, gathered: &mut Told, bytes: &[u8]) -> Result<(), TextFault>
+fn hear_bytes(capture: &mut Capture, gathered: &mut ToldText, bytes: &[u8]) -> Result<(), TextFault>
     ensures kept { OnOk result (capture.new ≡ next capture.old bytes.now) }
     ensures told { OnOk result (gathered.new ≡ gathered.old ++ told_of capture.old bytes.now) }
     ensures room { OnOk result (capture.old.taken + length bytes.now ≤ most_bytes capture.old.options.long) }
@@ -175,7 +175,11 @@ fn is_full(count: &Result<usize, TextFault>) -> bool
 }
 
 // Writes what was gathered, where it is due or is much.
-fn put_due<W: Write>(writer: &mut Sink<W>, told: &mut Told, is_due: bool) -> Result<(), TextFault>
+fn put_due<W: Write>(
+    writer: &mut Sink<W>,
+    told: &mut ToldText,
+    is_due: bool,
+) -> Result<(), TextFault>
     requires { IsFalse writer.old.failed }
     ensures puts { OnOk result
         (Puts (W.contents writer.old.inner) (W.contents writer.new.inner) told.old told.new) }
@@ -193,7 +197,7 @@ fn put_due<W: Write>(writer: &mut Sink<W>, told: &mut Told, is_due: bool) -> Res
 }
 
 // Ends the capture, and gathers the rest of the output: an unfinished last line, and the counts.
-fn tell_end(capture: &mut Capture, gathered: &mut Told) -> Result<(), AllocError>
+fn tell_end(capture: &mut Capture, gathered: &mut ToldText) -> Result<(), AllocError>
     ensures told { OnOk result (gathered.new ≡ gathered.old
         ++ (told_at_end capture.old ++ counts_text capture.old.options (kept_at_end capture.old).heard)) }
     ensures kept { OnOk result (capture.new ≡ kept_at_end capture.old) }

@@ -3,7 +3,7 @@ ghost use Rattle.std.specs.Prelude.{◌≡◌};
 ghost use Rattle.pm_decode.specs.Readings.{time_in as spec_time_in};
 
 use pm_lines::{read_i64, without_carriage_return};
-use pm_trace::{LineFault, OpenLine, Part};
+use pm_trace::{LineFault, LinePart, OpenLine};
 use pm_values::Packet;
 
 /// What is kept of a line while its bytes come one after another: the word that is the packet's time, where lines
@@ -19,7 +19,7 @@ pub(crate) struct TimedLine {
     // Bytes are the packet's own: lines have no time, or a space ended the word.
     is_over: bool,
     // The first word, where lines begin with a time.
-    word: Part,
+    word: LinePart,
     // The packet, with the space before it.
     packet: OpenLine,
 }
@@ -48,7 +48,7 @@ impl TimedLine {
             has_mark: false,
             is_begun: false,
             is_over: !times,
-            word: Part::new(),
+            word: LinePart::new(),
             packet: OpenLine::new(),
         }
     }

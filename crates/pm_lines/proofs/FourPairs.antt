@@ -8,7 +8,7 @@ use Rattle.std.proofs.lemmas.Nat.{le_or_l, le_or_r}
 use Rattle.hex.specs.Hex.{hex_digit_value}
 use Rattle.pm_lines.specs.Lines.{is_space}
 use Rattle.pm_lines.specs.Pairs.{behind_pairs, pair_of, paired_bytes}
-use Rattle.pm_lines.proofs.PairLemmas.{pair_is}
+use Rattle.pm_lines.specs.Lemmas.Paired.{pair_is}
 
 -- ---- digits
 

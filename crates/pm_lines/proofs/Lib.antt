@@ -3,6 +3,5 @@ pub mod EngineLemmas
 pub mod FourPairs
 pub mod Joins
 pub mod LineLemmas
-pub mod PairLemmas
 pub mod ReadingLemmas
 pub mod WordLemmas

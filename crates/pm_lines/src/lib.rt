@@ -5,7 +5,14 @@
 //! promises that reads a text and writes one (`specs/Engine.antt`).
 //!
 //! What a text means is not here. A line or a word borrows the text that it stands in, and nothing
-//! takes memory for a word.
+//! takes memory for a word. The word of four hexadecimal digits that a text begins with:
+//!
+//! ```
+//! fn first_word(text: &[u8; 20]) -> Option<u16> {
+//!     let line = Lines::new(text).next_line()?; // the first that isn't skipped
+//!     read_word(Words::new(line).next_word()?)
+//! }
+//! ```
 #![tactic(auto)]
 
 mod bytes;

@@ -1,7 +1,6 @@
 -- What the crate promises.
 pub mod Base
 pub mod EventLines
-pub mod HeardText
 pub mod Kinds
 pub mod Laws
 pub mod Readers

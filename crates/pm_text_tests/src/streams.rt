@@ -1,6 +1,8 @@
 //! Tests of `pm_lines`: its readers and writers, whole texts, lines, words and bytes.
 use crate::checks::{equal, is_true};
-use pm_lines::{Line, Lines, Sink, Source, TextFault, Words, cut_at, push_bytes, read_text};
+use pm_lines::{
+    Line, Lines, Sink, Source, TextFault, Words, cut_at, push_bytes, read_text, read_word,
+};
 use pm_test_streams::{Failure, KINDS, Paper, Pieces, blank_paper, in_pieces};
 use std::alloc::Global;
 use std::io::{self, ErrorKind, Write};
@@ -190,6 +192,23 @@ fn is_line(rt: &impl Abort, line: Line<'_>, number: u64, text: &[u8], words: &[&
         equal(rt, &found.next_word(), &Some(*word), &number);
     }
     equal(rt, &found.next_word(), &None, &number);
+}
+
+// The word of four digits that a text begins with: the example of the root of `pm_lines`, word for word.
+fn first_word(text: &[u8; 20]) -> Option<u16> {
+    let line = Lines::new(text).next_line()?; // the first that isn't skipped
+    read_word(Words::new(line).next_word()?)
+}
+
+#[test]
+fn the_example_of_the_root_runs(rt: HostRuntime) {
+    equal(
+        &rt,
+        &first_word(b"# skipped\n 34cd end\n"),
+        &Some(0x34CD),
+        &1,
+    );
+    equal(&rt, &first_word(b"34CDE is not a word."), &None, &2);
 }
 
 #[test]

@@ -8,7 +8,7 @@ use Rattle.pm_device.specs.History.{next, start_of}
 use Rattle.pm_lines.specs.Lines.{Numbered, lines_of, unskipped_from}
 use Rattle.pm_lines.specs.declared.fault.TextFault.{TextFault}
 use Rattle.pm_text.specs.Base.{base}
-use Rattle.pm_text.specs.HeardText.{as_line}
+use Rattle.pm_tool.specs.Script.{as_line}
 use Rattle.pm_tool.specs.Script.{event_lines, event_words, events_in, heard_text, held_after, joined_events, line_event, output_lines}
 use Rattle.pm_tool.specs.Script.{printed_text, text_by}
 

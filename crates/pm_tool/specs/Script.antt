@@ -1,6 +1,6 @@
 -- The lines of `hear`: what each asks a converter to hear, and what is written of them. The forms are
 -- this project's own choice.
-use Rattle.std.specs.Prelude.{ℕ, Bool, false, not, ◌==◌, if◌then◌else◌, List, [], ◌∷◌, ◌++◌, length, Option, Some, None, Result, Ok, Err, bytes_eq, codes, flat_map}
+use Rattle.std.specs.Prelude.{ℕ, Bool, false, not, ◌==◌, if◌then◌else◌, List, [], ◌∷◌, ◌++◌, length, Option, Some, None, Result, Ok, Err, bytes_eq, codes, decimal, flat_map}
 use Rattle.std.specs.List.{after_first, before_first, list_all, list_any, range_with_len}
 use Rattle.pm_device.specs.Effect.{Event, Hearing, Restarted, Reading}
 use Rattle.pm_device.specs.Held.{Held}
@@ -11,11 +11,12 @@ use Rattle.pm_model.specs.Settings.{word_at}
 use Rattle.pm_table.specs.declared.cell.Cell.TheVariants.{Out}
 use Rattle.pm_table.specs.declared.reg.Reg.TheVariants.{VoutCommand}
 use Rattle.pm_lines.specs.Bytes.{bytes_of}
+use Rattle.pm_lines.specs.Numbers.{hex_word}
 use Rattle.pm_lines.specs.Lines.{Numbered, is_space, unskipped_from, words_of}
 use Rattle.pm_lines.specs.declared.fault.TextFault.{TextFault}
 use Rattle.pm_lines.specs.declared.fault.TextFault.TheVariants.{Syntax, BadHex}
 use Rattle.pm_text.specs.Base.{base}
-use Rattle.pm_text.specs.HeardText.{as_line, output_line, reply_words}
+use Rattle.pm_console.specs.HeardText.{reply_words}
 
 -- ---- what a line asks
 
@@ -62,6 +63,15 @@ events_in [] = Ok []
 events_in (line ∷ lines) = joined_events (line_event line) (events_in lines)
 
 -- ---- what is written
+
+-- a line, ended by a line feed
+abbrev pub as_line : List ℕ → List ℕ
+as_line words = words ++ codes "\n"
+
+-- the line of an output: its number, and its word of VOUT_COMMAND, the high byte first
+abbrev pub output_line : ℕ → ℕ → List ℕ
+output_line output word = as_line (codes "output " ++ decimal output ++ codes " VOUT_COMMAND "
+    ++ hex_word word)
 
 -- the line of an event at a converter that holds this
 abbrev pub event_words : Held → Event → List ℕ

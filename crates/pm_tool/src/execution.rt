@@ -8,7 +8,7 @@ ghost use Rattle.clap.specs.Words.{kind_of};
 ghost use Rattle.pm_console.specs.Arguments.{arguments_of};
 ghost use Rattle.pm_console.specs.Refusals.{Says, text_refusal};
 ghost use Rattle.pm_tool.specs.Execution.{End, EngineRuns, IsDone, IsEnd, NumberEnds, RunEnds, UsageEnds};
-ghost use Rattle.pm_tool.specs.Execution.{OptionsEnd, TellEnds, TellRuns, WordsEnd};
+ghost use Rattle.pm_tool.specs.Execution.{OptionsEnd, TellEnds, TellRuns};
 ghost use Rattle.pm_tool.specs.Execution.{CutShort, Printed, refusal_line, wants_memory};
 ghost use Rattle.pm_tool.specs.Question.{asked_by};
 
@@ -48,37 +48,17 @@ pub fn program<R: Read, W: Write, E: Write>(
         × IsEnd W.contents E.contents output.old output.new errors.old errors.new (exit_status result) end) }
     ensures status { exit_status result ≤ 2 }
 {
-    ExitCode::from(run_given(alloc, arguments, input, output, errors))
-}
-
-// Runs the program over the arguments, and answers the status.
-fn run_given<R: Read, W: Write, E: Write>(
-    alloc: Global,
-    arguments: io::Result<Args>,
-    input: &mut Source<R>,
-    output: &mut Sink<W>,
-    errors: &mut Sink<E>,
-) -> u8
-    requires input { IsFalse input.old.failed }
-    requires output { IsFalse output.old.failed }
-    requires errors { IsFalse errors.old.failed }
-    ensures { MatchResult arguments
-        (λ given. (end : End) × RunEnds R.remaining input.old input.new (Ok (map string_bytes (into_iter_items given))) end
-        × IsEnd W.contents E.contents output.old output.new errors.old errors.new result end)
-        (λ error. (end : End) × RunEnds R.remaining input.old input.new (Err (error_kind error)) end
-        × IsEnd W.contents E.contents output.old output.new errors.old errors.new result end) }
-{
     let given = match arguments {
         Ok(given) => given,
-        Err(error) => return run(alloc, Err(error.kind()), input, output, errors),
+        Err(error) => return ExitCode::from(run(alloc, Err(error.kind()), input, output, errors)),
     };
     let Ok(given) = texts_of(alloc, given) else {
-        return refuse_memory(errors, NAME);
+        return ExitCode::from(refuse_memory(errors, NAME));
     };
     let Ok(words) = words_of(alloc, &given) else {
-        return refuse_memory(errors, NAME);
+        return ExitCode::from(refuse_memory(errors, NAME));
     };
-    run(alloc, Ok(words.as_slice()), input, output, errors)
+    ExitCode::from(run(alloc, Ok(words.as_slice()), input, output, errors))
 }
 
 /// Runs the program: does what the words of the command line ask, over any reader and any two
@@ -109,26 +89,9 @@ pub fn run<R: Read, W: Write, E: Write>(
         Ok(words) => words,
         Err(kind) => return refuse_arguments(errors, NAME, kind),
     };
-    match option_words(words) {
-        Some(words) => run_decode(alloc, words, input, output, errors),
-        None => run_chosen(alloc, words, input, output, errors),
+    if let Some(words) = option_words(words) {
+        return run_decode(alloc, words, input, output, errors);
     }
-}
-
-// What the words of a command line choose, but for `decode` with options.
-fn run_chosen<R: Read, W: Write, E: Write>(
-    alloc: Global,
-    words: &[&str],
-    input: &mut Source<R>,
-    output: &mut Sink<W>,
-    errors: &mut Sink<E>,
-) -> u8
-    requires input { IsFalse input.old.failed }
-    requires output { IsFalse output.old.failed }
-    requires errors { IsFalse errors.old.failed }
-    ensures { (end : End) × WordsEnd R.remaining input.old input.new (texts words.entry.now) end
-        × IsEnd W.contents E.contents output.old output.new errors.old errors.new result end }
-{
     match chosen(alloc, words) {
         Ok(Chosen::Hear) => run_engine(&Hearing, alloc, input, output, errors),
         Ok(Chosen::Replay) => run_engine(&Replaying, alloc, input, output, errors),

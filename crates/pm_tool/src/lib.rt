@@ -4,7 +4,18 @@
 //! it answers the exit status. `hear` lets a model converter hear the frames of a text
 //! and writes its answers; `number` writes one word of a number format with its value. `replay` and
 //! `decode` are those of `pm_text`, and `decode` with options is the telling of `pm_decode`. `chosen` says
-//! which of the four a command line names, and `TellTexts` which options of `decode`.
+//! which of the four a command line names, and `TellTexts` which options of `decode`. The whole program over any streams:
+//!
+//! ```
+//! fn number<W: Write, E: Write>(alloc: Global, output: W, errors: E) -> (u8, W) {
+//!     let words = ["pmb", "number", "--format=linear11", "--word=87FF"];
+//!     let mut input = Source::new(b"".as_slice());
+//!     let mut output = Sink::new(output);
+//!     let mut errors = Sink::new(errors);
+//!     let status = run(alloc, Ok(&words), &mut input, &mut output, &mut errors);
+//!     (status, output.into_inner()) // word 87FF value -1/65536 micro -16
+//! }
+//! ```
 #![tactic(auto)]
 
 mod commandline;

@@ -11,8 +11,7 @@ ghost use Rattle.pm_device.specs.History.{next, start_of};
 ghost use Rattle.pm_text.specs.Base.{base};
 ghost use Rattle.pm_tool.specs.LineEvent.{event_of};
 ghost use Rattle.pm_tool.specs.Outcome.{hearing, IsOfHear};
-ghost use Rattle.pm_text.specs.HeardText.{as_line};
-ghost use Rattle.pm_tool.specs.Script.{events_in, event_lines, event_words, held_after, output_at, output_lines, printed_text};
+ghost use Rattle.pm_tool.specs.Script.{as_line, events_in, event_lines, event_words, held_after, output_at, output_lines, printed_text};
 
 mod line;
 mod reply_text;

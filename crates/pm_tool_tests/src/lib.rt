@@ -1,4 +1,4 @@
-//! Tests over the public calls of `pm_tool` and `pm_decode`: the texts of `hear` and `number`, the command line, `decode`
+//! Tests over the public calls of `pm_tool`, `pm_decode` and `pm_values`: the texts of `hear` and `number`, the command line, `decode`
 //! with options, and whole runs. There is nothing here to use.
 #![tactic(auto)]
 
@@ -8,6 +8,8 @@ mod captures;
 mod checks;
 #[cfg(test)]
 mod commandline;
+#[cfg(test)]
+mod example;
 #[cfg(test)]
 mod facts;
 #[cfg(test)]

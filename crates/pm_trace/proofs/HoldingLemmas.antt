@@ -12,7 +12,7 @@ use Rattle.pm_trace.specs.Decoding.{Holding, Feeds, next, told, some_told, first
 use Rattle.pm_trace.specs.Holdings.{Takes, holding_in, shown_in}
 use Rattle.pm_trace.specs.declared.decoder.Decoder.TheInside.{Inside}
 use Rattle.pm_trace.specs.OpenLines.{Passes, IsAtLineFeed, open_judged}
-use Rattle.pm_trace.specs.Trace.{Told}
+use Rattle.pm_trace.specs.Trace.{ToldLine}
 use Rattle.pm_trace.specs.declared.decoder.open_line.OpenLine.{OpenLine}
 use Rattle.pm_trace.proofs.RunLemmas.{kept_with, next_plain, next_ended, told_plain, told_ended}
 
@@ -154,7 +154,7 @@ takes_bytes {bytes = bytes} {rest = x ∷ xs} {line = line} old ended one passes
 unshown : (d : Inside) → shown_in d ≡ None → d.is_shown ≡ false
 unshown d none = by d.is_shown none
   where
-    by : (b : Bool) → cond {A = Option Told} b (Some (d.ended, open_judged d.line)) None ≡ None → b ≡ false
+    by : (b : Bool) → cond {A = Option ToldLine} b (Some (d.ended, open_judged d.line)) None ≡ None → b ≡ false
     by true some = absurd (cc)
     by false some = refl
 

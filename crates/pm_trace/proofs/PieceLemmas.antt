@@ -9,7 +9,7 @@ use Rattle.pm_lines.specs.Streams.{max_text}
 use Rattle.pm_trace.specs.declared.decoder.intake.Intake.TheVariants.{Open}
 use Rattle.pm_lines.specs.Lines.{is_line_feed}
 use Rattle.pm_trace.specs.Counts.{counts_of, counts_with, lines_in, is_accepted, is_faulty, is_bad}
-use Rattle.pm_trace.specs.Trace.{Told, Accepted, Faulty, BadSyntax, BadHex, trace_of}
+use Rattle.pm_trace.specs.Trace.{ToldLine, Accepted, Faulty, BadSyntax, BadHex, trace_of}
 use Rattle.pm_trace.specs.OpenLines.{is_begun}
 use Rattle.pm_trace.specs.Decoding.{Holding, IsFresh, Feeds, Finishes, now, said, next, told, some_told, told_at_end, kept_at_end}
 use Rattle.pm_trace.specs.Decoding.{line_told, line_ended, first_line, taken_by, taken_of, told_by, kept_by}
@@ -71,12 +71,12 @@ takes bytes old new call took feeds =
     }
 
 -- calls one after another
-pub record TakesAll (bytes : List ℕ) (calls : List Call) (lines : List Told) (new : Holding) : Type 0 where
+pub record TakesAll (bytes : List ℕ) (calls : List Call) (lines : List ToldLine) (new : Holding) : Type 0 where
   pub took : Took (bytes ++ flat_map taken_in calls) new
   pub said_is : said (bytes ++ flat_map taken_in calls) ≡ said bytes ++ lines
 
 -- what calls leave
-takes_all : (bytes : List ℕ) (old new : Holding) (calls : List Call) (lines : List Told) → Took bytes old → Calls old calls lines new
+takes_all : (bytes : List ℕ) (old new : Holding) (calls : List Call) (lines : List ToldLine) → Took bytes old → Calls old calls lines new
     → TakesAll bytes calls lines new
 takes_all bytes old new [] lines took run =
     let P : Holding → Type 0 = λ h. Took bytes h in
@@ -148,12 +148,12 @@ ends bytes old new ended took finishes =
     }
 
 -- pieces one after another, and the end
-pub record EndsAll (bytes : List ℕ) (pieces : List (List ℕ)) (lines : List Told) (new : Holding) : Type 0 where
+pub record EndsAll (bytes : List ℕ) (pieces : List (List ℕ)) (lines : List ToldLine) (new : Holding) : Type 0 where
   pub lines_are : trace_of (bytes ++ concat pieces) ≡ said bytes ++ lines
   pub counts : new.kept.counts ≡ counts_of (trace_of (bytes ++ concat pieces))
 
 -- what all pieces and the end leave
-ends_all : (bytes : List ℕ) (old new : Holding) (pieces : List (List ℕ)) (lines : List Told) → Took bytes old → Decodes old pieces lines new
+ends_all : (bytes : List ℕ) (old new : Holding) (pieces : List (List ℕ)) (lines : List ToldLine) → Took bytes old → Decodes old pieces lines new
     → EndsAll bytes pieces lines new
 ends_all bytes old new [] lines took (ended, finishes, shown) =
     let end = ends bytes old new ended took finishes in
@@ -175,14 +175,14 @@ ends_all bytes old new (piece ∷ pieces) lines took (calls, mid, front, rest, r
     }
 
 -- pieces up to a call that is refused: what was taken of them
-pub record StopsAt (bytes : List ℕ) (pieces : List (List ℕ)) (lines : List Told) : Type 0 where
+pub record StopsAt (bytes : List ℕ) (pieces : List (List ℕ)) (lines : List ToldLine) : Type 0 where
   pub taken : List ℕ
   pub more : List ℕ
   pub split : bytes ++ concat pieces ≡ taken ++ more
   pub lines_are : said taken ≡ said bytes ++ lines
 
 -- what a refused call leaves
-stops : (bytes : List ℕ) (old new : Holding) (pieces : List (List ℕ)) (lines : List Told) → Took bytes old → Stops old pieces lines new
+stops : (bytes : List ℕ) (old new : Holding) (pieces : List (List ℕ)) (lines : List ToldLine) → Took bytes old → Stops old pieces lines new
     → StopsAt bytes pieces lines
 stops bytes old new [] lines took (none, fault, fails) =
     record { taken = bytes; more = []; split = refl; lines_are = sym (ap (λ l. said bytes ++ l) none ∙ append-nil (said bytes)) }
@@ -224,37 +224,37 @@ fresh : (old : Holding) → IsFresh old → Took [] old
 fresh old is = record { kept = is.kept; intake = is.intake }
 
 -- the lines shown are those of the pieces joined
-pub decoded_lines : (old new : Holding) (pieces : List (List ℕ)) (lines : List Told) → IsFresh old → Decodes old pieces lines new
+pub decoded_lines : (old new : Holding) (pieces : List (List ℕ)) (lines : List ToldLine) → IsFresh old → Decodes old pieces lines new
     → lines ≡ trace_of (concat pieces)
 decoded_lines old new pieces lines is decodes =
     sym ((ends_all [] old new pieces lines (fresh old is) decodes).lines_are ∙ ap (λ l. l ++ lines) said_none)
 
 -- the counts are those of the lines of the pieces joined
-pub decoded_counts : (old new : Holding) (pieces : List (List ℕ)) (lines : List Told) → IsFresh old → Decodes old pieces lines new
+pub decoded_counts : (old new : Holding) (pieces : List (List ℕ)) (lines : List ToldLine) → IsFresh old → Decodes old pieces lines new
     → new.kept.counts ≡ counts_of (trace_of (concat pieces))
 decoded_counts old new pieces lines is decodes = (ends_all [] old new pieces lines (fresh old is) decodes).counts
 
 -- the lines shown are those that ended in what was taken
-pub called_lines : (old new : Holding) (calls : List Call) (lines : List Told) → IsFresh old → Calls old calls lines new
+pub called_lines : (old new : Holding) (calls : List Call) (lines : List ToldLine) → IsFresh old → Calls old calls lines new
     → lines ≡ said (flat_map taken_in calls)
 called_lines old new calls lines is run =
     sym ((takes_all [] old new calls lines (fresh old is) run).said_is ∙ ap (λ l. l ++ lines) said_none)
 
 -- what is kept is a look back over what was taken
-pub called_kept : (old new : Holding) (calls : List Call) (lines : List Told) → IsFresh old → Calls old calls lines new
+pub called_kept : (old new : Holding) (calls : List Call) (lines : List ToldLine) → IsFresh old → Calls old calls lines new
     → new.kept ≡ now (flat_map taken_in calls)
 called_kept old new calls lines is run = (takes_all [] old new calls lines (fresh old is) run).took.kept
 
 -- the lines that ended are the first ones of the whole
-pub said_front : (bytes more : List ℕ) → (rest : List Told) × (trace_of (bytes ++ more) ≡ said bytes ++ rest)
+pub said_front : (bytes more : List ℕ) → (rest : List ToldLine) × (trace_of (bytes ++ more) ≡ said bytes ++ rest)
 said_front bytes more =
     let later = told (now bytes) more in
     let last = some_told (told_at_end (now (bytes ++ more))) in
     (later ++ last, trace_of-end (bytes ++ more) ∙ ap (λ l. l ++ last) (said-append bytes more) ∙ append_assoc (said bytes) later last)
 
 -- the lines shown up to a refused call are the first that the pieces have
-pub stopped_lines : (old new : Holding) (pieces : List (List ℕ)) (lines : List Told) → IsFresh old → Stops old pieces lines new
-    → (rest : List Told) × (trace_of (concat pieces) ≡ lines ++ rest)
+pub stopped_lines : (old new : Holding) (pieces : List (List ℕ)) (lines : List ToldLine) → IsFresh old → Stops old pieces lines new
+    → (rest : List ToldLine) × (trace_of (concat pieces) ≡ lines ++ rest)
 stopped_lines old new pieces lines is run =
     let at = stops [] old new pieces lines (fresh old is) run in
     let (rest, front) = said_front at.taken at.more in
@@ -264,18 +264,18 @@ stopped_lines old new pieces lines is run =
 -- ---- the total
 
 -- one line more among those of a kind
-count-cons : (p : Told → Bool) (line : Told) (lines : List Told) → count_by p (line ∷ lines) ≡ cond (p line) 1 0 + count_by p lines
+count-cons : (p : ToldLine → Bool) (line : ToldLine) (lines : List ToldLine) → count_by p (line ∷ lines) ≡ cond (p line) 1 0 + count_by p lines
 count-cons p line lines = sum_by-cons (λ x. cond (p x) 1 0) line lines
 
 -- a line is of one kind
-one_kind : (line : Told) → cond (is_accepted line) 1 0 + cond (is_faulty line) 1 0 + cond (is_bad line) 1 0 ≡ 1
+one_kind : (line : ToldLine) → cond (is_accepted line) 1 0 + cond (is_faulty line) 1 0 + cond (is_bad line) 1 0 ≡ 1
 one_kind (number, Accepted addr message answer) = refl
 one_kind (number, Faulty addr read fault) = refl
 one_kind (number, BadSyntax) = refl
 one_kind (number, BadHex) = refl
 
 -- each line is counted once
-pub total : (lines : List Told) → lines_in (counts_of lines) ≡ length lines
+pub total : (lines : List ToldLine) → lines_in (counts_of lines) ≡ length lines
 unfolding counts_of
 total [] = refl
 total (line ∷ lines) =

@@ -20,22 +20,19 @@ kept_with kept bytes = record kept {
 kept_at : Kept → ℕ → OpenLine → Kept
 kept_at kept taken line = record kept { taken = taken; line = line }
 
--- what is kept where no byte came is what was kept
-none_with : (kept : Kept) → kept ≡ kept_with kept []
-unfolding kept_at
-none_with kept = let same : kept.taken ≡ kept.taken + 0 = omega arith in ap (λ t. kept_at kept t kept.line) same
-
--- a byte that is no line feed goes to the line
-more_with : (kept : Kept) (x : ℕ) (xs : List ℕ) → is_line_feed x ≡ false → kept_with (kept_takes kept x) xs ≡ kept_with kept (x ∷ xs)
-unfolding kept_takes kept_at
-more_with kept x xs is =
-    let takes : kept_takes kept x ≡ kept_at kept (kept.taken + 1) (line_takes kept.line x) = rw is refl in
-    let many : kept.taken + 1 + length xs ≡ kept.taken + length (x ∷ xs) = omega arith in
-    ap (λ k. kept_with k xs) takes ∙ ap (λ t. kept_at kept t (fold line_takes (line_takes kept.line x) xs)) many
-
 -- bytes without a line feed go to the line
 pub next_plain : (kept : Kept) (bytes : List ℕ) → list_any is_line_feed bytes ≡ false → next kept bytes ≡ kept_with kept bytes
-next_plain = taken-unmarked is_line_feed kept_takes kept_with none_with more_with
+unfolding kept_takes kept_at
+next_plain = taken-unmarked is_line_feed kept_takes kept_with none more
+  where
+    none : (kept : Kept) → kept ≡ kept_with kept []
+    none kept = let same : kept.taken ≡ kept.taken + 0 = omega arith in ap (λ t. kept_at kept t kept.line) same
+
+    more : (kept : Kept) (x : ℕ) (xs : List ℕ) → is_line_feed x ≡ false → kept_with (kept_takes kept x) xs ≡ kept_with kept (x ∷ xs)
+    more kept x xs is =
+        let takes : kept_takes kept x ≡ kept_at kept (kept.taken + 1) (line_takes kept.line x) = rw is refl in
+        let many : kept.taken + 1 + length xs ≡ kept.taken + length (x ∷ xs) = omega arith in
+        ap (λ k. kept_with k xs) takes ∙ ap (λ t. kept_at kept t (fold line_takes (line_takes kept.line x) xs)) many
 
 -- bytes without a line feed say nothing
 pub told_plain : (kept : Kept) (bytes : List ℕ) → list_any is_line_feed bytes ≡ false → told kept bytes ≡ []

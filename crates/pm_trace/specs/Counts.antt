@@ -3,7 +3,7 @@
 use Rattle.std.specs.Prelude.{◌≡◌, ℕ, ◌+◌, Bool, true, false, ◌==◌, if◌then◌else◌, List, [], ◌∷◌, Option, Some, None}
 use Rattle.std.specs.List.{count_by, filter_map, fold, list_any}
 use Rattle.pm_frame.specs.View.{message_code}
-use Rattle.pm_trace.specs.Trace.{Judged, Accepted, Faulty, BadSyntax, BadHex, Told}
+use Rattle.pm_trace.specs.Trace.{Judged, Accepted, Faulty, BadSyntax, BadHex, ToldLine}
 
 -- the lines of each kind, and the codes of those that were accepted, in the order of their first
 -- appearance, each with the number of its lines
@@ -17,26 +17,26 @@ pub record Counts : Type 0 where
 abbrev pub lines_in : Counts → ℕ
 lines_in counts = counts.accepted + counts.faults + counts.bad
 
-abbrev pub is_accepted : Told → Bool
+abbrev pub is_accepted : ToldLine → Bool
 is_accepted (number, Accepted addr message answer) = true
 is_accepted (number, Faulty addr read fault) = false
 is_accepted (number, BadSyntax) = false
 is_accepted (number, BadHex) = false
 
-abbrev pub is_faulty : Told → Bool
+abbrev pub is_faulty : ToldLine → Bool
 is_faulty (number, Accepted addr message answer) = false
 is_faulty (number, Faulty addr read fault) = true
 is_faulty (number, BadSyntax) = false
 is_faulty (number, BadHex) = false
 
-abbrev pub is_bad : Told → Bool
+abbrev pub is_bad : ToldLine → Bool
 is_bad (number, Accepted addr message answer) = false
 is_bad (number, Faulty addr read fault) = false
 is_bad (number, BadSyntax) = true
 is_bad (number, BadHex) = true
 
 -- the code that an accepted line carries; 30h where coefficients are read
-abbrev pub code_told : Told → Option ℕ
+abbrev pub code_told : ToldLine → Option ℕ
 code_told (number, Accepted addr message answer) = Some (message_code message)
 code_told (number, Faulty addr read fault) = None
 code_told (number, BadSyntax) = None
@@ -57,7 +57,7 @@ total_of (entry ∷ entries) = entry.1 + total_of entries
 abbrev pub counted : List ℕ → List (ℕ × ℕ)
 counted codes = fold one_more [] codes
 
-unfoldable pub counts_of : List Told → Counts
+unfoldable pub counts_of : List ToldLine → Counts
 counts_of lines = record {
   accepted = count_by is_accepted lines;
   faults = count_by is_faulty lines;
@@ -76,7 +76,7 @@ one_counted counts BadSyntax = record counts { bad = counts.bad + 1 }
 one_counted counts BadHex = record counts { bad = counts.bad + 1 }
 
 -- one line more, where it isn't skipped
-abbrev pub counts_with : Counts → Option Told → Counts
+abbrev pub counts_with : Counts → Option ToldLine → Counts
 counts_with counts None = counts
 counts_with counts (Some told) = one_counted counts told.1
 

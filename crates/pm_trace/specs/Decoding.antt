@@ -12,7 +12,7 @@ use Rattle.pm_trace.specs.declared.fed.Fed.{Fed}
 use Rattle.pm_trace.specs.declared.decoder.open_line.OpenLine.{OpenLine}
 use Rattle.pm_lines.specs.Lines.{has_bytes, is_line_feed, is_unskipped, without_return}
 use Rattle.pm_trace.specs.Marks.{ended, since, told_at_marks}
-use Rattle.pm_trace.specs.Trace.{Told, told_of}
+use Rattle.pm_trace.specs.Trace.{ToldLine, told_of}
 use Rattle.pm_trace.specs.Counts.{Counts, counts_of, counts_with, IsNewCode}
 use Rattle.pm_trace.specs.OpenLines.{line_of, line_takes, is_begun, is_skipped_kind, open_judged}
 
@@ -27,7 +27,7 @@ pub record Kept : Type 0 where
   pub line : OpenLine
 
 -- what the lines say that a line feed ended, those that are skipped apart
-unfoldable pub said : List ℕ → List Told
+unfoldable pub said : List ℕ → List ToldLine
 said bytes = map told_of (filter is_unskipped
     (enumerate_from 1 (map without_return (ended is_line_feed bytes))))
 
@@ -43,7 +43,7 @@ now bytes = record {
 -- ---- further bytes
 
 -- what the line says that ends here, where it isn't skipped
-abbrev pub line_told : Kept → Option Told
+abbrev pub line_told : Kept → Option ToldLine
 line_told kept = if is_skipped_kind kept.line.kind then None
     else Some (kept.ended + 1, open_judged kept.line)
 
@@ -56,7 +56,7 @@ line_ended kept = record {
   line = line_of [];
 }
 
-abbrev pub some_told : Option Told → List Told
+abbrev pub some_told : Option ToldLine → List ToldLine
 some_told None = []
 some_told (Some told) = told ∷ []
 
@@ -71,14 +71,14 @@ abbrev pub next : Kept → List ℕ → Kept
 next kept bytes = fold kept_takes kept bytes
 
 -- what the lines say that end within further bytes
-abbrev pub told : Kept → List ℕ → List Told
+abbrev pub told : Kept → List ℕ → List ToldLine
 told kept bytes = told_at_marks is_line_feed kept_takes (λ kept. some_told (line_told kept)) kept bytes
 
 -- the end of all bytes, which ends a line that has some
 abbrev pub kept_at_end : Kept → Kept
 kept_at_end kept = if is_begun kept.line then line_ended kept else kept
 
-abbrev pub told_at_end : Kept → Option Told
+abbrev pub told_at_end : Kept → Option ToldLine
 told_at_end kept = if is_begun kept.line then line_told kept else None
 
 -- ---- the calls of a decoder
@@ -87,7 +87,7 @@ told_at_end kept = if is_begun kept.line then line_told kept else None
 -- call ended, where that isn't skipped, and whether it takes more
 pub record Holding : Type 0 where
   pub kept : Kept
-  pub shown : Option Told
+  pub shown : Option ToldLine
   pub intake : Intake
 
 -- a decoder that took no byte
@@ -137,8 +137,8 @@ pub record Fails (old : Holding) (fault : TextFault) (new : Holding) : Type 0 wh
   pub counts : new.kept.counts ≡ old.kept.counts
 
 -- the one line that ends carries a code that wasn't counted before
-pub record CarriesNew (counts : Counts) (lines : List Told) : Type 0 where
-  pub line : Told
+pub record CarriesNew (counts : Counts) (lines : List ToldLine) : Type 0 where
+  pub line : ToldLine
   pub one : lines ≡ line ∷ []
   pub is_new : IsNewCode counts line.1
 
@@ -153,7 +153,7 @@ kept_by Open kept = kept_at_end kept
 kept_by Finished kept = kept
 kept_by (Failed fault) kept = kept
 
-abbrev pub told_by : Intake → Kept → Option Told
+abbrev pub told_by : Intake → Kept → Option ToldLine
 told_by Open kept = told_at_end kept
 told_by Finished kept = None
 told_by (Failed fault) kept = None

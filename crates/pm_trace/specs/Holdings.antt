@@ -10,7 +10,7 @@ use Rattle.pm_trace.specs.declared.fed.Fed.{Fed}
 use Rattle.pm_trace.specs.Counts.{lines_in}
 use Rattle.pm_trace.specs.Decoding.{Holding, Kept, first_line}
 use Rattle.pm_trace.specs.OpenLines.{line_of, line_takes, is_skipped_kind, open_judged}
-use Rattle.pm_trace.specs.Trace.{Told}
+use Rattle.pm_trace.specs.Trace.{ToldLine}
 
 -- the line that is shown is no part of what goes on, though its bytes are kept
 abbrev pub kept_in : Inside → Kept
@@ -21,7 +21,7 @@ kept_in d = record {
   line = if d.is_shown then line_of [] else d.line;
 }
 
-abbrev pub shown_in : Inside → Option Told
+abbrev pub shown_in : Inside → Option ToldLine
 shown_in d = if d.is_shown then Some (d.ended, open_judged d.line) else None
 
 abbrev pub holding_in : Inside → Holding

@@ -4,7 +4,7 @@ use Rattle.std.specs.List.{concat}
 use Rattle.pm_trace.specs.Counts.{counts_of, lines_in}
 use Rattle.pm_trace.specs.Decoding.{Holding, IsFresh, now, next, said}
 use Rattle.pm_trace.specs.Pieces.{Call, Calls, Decodes, Stops, taken_in}
-use Rattle.pm_trace.specs.Trace.{Told, trace_of}
+use Rattle.pm_trace.specs.Trace.{ToldLine, trace_of}
 
 -- How a trace is cut into pieces doesn't matter: the lines that a decoder shows are those of the
 -- pieces joined, where nothing is refused, and otherwise the first of them; and it counts what these
@@ -12,18 +12,18 @@ use Rattle.pm_trace.specs.Trace.{Told, trace_of}
 pub record PiecesDoNotMatter : Type 0 where
   pub next : (bytes piece : List ℕ) → now (bytes ++ piece) ≡ next (now bytes) piece
   -- each piece is fed on until it is taken whole; then comes `finish`
-  pub lines : (old new : Holding) (pieces : List (List ℕ)) (lines : List Told) → IsFresh old →
+  pub lines : (old new : Holding) (pieces : List (List ℕ)) (lines : List ToldLine) → IsFresh old →
       Decodes old pieces lines new → lines ≡ trace_of (concat pieces)
-  pub counts : (old new : Holding) (pieces : List (List ℕ)) (lines : List Told) → IsFresh old →
+  pub counts : (old new : Holding) (pieces : List (List ℕ)) (lines : List ToldLine) → IsFresh old →
       Decodes old pieces lines new → new.kept.counts ≡ counts_of (trace_of (concat pieces))
-  pub total : (lines : List Told) → lines_in (counts_of lines) ≡ length lines
+  pub total : (lines : List ToldLine) → lines_in (counts_of lines) ≡ length lines
   -- the same up to a call that is refused: the lines shown are the first that the pieces have
-  pub refused : (old new : Holding) (pieces : List (List ℕ)) (lines : List Told) → IsFresh old →
-      Stops old pieces lines new → (rest : List Told) × (trace_of (concat pieces) ≡ lines ++ rest)
+  pub refused : (old new : Holding) (pieces : List (List ℕ)) (lines : List ToldLine) → IsFresh old →
+      Stops old pieces lines new → (rest : List ToldLine) × (trace_of (concat pieces) ≡ lines ++ rest)
   -- any calls
-  pub so_far : (old new : Holding) (calls : List Call) (lines : List Told) → IsFresh old →
+  pub so_far : (old new : Holding) (calls : List Call) (lines : List ToldLine) → IsFresh old →
       Calls old calls lines new → lines ≡ said (flat_map taken_in calls)
-  pub kept : (old new : Holding) (calls : List Call) (lines : List Told) → IsFresh old →
+  pub kept : (old new : Holding) (calls : List Call) (lines : List ToldLine) → IsFresh old →
       Calls old calls lines new → new.kept ≡ now (flat_map taken_in calls)
-  pub front : (bytes more : List ℕ) → (rest : List Told)
+  pub front : (bytes more : List ℕ) → (rest : List ToldLine)
       × (trace_of (bytes ++ more) ≡ said bytes ++ rest)

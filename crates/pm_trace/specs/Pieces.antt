@@ -2,7 +2,7 @@
 use Rattle.std.specs.Prelude.{◌≡◌, ◌⊎◌, ℕ, Bool, List, [], ◌∷◌, ◌++◌, take, drop}
 use Rattle.pm_lines.specs.declared.fault.TextFault.{TextFault}
 use Rattle.pm_trace.specs.declared.fed.Fed.{Fed}
-use Rattle.pm_trace.specs.Trace.{Told}
+use Rattle.pm_trace.specs.Trace.{ToldLine}
 use Rattle.pm_trace.specs.Decoding.{Holding, Fails, Feeds, Finishes, some_told}
 
 -- a call of `feed` that isn't refused
@@ -15,9 +15,9 @@ abbrev pub taken_in : Call → List ℕ
 taken_in call = take call.fed.taken call.piece
 
 -- calls one after another, with the lines that were shown after each
-abbrev pub Calls : Holding → List Call → List Told → Holding → Type 0
+abbrev pub Calls : Holding → List Call → List ToldLine → Holding → Type 0
 Calls old [] lines new = (lines ≡ []) × (new ≡ old)
-Calls old (call ∷ calls) lines new = (mid : Holding) × (rest : List Told)
+Calls old (call ∷ calls) lines new = (mid : Holding) × (rest : List ToldLine)
     × Feeds old call.piece call.fed mid × (lines ≡ some_told mid.shown ++ rest)
     × Calls mid calls rest new
 
@@ -33,18 +33,18 @@ abbrev pub TakesWhole : List ℕ → List Call → Type 0
 TakesWhole piece calls = TakesFront piece calls []
 
 -- each piece is fed on until it is taken whole, and then the bytes end
-abbrev pub Decodes : Holding → List (List ℕ) → List Told → Holding → Type 0
+abbrev pub Decodes : Holding → List (List ℕ) → List ToldLine → Holding → Type 0
 Decodes old [] lines new = (ended : Bool) × Finishes old ended new × (lines ≡ some_told new.shown)
 Decodes old (piece ∷ pieces) lines new = (calls : List Call) × (mid : Holding)
-    × (front : List Told) × (rest : List Told)
+    × (front : List ToldLine) × (rest : List ToldLine)
     × Calls old calls front mid × TakesWhole piece calls × (lines ≡ front ++ rest)
     × Decodes mid pieces rest new
 
 -- the same up to a call that is refused: one within a piece, or the end of the bytes
-abbrev pub Stops : Holding → List (List ℕ) → List Told → Holding → Type 0
+abbrev pub Stops : Holding → List (List ℕ) → List ToldLine → Holding → Type 0
 Stops old [] lines new = (lines ≡ []) × (fault : TextFault) × Fails old fault new
 Stops old (piece ∷ pieces) lines new = (calls : List Call) × (left : List ℕ) × (mid : Holding)
-    × (front : List Told) × (rest : List Told)
+    × (front : List ToldLine) × (rest : List ToldLine)
     × Calls old calls front mid × TakesFront piece calls left × (lines ≡ front ++ rest)
     × (((rest ≡ []) × (fault : TextFault) × Fails mid fault new)
     ⊎ ((left ≡ []) × Stops mid pieces rest new))

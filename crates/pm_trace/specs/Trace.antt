@@ -136,12 +136,12 @@ line_judged line = reading_judged (line_read line)
 -- ---- the lines of a trace
 
 -- what a line says, with its number
-abbrev pub Told : Type 0
-Told = ℕ × Judged
+abbrev pub ToldLine : Type 0
+ToldLine = ℕ × Judged
 
-abbrev pub told_of : Numbered → Told
+abbrev pub told_of : Numbered → ToldLine
 told_of numbered = (numbered.0, line_judged numbered.1)
 
 -- what the lines of a trace say that are not skipped
-unfoldable pub trace_of : List ℕ → List Told
+unfoldable pub trace_of : List ℕ → List ToldLine
 trace_of text = map told_of (unskipped_from 1 text)

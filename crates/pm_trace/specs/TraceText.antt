@@ -18,7 +18,7 @@ use Rattle.pm_lines.specs.declared.fault.TextFault.{TextFault}
 use Rattle.pm_lines.specs.declared.fault.TextFault.TheVariants as fault
 use Rattle.pm_lines.specs.declared.fault.TextFault.TheVariants.{Syntax, BadHex, TooLong, Read, Write, Memory, Setup}
 use Rattle.pm_trace.specs.Counts.{Counts, counts_of, lines_in}
-use Rattle.pm_trace.specs.Trace.{Told, Judged, Accepted, Faulty, BadSyntax, BadHex, trace_of}
+use Rattle.pm_trace.specs.Trace.{ToldLine, Judged, Accepted, Faulty, BadSyntax, BadHex, trace_of}
 
 -- ---- a packet that was accepted
 
@@ -77,14 +77,14 @@ judged_text line BadSyntax = fault_words (Syntax line)
 judged_text line BadHex = fault_words (fault.BadHex line)
 
 -- what is written of a line, without a line feed
-unfoldable pub told_text : Told → List ℕ
+unfoldable pub told_text : ToldLine → List ℕ
 told_text told = decimal told.0 ++ (codes " " ++ judged_text told.0 told.1)
 
 -- the same with its line feed
-abbrev pub told_line : Told → List ℕ
+abbrev pub told_line : ToldLine → List ℕ
 told_line told = told_text told ++ codes "\n"
 
-abbrev pub told_lines : List Told → List ℕ
+abbrev pub told_lines : List ToldLine → List ℕ
 told_lines lines = flat_map told_line lines
 
 -- ---- the counts

@@ -1,14 +1,14 @@
 mod intake;
 mod line_kind;
+mod line_part;
 pub(crate) mod open_line;
-mod part;
 mod slashes;
 
 ghost use Rattle.std.specs.Prelude.{◌≡◌};
 
 use crate::decoder::intake::Intake;
+pub use crate::decoder::line_part::{LinePart, PART_BYTES};
 use crate::decoder::open_line::OpenLine;
-pub use crate::decoder::part::{PART_BYTES, Part};
 use crate::fed::Fed;
 use crate::shown::Shown;
 use crate::tally::Tally;

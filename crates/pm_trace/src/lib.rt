@@ -29,7 +29,7 @@ pub use byte_list::ByteList;
 pub use counts_text::push_count;
 pub use decode_end::DecodeEnd;
 pub use decoder::open_line::OpenLine;
-pub use decoder::{Decoder, PART_BYTES, Part};
+pub use decoder::{Decoder, LinePart, PART_BYTES};
 pub use fed::Fed;
 pub use laws::pieces_do_not_matter;
 pub use line_fault::LineFault;

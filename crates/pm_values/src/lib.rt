@@ -3,7 +3,16 @@
 //! bytes alone, since the command table doesn't have them.
 //!
 //! The text of a value, or of such a packet, is appended to any text. Which lines a capture has, in which of them a
-//! packet stands, and what stands around its value is not here. A packet is judged by `pm_trace`.
+//! packet stands, and what stands around its value is not here. A packet is judged by `pm_trace`. A packet by its bytes,
+//! whatever its code, as `58 code D4 write 01 02, no PEC`:
+//!
+//! ```
+//! fn told_by_bytes(alloc: Global, write: &[u8]) -> Result<String, AllocError> {
+//!     let mut text = String::new(alloc);
+//!     push_otherwise(&mut text, 0x58, &Packet { write, read: None })?;
+//!     Ok(text)
+//! }
+//! ```
 #![tactic(auto)]
 
 mod fraction;

@@ -1,12 +1,12 @@
 -- The line that an answer is written as. This project's own choice.
 use Rattle.std.specs.Prelude.{ℕ, List, [], ◌++◌, Option, Some, None, codes, decimal}
+use Rattle.pm_console.specs.HeardText as heard
 use Rattle.pm_host.specs.FaultWords.{host_fault_words}
 use Rattle.pm_host.specs.declared.fault.HostFault.TheVariants as host
 use Rattle.pm_lines.specs.Faults.{fault_words}
 use Rattle.pm_lines.specs.Numbers.{hex_byte, hex_word}
 use Rattle.pm_lines.specs.declared.fault.TextFault.TheVariants as text
 use Rattle.pm_table.specs.declared.cell.Cell.{Cell}
-use Rattle.pm_text.specs.HeardText as heard
 use Rattle.pm_text.specs.Report.{cell_text, output_head, voltage_text}
 use Rattle.pmbpart_lines.specs.declared.refusal.Refusal.{Refusal}
 use Rattle.pmbpart_lines.specs.declared.refusal.Refusal.TheVariants.{Syntax, BadHex, TooLong, UnknownOutput}

@@ -4,7 +4,13 @@
 //!
 //! `answer_line` is the whole engine, without input or output: a converter and a line give an answer. A converter
 //! that is spoken to ([`Part`]) stands for firmware at a desk: what a host sends over a lossy bus, or a script
-//! makes of it, can be said to it frame by frame.
+//! makes of it, can be said to it frame by frame:
+//!
+//! ```
+//! fn answered(converter: &mut Converter, line: &[u8]) -> AnswerText {
+//!     text_of(&answer_line(converter, line)) // of `page`: `page 0`, and a line feed
+//! }
+//! ```
 //!
 //! Frames are read, and answered, as by the program's command `hear`, and readings and registers as in scenarios.
 #![tactic(auto)]

@@ -1,76 +1,21 @@
-ghost use Rattle.std.specs.Prelude.{◌≡◌, ◌<◌, [], ◌∷◌, ◌++◌, OnOk, decimal};
-ghost use Rattle.pm_device.specs.FaultWords.{device_fault_text};
-ghost use Rattle.pm_frame.specs.FaultWords.{frame_fault_text};
-ghost use Rattle.pm_lines.specs.Numbers.{spaced_bytes};
-ghost use Rattle.pm_text.specs.HeardText.{as_line, output_line, reply_words};
+ghost use Rattle.std.specs.Prelude.{◌≡◌, ◌<◌, ◌++◌, OnOk};
+ghost use Rattle.pm_console.specs.HeardText.{reply_words};
+ghost use Rattle.pm_tool.specs.Script.{as_line, output_line};
 
-use pm_device::{DeviceFault, Heard};
-use pm_frame::FrameFault;
+use pm_console::{AnswerText, push_heard, push_text};
+use pm_device::Heard;
 use pm_lines::hex_digits;
 use std::alloc::AllocError;
 
 /// Appends the line of a converter's answer to a text.
+#[tactic(auto, using(pm_lines::specs::Lemmas::Joins::joins))]
 pub(super) fn push_reply(text: &mut Vec<u8>, heard: &Heard) -> Result<(), AllocError>
     ensures { OnOk result (text.new.items ≡ text.old.items ++ as_line (reply_words heard.now)) }
 {
-    push_reply_words(text, heard)?;
-    text.extend_from_slice(b"\n")
-}
-
-// The words of the answer.
-fn push_reply_words(text: &mut Vec<u8>, heard: &Heard) -> Result<(), AllocError>
-    ensures { OnOk result (text.new.items ≡ text.old.items ++ reply_words heard.now) }
-{
-    match heard {
-        Heard::Silent => text.extend_from_slice(b"silent"),
-        Heard::Taken => text.extend_from_slice(b"taken"),
-        Heard::Answer(frame) => {
-            text.extend_from_slice(b"answer")?;
-            push_spaced(text, frame.as_slice())
-        }
-        Heard::Refused(fault) => {
-            text.extend_from_slice(b"refused ")?;
-            push_device_fault(text, fault)
-        }
-    }
-}
-
-// The bytes in hexadecimal, with a space before each.
-fn push_spaced(text: &mut Vec<u8>, bytes: &[u8]) -> Result<(), AllocError>
-    ensures { OnOk result (text.new.items ≡ text.old.items ++ spaced_bytes bytes.now) }
-{
-    for byte in bytes {
-        text.extend_from_slice(b" ")?;
-        text.extend_from_slice(&hex_digits(*byte))?;
-    }
-    Ok(())
-}
-
-// The letter and the name of the converter's refusal, and the frame's fault after K1.
-fn push_device_fault(text: &mut Vec<u8>, fault: &DeviceFault) -> Result<(), AllocError>
-    ensures { OnOk result (text.new.items ≡ text.old.items ++ device_fault_text fault.now) }
-{
-    text.extend_from_slice(fault.words().as_bytes())?;
-    match fault {
-        DeviceFault::Frame(fault) => {
-            text.extend_from_slice(b" ")?;
-            push_frame_fault(text, *fault)
-        }
-        _ => Ok(()),
-    }
-}
-
-// The letter and the name of a frame's fault, and its place.
-fn push_frame_fault(text: &mut Vec<u8>, fault: FrameFault) -> Result<(), AllocError>
-    ensures { OnOk result (text.new.items ≡ text.old.items ++ frame_fault_text fault) }
-{
-    text.extend_from_slice(fault.words().as_bytes())?;
-    let Some(place) = fault.place() else {
-        return Ok(());
-    };
-    let mut digits = itoa::Buffer::new();
-    text.extend_from_slice(b" ")?;
-    text.extend_from_slice(digits.format(place).as_bytes())
+    let mut line = AnswerText::new();
+    push_heard(&mut line, heard);
+    push_text(&mut line, b"\n");
+    text.extend_from_slice(line.as_slice())
 }
 
 /// The line of an output, whose number has one digit, and of its word of VOUT_COMMAND.

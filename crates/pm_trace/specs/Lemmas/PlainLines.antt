@@ -82,7 +82,7 @@ part_bytes-other part b other =
     ∙ ap (λ l. l ++ pair) (sym (part_bytes-split part))
 
 -- one byte more of a part
--- Stands for the clause of `Part::take`.
+-- Stands for the clause of `LinePart::take`.
 pub part_of-snoc : (bytes : List ℕ) (b : ℕ) → part_of (bytes ++ b ∷ []) ≡ part_takes (part_of bytes) b
 unfolding part_of part_takes
 part_of-snoc bytes b =

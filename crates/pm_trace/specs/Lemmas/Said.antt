@@ -14,7 +14,7 @@ use Rattle.std.proofs.lemmas.List.Sums.{sum_by-append, fold-append}
 use Rattle.pm_lines.specs.Lines.{is_line_feed, is_space, is_skipped, is_unskipped, has_bytes, without_return, without_empty_last}
 use Rattle.pm_lines.specs.Lines.{carriage_return, lines_of, unskipped_from}
 use Rattle.pm_trace.specs.Marks.{ended, since, before, after}
-use Rattle.pm_trace.specs.Trace.{Told, told_of, Accepted, Faulty, BadSyntax, BadHex, is_slash, is_separator, is_bad_word, has_bad_word}
+use Rattle.pm_trace.specs.Trace.{ToldLine, told_of, Accepted, Faulty, BadSyntax, BadHex, is_slash, is_separator, is_bad_word, has_bad_word}
 use Rattle.pm_trace.specs.Trace.{is_long, is_misshapen, part_bytes, parts_of, line_read, line_judged, reading_judged, trace_of, unpaired}
 use Rattle.pm_trace.specs.Trace.{max_part}
 use Rattle.pm_trace.specs.Counts.{counts_of, counts_with, one_counted, one_more, counted, code_told, is_accepted, is_faulty, is_bad}
@@ -134,7 +134,7 @@ length-map [] = refl
 length-map (l ∷ ls) = let rest = length-map ls in omega arith
 
 -- what the lines say that are not skipped
-abbrev pub told_lines : List (List ℕ) → List Told
+abbrev pub told_lines : List (List ℕ) → List ToldLine
 told_lines lines = map told_of (filter is_unskipped (enumerate_from 1 lines))
 
 -- one line more is told, or skipped
@@ -185,15 +185,15 @@ said-other bytes b other = ap (λ l. told_lines (map without_return l)) (ended-o
 -- ---- the counts
 
 -- one line more of a kind
-count_yes : (p : Told → Bool) (lines : List Told) (line : Told) → p line ≡ true → count_by p (lines ++ line ∷ []) ≡ count_by p lines + 1
+count_yes : (p : ToldLine → Bool) (lines : List ToldLine) (line : ToldLine) → p line ≡ true → count_by p (lines ++ line ∷ []) ≡ count_by p lines + 1
 count_yes p lines line is = sum_by-append (λ x. cond (p x) 1 0) lines (line ∷ []) ∙ rw is refl
 
 -- one line more of another kind
-count_no : (p : Told → Bool) (lines : List Told) (line : Told) → p line ≡ false → count_by p (lines ++ line ∷ []) ≡ count_by p lines
+count_no : (p : ToldLine → Bool) (lines : List ToldLine) (line : ToldLine) → p line ≡ false → count_by p (lines ++ line ∷ []) ≡ count_by p lines
 count_no p lines line other = sum_by-append (λ x. cond (p x) 1 0) lines (line ∷ []) ∙ rw other (omega arith)
 
 -- a line without a code
-counted_same : (lines : List Told) (line : Told) → code_told line ≡ None
+counted_same : (lines : List ToldLine) (line : ToldLine) → code_told line ≡ None
     → counted (filter_map code_told (lines ++ line ∷ [])) ≡ counted (filter_map code_told lines)
 counted_same lines line none =
     let same : filter_map code_told (lines ++ line ∷ []) ≡ filter_map code_told lines =
@@ -201,7 +201,7 @@ counted_same lines line none =
     ap counted same
 
 -- a line with a code
-counted_more : (lines : List Told) (line : Told) (code : ℕ) → code_told line ≡ Some code
+counted_more : (lines : List ToldLine) (line : ToldLine) (code : ℕ) → code_told line ≡ Some code
     → counted (filter_map code_told (lines ++ line ∷ [])) ≡ one_more (counted (filter_map code_told lines)) code
 counted_more lines line code some =
     let more : filter_map code_told (lines ++ line ∷ []) ≡ filter_map code_told lines ++ code ∷ [] =
@@ -210,7 +210,7 @@ counted_more lines line code some =
 
 -- one line more is counted
 -- Stands for `ok` of `Tally::count`.
-pub counts_of-snoc : (lines : List Told) (line : Told) → counts_of (lines ++ line ∷ []) ≡ one_counted (counts_of lines) line.1
+pub counts_of-snoc : (lines : List ToldLine) (line : ToldLine) → counts_of (lines ++ line ∷ []) ≡ one_counted (counts_of lines) line.1
 unfolding counts_of
 counts_of-snoc lines (number, Accepted addr message answer) = λ i. record {
   accepted = count_yes is_accepted lines (number, Accepted addr message answer) refl i;
@@ -238,7 +238,7 @@ counts_of-snoc lines (number, BadHex) = λ i. record {
 }
 
 -- one line more, if there is one
-counts-with : (lines : List Told) (line : Option Told) → counts_of (lines ++ some_told line) ≡ counts_with (counts_of lines) line
+counts-with : (lines : List ToldLine) (line : Option ToldLine) → counts_of (lines ++ some_told line) ≡ counts_with (counts_of lines) line
 counts-with lines None = ap counts_of (append-nil lines)
 counts-with lines (Some line) = counts_of-snoc lines line
 

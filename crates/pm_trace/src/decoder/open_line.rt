@@ -1,7 +1,7 @@
 ghost use Rattle.std.specs.Prelude.{◌≡◌};
 
 use crate::decoder::line_kind::LineKind;
-use crate::decoder::part::Part;
+use crate::decoder::line_part::LinePart;
 use crate::decoder::slashes::Slashes;
 use crate::line_fault::LineFault;
 use crate::shown::{Shown, packet_shown};
@@ -13,8 +13,8 @@ pub struct OpenLine {
     // What it is by its first bytes.
     kind: LineKind,
     // The bytes before the first slash, and after it.
-    write: Part,
-    read: Part,
+    write: LinePart,
+    read: LinePart,
     // The last digit, where it has no other to make a byte with yet.
     digit: Option<u8>,
     slashes: Slashes,
@@ -39,8 +39,8 @@ impl OpenLine {
     {
         OpenLine {
             kind: LineKind::Empty,
-            write: Part::new(),
-            read: Part::new(),
+            write: LinePart::new(),
+            read: LinePart::new(),
             digit: None,
             slashes: Slashes::None,
             is_bad: false,

@@ -1,5 +1,5 @@
 use Rattle.std.proofs.Common.{inr, refl}
-use Rattle.pm_lines.proofs.PairLemmas.{all_paired, not_paired, some_word}
+use Rattle.pm_lines.specs.Lemmas.Paired.{all_paired, not_paired, some_word}
 use Rattle.pm_lines.proofs.bytes.push_bytes.Goals as goal
 
 pub returns-in-Ok-empty-clause-all : goal.returns-in-Ok-empty-clause-all

@@ -1,6 +1,6 @@
 use Rattle.std.proofs.Common.{◌∙◌, ◌-◌, ◌<◌, ◌++◌, ◌∷◌, [], ap, arith, append_assoc, drop, length, length-append, refl, sym, take}
 use Rattle.pm_lines.specs.Pairs.{paired_bytes}
-use Rattle.pm_lines.proofs.PairLemmas.{pair_taken}
+use Rattle.pm_lines.specs.Lemmas.Paired.{pair_taken}
 use Rattle.pm_lines.specs.Lemmas.Writing.{on_err}
 use Rattle.pm_lines.proofs.bytes.push_pairs.Goals as goal
 

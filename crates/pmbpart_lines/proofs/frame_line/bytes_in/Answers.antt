@@ -1,6 +1,6 @@
 use Rattle.std.proofs.Common.{arith, refl}
 use Rattle.std.proofs.lemmas.List.{nil_from_length}
-use Rattle.pm_lines.proofs.PairLemmas.{line_read, not_paired}
+use Rattle.pm_lines.specs.Lemmas.Paired.{line_read, not_paired}
 use Rattle.pmbpart_lines.proofs.frame_line.bytes_in.Goals as goal
 
 pub returns-in-empty : goal.returns-in-empty

@@ -14,21 +14,21 @@ use std::marker::Model;
 
 /// What the lines taught, and how many there were of each kind.
 #[derive(Debug, Drop)]
-pub(crate) struct Heard {
+pub(crate) struct HeardLines {
     lessons: Lessons,
     tally: Tally,
     others: Others,
 }
 
-impl Model for Heard {
-    ghost use Rattle.pm_decode.specs.Hearing.{Heard};
+impl Model for HeardLines {
+    ghost use Rattle.pm_decode.specs.Hearing.{HeardLines};
 
-    ghost Value = { Heard };
+    ghost Value = { HeardLines };
 
     ghost view = { λ h. record { taught = h.lessons; counts = h.tally; others = h.others } };
 }
 
-impl Heard {
+impl HeardLines {
     ghost use Rattle.std.specs.Prelude.{[], ◌+◌, ◌<◌, ◌≤◌, ◌^◌, ◌++◌, codes, false, OnOk, Ok, string_bytes};
     ghost use Rattle.pm_trace.specs.Counts.{lines_in};
     ghost use Rattle.pm_decode.specs.CaptureText.{line_text};
@@ -37,10 +37,10 @@ impl Heard {
 
     /// No line yet. Takes no memory.
     #[tactic(auto, unfolding(crate::specs::Hearing::heard_of))]
-    pub(crate) fn new(alloc: Global) -> Heard
+    pub(crate) fn new(alloc: Global) -> HeardLines
         ensures { result ≡ heard_of false [] }
     {
-        Heard {
+        HeardLines {
             lessons: Lessons::new(alloc),
             tally: Tally::new(alloc),
             others: Others::new(alloc),

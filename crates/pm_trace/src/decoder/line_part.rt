@@ -9,17 +9,17 @@ pub const PART_BYTES: usize = 300;
 
 /// The first bytes of a part, and whether it had more than one may have.
 #[derive(Debug, Drop)]
-pub struct Part {
+pub struct LinePart {
     // The bytes, and room for more.
     bytes: [u8; PART_BYTES],
     length: usize,
     is_long: bool,
 }
 
-impl Model for Part {
+impl Model for LinePart {
     ghost use Rattle.std.specs.Prelude.{◌≤◌, take};
     ghost use Rattle.pm_trace.specs.Parts.{Collected};
-    ghost use Rattle.pm_trace.specs.declared.decoder.part.TheConstants.{PART_BYTES};
+    ghost use Rattle.pm_trace.specs.declared.decoder.line_part.TheConstants.{PART_BYTES};
 
     ghost Value = { Collected };
 
@@ -28,7 +28,7 @@ impl Model for Part {
     ghost invariant = { λ p. p.length ≤ PART_BYTES };
 }
 
-impl Part {
+impl LinePart {
     ghost use Rattle.pm_lines.specs.Pairs.{paired_bytes, behind_pairs};
     ghost use Rattle.pm_trace.specs.Parts.{part_of, part_takes};
     ghost use Rattle.std.specs.List.{fold};
@@ -36,10 +36,10 @@ impl Part {
 
     /// A part without bytes.
     #[tactic(auto, unfolding(crate::specs::Parts::part_of))]
-    pub fn new() -> Part
+    pub fn new() -> LinePart
         ensures { result ≡ part_of [] }
     {
-        Part {
+        LinePart {
             bytes: [0; PART_BYTES],
             length: 0,
             is_long: false,

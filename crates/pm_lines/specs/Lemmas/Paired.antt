@@ -1,4 +1,5 @@
--- The bytes of a line's words, and the pairs of digits that stand one after another in it.
+-- The bytes of a line's words, and the pairs of digits that stand one after another in it. The clauses of `spaced_pair`
+-- and `four_pairs` say which pairs they take; `line_read` and `not_paired` say what a line reads as whose pairs were taken.
 use Rattle.std.proofs.Common.{◌≡◌, ◌∙◌, ◌-◌, ◌<◌, ◌≤◌, ◌++◌, ◌&&◌, ℕ, Bool, true, false, cond, List, [], ◌∷◌, length, take}
 use Rattle.std.proofs.Common.{drop, get_or, Option, Some, None, option_map, refl, sym, ap, arith}
 use Rattle.std.specs.Prelude.{filter}

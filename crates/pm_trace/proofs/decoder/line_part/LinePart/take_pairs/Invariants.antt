@@ -2,7 +2,7 @@ use Rattle.std.proofs.Common.{◌≡◌, length}
 use Rattle.std.specs.List.{fold}
 use Rattle.pm_lines.specs.Pairs.{paired_bytes, behind_pairs}
 use Rattle.pm_trace.specs.Parts.{part_takes}
-use Rattle.pm_trace.proofs.decoder.part.Part.take_pairs.Given as goal
+use Rattle.pm_trace.proofs.decoder.line_part.LinePart.take_pairs.Given as goal
 
 -- what the rest makes of the part as it is now, all digits make of it as it was
 abbrev pub invariant-pairs : goal.invariant-pairs

@@ -1,6 +1,6 @@
 use Rattle.std.proofs.Common.{[], append-nil, sym}
 use Rattle.std.proofs.lemmas.Result.{IfErr-weaker}
-use Rattle.pm_console.proofs.talk.hand_on.Goals as goal
+use Rattle.pm_console.proofs.talk.write_answer.Goals as goal
 
 pub returns-clause-err : goal.returns-clause-err
 returns-clause-err g c =

@@ -1,7 +1,7 @@
 ghost use Rattle.std.specs.Prelude.{◌≡◌};
 
 use crate::capture::Capture;
-use crate::heard::Heard;
+use crate::heard_lines::HeardLines;
 use crate::options::TellOptions;
 use crate::timed_line::LineReading;
 use std::alloc::{AllocError, Global};
@@ -9,13 +9,13 @@ use std::marker::Model;
 
 /// The text of lines that ended and was not written yet.
 #[derive(Debug, Drop)]
-pub(crate) struct Told {
+pub(crate) struct ToldText {
     text: Vec<u8>,
     // Where the text of a line is made.
     line: String,
 }
 
-impl Model for Told {
+impl Model for ToldText {
     ghost use Rattle.std.specs.Prelude.{List, ℕ};
 
     ghost Value = { List ℕ };
@@ -23,17 +23,17 @@ impl Model for Told {
     ghost view = { λ t. t.text.items };
 }
 
-impl Told {
+impl ToldText {
     ghost use Rattle.std.specs.Prelude.{[], ◌+◌, ◌<◌, ◌≤◌, ◌++◌, ◌^◌, OnErr, OnOk, length};
     ghost use Rattle.pm_decode.specs.CaptureText.{counts_text, line_text};
     ghost use Rattle.pm_decode.specs.Hearing.{heard_lines, heard_with};
     ghost use Rattle.pm_decode.specs.ShownReadings.{reading_in};
 
     /// No line. Takes no memory.
-    pub(crate) fn new(alloc: Global) -> Told
+    pub(crate) fn new(alloc: Global) -> ToldText
         ensures { result ≡ [] }
     {
-        Told {
+        ToldText {
             text: Vec::new(alloc),
             line: String::new(alloc),
         }
@@ -63,7 +63,7 @@ impl Told {
     /// Gathers what a line says, with its number, and has it heard.
     pub(crate) fn hear(
         &mut self,
-        heard: &mut Heard,
+        heard: &mut HeardLines,
         options: &TellOptions,
         number: u64,
         line: &LineReading<'_>,

@@ -1,0 +1,66 @@
+//! The examples of the roots of `pm_values`, `pm_decode` and `pm_tool`, word for word.
+
+use crate::checks::equal;
+use pm_decode::{TellOptions, tell};
+use pm_test_streams::{blank_paper, in_pieces};
+use pm_tool::{Sink, Source, TextFault, run};
+use pm_values::{Packet, push_otherwise};
+use std::alloc::{AllocError, Global};
+use std::io::{Read, Write};
+use std::test::Fail;
+
+fn told_by_bytes(alloc: Global, write: &[u8]) -> Result<String, AllocError> {
+    let mut text = String::new(alloc);
+    push_otherwise(&mut text, 0x58, &Packet { write, read: None })?;
+    Ok(text)
+}
+
+fn told<R: Read, W: Write>(alloc: Global, trace: R, paper: W) -> Result<W, TextFault> {
+    let options = TellOptions {
+        values: true, // a voltage in volts, a status register bit by bit
+        vout: None, // the format that the trace itself teaches
+        all: false,
+        long: false,
+        times: false,
+        json: false,
+    };
+    let mut sink = Sink::new(paper);
+    tell(alloc, &mut Source::new(trace), &mut sink, &options)?;
+    Ok(sink.into_inner())
+}
+
+fn number<W: Write, E: Write>(alloc: Global, output: W, errors: E) -> (u8, W) {
+    let words = ["pmb", "number", "--format=linear11", "--word=87FF"];
+    let mut input = Source::new(b"".as_slice());
+    let mut output = Sink::new(output);
+    let mut errors = Sink::new(errors);
+    let status = run(alloc, Ok(&words), &mut input, &mut output, &mut errors);
+    (status, output.into_inner()) // word 87FF value -1/65536 micro -16
+}
+
+#[test]
+fn the_examples_of_the_roots_run(rt: HostRuntime) -> Result<(), Fail> {
+    let packet = told_by_bytes(rt.alloc(), &[0xB0, 0xD4, 0x01, 0x02])?;
+    equal(&rt, &packet.as_str(), &"58 code D4 write 01 02, no PEC", &1);
+
+    let trace = b"B0 06 02 00 20 / B1 01 14 4E\nB0 05 04 00 21 CD 34 5A\n";
+    let said =
+        "1 58 page 0 VOUT_MODE read 14 ULINEAR16 -12\n2 58 page 0 VOUT_COMMAND write 34CD 13517/4096 3300048 uV\ncount VOUT_MODE 1\ncount VOUT_COMMAND 1\nlines 2 accepted 2 faults 0 bad 0\n";
+    let paper = told(
+        rt.alloc(),
+        in_pieces(trace, 7),
+        blank_paper(rt.alloc(), 4096),
+    )?;
+    equal(&rt, &paper.taken.as_slice(), &said.as_bytes(), &2);
+
+    let (output, errors) = (blank_paper(rt.alloc(), 64), blank_paper(rt.alloc(), 64));
+    let (status, paper) = number(rt.alloc(), output, errors);
+    equal(&rt, &status, &0, &3);
+    equal(
+        &rt,
+        &paper.taken.as_slice(),
+        &b"word 87FF value -1/65536 micro -16\n".as_slice(),
+        &4,
+    );
+    Ok(())
+}
