@@ -26,7 +26,7 @@ use crate::sent::read_address;
 ///
 /// | sent | came |
 /// |---|---|
-/// | B0 99 | B1 03 4C 54 43 PEC |
+/// | B0 99 | B1 03 4C 54 43 9F |
 pub fn read_block<'a>(addr: u8, code: u8, got: &'a [u8]) -> Result<&'a [u8], FrameFault>
     requires { IsAddress addr }
     ensures payload { IfOk result (λ payload. IsBlockAnswer addr code payload.now got.entry.now) }

@@ -23,7 +23,7 @@ pub fn code_request(addr: u8, code: u8) -> [u8; 2]
     [write_address(addr), code]
 }
 
-/// Reads what came back after the repeated start of [`code_request`], where `size` bytes of payload were asked for, 1 to
+/// Reads what came back after the repeated start of [`code_request`], where `size` bytes of payload were asked for, at most
 /// [`MOST_READ`]. `Ok` is the payload. Takes exactly this layout, for bytes of any number; `Err` is the first fault:
 ///
 /// 1. F1: no byte, or the first one isn't the address with the read bit.
@@ -34,7 +34,7 @@ pub fn code_request(addr: u8, code: u8) -> [u8; 2]
 ///
 /// | sent | came |
 /// |---|---|
-/// | B0 79 | B1 40 00 2B |
+/// | B0 79 | B1 40 00 8F |
 pub fn read_plain<'a>(
     addr: u8,
     code: u8,
@@ -42,7 +42,6 @@ pub fn read_plain<'a>(
     got: &'a [u8],
 ) -> Result<&'a [u8], FrameFault>
     requires address { IsAddress addr }
-    requires some { 1 ≤ size }
     requires most { size ≤ most_read }
     ensures payload { IfOk result (λ payload. IsPlainAnswer addr code size payload.now got.entry.now) }
     ensures places { IfOk result (λ payload. payload.now ≡ plain_payload got.entry.now) }
