@@ -6,7 +6,9 @@ mod Codes
 mod DamageLemmas
 mod FarBits
 mod FewBits
+mod LateAnswerLaws
 mod Numbers
+mod OtherReads
 mod Parts
 mod RequestLaws
 mod Residues

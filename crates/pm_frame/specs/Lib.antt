@@ -1,11 +1,14 @@
 -- What the crate promises.
 pub mod Betrayal
+pub mod BlockRead
 pub mod Damage
 pub mod Fault
 pub mod FaultWords
+pub mod LateAnswers
 pub mod Laws
 pub mod Layout
 pub mod Pec
+pub mod PlainRead
 pub mod View
 -- How it is kept.
 pub mod Whole

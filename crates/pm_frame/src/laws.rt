@@ -3,6 +3,7 @@
 //! stands in the definitions, under its name.
 
 ghost use Rattle.pm_frame.specs.Laws.{WritesAreExact, RequestsAreExact, AnswersAreExact, DamageIsRefused, BetrayalIsRefused};
+ghost use Rattle.pm_frame.specs.LateAnswers.{LateAnswersPass};
 ghost use Rattle.pm_frame.specs.Laws.{BurstsAreBetrayed, FewChangesAreBetrayed, DamageIsBetrayed};
 
 use pm_table::payloads_are_short;
@@ -62,4 +63,10 @@ pub fn few_changes_are_betrayed()
 /// before it in the packet.
 pub fn damage_is_betrayed()
     ensures { DamageIsBetrayed }
+{}
+
+/// When an answer to one request passes for an answer to another, as one that comes late may: exactly where the two
+/// requests have one PEC up to the read address and their answers one form. What comes back is then judged alike for both.
+pub fn late_answers_pass()
+    ensures { LateAnswersPass }
 {}

@@ -6,6 +6,9 @@
 //! bytes of any number, and take exactly the layouts: what they refuse has the fault that comes
 //! first, with its place. A `FrameView` borrows the bytes that were read.
 //!
+//! `read_block` and `read_plain` judge what comes back for reads that are no `Message`: a block of up to 32 bytes, and any
+//! number of bytes, of any code.
+//!
 //! The PEC betrays damage where the last byte of what was heard isn't the PEC of what stands before
 //! it: `is_betrayed` says so of bytes, and the laws say which damage it always betrays.
 //!
@@ -29,6 +32,7 @@
 #![tactic(auto)]
 
 mod betrayal;
+mod block_read;
 mod direction;
 mod fault;
 mod frame_view;
@@ -37,6 +41,7 @@ mod message;
 mod packet_error_code;
 mod payload;
 mod places;
+mod plain_read;
 mod received;
 mod row;
 mod rules;
@@ -44,15 +49,18 @@ mod sent;
 
 use arrayvec::ArrayVec;
 pub use betrayal::is_betrayed;
+pub use block_read::read_block;
 pub use fault::FrameFault;
 pub use frame_view::FrameView;
 pub use laws::{
     answers_are_exact, betrayal_is_refused, bursts_are_betrayed, damage_is_betrayed,
-    damage_is_refused, few_changes_are_betrayed, requests_are_exact, writes_are_exact,
+    damage_is_refused, few_changes_are_betrayed, late_answers_pass, requests_are_exact,
+    writes_are_exact,
 };
 pub use message::{Message, fits};
 pub use packet_error_code::{pec, pec_after};
 pub use payload::Payload;
+pub use plain_read::{MOST_READ, code_request, read_plain};
 pub use received::{read_answer, read_request, read_write};
 pub use sent::{answer, write_part};
 

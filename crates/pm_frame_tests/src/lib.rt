@@ -23,6 +23,8 @@ mod layouts;
 #[cfg(test)]
 mod numbers;
 #[cfg(test)]
+mod other_reads;
+#[cfg(test)]
 mod packet_error_code;
 #[cfg(test)]
 mod round_trips;

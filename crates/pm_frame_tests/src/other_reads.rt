@@ -1,0 +1,255 @@
+//! Reads that are no message: blocks and plain reads of any code, with real frames and each fault, written by hand, and an
+//! answer that comes late.
+
+ghost use Rattle.std.specs.Prelude.{◌≤◌};
+ghost use Rattle.pm_table.specs.Address.{IsAddress};
+
+use crate::checks::agrees;
+use crate::framing::answer_fault;
+use pm_frame::{FrameFault, MOST_READ, Message, code_request, fits, read_block, read_plain};
+use pm_table::address_ok;
+
+// The bytes 00h to 1Fh, which are as many as a block has at most.
+#[rattlefmt::skip]
+static MOST: [u8; 32] = [
+    0x00, 0x01, 0x02, 0x03, 0x04, 0x05, 0x06, 0x07, 0x08, 0x09, 0x0A, 0x0B, 0x0C, 0x0D, 0x0E, 0x0F,
+    0x10, 0x11, 0x12, 0x13, 0x14, 0x15, 0x16, 0x17, 0x18, 0x19, 0x1A, 0x1B, 0x1C, 0x1D, 0x1E, 0x1F,
+];
+
+// They, as a block of 9Eh.
+#[rattlefmt::skip]
+static MOST_BLOCK: [u8; 35] = [
+    0xB1, 0x20,
+    0x00, 0x01, 0x02, 0x03, 0x04, 0x05, 0x06, 0x07, 0x08, 0x09, 0x0A, 0x0B, 0x0C, 0x0D, 0x0E, 0x0F,
+    0x10, 0x11, 0x12, 0x13, 0x14, 0x15, 0x16, 0x17, 0x18, 0x19, 0x1A, 0x1B, 0x1C, 0x1D, 0x1E, 0x1F,
+    0x94,
+];
+
+// They, as a plain answer of D0h.
+#[rattlefmt::skip]
+static MOST_PLAIN: [u8; 34] = [
+    0xB1,
+    0x00, 0x01, 0x02, 0x03, 0x04, 0x05, 0x06, 0x07, 0x08, 0x09, 0x0A, 0x0B, 0x0C, 0x0D, 0x0E, 0x0F,
+    0x10, 0x11, 0x12, 0x13, 0x14, 0x15, 0x16, 0x17, 0x18, 0x19, 0x1A, 0x1B, 0x1C, 0x1D, 0x1E, 0x1F,
+    0x39,
+];
+
+// One byte more, with its PEC.
+#[rattlefmt::skip]
+static TOO_MANY: [u8; 36] = [
+    0xB1, 0x21,
+    0x00, 0x01, 0x02, 0x03, 0x04, 0x05, 0x06, 0x07, 0x08, 0x09, 0x0A, 0x0B, 0x0C, 0x0D, 0x0E, 0x0F,
+    0x10, 0x11, 0x12, 0x13, 0x14, 0x15, 0x16, 0x17, 0x18, 0x19, 0x1A, 0x1B, 0x1C, 0x1D, 0x1E, 0x1F,
+    0x20, 0x51,
+];
+
+type Payload = Result<&'static [u8], FrameFault>;
+
+// The code, what came back from 58h, and the payload or the first fault. MFR_ID (99h) is `LTC`.
+static BLOCKS: [(u8, &[u8], Payload); 19] = [
+    (0x99, &[0xB1, 0x03, 0x4C, 0x54, 0x43, 0x9F], Ok(b"LTC")),
+    (0x9A, &[0xB1, 0x00, 0xEC], Ok(&[])),
+    (0x99, &[], Err(FrameFault::NotOurs)),
+    (
+        0x99,
+        &[0xB0, 0x03, 0x4C, 0x54, 0x43, 0x9F],
+        Err(FrameFault::NotOurs),
+    ),
+    (
+        0x99,
+        &[0x9F, 0x03, 0x4C, 0x54, 0x43, 0x9F],
+        Err(FrameFault::NotOurs),
+    ),
+    (0x99, &[0xB1], Err(FrameFault::Short(1))),
+    (0x9A, &[0xB1, 0x00], Err(FrameFault::Short(2))),
+    (
+        0x99,
+        &[0xB1, 0x03, 0x4C, 0x54, 0x43],
+        Err(FrameFault::Short(5)),
+    ),
+    (
+        0x99,
+        &[0xB1, 0x04, 0x4C, 0x54, 0x43, 0x9F],
+        Err(FrameFault::Short(6)),
+    ),
+    (
+        0x99,
+        &[0xB1, 0x03, 0x4C, 0x54, 0x43, 0x9F, 0x00],
+        Err(FrameFault::Long(6)),
+    ),
+    (
+        0x99,
+        &[0xB1, 0x02, 0x4C, 0x54, 0x43, 0x9F],
+        Err(FrameFault::Long(5)),
+    ),
+    (0x9E, &[0xB1, 0x21], Err(FrameFault::WrongCount(1))),
+    (
+        0x99,
+        &[0xB1, 0xFF, 0xFF, 0xFF, 0xFF, 0xFF],
+        Err(FrameFault::WrongCount(1)),
+    ),
+    // another PEC, that of the answer alone, that from the code on, that of another code's, and changed bytes
+    (
+        0x99,
+        &[0xB1, 0x03, 0x4C, 0x54, 0x43, 0x9E],
+        Err(FrameFault::WrongPec(5)),
+    ),
+    (
+        0x99,
+        &[0xB1, 0x03, 0x4C, 0x54, 0x43, 0x73],
+        Err(FrameFault::WrongPec(5)),
+    ),
+    (
+        0x99,
+        &[0xB1, 0x03, 0x4C, 0x54, 0x43, 0x67],
+        Err(FrameFault::WrongPec(5)),
+    ),
+    (
+        0x9A,
+        &[0xB1, 0x03, 0x4C, 0x54, 0x43, 0x9F],
+        Err(FrameFault::WrongPec(5)),
+    ),
+    (
+        0x99,
+        &[0xB1, 0x03, 0x4C, 0x54, 0x42, 0x9F],
+        Err(FrameFault::WrongPec(5)),
+    ),
+    (0x9A, &[0xB1, 0x00, 0x00], Err(FrameFault::WrongPec(2))),
+];
+
+// The code, how many bytes were asked for, what came back from 58h, and the payload or the first fault. STATUS_WORD (79h)
+// is 0040h, CAPABILITY (19h) is B0h.
+static PLAIN: [(u8, usize, &[u8], Payload); 14] = [
+    (0x79, 2, &[0xB1, 0x40, 0x00, 0x8F], Ok(&[0x40, 0x00])),
+    (0x19, 1, &[0xB1, 0xB0, 0x43], Ok(&[0xB0])),
+    (0x79, 2, &[], Err(FrameFault::NotOurs)),
+    (0x79, 2, &[0xB0, 0x40, 0x00, 0x8F], Err(FrameFault::NotOurs)),
+    (0x79, 2, &[0xB1], Err(FrameFault::Short(1))),
+    (0x79, 2, &[0xB1, 0x40, 0x00], Err(FrameFault::Short(3))),
+    (
+        0x79,
+        3,
+        &[0xB1, 0x40, 0x00, 0x8F],
+        Err(FrameFault::Short(4)),
+    ),
+    (
+        0x79,
+        2,
+        &[0xB1, 0x40, 0x00, 0x8F, 0x00],
+        Err(FrameFault::Long(4)),
+    ),
+    (0x79, 1, &[0xB1, 0x40, 0x00, 0x8F], Err(FrameFault::Long(3))),
+    (
+        0x79,
+        2,
+        &[0xB1, 0x40, 0x00, 0x8E],
+        Err(FrameFault::WrongPec(3)),
+    ),
+    (
+        0x79,
+        2,
+        &[0xB1, 0x40, 0x00, 0xDA],
+        Err(FrameFault::WrongPec(3)),
+    ),
+    (
+        0x78,
+        2,
+        &[0xB1, 0x40, 0x00, 0x8F],
+        Err(FrameFault::WrongPec(3)),
+    ),
+    (
+        0x79,
+        2,
+        &[0xB1, 0xFF, 0xFF, 0xFF],
+        Err(FrameFault::WrongPec(3)),
+    ),
+    (
+        0x79,
+        2,
+        &[0xB1, 0x00, 0x00, 0x00],
+        Err(FrameFault::WrongPec(3)),
+    ),
+];
+
+// What came back for a block read of this code of this device.
+fn block(addr: u8, code: u8, got: &'static [u8]) -> Payload
+    requires { IsAddress addr }
+{
+    read_block(addr, code, got)
+}
+
+// What came back for a plain read of so many bytes.
+fn plain(addr: u8, code: u8, size: usize, got: &'static [u8]) -> Payload
+    requires address { IsAddress addr }
+    requires most { size ≤ 32 }
+{
+    read_plain(addr, code, size, got)
+}
+
+#[test]
+fn a_block_is_read_or_has_its_first_fault(rt: HostRuntime) {
+    assert!(rt; address_ok(0x58));
+    for (row, (code, got, wanted)) in BLOCKS.iter().enumerate() {
+        agrees(&rt, row, &block(0x58, *code, got), wanted);
+    }
+    agrees(&rt, 19, &block(0x58, 0x9E, &MOST_BLOCK), &Ok(&MOST));
+    let found = block(0x58, 0x9E, &TOO_MANY);
+    agrees(&rt, 20, &found, &Err(FrameFault::WrongCount(1)));
+}
+
+#[test]
+fn a_plain_read_is_read_or_has_its_first_fault(rt: HostRuntime) {
+    assert!(rt; address_ok(0x58));
+    assert!(rt; address_ok(0x4F));
+    for (row, (code, size, got, wanted)) in PLAIN.iter().enumerate() {
+        let size = *size;
+        assert!(rt; size <= MOST_READ);
+        agrees(&rt, row, &plain(0x58, *code, size, got), wanted);
+    }
+    agrees(&rt, 14, &plain(0x58, 0xD0, 32, &MOST_PLAIN), &Ok(&MOST));
+    // READ_VOUT of 4Fh
+    agrees(
+        &rt,
+        15,
+        &plain(0x4F, 0x8B, 2, &[0x9F, 0xCD, 0x34, 0x2A]),
+        &Ok(&[0xCD, 0x34]),
+    );
+    agrees(&rt, 16, &code_request(0x58, 0x99), &[0xB0, 0x99]);
+    agrees(&rt, 17, &code_request(0x4F, 0x8B), &[0x9E, 0x8B]);
+}
+
+// The read of VOUT_COMMAND of output 0, that of VOUT_MARGIN_LOW of output 1, which shares its PEC, and that of
+// VOUT_MARGIN_HIGH of output 0, which doesn't; and the fault of one answer to the first.
+static LATE: [(Message, Option<FrameFault>); 3] = [
+    (
+        Message::PagePlusRead {
+            page: 0,
+            code: 0x21,
+        },
+        None,
+    ),
+    (
+        Message::PagePlusRead {
+            page: 1,
+            code: 0x26,
+        },
+        None,
+    ),
+    (
+        Message::PagePlusRead {
+            page: 0,
+            code: 0x25,
+        },
+        Some(FrameFault::WrongPec(4)),
+    ),
+];
+
+#[test]
+fn a_late_answer_passes_where_two_requests_share_their_code(rt: HostRuntime) {
+    assert!(rt; address_ok(0x58));
+    for (row, (request, wanted)) in LATE.iter().enumerate() {
+        assert!(rt; request.is_read() && fits(request));
+        let found = answer_fault(0x58, request, &[0xB1, 0x02, 0xCD, 0x34, 0xB9]);
+        agrees(&rt, row, &found, wanted);
+    }
+}
