@@ -22,7 +22,9 @@ import importlib
 import io
 import os
 import shlex
+import sys
 from dataclasses import dataclass, field
+from unittest import mock
 
 from pmhost import cli, clock
 from pmhost.bus import patient
@@ -120,10 +122,11 @@ def blocks(name):
     return found
 
 
-def called(words, over):
-    """The status of a command line over a stand-in for the kernel, and what it prints on both streams."""
+def called(words, over, text=""):
+    """The status of a command line over a stand-in for the kernel, and what it prints on both streams; `text` is its input."""
     out, err = io.StringIO(), io.StringIO()
-    with contextlib.redirect_stdout(out), contextlib.redirect_stderr(err):
+    given = mock.patch.object(sys, "stdin", io.TextIOWrapper(io.BytesIO(text.encode())))
+    with given, contextlib.redirect_stdout(out), contextlib.redirect_stderr(err):
         status = cli.main(words, over)
     return status, out.getvalue(), err.getvalue()
 

@@ -12,7 +12,9 @@ from unittest import mock
 
 from pmhost import LinuxBus, NoBus, Smbus2Bus
 from pmhost.bus.linux import I2C_FUNC_I2C, I2C_FUNCS, F_OFD_SETLK, Kernel
+from pmhost.capture import i2ctransfer
 
+from . import runs
 from .running import around
 
 TAKEN = "^another program drives 7-0058: fuser /dev/i2c-7 names who has the bus open$"
@@ -22,6 +24,19 @@ from tests.test_locks import bus
 held = bus(sys.argv[1])
 print("held", flush=True)
 time.sleep(600)
+"""
+
+
+# What stands in for i2ctransfer: the addresses, 58 and 59, that it can't lock itself; 00 for one that it can.
+TOOL = """
+import fcntl, os
+with open(os.environ["HELD"], "r+b") as file:
+    for address in (0x58, 0x59):
+        try:
+            fcntl.lockf(file, fcntl.LOCK_EX | fcntl.LOCK_NB, 1, address)
+            print("0x00", end=" ")
+        except OSError:
+            print(f"0x{address:02x}", end=" ")
 """
 
 
@@ -130,6 +145,34 @@ class Locks(unittest.TestCase):
             self.assertEqual((self.taken(), self.taken(0x59)), (False, True))
             other.close()
             self.assertFalse(self.taken(0x59))
+
+    def test_commands_of_i2ctransfer_lock_each_address_of_their_frames(self):
+        """The tool, a shell script, asks the lock itself, and says which address is taken while it runs."""
+        with tempfile.TemporaryDirectory() as folder, mock.patch.dict(os.environ, PATH=folder, HELD=self.path):
+            tool = os.path.join(folder, "i2ctransfer")
+            with open(tool, "w", encoding="utf-8") as file:
+                file.write(f"#!{sys.executable}\n{TOOL}")
+            os.chmod(tool, 0o700)
+            text, kernel = b"B0 19 /\nB2 19 /\n", OverFile(self.path)
+            self.assertEqual([line for line, _ in i2ctransfer.run(text, "7", kernel=kernel)], ["B0 19 / B1 58 59", "B2 19 / B3 58 59"])
+            self.assertEqual((self.taken(0x58), self.taken(0x59)), (False, False))
+            for address in (0x58, 0x59):
+                with bus(self.path, address):
+                    with self.assertRaisesRegex(NoBus, f"^another program drives 7-00{address:02x}: fuser /dev/i2c-7 names who has the bus open$"):
+                        [*i2ctransfer.run(text, "7", kernel=kernel)]
+                    self.assertEqual(len([*i2ctransfer.run(text, "7", share=True, kernel=kernel)]), 2)
+            with bus(self.path, 0x57):
+                self.assertEqual(len([*i2ctransfer.run(text, "7", kernel=kernel)]), 2)
+            self.said("B0 19 /\n", kernel)
+
+    def said(self, text, kernel):
+        """What the command itself says where the address is taken, and with --share-bus."""
+        refused = 2, "", f"pmhost: {TAKEN[1:-1]}\n"
+        words = ["capture", "i2ctransfer", "7", "--run"]
+        with bus(self.path):
+            self.assertEqual(runs.called(words, kernel, text), refused)
+            self.assertEqual(runs.called([*words, "--share-bus"], kernel, text), (0, "B0 19 / B1 58 00\n", ""))
+        self.assertEqual(runs.called(words, kernel, text), (0, "B0 19 / B1 58 00\n", ""))
 
     def test_the_lock_is_of_one_byte(self):
         with bus(self.path), open(self.path, "r+b") as file:

@@ -7,6 +7,7 @@ use crate::done::{Done, NotDone};
 use crate::ffi;
 use crate::number::Format;
 use crate::packet::Bytes;
+use crate::patient::STORE_USER_ALL;
 use crate::refusal::{accepted, Refusal};
 
 /// A register of an output.
@@ -383,13 +384,18 @@ impl Host {
     }
 
     /// Carries the open job out over a bus. `Refused(OtherFrame)` where none is open. A transaction that failed is tried
-    /// again by the host itself, and the last one's error is that of `Unknown`.
+    /// again by the host itself, and the last one's error is that of `Unknown`. A store, which wears the part's memory, is sent
+    /// once: its later passes are told as not acknowledged, unsent.
     pub fn run<B: Bus>(&mut self, bus: &mut B) -> Result<(), NotDone<B::Error>> {
-        let mut error = None;
+        let (mut error, mut has_stored) = (None, false);
         loop {
             let step = match self.sending() {
                 Sending::Nothing => return Err(NotDone::Refused(Refusal::OtherFrame)),
-                Sending::Write(frame) => self.written(bus, &frame, &mut error)?,
+                Sending::Write(_) if has_stored => self.finished(false)?,
+                Sending::Write(frame) => {
+                    has_stored = frame[1..frame.len() - 1] == [STORE_USER_ALL];
+                    self.written(bus, &frame, &mut error)?
+                }
                 Sending::Request { frame, answer } => self.asked(bus, &frame, answer, &mut error)?,
             };
             match step {

@@ -6,17 +6,23 @@ mod bus;
 mod done;
 mod ffi;
 mod host;
+#[cfg(feature = "linux")]
+mod linux;
 mod number;
 mod packet;
 mod part;
+mod patient;
 mod refusal;
 
 pub use bus::{Bus, Operation};
 pub use done::{Done, NotDone};
 pub use host::{Band, Cell, Host, Job, Known, Limits, Possible, Register, Sending, Step, Within};
+#[cfg(feature = "linux")]
+pub use linux::{LinuxBus, NoBus, NoTransfer, SystemClock};
 pub use number::Format;
 pub use packet::{pec, Bytes, Data, Packet};
 pub use part::{Heard, NoAnswer, Output, Part, Reading};
+pub use patient::{Clock, NotHeard, Patient, Unheard};
 pub use refusal::Refusal;
 
 /// The name of how a job stands, by the number that the library gives it.

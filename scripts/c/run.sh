@@ -73,8 +73,8 @@ bus_rows() {
 lost ok ok lost ok ok|/dev/i2c-1 58 0 3300000|0|ended done, confirmed 34CD, 3300048 uV|
 |/dev/i2c-1 0x58 0 3300000|0|ended done, confirmed 34CD, 3300048 uV|
 |/dev/i2c-1 58 0 0|0|ended done, confirmed 0000, 0 uV|
-||2||give BUS ADDRESS OUTPUT MICROVOLTS, as /dev/i2c-1 58 0 3300000
-|/dev/i2c-1 58 0|2||give BUS ADDRESS OUTPUT MICROVOLTS, as /dev/i2c-1 58 0 3300000
+||2||give BUS ADDRESS OUTPUT MICROVOLTS, as /dev/i2c-1 58 0 3300000, or BUS ADDRESS store
+|/dev/i2c-1 58 0|2||give BUS ADDRESS OUTPUT MICROVOLTS, as /dev/i2c-1 58 0 3300000, or BUS ADDRESS store
 |/dev/i2c-1 58 0 3.3|2||microvolts '3.3': give a whole number, as 3300000 for 3.3 V
 |/dev/i2c-1 58 0 3,3|2||microvolts '3,3': give a whole number, as 3300000 for 3.3 V
 |/dev/i2c-1 58 0 abc|2||microvolts 'abc': give a whole number, as 3300000 for 3.3 V
@@ -97,7 +97,31 @@ lost ok ok lost ok ok|/dev/i2c-1 58 0 3300000|0|ended done, confirmed 34CD, 3300
 |/dev/i2c-2 58 0 3300000|2||/dev/i2c-2, address 58: Device or resource busy: unbind its driver, echo 2-0058 > /sys/bus/i2c/devices/2-0058/driver/unbind
 |/dev/i2c-3 58 0 3300000|2||/dev/i2c-3, address 58: Permission denied
 |/dev/i2c-4 58 0 3300000|2||/dev/i2c-4, address 58: Inappropriate ioctl for device
-|/dev/i2c-5 58 0 3300000|2||/dev/i2c-5, address 58: No such file or directory
+|/dev/i2c-9 58 0 3300000|2||/dev/i2c-9, address 58: No such file or directory
+|/dev/i2c-5 58 0 3300000|2||another program drives 5-0058: fuser /dev/i2c-5 names who has the bus open
+|/dev/i2c-5 0x58 store|2||another program drives 5-0058: fuser /dev/i2c-5 names who has the bus open
+count|--share-bus /dev/i2c-5 58 0 3300000|0|ended done, confirmed 34CD, 3300048 uV\n4 transfers, 0 ms|
+|/dev/i2c-5 59 0 3300000|1||learn: 3 of 3 transfers failed, the last: Remote I/O error
+|/dev/i2c-5 57 0 3300000|1||learn: 3 of 3 transfers failed, the last: Remote I/O error
+|/dev/i2c-6 58 0 3300000|2||a line is held low: address 02, which no part may have, acknowledges
+|/dev/i2c-6 58 store|2||a line is held low: address 02, which no part may have, acknowledges
+|--patience=x /dev/i2c-1 58 0 3300000|2||patience 'x': give milliseconds, 0 to 60000
+|--patience=-1 /dev/i2c-1 58 0 3300000|2||patience '-1': give milliseconds, 0 to 60000
+count ok ok deaf*40|/dev/i2c-1 58 0 3300000|0|ended done, confirmed 34CD, 3300048 uV\n43 transfers, 195 ms|
+count ok ok ones*40|/dev/i2c-1 58 0 3300000|0|ended done, confirmed 34CD, 3300048 uV\n43 transfers, 195 ms|
+count ok ok nacked*3|/dev/i2c-1 58 0 3300000|0|ended done, confirmed 34CD, 3300048 uV\n7 transfers, 15 ms|
+count ok deaf*40 deaf ones*2|/dev/i2c-1 58 0 3300000|0|ended done, confirmed 34CD, 3300048 uV\n46 transfers, 195 ms|
+count ok deaf|/dev/i2c-1 58 0 3300000|0|ended done, confirmed 34CD, 3300048 uV\n5 transfers, 5 ms|
+count ok nacked ok ok|/dev/i2c-1 58 0 3300000|0|ended done, confirmed 34CD, 3300048 uV\n7 transfers, 0 ms|
+count|--patience=0 /dev/i2c-1 58 0 3300000|0|ended done, confirmed 34CD, 3300048 uV\n3 transfers, 0 ms|
+count ok deaf ok deaf ok deaf|--patience=0 /dev/i2c-1 58 0 3300000|1|ended differs, confirmed 1000, 1000000 uV\n7 transfers, 0 ms|order: 3 of 6 transfers failed, the last: No such device or address; the write was lost, or the part refused, limited or rounded the word
+count ok ok deaf*8|--patience=30 /dev/i2c-1 58 0 3300000|0|ended done, confirmed 34CD, 3300048 uV\n13 transfers, 30 ms|
+ok ok ones*3 ok ones ok ok ones ok ok ones|/dev/i2c-1 58 0 3300000|1|ended unknown, the output may hold the old or the ordered word|order: 3 of 6 transfers failed, the last: nothing but FFh; no answer was good
+ones*3|/dev/i2c-1 58 0 3300000|1||learn: 3 of 3 transfers failed, the last: nothing but FFh
+count|/dev/i2c-1 58 store|0|store acknowledged\n2 transfers, 0 ms|
+count ok deaf*300|/dev/i2c-1 58 store|0|store acknowledged\n201 transfers, 995 ms|
+count deaf|/dev/i2c-1 58 store|1|store unknown\n2 transfers, 0 ms|store: 1 of 1 transfers failed, the last: No such device or address
+count nacked ones*2|/dev/i2c-1 58 store|1|store unknown\n4 transfers, 10 ms|store: 1 of 1 transfers failed, the last: Remote I/O error
 deaf deaf deaf|/dev/i2c-1 58 0 3300000|1||learn: 3 of 3 transfers failed, the last: No such device or address
 |/dev/i2c-1 59 0 3300000|1||learn: 3 of 3 transfers failed, the last: Remote I/O error
 |/dev/i2c-1 58 1 3300000|1||learn: 3 of 3 transfers failed, the last: Remote I/O error
@@ -110,15 +134,17 @@ short0 short0 short1|/dev/i2c-1 58 0 3300000|1||learn: 3 of 3 transfers failed, 
 |/dev/i2c-1 58 0 -1|1||refused: N3 BelowLeast: below all values of the format
 |/dev/i2c-1 58 0 9223372036854775807|1||refused: N5 TooLarge: beyond 10^15 microvolts
 ok short0 ok short0h ok|/dev/i2c-1 58 0 3300000|0|ended done, confirmed 34CD, 3300048 uV|
-ok short0 ok short0 ok short0|/dev/i2c-1 58 0 3300000|1|ended differs, confirmed 1000, 1000000 uV|order: 3 of 6 transfers failed, the last: 0 of 1 messages went; the write was lost, or the part refused, limited or rounded the word
-ok false ok false ok false|/dev/i2c-1 58 0 3300000|1|ended differs, confirmed 1000, 1000000 uV|order: the write was lost, or the part refused, limited or rounded the word
+ok short0 ok short0 ok short0|--patience=0 /dev/i2c-1 58 0 3300000|1|ended differs, confirmed 1000, 1000000 uV|order: 3 of 6 transfers failed, the last: 0 of 1 message went; the write was lost, or the part refused, limited or rounded the word
+ok false ok false ok false|--patience=0 /dev/i2c-1 58 0 3300000|1|ended differs, confirmed 1000, 1000000 uV|order: the write was lost, or the part refused, limited or rounded the word
 ok int|/dev/i2c-1 58 0 3300000|130|transfer 2 went on|
 ok ok term|/dev/i2c-1 58 0 3300000|143|transfer 3 went on|
 quit|/dev/i2c-1 58 0 3300000|131|transfer 1 went on|
-ok short0 short1 short0 short0 short0 short1|/dev/i2c-1 58 0 3300000|1|ended unknown, the output may hold the old or the ordered word|order: 6 of 6 transfers failed, the last: 1 of 2 messages went
-ok false ok false ok false empty|/dev/i2c-1 58 0 3300000|1|ended unknown, the output may hold the old or the ordered word|order: the last answer: F4 WrongCount
-ok ok deaf ok damaged ok deaf|/dev/i2c-1 58 0 3300000|1|ended unknown, the output may hold the old or the ordered word|order: 2 of 6 transfers failed, the last: No such device or address; no answer was good
-ok ok empty ok empty ok damaged|/dev/i2c-1 58 0 3300000|1|ended unknown, the output may hold the old or the ordered word|order: the last answer: F4 WrongCount
+ok hup|/dev/i2c-1 58 0 3300000|129|transfer 2 went on|
+ok ok int|/dev/i2c-1 58 0 3300000|130|transfer 3 went on|
+ok short0 short1 short0 short0 short0 short1|--patience=0 /dev/i2c-1 58 0 3300000|1|ended unknown, the output may hold the old or the ordered word|order: 6 of 6 transfers failed, the last: 1 of 2 messages went
+ok false ok false ok false empty|--patience=0 /dev/i2c-1 58 0 3300000|1|ended unknown, the output may hold the old or the ordered word|order: the last answer: F4 WrongCount
+ok ok deaf ok damaged ok deaf|--patience=0 /dev/i2c-1 58 0 3300000|1|ended unknown, the output may hold the old or the ordered word|order: 2 of 6 transfers failed, the last: No such device or address; no answer was good
+ok ok empty ok empty ok damaged|--patience=0 /dev/i2c-1 58 0 3300000|1|ended unknown, the output may hold the old or the ordered word|order: the last answer: F4 WrongCount
 END
 }
 
@@ -163,22 +189,64 @@ bus_program() {
         -- /dev/i2c-1 58 0 3300000
     bus_rows > "$folder/rows"
     rows "$1 Linux bus" i2c_dev "$folder/program" < "$folder/rows"
+    locked "$1 Linux bus" "$folder/program"
 }
 
-# bus_command: the command pmhost over the stand-in, where Python and gcc are there
+# locked NAME PROGRAM: the kernel's own lock, over a plain file: another program has locked the byte of an address
+locked() {
+    command -v python3 > /dev/null || { echo "$1, locks: no python3 here"; return; }
+    : > "$folder/locks"
+    echo 'i2c_dev: another program drives 1-0058: fuser /dev/i2c-1 names who has the bus open' > "$folder/wanted"
+    python3 -B - "$folder/locks" $2 /dev/i2c-1 58 0 3300000 > "$folder/out" 2> "$folder/log" << 'END'
+import fcntl, os, struct, subprocess, sys
+
+def run(place):
+    """What the program says where the byte at a place of the file is locked, and its status."""
+    file = os.open(sys.argv[1], os.O_RDWR)
+    fcntl.fcntl(file, 37, struct.pack("hhqqi0q", fcntl.F_WRLCK, os.SEEK_SET, place, 1, 0))
+    ran = subprocess.run(sys.argv[2:], env={**os.environ, "LOCKS": sys.argv[1]}, capture_output=True, text=True, timeout=60)
+    os.close(file)
+    return ran.stdout + ran.stderr, ran.returncode
+
+well = "ended done, confirmed 34CD, 3300048 uV\n", 0
+if run(0x57) != well or run(0x59) != well:
+    sys.exit("a lock of another address counts")
+said, status = run(0x58)
+print(said, end="")
+sys.exit(status != 2)
+END
+    told "$1, locks" $?
+}
+
+# preloaded: the stand-in as a shared object for programs that are there already, where gcc is
+preloaded() {
+    command -v gcc > /dev/null || { echo "the stand-in below programs: no gcc here"; return 1; }
+    [ -f "$folder/preload.so" ] || gcc -O2 -Wall -Wextra -Werror -shared -fPIC $headers scripts/c/preload.c "${archives[@]}" \
+        -o "$folder/preload.so" -ldl > "$folder/log" 2>&1 || { told "the stand-in below programs" build; return 1; }
+}
+
+# bus_command: the command pmhost over the stand-in, where Python is there
 bus_command() {
-    if ! command -v python3 > /dev/null || ! command -v gcc > /dev/null; then
-        echo "pmhost: no python3 or no gcc here"; return
-    fi
-    if ! gcc -O2 -Wall -Wextra -Werror -shared -fPIC $headers scripts/c/preload.c "${archives[@]}" \
-        -o "$folder/preload.so" -ldl > "$folder/log" 2>&1 ||
-        ! gcc -shared -Wl,--whole-archive "${archives[@]}" -Wl,--no-whole-archive -Wl,-z,noexecstack \
-            -o "$folder/libpmhost.so" > "$folder/log" 2>&1; then
+    command -v python3 > /dev/null || { echo "pmhost: no python3 here"; return; }
+    preloaded || return
+    if ! gcc -shared -Wl,--whole-archive "${archives[@]}" -Wl,--no-whole-archive -Wl,-z,noexecstack \
+        -o "$folder/libpmhost.so" > "$folder/log" 2>&1; then
         told pmhost build; return
     fi
     command_rows > "$folder/rows"
     rows pmhost pmhost "env PMHOST_LIBRARY=$folder/libpmhost.so PYTHONPATH=$PWD/python/src LD_PRELOAD=$folder/preload.so python3 -m pmhost" \
         < "$folder/rows"
+}
+
+# rust_bus: the order of the Rust crate over the stand-in; why the host refuses stands in the C program in more words
+rust_bus() {
+    preloaded || return
+    if ! cargo build -q --offline --manifest-path rust/Cargo.toml --features linux --example i2c_dev > "$folder/log" 2>&1; then
+        told "Rust Linux bus" build; return
+    fi
+    bus_rows | grep -v '|refused: ' > "$folder/rows"
+    rows "Rust Linux bus" i2c_dev "env LD_PRELOAD=$folder/preload.so $CARGO_TARGET_DIR/debug/examples/i2c_dev" < "$folder/rows"
+    locked "Rust Linux bus" "env LD_PRELOAD=$folder/preload.so $CARGO_TARGET_DIR/debug/examples/i2c_dev"
 }
 
 # program NAME WANTED COMPILER SOURCES .. -- ARGUMENTS ..
@@ -258,7 +326,7 @@ for object in "$folder"/objects/*; do bound "$object"; done
 [ -n "$only_gcc" ] || bus_command
 [ -n "$only_gcc" ] || [ ${#llvm[@]} != 0 ] || echo "LLVM's archives: --built FOLDER has none to compare"
 printf 'first' > "$folder/same.wanted"
-wraps="-Wl,--wrap=open,--wrap=ioctl,--wrap=close"
+wraps="-Wl,--wrap=open,--wrap=ioctl,--wrap=close,--wrap=fcntl,--wrap=clock_gettime,--wrap=nanosleep"
 strict="-Wconversion -Wpedantic"
 firmware="examples/firmware/main.c examples/firmware/simulated_bus.c examples/firmware/hosted.c"
 compilers="gcc clang g++ clang++"
@@ -283,6 +351,7 @@ for each in $compilers; do
         program "$name order" examples/c/order.expected "$compiler $strict" examples/c/order.c $rest --
         program "$name part" examples/c/part.expected "$compiler $strict" examples/c/part.c $rest --
         program "$name pm_host_run" examples/c/run_rows.expected "$compiler $strict" examples/c/run_rows.c $rest --
+        program "$name pm_patient_run" examples/c/patient_rows.expected "$compiler $strict" examples/c/patient_rows.c $rest --
         program "$name both ends" examples/c/faults.expected "$compiler $strict" examples/c/faults.c $rest --
         case $each in gcc | clang)
             program "$name firmware" examples/firmware/console.expected "$compiler $strict -Iexamples/firmware" $firmware -- ;;
@@ -343,9 +412,10 @@ packaged() {
 
 if command -v cargo > /dev/null; then
     export PM_ARCHIVES=$built CARGO_TARGET_DIR=$folder/cargo
-    packaged "Rust package" cargo test --offline --manifest-path rust/Cargo.toml
+    packaged "Rust package" cargo test --offline --manifest-path rust/Cargo.toml --all-features
     if cargo clippy --version > /dev/null 2>&1 && cargo fmt --version > /dev/null 2>&1; then
-        packaged "Rust lints" cargo clippy --offline --manifest-path rust/Cargo.toml --all-targets -- -D warnings
+        packaged "Rust lints" cargo clippy --offline --manifest-path rust/Cargo.toml --all-targets --all-features -- -D warnings
+        packaged "Rust lints, no_std" cargo clippy --offline --manifest-path rust/Cargo.toml --all-targets -- -D warnings
         packaged "Rust layout" cargo fmt --manifest-path rust/Cargo.toml --check
     else
         echo "cargo clippy and cargo fmt: not on this machine"
@@ -353,6 +423,7 @@ if command -v cargo > /dev/null; then
     cp examples/c/order.expected "$folder/wanted"
     cargo run -q --offline --manifest-path rust/Cargo.toml --example order > "$folder/out" 2> "$folder/log"
     told "Rust order" $?
+    rust_bus
 else
     echo "cargo: not on this machine"
 fi

@@ -1,6 +1,6 @@
 #!/usr/bin/env python3
-"""Plants bugs in pm.h, in examples/c/i2c_dev.c and in rust/src, each in a copy, and asks whether the test notices that is named
-beside it.
+"""Plants bugs in pm.h, in pm_patient.h, in examples/c/linux_bus.h and in rust/src, each in a copy, and asks whether the test notices
+that is named beside it.
 
     scripts/c/try_mutants.py --built FOLDER [WORD ..]
 
@@ -20,8 +20,9 @@ sys.path.insert(0, os.path.join(ROOT, "scripts"))
 
 from tally import Tally  # noqa: E402
 
-HEADER, BUS = "crates/pm_host_c/include/pm.h", "examples/c/i2c_dev.c"
-HOST, NUMBER, PART, DONE = (f"rust/src/{name}.rs" for name in ("host", "number", "part", "done"))
+HEADER, PATIENT = (f"crates/pm_host_c/include/{name}.h" for name in ("pm", "pm_patient"))
+BUS = "examples/c/linux_bus.h"
+HOST, NUMBER, PART, DONE, RUST_PATIENT, RUST_BUS = (f"rust/src/{name}.rs" for name in ("host", "number", "part", "done", "patient", "linux"))
 WRITE, COUNT = "write(context, frame.bytes, frame.length) == PM_ACKED", "came == 0 || came > room ? 0 : came + 1"
 FAILED_WRITE = "*error = Some(why);\n                self.finished(false)"
 FAILED_READ = "*error = Some(why);\n                self.got(&[])"
@@ -55,17 +56,58 @@ ROWS = [
 # Of pm.h: the calls whose answer must be asked, with their arguments.
 CALLS = ["new(&host, 0x58, 1, 3)", "narrow(&host, 0, 1, 2)", "order(&host, 0, PM_OPERATION, 0)", "order_micro(&host, 0, PM_VOUT_MAX, 1)",
          "check(&host, 0, PM_OPERATION)", "learn(&host, 0)", "clear(&host, 0)", "store(&host)", "restore(&host)", "run(&host, 0, 0, 0)"]
-# Of i2c_dev.c: the mishaps of the transfers, and what it prints without the bug.
-BLOCK = "    sigprocmask(SIG_BLOCK, &ending, &before);\n"
+# Of pm_patient.h: the row of examples/c/patient_rows.c that differs then.
+ASKS = "    while (patience != 0 && !pm_is_ready(bus, bytes[0]) && pm_waited(bus, begun, patience)) {\n    }\n"
+UNSENT = "    if (is_store && bus->has_stored)\n        return PM_NOT_ACKED; /* a later pass of a store, which isn't sent */\n"
+PATIENT_ROWS = [
+    ("no wait", ASKS, "", "it doesn't acknowledge for a while"),
+    ("one question alone", ASKS, "    if (patience != 0)\n        (void)pm_is_ready(bus, bytes[0]);\n", "it doesn't acknowledge for a while"),
+    ("ones are an answer to a question", "&& !pm_is_ones(answer, came);", ";", "it reads as ones for a while"),
+    ("ones are handed over", "return came <= room && pm_is_ones(answer, came) ? 0 : came;", "return came;",
+     "nor where their packet error code is right"),
+    ("one byte is asked", "at < count && bytes[at] == 0xFF)", "at < 1 && bytes[at] == 0xFF)", "it reads as ones for a while"),
+    ("a write isn't sent again", "    while (ended == PM_UNHEARD &&", "    while (0 &&", "a write that nobody heard"),
+    ("a write that may have been heard is sent again", "while (ended == PM_UNHEARD &&", "while (ended != PM_ACKED &&",
+     "a write of which a byte isn't acknowledged"),
+    ("a store is sent again within its pass", "while (ended == PM_UNHEARD && !is_store &&", "while (ended == PM_UNHEARD &&",
+     "a store that nobody heard is sent once"),
+    ("a store is sent in each pass", UNSENT, "", "a store that isn't acknowledged is sent once"),
+    ("a store is sent once for ever", "    bus->has_stored = 0;\n", "", "two stores are sent once each"),
+    ("no patience asks once", "while (patience != 0 && ", "while (", "without patience"),
+    ("100 ms of patience", "PM_PATIENCE = 200", "PM_PATIENCE = 100", "a part that is never ready again"),
+    ("no more behind a store", "bytes[1] == 0x15 || bytes[1] == 0x16", "bytes[1] == 0x16", "the same of a store"),
+    ("no more behind a restore", "bytes[1] == 0x15 || bytes[1] == 0x16", "bytes[1] == 0x15", "the same of a restore"),
+    ("each 10 ms", "PM_STEP = 5", "PM_STEP = 10", "it doesn't acknowledge for a while"),
+    ("a clock that wraps round ends the patience", "return bus->now(bus->context) - begun < patience;",
+     "return bus->now(bus->context) < begun + patience;", "a part that is never ready again"),
+    ("what is too long is an answer", "return came != 0 && came <= 2 &&", "return came != 0 &&", "more of a question"),
+]
+# Of linux_bus.h: the bus, the mishaps of the transfers, and what i2c_dev.c prints without the bug.
+ORDER, TAKEN = "/dev/i2c-1 58 0 3300000", "i2c_dev: another program drives 5-0058: fuser /dev/i2c-5 names who has the bus open\n"
+DONE_LINE = "ended done, confirmed 34CD, 3300048 uV\n"
+BLOCK = "    sigprocmask(SIG_BLOCK, &waiting, &before);\n"
 TRANSFERS = [
-    ("no signal is held off", BLOCK, "    sigprocmask(SIG_BLOCK, NULL, &before);\n", "ok int", "transfer 2 went on\n"),
-    *[(f"{name} isn't held off", f"    sigaddset(&ending, {name});\n", "", f"ok {name[3:].lower()}", "transfer 2 went on\n")
-      for name in ("SIGINT", "SIGTERM", "SIGQUIT")],
-    ("signals stay held off", "    sigprocmask(SIG_SETMASK, &before, NULL);\n", "", "ok int", "transfer 2 went on\n"),
-    ("a read that failed is told", "== 0 ? room : 0", "== 0 ? room : room", "deaf deaf deaf",
-     "i2c_dev: learn: 3 of 3 transfers failed, the last: No such device or address\n"),
-    ("one of two messages is a transfer", "if (went == count)", "if (went >= 1)", "short0 short0 short1",
+    ("no signal is held off", BLOCK, "    sigprocmask(SIG_BLOCK, NULL, &before);\n", ORDER, "ok int", "transfer 2 went on\n"),
+    *[(f"{name} isn't held off", f"{name},", "", ORDER, f"ok {name[3:].lower()}", "transfer 2 went on\n")
+      for name in ("SIGINT", "SIGTERM", "SIGHUP", "SIGQUIT")],
+    ("SIGTSTP isn't held off", ", SIGTSTP", "", ORDER, "", DONE_LINE),
+    ("signals stay held off", "    sigprocmask(SIG_SETMASK, &before, NULL);\n", "", ORDER, "ok int", "transfer 2 went on\n"),
+    ("a read that failed is told", "return linux_is_whole(part, went, 2) ? room : 0;", "linux_is_whole(part, went, 2);\n    return room;", ORDER,
+     "deaf deaf deaf", "i2c_dev: learn: 3 of 3 transfers failed, the last: No such device or address\n"),
+    ("one of two messages is a transfer", "return went == count;", "return went >= 1;", ORDER, "short0 short0 short1",
      "i2c_dev: learn: 3 of 3 transfers failed, the last: 1 of 2 messages went\n"),
+    ("no lock", "is_shared || linux_is_locked(part) ||", "1 ||", "/dev/i2c-5 58 0 3300000", "", TAKEN),
+    ("a lock of another byte", "byte.l_start = part->address;", "byte.l_start = 2 * part->address;", "/dev/i2c-5 58 0 3300000", "", TAKEN),
+    ("a lock that readers share", "F_WRLCK", "F_RDLCK", ORDER, "", DONE_LINE),
+    ("a lock of the whole bus", "byte.l_len = 1;", "byte.l_len = 0;", ORDER, "", DONE_LINE),
+    ("no way to share", "is_shared || linux_is_locked(part)", "linux_is_locked(part)", "--share-bus /dev/i2c-5 58 0 3300000", "", DONE_LINE),
+    ("EREMOTEIO is unheard", "went == -ENXIO", "went == -ENXIO || went == -EREMOTEIO", ORDER, "count ok nacked ok ok",
+     DONE_LINE + "7 transfers, 0 ms\n"),
+    ("ENXIO isn't", "went == -ENXIO", "went == -EREMOTEIO", ORDER, "count ok deaf", DONE_LINE + "5 transfers, 5 ms\n"),
+    ("ones are a transfer that went", "pm_is_ones(answer, room)", "0", ORDER, "ones*3",
+     "i2c_dev: learn: 3 of 3 transfers failed, the last: nothing but FFh\n"),
+    ("a line that is held low isn't looked for", "return linux_sent(part, &message, 1) == 1;", "return 0 * linux_sent(part, &message, 1);",
+     "/dev/i2c-6 58 store", "", "i2c_dev: a line is held low: address 02, which no part may have, acknowledges\n"),
 ]
 # Of rust/src: the test that fails, or the item whose documentation has it.
 TESTS = [
@@ -101,8 +143,32 @@ TESTS = [
     ("the bus is no source", DONE, "Some(error), .. } => Some(error),", "Some(_), .. } => None,",
      "unknown_says_what_the_bus_and_the_last_answer_had"),
     ("the buffer isn't zero before", HOST, "let mut bytes = [0; 8];", "let mut bytes = [1; 8];", "a_wrong_answer_before_a_good_one_is_no_error"),
+    ("a store is sent in each pass", HOST, "Sending::Write(_) if has_stored =>", "Sending::Write(_) if false =>",
+     "no_command_is_done_over_a_dead_bus"),
+    ("no wait", RUST_PATIENT, "        while patience != 0 && !self.is_ready(address) && self.has_waited(begun, patience) {}\n", "",
+     "a_busy_part_is_waited_for"),
+    ("a write isn't sent again", RUST_PATIENT, "ended.as_ref().is_err_and(Unheard::is_unheard)", "false", "a_busy_part_is_waited_for"),
+    ("a write that may have been heard is sent again", RUST_PATIENT, "ended.as_ref().is_err_and(Unheard::is_unheard)",
+     "ended.is_err()", "a_busy_part_is_waited_for"),
+    ("a store is sent again within its pass", RUST_PATIENT, "command != Some(STORE_USER_ALL)", "command != Some(RESTORE_USER_ALL)",
+     "a_busy_part_is_waited_for"),
+    ("no more behind a store", RUST_PATIENT, "Some(STORE_USER_ALL | RESTORE_USER_ALL)", "Some(RESTORE_USER_ALL)", "a_busy_part_is_waited_for"),
+    ("ones are an answer to a question", RUST_PATIENT, "is_ok() && !is_ones(&answer)", "is_ok()", "a_busy_part_is_waited_for"),
+    ("ones are handed over", RUST_PATIENT, "if is_ones(came) =>", "if is_ones(came) && false =>", "ones_are_no_answer"),
+    ("a clock that wraps round ends the patience", RUST_PATIENT, "self.clock.now().wrapping_sub(begun) < patience",
+     "self.clock.now() < begun.wrapping_add(patience)", "a_busy_part_is_waited_for"),
+    ("no lock", RUST_BUS, "if unsafe { fcntl(file.as_raw_fd(), F_OFD_SETLK, &lock) } < 0 {", "if lock.kind < 0 {",
+     "an_address_is_locked_for_one_open_file"),
+    ("a lock of the process", RUST_BUS, "F_OFD_SETLK: c_int = 37", "F_OFD_SETLK: c_int = 6", "an_address_is_locked_for_one_open_file"),
+    ("a lock of another byte", RUST_BUS, "start: address.into()", "start: 0", "an_address_is_locked_for_one_open_file"),
+    ("EREMOTEIO is unheard", RUST_BUS, "*self == NoTransfer::Errno(ENXIO)", "matches!(self, NoTransfer::Errno(ENXIO | 121))",
+     "enxio_alone_is_unheard"),
     ("a step may be dropped", HOST, '#[must_use = "a job may have ended in another way than `Done`"]\n', "", "host::Step"),
 ]
+
+
+# The tests that stand in rust/src.
+UNITS = {"an_address_is_locked_for_one_open_file", "enxio_alone_is_unheard"}
 
 
 class Copy:
@@ -152,14 +218,20 @@ class Copy:
             file.write(f'#include "pm.h"\nstatic pm_host host;\nint main(void) {{ pm_host_{call}; return 0; }}\n')
         return self.run("gcc", "-Icrates/pm_host_c/include", "-Werror=unused-result", "-c", "drops.c")[0] != 0
 
-    def transfers(self, mishaps, wanted):
-        """Whether an order over the stand-in for the kernel prints this."""
-        self.program("bus", "-Wl,--wrap=open,--wrap=ioctl,--wrap=close", BUS, "examples/c/stand_in.c")
-        return self.run("./bus", "/dev/i2c-1", "58", "0", "3300000", MISHAPS=mishaps)[1] == wanted
+    def patient_row(self, name):
+        """Whether this row of patient_rows.c is right."""
+        self.program("patient", "examples/c/patient_rows.c")
+        return f"\n{name}: " not in "\n" + self.run("./patient")[1]
+
+    def transfers(self, words, mishaps, wanted):
+        """Whether i2c_dev.c over the stand-in for the kernel prints this."""
+        self.program("bus", "-Wl," + ",".join(f"--wrap={name}" for name in ("open", "ioctl", "close", "fcntl", "clock_gettime", "nanosleep")),
+                     "examples/c/i2c_dev.c", "examples/c/stand_in.c")
+        return self.run("./bus", *words.split(), MISHAPS=mishaps)[1] == wanted
 
     def rust(self, test):
         """Whether a test of the crate passes: one of tests/, or those in the documentation of an item."""
-        words = ["--doc" if "::" in test else "--test=calls", "--", test]
+        words = ["--doc" if "::" in test else "--all-features" if test in UNITS else "--test=calls", *(["--lib"] if test in UNITS else []), "--", test]
         status, text = self.run("cargo", "test", "--offline", "--manifest-path", "rust/Cargo.toml", *words,
                                 PM_ARCHIVES=self.built, CARGO_TARGET_DIR=os.path.join(self.folder, "target"))
         if "error: could not compile" in text or not re.search(r"ok\. [1-9]\d* passed|FAILED", text):
@@ -176,8 +248,11 @@ def mutants(copy):
         begin = f"{kind} pm_host_{call.partition('(')[0]}("
         yield (f"pm.h: {call.partition('(')[0]} may be dropped", "dropped answers",
                lambda: copy.planted(HEADER, f"PM_MUST_USE\n{begin}", begin, copy.warns, call))
-    for name, old, new, mishaps, wanted in TRANSFERS:
-        yield f"i2c_dev.c: {name}", f"the row of {mishaps}", lambda: copy.planted(BUS, old, new, copy.transfers, mishaps, wanted)
+    for name, old, new, row in PATIENT_ROWS:
+        yield f"pm_patient.h: {name}", f"patient_rows.c, {row}", lambda: copy.planted(PATIENT, old, new, copy.patient_row, row)
+    for name, old, new, words, mishaps, wanted in TRANSFERS:
+        yield (f"linux_bus.h: {name}", f"{words} with '{mishaps}'",
+               lambda: copy.planted(BUS, old, new, copy.transfers, words, mishaps, wanted))
     for name, path, old, new, test in TESTS:
         yield f"{path[5:]}: {name}", test, lambda: copy.planted(path, old, new, copy.rust, test)
 

@@ -115,6 +115,7 @@ WRONG = [
     ("", "capture: the kind, as sigrok, is missing"),
     ("i2ctransfer", "capture i2ctransfer: give a bus, as 1, with --run behind it to run the commands; or --back"),
     ("i2ctransfer --back 1", "capture i2ctransfer: --back stands alone: it needs no bus, and runs nothing"),
+    ("i2ctransfer 1 --share-bus", "capture i2ctransfer: --share-bus is of --run, which isn't given"),
     ("i2ctransfer --back --run", "capture i2ctransfer: --back stands alone: it needs no bus, and runs nothing"),
     ("i2ctransfer 1 2", "2: a word too many"),
     ("i2ctransfer one", "capture i2ctransfer: bus one: give the number of /dev/i2c-N, as 1, or desk"),

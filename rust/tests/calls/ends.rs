@@ -109,15 +109,16 @@ fn a_refused_job_is_an_error_and_sends_nothing() {
 
 #[test]
 fn no_command_is_done_over_a_dead_bus() {
-    for (job, frame) in [
-        (Job::Store, &[0xB0, 0x15, 0x24][..]),
-        (Job::Restore, &[0xB0, 0x16, 0x2D]),
-        (Job::Clear(1), &[0xB0, 0x05, 0x02, 0x01, 0x03, 0x45]),
+    // A store is sent once, each other command in each pass.
+    for (job, frame, times) in [
+        (Job::Store, &[0xB0, 0x15, 0x24][..], 1),
+        (Job::Restore, &[0xB0, 0x16, 0x2D], 3),
+        (Job::Clear(1), &[0xB0, 0x05, 0x02, 0x01, 0x03, 0x45], 3),
     ] {
         let mut bus = Scripted::new(&[Fails(&[])]);
         let end = host().carry_out(job, &mut bus);
-        assert_eq!(end, Err(NotDone::Unknown { error: Some(Broken(3)), fault: None }), "{job:?}");
-        assert_eq!(bus.frames, [frame; 3], "{job:?}");
+        assert_eq!(end, Err(NotDone::Unknown { error: Some(Broken(times)), fault: None }), "{job:?}");
+        assert_eq!(bus.frames, vec![frame; times], "{job:?}");
     }
 }
 

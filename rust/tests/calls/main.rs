@@ -3,6 +3,7 @@
 mod ends;
 #[cfg(target_os = "linux")]
 mod other_library;
+mod patience;
 
 use pm_host::*;
 

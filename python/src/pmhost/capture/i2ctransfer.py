@@ -5,12 +5,14 @@ read asks for as many bytes as its code has, which docs/commands.md tells.
 """
 from __future__ import annotations
 
+import contextlib
 import os
 import re
 import shutil
 import subprocess
 from collections.abc import Iterator
 
+from ..bus.linux import Calls, Kernel, lock_address
 from ..errors import FrameRefused
 from ..packets import read_request
 from ..texts import in_hexadecimal, numbered
@@ -92,12 +94,32 @@ def commands(text: bytes, bus: str) -> list[str]:
     return [" ".join(transfer.words(bus)) if transfer else "# restart" for transfer in transfers(text)]
 
 
-def run(text: bytes, bus: str) -> Iterator[tuple[str, bool]]:
+@contextlib.contextmanager
+def locked(kernel: Calls, bus: str, addresses: set[int]) -> Iterator[None]:
+    """The addresses are of this program alone meanwhile. NoBus where another one drives one of them. Of a bus that can't be opened
+    i2ctransfer itself tells."""
+    path = f"/dev/i2c-{bus}"
+    try:
+        file = kernel.open(path)
+    except OSError:
+        yield
+        return
+    try:
+        for address in sorted(addresses):
+            lock_address(kernel, file, bus, address, path)
+        yield
+    finally:
+        kernel.close(file)
+
+
+def run(text: bytes, bus: str, share: bool = False, kernel: Calls | None = None) -> Iterator[tuple[str, bool]]:
     """Runs the command of each frame: the lines of the trace, and whether each went well. i2ctransfer is looked for in PATH,
-    /usr/sbin and /sbin. A faulty line is refused before any command is run."""
+    /usr/sbin and /sbin. A faulty line is refused before any command is run, and so is an address that another program drives
+    (NoBus), unless `share` is given."""
     found = transfers(text)
     tool = shutil.which("i2ctransfer", path=os.pathsep.join([os.environ.get("PATH", os.defpath), *MORE_PLACES]))
     if not tool:
         raise Refused(f"no i2ctransfer in PATH, {' or '.join(MORE_PLACES)}: install i2c-tools")
-    for transfer in found:
-        yield transfer.told(tool, bus) if transfer else ("# restart", True)
+    with locked(kernel or Kernel(), bus, set() if share else {it.address for it in found if it}):
+        for transfer in found:
+            yield transfer.told(tool, bus) if transfer else ("# restart", True)

@@ -71,7 +71,7 @@ class Call:
     of the command all the same."""
 
     def __init__(self, commands: list[argparse.Namespace], kernel: Calls | None = None) -> None:
-        self.commands, self._kernel = commands, kernel
+        self.commands, self.kernel = commands, kernel
         self._bus: DeskBus | LinuxBus | None = None
         self._part: Pmbus | None = None
         self._rails: tuple[int, dict[int, tuple[int, int]]] | None = None
@@ -189,7 +189,7 @@ class Call:
         if self.bus == DESK:
             return DeskBus(self.address or DESK_ADDRESS, self.outputs or max(DESK_OUTPUTS, self.counted()), trace)
         assert self.bus is not None and self.address is not None
-        return LinuxBus(self.bus, self.address, self.is_forced, trace, self._kernel, self.is_shared)
+        return LinuxBus(self.bus, self.address, self.is_forced, trace, self.kernel, self.is_shared)
 
     def part(self) -> Pmbus:
         """The part on the bus, through the one host of the call."""

@@ -8,7 +8,7 @@ from typing import Any
 from .. import capture
 from ..capture import i2ctransfer, vcd
 from . import streams
-from .call import complain
+from .call import Call, complain
 from .parser import BadCall, address_of, bus_of, shown
 from .texts import standard_input, told, without_a_bus
 
@@ -18,8 +18,8 @@ Packets of other devices, those with no stop, of more than two parts, and reads 
 an address that nobody acknowledged. The status is 1 where no packet is found, or the text isn't a capture of that kind."""
 ABOUT_FRAMES = """Turns the frames of pmb hear on standard input into commands of i2ctransfer for a bus of Linux.
 
-A faulty line is refused before any command is printed or run. With --run a transfer that fails becomes a comment in the
-trace, and the status is then 1. i2ctransfer is looked for in PATH, /usr/sbin and /sbin."""
+A faulty line is refused before any command is printed or run. With --run the addresses are locked as pmhost locks that of
+its part, and a transfer that fails becomes a comment in the trace, and the status is then 1. i2ctransfer is looked for in PATH, /usr/sbin and /sbin."""
 KINDS = {
     "sigrok": "what sigrok-cli -i FILE -P i2c:scl=SCL:sda=SDA:address_format=unshifted -A i2c=addr-data prints",
     "linux": "the kernel's tracepoints i2c_write, i2c_read, i2c_reply and i2c_result",
@@ -65,6 +65,8 @@ def add(commands: Any) -> None:
     frames = kinds.add_parser("i2ctransfer", help="frames of pmb hear as commands of i2ctransfer", description=ABOUT_FRAMES)
     frames.add_argument("wanted", type=bus_number, metavar="BUS", nargs="?", help="the number of /dev/i2c-BUS")
     frames.add_argument("--run", action=Once, nargs=0, const=True, dest="is_run", help="runs the commands, and writes a trace")
+    frames.add_argument("--share-bus", action=Once, nargs=0, const=True, dest="is_shared",
+                        help="with --run: goes on where another program drives the address")
     frames.add_argument("--back", action=Once, nargs=0, const=True, help="turns such commands into frames")
     frames.set_defaults(run=run_frames, judge=judge_frames)
     drawn = kinds.add_parser("waveform", help="a trace as a waveform (VCD)", description=vcd.__doc__)
@@ -110,6 +112,8 @@ def judge_frames(arguments: argparse.Namespace) -> None:
     without_a_bus(arguments)
     if arguments.back and (arguments.is_run or arguments.wanted is not None):
         raise BadCall("capture i2ctransfer: --back stands alone: it needs no bus, and runs nothing")
+    if arguments.is_shared and not arguments.is_run:
+        raise BadCall("capture i2ctransfer: --share-bus is of --run, which isn't given")
     if not arguments.back and arguments.wanted is None:
         raise BadCall("capture i2ctransfer: give a bus, as 1, with --run behind it to run the commands; or --back")
 
@@ -119,7 +123,7 @@ def run_frames(arguments: argparse.Namespace) -> int:
     text, bus = standard_input().read(), str(arguments.wanted)
     try:
         if arguments.is_run:
-            return run_commands(text, bus)
+            return run_commands(text, bus, bool(arguments.is_shared), arguments.call)
         lines = i2ctransfer.frames(text) if arguments.back else i2ctransfer.commands(text, bus)
     except i2ctransfer.Refused as refused:
         complain(f"capture i2ctransfer: {refused}")
@@ -129,10 +133,10 @@ def run_frames(arguments: argparse.Namespace) -> int:
     return 0
 
 
-def run_commands(text: bytes, bus: str) -> int:
+def run_commands(text: bytes, bus: str, is_shared: bool, call: Call) -> int:
     is_well = True
     try:
-        for line, went_well in i2ctransfer.run(text, bus):
+        for line, went_well in i2ctransfer.run(text, bus, is_shared, call.kernel):
             is_well = is_well and went_well
             streams.write(line)
     except KeyboardInterrupt:

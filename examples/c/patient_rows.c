@@ -1,0 +1,141 @@
+/* pm_patient_run beside rows of its own: when it asks a part whether it is ready, what it sends again, and what it hands over.
+ * Each row has the job's end and the calls that the bus below must have seen. It prints each row that differs, and a count. */
+#include "pm_patient.h"
+#include <stdio.h>
+#include <string.h>
+
+/* What the calls of the bus do one after another, the last letter of a row for ever:
+ *   a  a write is acknowledged, a read has a good answer    u  nobody acknowledges the address, nothing comes
+ *   n  a byte isn't acknowledged, nothing comes             o  a read has nothing but FFh
+ *   m  a read says one byte more than its room */
+typedef struct {
+    const char *name;
+    uint8_t address;
+    char job;               /* o order of 34CDh, v check of VOUT_COMMAND, p check of WRITE_PROTECT, s store, r restore,
+                             * t two stores */
+    uint8_t passes;
+    int32_t patience;
+    const char *does;
+    uint16_t kind, word;    /* how it ends */
+    int writes, questions, reads;
+    uint32_t last;          /* milliseconds from the first call to the last one */
+} row;
+
+/* The numbers are those that firmware compiles in: they stand here by hand. */
+static const row rows[] = {
+    {"a part that is ready", 0x58, 'o', 3, -1, "a", 1, 0, 1, 1, 1, 0},
+    {"it doesn't acknowledge for a while", 0x58, 'o', 1, -1, "aunua", 1, 0, 1, 4, 1, 15},
+    {"it reads as ones for a while", 0x58, 'o', 1, -1, "aoooa", 1, 0, 1, 4, 1, 15},
+    {"a write that nobody heard", 0x58, 'o', 1, -1, "uua", 1, 0, 3, 1, 1, 10},
+    {"a write of which a byte isn't acknowledged", 0x58, 'o', 1, -1, "na", 1, 0, 1, 1, 1, 0},
+    {"a write that nobody hears", 0x58, 'o', 1, -1, "u", 3, 0, 40, 1, 1, 195},
+    {"a part that is never ready again", 0x58, 'o', 1, -1, "au", 3, 0, 1, 40, 1, 195},
+    {"the same by ones", 0x58, 'o', 1, -1, "ao", 3, 0, 1, 40, 1, 195},
+    {"the same of a store", 0x58, 's', 3, -1, "au", 1, 0, 1, 200, 0, 995},
+    {"the same of a restore", 0x58, 'r', 3, -1, "au", 1, 0, 1, 200, 0, 995},
+    {"the same with 30 ms", 0x58, 'o', 1, 30, "au", 3, 0, 1, 6, 1, 25},
+    {"a store with 30 ms", 0x58, 's', 3, 30, "au", 1, 0, 1, 6, 0, 25},
+    {"without patience", 0x58, 'o', 1, 0, "a", 1, 0, 1, 0, 1, 0},
+    {"without patience nothing is sent again", 0x58, 'o', 1, 0, "u", 3, 0, 1, 0, 1, 0},
+    {"a store that nobody heard is sent once", 0x58, 's', 3, -1, "ua", 3, 0, 1, 1, 0, 0},
+    {"a store that isn't acknowledged is sent once", 0x58, 's', 3, -1, "na", 3, 0, 1, 1, 0, 0},
+    {"two stores are sent once each", 0x58, 't', 3, -1, "nana", 3, 0, 2, 2, 0, 0},
+    {"a restore that nobody heard", 0x58, 'r', 3, -1, "uua", 1, 0, 3, 1, 0, 10},
+    {"a restore that isn't acknowledged", 0x58, 'r', 3, -1, "nanana", 3, 0, 3, 3, 0, 0},
+    {"a read waits for nothing", 0x58, 'v', 1, -1, "a", 1, 0, 0, 0, 1, 0},
+    {"a read isn't repeated within its pass", 0x58, 'v', 3, -1, "u", 3, 0, 0, 0, 3, 0},
+    {"ones are no answer", 0x58, 'v', 3, -1, "o", 3, 0, 0, 0, 3, 0},
+    {"nor where their packet error code is right", 0x4A, 'p', 1, -1, "o", 3, 0, 0, 0, 1, 0},
+    {"more bytes than there is room for", 0x58, 'v', 1, -1, "m", 3, 0, 0, 0, 1, 0},
+    {"more of a question", 0x58, 'o', 1, -1, "amaa", 1, 0, 1, 2, 1, 5},
+};
+enum { ROWS = sizeof rows / sizeof rows[0] };
+
+/* Good answers behind the read address, to VOUT_COMMAND of output 0 and to CAPABILITY, both of 58h. */
+static const uint8_t word_answer[] = {0x02, 0xCD, 0x34, 0xB9}, capability[] = {0x80, 0xD3};
+
+typedef struct {
+    const row *of;
+    int calls, writes, questions, reads;
+    uint32_t clock, last;
+} bus;
+
+static char next(bus *to) {
+    size_t end = strlen(to->of->does) - 1, at = (size_t)to->calls++;
+    to->last = to->clock;
+    return to->of->does[at < end ? at : end];
+}
+
+static uint8_t put(void *context, const uint8_t *bytes, uint64_t count) {
+    bus *to = (bus *)context;
+    char does = next(to);
+    (void)bytes;
+    (void)count;
+    to->writes++;
+    return does == 'a' ? PM_ACKED : does == 'u' ? PM_UNHEARD : PM_NOT_ACKED;
+}
+
+static uint64_t ask(void *context, const uint8_t *request, uint64_t count, uint8_t *answer, uint64_t room) {
+    bus *to = (bus *)context;
+    char does = next(to);
+    int is_question = count == 2 && request[1] == 0x19 && room == 2;
+    to->questions += is_question;
+    to->reads += !is_question;
+    if (does == 'u' || does == 'n')
+        return 0;
+    if (does == 'o')
+        memset(answer, 0xFF, (size_t)room);
+    else
+        memcpy(answer, is_question ? capability : word_answer, (size_t)room);
+    return does == 'm' ? room + 1 : room;
+}
+
+static uint32_t now(void *context) {
+    return ((bus *)context)->clock;
+}
+
+static void wait(void *context, uint32_t milliseconds) {
+    ((bus *)context)->clock += milliseconds;
+}
+
+static uint8_t begin(pm_host *host, char job) {
+    switch (job) {
+    case 'o': return pm_host_order(host, 0, PM_VOUT_COMMAND, 0x34CD);
+    case 'v': return pm_host_check(host, 0, PM_VOUT_COMMAND);
+    case 'p': return pm_host_check(host, 0, PM_WRITE_PROTECT);
+    case 'r': return pm_host_restore(host);
+    default: return pm_host_store(host);
+    }
+}
+
+/* Whether a row came as it must. The clock wraps round 10 ms after the first call. */
+static int is_right(const row *of) {
+    enum { BEGIN = -10 };
+    pm_host host;
+    bus to = {of, 0, 0, 0, 0, (uint32_t)BEGIN, (uint32_t)BEGIN};
+    pm_patient patient = {put, ask, &to, now, wait, of->patience, 0};
+    pm_step step = {0, 0};
+    if (pm_host_new(&host, of->address, 1, of->passes) != PM_OK)
+        return 0;
+    for (int times = of->job == 't' ? 2 : 1; times > 0; times--) {
+        if (begin(&host, of->job) != PM_OK)
+            return 0;
+        step = pm_patient_run(&host, &patient);
+    }
+    uint32_t last = to.last - (uint32_t)BEGIN;
+    if (step.kind == of->kind && step.word == of->word && to.writes == of->writes && to.questions == of->questions &&
+        to.reads == of->reads && last == of->last)
+        return 1;
+    printf("%s: ended %u %04X after %d writes, %d questions and %d reads, the last at %u ms; wanted %u %04X after %d, %d and %d, %u ms\n",
+           of->name, (unsigned)step.kind, (unsigned)step.word, to.writes, to.questions, to.reads, (unsigned)last,
+           (unsigned)of->kind, (unsigned)of->word, of->writes, of->questions, of->reads, (unsigned)of->last);
+    return 0;
+}
+
+int main(void) {
+    int passed = 0;
+    for (int i = 0; i < ROWS; i++)
+        passed += is_right(&rows[i]);
+    printf("pm_patient_run: %d rows passed, %d failed\n", passed, ROWS - passed);
+    return passed != ROWS;
+}

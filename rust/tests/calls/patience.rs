@@ -1,0 +1,154 @@
+//! A patient bus beside rows: when it asks a part whether it is ready, what it sends again, and what it hands over.
+
+use core::fmt;
+use std::cell::Cell as Kept;
+use std::error::Error;
+use std::rc::Rc;
+
+use pm_host::*;
+
+/// Why a transaction failed: nobody acknowledged the address, or a byte behind it wasn't acknowledged.
+#[derive(Clone, Copy, Debug, PartialEq, Eq)]
+enum Failed {
+    Address,
+    Byte,
+}
+
+impl fmt::Display for Failed {
+    fn fmt(&self, to: &mut fmt::Formatter<'_>) -> fmt::Result {
+        write!(to, "{self:?}")
+    }
+}
+
+impl Error for Failed {}
+
+impl Unheard for Failed {
+    fn is_unheard(&self) -> bool {
+        *self == Failed::Address
+    }
+}
+
+/// Milliseconds that the test and the bus look at.
+#[derive(Clone)]
+struct Time(Rc<Kept<u32>>);
+
+impl Clock for Time {
+    fn now(&mut self) -> u32 {
+        self.0.get()
+    }
+
+    fn wait(&mut self, milliseconds: u32) {
+        self.0.set(self.0.get().wrapping_add(milliseconds));
+    }
+}
+
+/// A bus whose transactions do what the letters say, the last one for ever: `a` is acknowledged or has a good answer, `u` isn't
+/// heard, of `n` a byte isn't acknowledged, and `o` has nothing but FFh. It keeps a letter for each call, `W`, `Q` of
+/// CAPABILITY and `R`, and when the last one came.
+struct Scripted {
+    does: &'static [u8],
+    time: Time,
+    calls: String,
+    last: u32,
+}
+
+impl Bus for Scripted {
+    type Error = Failed;
+
+    fn transaction(&mut self, _: u8, operations: &mut [Operation<'_>]) -> Result<(), Failed> {
+        let does = self.does[self.calls.len().min(self.does.len() - 1)];
+        self.last = self.time.0.get();
+        let is_question = matches!(operations, [Operation::Write([0x19]), Operation::Read(answer)] if answer.len() == 2);
+        self.calls.push(if operations.len() == 1 {
+            'W'
+        } else if is_question {
+            'Q'
+        } else {
+            'R'
+        });
+        match (does, operations.get_mut(1)) {
+            (b'u', _) => return Err(Failed::Address),
+            (b'n', _) => return Err(Failed::Byte),
+            (b'o', Some(Operation::Read(answer))) => answer.fill(0xFF),
+            (_, Some(Operation::Read(answer))) if is_question => answer.copy_from_slice(&[0x80, 0xD3]),
+            (_, Some(Operation::Read(answer))) => answer.copy_from_slice(&[0x02, 0xCD, 0x34, 0xB9]),
+            _ => {}
+        }
+        Ok(())
+    }
+}
+
+const WORD: Cell = Cell::Output(0, Register::VoutCommand);
+const ORDER: Job = Job::Order(WORD, 0x34CD);
+const CHECK: Job = Job::Check(WORD);
+const BEGIN: u32 = 10_u32.wrapping_neg(); // The clock wraps round after 10 ms.
+
+/// How a job ends, the calls that the bus below saw, and how many milliseconds behind the first one the last came.
+fn carried_out(
+    job: Job,
+    passes: u8,
+    patience: Option<u32>,
+    does: &'static str,
+) -> (Result<Done, NotDone<NotHeard<Failed>>>, String, u32) {
+    let time = Time(Rc::new(Kept::new(BEGIN)));
+    let below = Scripted { does: does.as_bytes(), time: time.clone(), calls: String::new(), last: BEGIN };
+    let bus = Patient::new(below, time);
+    let mut bus = if let Some(milliseconds) = patience { bus.with_patience(milliseconds) } else { bus };
+    let ended = Host::new(0x58, 1, passes).unwrap().carry_out(job, &mut bus);
+    let below = bus.bus();
+    (ended, below.calls.clone(), below.last.wrapping_sub(BEGIN))
+}
+
+/// A name; a job, its passes, the patience, and what the bus does; whether it is done, and the calls and when the last came.
+type Row = (&'static str, Job, u8, Option<u32>, &'static str, bool, String, u32);
+
+#[test]
+fn a_busy_part_is_waited_for() {
+    let many = |count| "Q".repeat(count);
+    let rows: [Row; 19] = [
+        ("it is ready", ORDER, 3, None, "a", true, "WQR".into(), 0),
+        ("it doesn't acknowledge for a while", ORDER, 1, None, "aunua", true, "WQQQQR".into(), 15),
+        ("it reads as ones for a while", ORDER, 1, None, "aoooa", true, "WQQQQR".into(), 15),
+        ("a write that nobody heard", ORDER, 1, None, "uua", true, "WWWQR".into(), 10),
+        ("a write of which a byte isn't acknowledged", ORDER, 1, None, "na", true, "WQR".into(), 0),
+        ("a write that nobody hears", ORDER, 1, None, "u", false, format!("{}QR", "W".repeat(40)), 195),
+        ("never ready again", ORDER, 1, None, "au", false, format!("W{}R", many(40)), 195),
+        ("the same by ones", ORDER, 1, None, "ao", false, format!("W{}R", many(40)), 195),
+        ("the same of a store", Job::Store, 3, None, "au", true, format!("W{}", many(200)), 995),
+        ("the same of a restore", Job::Restore, 3, None, "au", true, format!("W{}", many(200)), 995),
+        ("the same with 30 ms", ORDER, 1, Some(30), "au", false, format!("W{}R", many(6)), 25),
+        ("a store with 30 ms", Job::Store, 3, Some(30), "au", true, format!("W{}", many(6)), 25),
+        ("without patience", ORDER, 1, Some(0), "a", true, "WR".into(), 0),
+        ("without patience nothing is sent again", ORDER, 1, Some(0), "u", false, "WR".into(), 0),
+        ("a store that nobody heard", Job::Store, 3, None, "ua", false, "WQ".into(), 0),
+        ("a store that isn't acknowledged", Job::Store, 3, None, "na", false, "WQ".into(), 0),
+        ("a restore that nobody heard", Job::Restore, 3, None, "uua", true, "WWWQ".into(), 10),
+        ("a restore that isn't acknowledged", Job::Restore, 3, None, "nanana", false, "WQWQWQ".into(), 0),
+        ("a read is sent once in its pass", CHECK, 3, None, "u", false, "RRR".into(), 0),
+    ];
+    for (name, job, passes, patience, does, is_done, calls, last) in rows {
+        let (ended, found, when) = carried_out(job, passes, patience, does);
+        assert_eq!((ended.is_ok(), found, when), (is_done, calls, last), "{name}: {ended:?}");
+    }
+}
+
+#[test]
+fn ones_are_no_answer() {
+    let ones = Err(NotDone::Unknown { error: Some(NotHeard::Ones), fault: None });
+    assert_eq!(carried_out(CHECK, 2, None, "o"), (ones, "RR".into(), 0));
+    // At 4Ah they have the right packet error code for WRITE_PROTECT.
+    let time = Time(Rc::new(Kept::new(0)));
+    let below = Scripted { does: b"o", time: time.clone(), calls: String::new(), last: 0 };
+    let mut host = Host::new(0x4A, 1, 1).unwrap();
+    assert_eq!(host.carry_out(Job::Check(Cell::WriteProtect), &mut Patient::new(below, time)), ones);
+}
+
+#[test]
+fn the_last_error_is_the_source() {
+    let (ended, ..) = carried_out(CHECK, 1, None, "n");
+    let error = ended.unwrap_err();
+    assert_eq!(error, NotDone::Unknown { error: Some(NotHeard::Bus(Failed::Byte)), fault: None });
+    let heard = error.source().unwrap();
+    assert_eq!((heard.to_string(), heard.source().unwrap().to_string()), ("the transfer failed".into(), "Byte".into()));
+    assert_eq!(NotHeard::<Failed>::Ones.to_string(), "nothing but FFh");
+}
