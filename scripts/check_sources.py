@@ -243,8 +243,6 @@ TWICE = {
                 "pec-byte question-reads reads-cell register_at-number residue-byte residues-byte same_bytes "
                 "whole-hearing write-heard write-kind",
     "pm_world_examples": "cancel_left sized",
-    "pmbhost_lines": "long_asks",
-    "pmbpart_lines": "long_asks",
 }
 
 

@@ -84,8 +84,13 @@ def lower_proofs(crates):
         for path in sorted(glob.glob(os.path.join("crates", crate, "**", "*"), recursive=True)):
             if path.endswith((".rt", ".antt")) and "/out/" not in path:
                 for number, line in enumerate(read(path).split("\n"), 1):
-                    found += [(path, number, name) for name in PROOFS.findall(line) if name != crate]
+                    found += [(path, number, name) for name in foreign_proofs(crate, line)]
     return found
+
+
+def foreign_proofs(crate, line):
+    """The other crates whose proofs a line of a crate names."""
+    return [name for name in PROOFS.findall(line) if name != crate]
 
 
 def engines():

@@ -1,6 +1,6 @@
 #!/usr/bin/env python3
-"""Plants lines that make a want of memory, or hide one, and edits whose text isn't there, and asks scripts/check_sources.py
-whether it sees them.
+"""Plants lines that make a want of memory, or hide one, edits whose text isn't there, lemmas that are proved twice and names
+of another crate's proofs, and asks scripts/check_sources.py whether it sees them.
 
     scripts/try_sources.py
 
@@ -9,8 +9,10 @@ It prints each form that isn't seen, and has status 1 if there is one. The last 
 import sys
 
 import check_sources
+import house
 import planted
 from program import answer_help
+from proof_text import lemmas_of
 
 # Each is a body, or what stands beside one.
 FORMS = [
@@ -63,6 +65,23 @@ EDITS = ["file: b\nold: one\nnew: 1", "file: a\nold: two\nnew: 2", "file: a\nold
          "file: a\nold: one\nnew: two three\nold: three\nnew: 3"]
 
 
+# Lemmas beside `swap`, of which the first two state the same under other names.
+SWAP = "swap : (a b : ℕ) → a ≡ b → b ≡ a\nswap a b same = sym same\n"
+LEMMAS = ["pub turned : (x y : ℕ) → x ≡ y → y ≡ x\nturned x y e = sym e\n", "t : (b a : ℕ)\n    → b ≡ a → a ≡ b\nt b a e = sym e\n",
+          "kept : (a b : ℕ) → a ≡ b → a ≡ b\nkept a b same = same\n"]
+# Lines of `pm_text`, of which the first two name the proofs of another crate.
+LINES = ["use Rattle.pm_lines.proofs.LineLemmas.{words-nil}", "#[tactic(auto, using(pm_trace::proofs::RunLemmas::told_plain))]",
+         "use Rattle.pm_text.proofs.FloorLemmas.{floor-is}"]
+
+
+def is_twin(text):
+    return house.statement(lemmas_of(text)[0]) == house.statement(lemmas_of(SWAP)[0])
+
+
+def is_foreign(line):
+    return bool(house.foreign_proofs("pm_text", line))
+
+
 def is_misplaced(edit):
     return bool([*planted.misplaced(edit, FILES.get)])
 
@@ -74,12 +93,14 @@ def is_seen(form):
 def main():
     answer_help(__doc__)
     missed = [form for form in FORMS if not is_seen(form)] + [it for it in EDITS[:3] if not is_misplaced(it)]
+    missed += [it for it in LEMMAS[:2] if not is_twin(it)] + [it for it in LINES[:2] if not is_foreign(it)]
     blamed = [form for form in RIGHT if is_seen(form)] + [it for it in EDITS[3:] if is_misplaced(it)]
+    blamed += [it for it in LEMMAS[2:] if is_twin(it)] + [it for it in LINES[2:] if is_foreign(it)]
     for form in missed:
         print("not seen: %s" % form.strip())
     for form in blamed:
         print("seen, and right: %s" % form.strip())
-    print("%d forms, %d not seen; %d that are right, %d seen" % (len(FORMS) + 3, len(missed), len(RIGHT) + 1, len(blamed)))
+    print("%d forms, %d not seen; %d that are right, %d seen" % (len(FORMS) + 7, len(missed), len(RIGHT) + 3, len(blamed)))
     return 1 if missed or blamed else 0
 
 

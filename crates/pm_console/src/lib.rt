@@ -10,7 +10,7 @@
 //! spoken to over a reader and a writer:
 //!
 //! ```
-//! fn spoken_to<S: Speaker, R: Read, W: Write>(
+//! fn spoken_to<S: Speaker, R: Read + Drop, W: Write + Drop>(
 //!     machine: &mut S,
 //!     lines: R,
 //!     answers: W,

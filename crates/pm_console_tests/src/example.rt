@@ -10,7 +10,7 @@ use pmbpart_lines::{Part, answer_line, text_of};
 use std::io::{Read, Write};
 use std::test::Fail;
 
-fn spoken_to<S: Speaker, R: Read, W: Write>(
+fn spoken_to<S: Speaker, R: Read + Drop, W: Write + Drop>(
     machine: &mut S,
     lines: R,
     answers: W,

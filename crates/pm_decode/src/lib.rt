@@ -7,10 +7,14 @@
 //! without an option: the text of a trace. With what payloads mean:
 //!
 //! ```
-//! fn told<R: Read, W: Write>(alloc: Global, trace: R, paper: W) -> Result<W, TextFault> {
+//! fn told<R: Read + Drop, W: Write + Drop>(
+//!     alloc: Global,
+//!     trace: R,
+//!     paper: W,
+//! ) -> Result<W, TextFault> {
 //!     let options = TellOptions {
 //!         values: true, // a voltage in volts, a status register bit by bit
-//!         vout: None,   // the format that the trace itself teaches
+//!         vout: None, // the format that the trace itself teaches
 //!         all: false,
 //!         long: false,
 //!         times: false,

@@ -7,7 +7,7 @@
 //! which of the four a command line names, and `TellTexts` which options of `decode`. The whole program over any streams:
 //!
 //! ```
-//! fn number<W: Write, E: Write>(alloc: Global, output: W, errors: E) -> (u8, W) {
+//! fn number<W: Write + Drop, E: Write + Drop>(alloc: Global, output: W, errors: E) -> (u8, W) {
 //!     let words = ["pmb", "number", "--format=linear11", "--word=87FF"];
 //!     let mut input = Source::new(b"".as_slice());
 //!     let mut output = Sink::new(output);

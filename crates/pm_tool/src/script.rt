@@ -142,6 +142,7 @@ fn line_at(converter: &Converter, output: u8) -> [u8; 27]
     requires { output < converter.now.config.count }
     ensures { result ≡ output_at converter.now output }
 {
-    let _count = converter.count(); // hands the prover that there are eight outputs at most
+    // law: a converter has eight outputs at most
+    let _count = converter.count();
     output_line(output, converter.word(Cell::Out(output, Reg::VoutCommand)))
 }

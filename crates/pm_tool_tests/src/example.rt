@@ -15,7 +15,11 @@ fn told_by_bytes(alloc: Global, write: &[u8]) -> Result<String, AllocError> {
     Ok(text)
 }
 
-fn told<R: Read, W: Write>(alloc: Global, trace: R, paper: W) -> Result<W, TextFault> {
+fn told<R: Read + Drop, W: Write + Drop>(
+    alloc: Global,
+    trace: R,
+    paper: W,
+) -> Result<W, TextFault> {
     let options = TellOptions {
         values: true, // a voltage in volts, a status register bit by bit
         vout: None, // the format that the trace itself teaches
@@ -29,7 +33,7 @@ fn told<R: Read, W: Write>(alloc: Global, trace: R, paper: W) -> Result<W, TextF
     Ok(sink.into_inner())
 }
 
-fn number<W: Write, E: Write>(alloc: Global, output: W, errors: E) -> (u8, W) {
+fn number<W: Write + Drop, E: Write + Drop>(alloc: Global, output: W, errors: E) -> (u8, W) {
     let words = ["pmb", "number", "--format=linear11", "--word=87FF"];
     let mut input = Source::new(b"".as_slice());
     let mut output = Sink::new(output);

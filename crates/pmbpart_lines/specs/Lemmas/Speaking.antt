@@ -11,14 +11,14 @@ use Rattle.pmbpart_lines.specs.declared.refusal.Refusal.TheVariants.{TooLong}
 use Rattle.pmbpart_lines.specs.declared.speaking.Part.{Part}
 use Rattle.pm_console.specs.Lemmas.LongLines.{kept_asks}
 
--- a line of more than 256 bytes asks nothing
-long_asks : (long : List ℕ) → 256 < length long → ask_of long ≡ Err TooLong
-unfolding ask_of
-long_asks long more = let test : ltb 256 (length long) ≡ true = lt-ltb 256 (length long) more in rw test refl
-
 -- the first 257 bytes of a line get the reply of the whole line, and the converter holds what it does after the whole line
 kept_answers : (held : Held) (line : List ℕ) → answer_to held (take 257 line) ≡ answer_to held line
-kept_answers held line = ap (answers_asked held) (kept_asks ask_of (Err TooLong) long_asks line)
+unfolding ask_of
+kept_answers held line = ap (answers_asked held) (kept_asks ask_of (Err TooLong) long line)
+  where
+    -- a line of more than 256 bytes asks nothing
+    long : (bytes : List ℕ) → 256 < length bytes → ask_of bytes ≡ Err TooLong
+    long bytes more = let test : ltb 256 (length bytes) ≡ true = lt-ltb 256 (length bytes) more in rw test refl
 
 -- the line that answers the first 257 bytes of a line is the one that answers the whole line
 pub kept_text : (p : Part) (line : List ℕ) → spoken.text p (take 257 line) ≡ spoken.text p line

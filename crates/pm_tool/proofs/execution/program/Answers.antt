@@ -3,23 +3,23 @@ use Rattle.std.specs.Vec.Iter.{into_iter_items}
 use Rattle.pm_tool.specs.Execution.{wants_memory}
 use Rattle.pm_tool.specs.Telling.{tell_words}
 use Rattle.pm_tool.proofs.EndLemmas.{memory_ends}
-use Rattle.pm_tool.proofs.execution.run_given.Goals as goal
+use Rattle.pm_tool.proofs.execution.program.Goals as goal
 
-pub returns-in_default : goal.returns-in_default
-returns-in_default g c =
+pub returns-in_default-clause-ends : goal.returns-in_default-clause-ends
+returns-in_default-clause-ends g c =
     let e = c.refuse_memory.ensures in
     let words = map string_bytes (into_iter_items c.in-Ok.given) in
-    rw c.in-Ok.is (
+    rw (c.in-Ok.is, c.from.ensures) (
       wants_memory,
       memory_ends g.R.Read.remaining c.args.input.now words (tell_words words),
       record { status_is = e.status; printed = refl; said = e.said },
     )
 
-pub returns-in_default-words_of : goal.returns-in_default-words_of
-returns-in_default-words_of g c =
+pub returns-in_default-words_of-clause-ends : goal.returns-in_default-words_of-clause-ends
+returns-in_default-words_of-clause-ends g c =
     let e = c.refuse_memory-in_default-words_of.ensures in
     let words = map string_bytes (into_iter_items c.in-Ok.given) in
-    rw c.in-Ok.is (
+    rw (c.in-Ok.is, c.from-in_default-words_of.ensures) (
       wants_memory,
       memory_ends g.R.Read.remaining c.args.input.now words (tell_words words),
       record { status_is = e.status; printed = refl; said = e.said },
