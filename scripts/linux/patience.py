@@ -1,18 +1,22 @@
-"""pmhost and parts that are busy behind each write, in real time: patience BUS.
+"""pmhost, examples/c/i2c_dev.c and rust/examples/i2c_dev.rs and parts that are busy behind each write, in real time: patience BUS.
 
-Eight orders, a store and both checks, at a part that is busy for 1, 10, 30 or 150 milliseconds behind each write and away for
+Eight orders, a store and both checks by pmhost, and an order and a store by each example, at a part that is busy for 1, 10, 30 or 150 milliseconds behind each write and away for
 400 behind the store, by missing acknowledgements and by ones. With the patience that pmhost has by itself all ends well; with
 none some end unknown where it is busy for 30 or more, and at no delay is anything false said. A part at 08h is driven.
 """
 import contextlib
 import io
+import os
 import re
+import subprocess
 
 from faults import ORDERS, OUTPUTS, WORDS
 from guest_bus import Bench
 from pmhost import cli
 from tally import Tally
 
+PROGRAMS = [path for path in (os.path.join(os.environ["CACHE"], name) for name in ("i2c_dev", "i2c_dev_rust")) if os.path.exists(path)]
+ORDERED, START = 0x34CD, 0x1000
 DELAYS, AWAY = (1, 10, 30, 150), 400
 JOBS = f"{ORDERS} + store + read 0 VOUT_COMMAND + read 1 VOUT_COMMAND + known"
 DONE = re.compile(r"word [01]: VOUT_COMMAND \w{4} confirmed; ")
@@ -54,6 +58,22 @@ class Call:
             yield f"no store in {self.said}"
 
 
+def by_program(bench, program, part, *options, address="58"):
+    """What is wrong with an order, a store and an order of the same word behind it."""
+    bench.put(part)
+    for words in ("0 3300000", "store", "0 3300000"):
+        ran = subprocess.run([program, *options, f"/dev/i2c-{bench.number}", address, *words.split()], capture_output=True, text=True,
+                             timeout=120)
+        held, is_order = bench.ask()["held"][0], words != "store"
+        if "Traceback" in ran.stderr or held not in (START, ORDERED) or is_order and ran.returncode == 0 and held != ORDERED:
+            yield f"{words}: status {ran.returncode}, {ran.stdout!r}, {ran.stderr!r}, and {held:04X} is held"
+        confirmed = re.search(r"confirmed (\w{4})", ran.stdout)
+        if confirmed and int(confirmed[1], 16) != held:
+            yield f"{words}: {ran.stdout!r}, and {held:04X} is held"
+        if not options and ran.returncode:
+            yield f"{words}: status {ran.returncode}, {ran.stdout!r}, {ran.stderr!r}"
+
+
 def main(words):
     bench, tally = Bench(int(words[0])), Tally()
     unknown = 0
@@ -66,9 +86,15 @@ def main(words):
             is_short = delay >= 30 and call.done == len(OUTPUTS)
             unknown += len(OUTPUTS) - call.done
             tally.tell(f"bus {bench.number}, {part}, no patience", [*call.false_statements(), *(["all is done without patience"] if is_short else [])])
+            for program in PROGRAMS:
+                name = os.path.basename(program)
+                tally.tell(f"bus {bench.number}, {name}, {part}", by_program(bench, program, part))
+                tally.tell(f"bus {bench.number}, {name}, {part}, no patience", by_program(bench, program, part, "--patience=0"))
             print(f"bus {bench.number}, {part}: without patience {call.done} of {len(OUTPUTS)} orders done", flush=True)
     call = Call(bench, "at 08", [], "08")
     tally.tell(f"bus {bench.number}, a part at 08h", [*call.false_statements(), *call.short_of_done()])
+    for program in PROGRAMS:
+        tally.tell(f"bus {bench.number}, {os.path.basename(program)}, a part at 08h", by_program(bench, program, "at 08", address="08"))
     if not unknown:
         tally.tell("without patience", ["every order was done"])
     return tally.end()

@@ -38,6 +38,15 @@ began=$(date +%s)
 kinds="faults rows commands captures together programs patience drawn lines"
 gcc -O2 -Wall -Wextra -Werror -I"$root/crates/pm_host_c/include" "$root/examples/c/i2c_dev.c" "$archive" -o "$CACHE/i2c_dev" ||
     refuse "examples/c/i2c_dev.c doesn't build"
+rm -f "$CACHE/i2c_dev_rust"
+if command -v cargo > /dev/null; then
+    mkdir -p "$CACHE/archives" && cp "$archive" "$CACHE/archives/libpm_host_c.a" && cp "$part" "$CACHE/archives/libpm_device_c.a"
+    PM_ARCHIVES=$CACHE/archives CARGO_TARGET_DIR=$CACHE/cargo cargo build --quiet --offline --release --features linux \
+        --example i2c_dev --manifest-path "$root/rust/Cargo.toml" || refuse "rust/examples/i2c_dev.rs doesn't build"
+    cp "$CACHE/cargo/release/examples/i2c_dev" "$CACHE/i2c_dev_rust"
+else
+    echo "no cargo: the example in Rust isn't tried"
+fi
 names=()
 for kind in $kinds; do
     # The bit by bit one takes longest: it begins first.
