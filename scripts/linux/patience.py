@@ -17,7 +17,7 @@ from tally import Tally
 
 PROGRAMS = [path for path in (os.path.join(os.environ["CACHE"], name) for name in ("i2c_dev", "i2c_dev_rust")) if os.path.exists(path)]
 ORDERED, START = 0x34CD, 0x1000
-DELAYS, AWAY = (1, 10, 30, 150), 400
+DELAYS, AWAY, WIRE = (1, 10, 30, 150), 400, 5
 JOBS = f"{ORDERS} + store + read 0 VOUT_COMMAND + read 1 VOUT_COMMAND + known"
 DONE = re.compile(r"word [01]: VOUT_COMMAND \w{4} confirmed; ")
 READ = re.compile(r"read ([01]): VOUT_COMMAND (\w{4}) ")
@@ -83,7 +83,8 @@ def main(words):
             call = Call(bench, part, [])
             tally.tell(f"bus {bench.number}, {part}", [*call.false_statements(), *call.short_of_done()])
             call = Call(bench, part, ["--patience=0"])
-            is_short = delay >= 30 and call.done == len(OUTPUTS)
+            # (a transfer of the bit-banged bus may take longer than the part is busy)
+            is_short = delay >= 30 and call.done == len(OUTPUTS) and bench.number != WIRE
             unknown += len(OUTPUTS) - call.done
             tally.tell(f"bus {bench.number}, {part}, no patience", [*call.false_statements(), *(["all is done without patience"] if is_short else [])])
             for program in PROGRAMS:
