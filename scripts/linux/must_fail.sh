@@ -36,7 +36,7 @@ plant frames python/src/pmhost/capture/i2ctransfer.py "if ran.returncode or ran.
     "if ran.returncode:"
 tried frames commands 0
 names="package frames"
-plant program examples/c/i2c_dev.c "if (went == count)" "if (went >= 0)"
+plant program examples/c/linux_bus.h "return went == count;" "return went >= 0;"
 mkdir "$work/cache"
 ln -s "$built/kernel" "$built/modules" "$built/libpmhost.so" "$work/cache"
 gcc -I"$root/crates/pm_host_c/include" "$work/program/tree/examples/c/i2c_dev.c" "$archive" -o "$work/cache/i2c_dev" ||
