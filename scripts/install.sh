@@ -1,7 +1,7 @@
 #!/usr/bin/env bash
 # Installs what a built tree has below a folder: the programs pmb, pmbhost and pmbpart with their manual pages and
 # completions for bash; for C the host and the model part, libpm_host_c and libpm_device_c, each as an archive and as a shared object
-# with its header, and pm_host.pc and pm_part.pc for pkg-config.
+# with its header (the host's has pm_patient.h beside it), and pm_host.pc and pm_part.pc for pkg-config.
 #
 #   scripts/install.sh PREFIX [--library] [--archives FOLDER]
 #
@@ -74,6 +74,7 @@ END
 }
 
 library pm_host_c pm.h pm_host "A PMBus host core that sets supply voltages, proved"
+put 644 "$root/crates/pm_host_c/include/pm_patient.h" include/pm_patient.h
 library pm_device_c pm_part.h pm_part "A model of a PMBus power converter to try firmware against, proved"
 if [ -z "$library" ]; then
     for each in pmb pmbhost pmbpart; do

@@ -51,6 +51,6 @@ if [ -x "$root/usr/bin/pmb" ]; then
 else
     echo "the release has no programs: README's examples aren't tried"
 fi
-step "removed" 'dpkg -r pm-host && for each in lib/libpm_host_c.a lib/libpm_device_c.a include/pm.h include/pm_part.h bin/pmbpart; do ! test -e /usr/$each || exit 1; done'
+step "removed" 'dpkg -r pm-host && for each in lib/libpm_host_c.a lib/libpm_device_c.a include/pm.h include/pm_patient.h include/pm_part.h bin/pmbpart; do ! test -e /usr/$each || exit 1; done'
 rm -rf "${root:?}$work"
 end_tally

@@ -160,6 +160,10 @@ ok deaf deaf ok deaf ok|-b 1 -a 58 --outputs 1 --passes 1 clear 0|0|clear 0: ack
 |-b 2 -a 58 probe|2||2-0058 is held by a driver of the kernel: unbind it, echo 2-0058 > /sys/bus/i2c/devices/2-0058/driver/unbind, or give --force
 |-b 3 -a 58 probe|2||/dev/i2c-3: Permission denied: be root, or ask for leave to open it (ls -l /dev/i2c-3)
 |-b 4 -a 58 probe|2||/dev/i2c-4: Inappropriate ioctl for device: it is no I2C bus
+|-b 5 -a 58 probe|2||another program drives 5-0058: fuser /dev/i2c-5 names who has the bus open
+|-b 6 -a 58 probe|2||a line is held low: address 02, which no part may have, acknowledges: look at SDA and SCL, take the power off
+|-b 5 -a 58 --share-bus learn 0|0|learn 0: learned ULINEAR16 -12|
+count ok ok deaf*40|-b 1 -a 58 --outputs 1 clear 0|0|clear 0: acknowledged\n43 transfers, 195 ms|
 |-b 9 -a 58 probe|2||/dev/i2c-9: No such file or directory: load i2c-dev (modprobe i2c-dev), and look for the bus (ls /dev/i2c-*)
 END
 }
@@ -302,7 +306,8 @@ int main(void) {' row=0
 # snippets NAME COMPILER: the C of docs/firmware.md builds with no warning
 snippets() {
     {
-        printf '#include "pm.h"\n#include <stddef.h>\nextern pm_host host;\nvoid log_line(const char *line);\n'
+        printf '#include "pm_patient.h"\n#include <stddef.h>\nextern pm_host host;\nvoid log_line(const char *line);\n'
+        printf 'uint32_t milliseconds(void *context);\nvoid wait_for(void *context, uint32_t milliseconds);\n'
         printf 'uint8_t write_to_bus(void *context, const uint8_t *bytes, uint64_t count);\n'
         printf 'uint64_t read_from_bus(void *context, const uint8_t *request, uint64_t count, uint8_t *answer, uint64_t room);\n'
         awk '/^```c$/ {print "int snippet_" ++count "(void);\nint snippet_" count "(void) {"; within = 1; next}
