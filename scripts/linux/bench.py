@@ -17,6 +17,8 @@ failed transfer, by its number, for an adapter that answers errors. The mishaps 
     lostall   as `lost`, and of a read no message goes, where `lost` lets the first one go
     cut       the last byte that comes back is FF
     half      a write is cut before its last byte, and fails
+    last      the last answer comes once more
+    gone      nobody hears it: the error is that of an adapter that was unplugged
     power     the part restarts inside its answer, whose bytes behind the first are FF; a write is heard before it
     flip      a bit of a write's last byte but one is changed on its way, and the write is acknowledged
     sdaK      on the wire alone: SDA is held low behind K bytes of the frame, until the fourth stop
@@ -60,6 +62,8 @@ class Bench:
         part, self.address = parts.made(words)
         self.part = parts.Watched(part)
         self.parts, self.plan, self.count, self.error, self.low = {self.address: self.part}, [], 0, 0, None
+        # The bytes of the last answer, behind the read address.
+        self.last = b""
 
     def mishap(self):
         """What befalls the transfer that begins."""

@@ -44,5 +44,11 @@ TMPDIR=$memory timeout -k 5 "${SECONDS_AT_MOST:-900}" "$CACHE/kernel/linux" mem=
     con=null con0=fd:0,fd:1 "ROOT=$(cd "$here/../.." && pwd)" "FOLDER=$folder" "CACHE=$CACHE" "TRIAL=$trial" \
     "PMB=$PMB" "PMBHOST=$PMBHOST" "PMHOST_LIBRARY=$PMHOST_LIBRARY" > "$folder/console" 2>&1 < /dev/null &
 guest=$!
-wait "$guest"
+# A bench that ends leaves its guest no bus: the guest is ended with it.
+wait -n "$guest" "$bench"
+for _ in $(seq 100); do
+    kill -0 "$guest" 2> /dev/null || break
+    sleep 0.1
+done
+kill -0 "$guest" 2> /dev/null && { echo "boot.sh: the bench ended before its guest:" >&2; tail -5 "$folder/bench" >&2; exit 1; }
 [ "$(cat "$folder/ended" 2> /dev/null)" = "status 0" ] && [ ! -s "$folder/bench" ]

@@ -78,8 +78,8 @@ class Adapter(vhost.FrontEnd):
 
     def is_unheard(self, mishap):
         """The transfer fails, and the part doesn't hear it."""
-        self.bench.error = {"hung": errno.ETIMEDOUT, "short0": errno.EIO, "short1": errno.EIO}.get(mishap, errno.ENXIO)
-        return mishap in ("deaf", "hung", "short0", "short1")
+        self.bench.error = {"hung": errno.ETIMEDOUT, "gone": errno.ENODEV, "short0": errno.EIO, "short1": errno.EIO}.get(mishap, errno.ENXIO)
+        return mishap in ("deaf", "hung", "gone", "short0", "short1")
 
     def write(self, message, mishap):
         bench, frame = self.bench, [2 * message.address, *message.written]
@@ -103,6 +103,9 @@ class Adapter(vhost.FrontEnd):
         if mishap == "empty":
             return [b"", b""]
         got = bytes([*answer[1:2 if mishap == "power" else None], *[0xFF] * back.count][:back.count])
+        if mishap == "last":
+            got = bench.last.ljust(back.count, b"\xff")[:back.count]
+        bench.last = got
         if mishap == "damaged":
             got = got[:-1] + bytes([got[-1] ^ 4])
         return [b"", got[:-1] + b"\xff" if mishap == "cut" else got]

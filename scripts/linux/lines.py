@@ -1,8 +1,9 @@
-"""pmhost over lines that are held low, ones and zeros: lines BUS.
+"""pmhost over lines that are held low, an adapter that is unplugged, and answers that come once more: lines BUS.
 
 Either line of the bit-banged bus is held low at rest, and behind each byte of a frame; on the other buses a transfer fails as one
-with a line held low does. Nothing may be told as done, acknowledged or confirmed that isn't so, by orders, clear, store, restore,
-reads and probe.
+with a line held low does, or as over an adapter that is unplugged. Nothing may be told as done, acknowledged or confirmed that isn't so, by orders, clear, store, restore,
+reads and probe. Of each ordered pair of registers of two outputs the first's answer comes once more to the second's read: it passes
+for that just where the two reads share their packet error code up to the read address.
 """
 import contextlib
 import io
@@ -10,12 +11,18 @@ import re
 
 from guest_bus import Bench
 from pmhost import cli
+from pmhost.values import CODES
 from tally import Tally
 
 WIRE = 5
 CALLS = ("clear 0", "store", "restore --outputs-may-go-off", "word 0 VOUT_COMMAND 34CD", "read 0 VOUT_COMMAND", "read - WRITE_PROTECT", "probe")
 CLAIMS = re.compile(r"confirmed|acknowledged|: done|PEC yes|can drive")
 FRAME, TRANSFERS = 8, 3
+REGISTERS = [(output, name) for output in (0, 1) for name in ("OPERATION", "VOUT_COMMAND", "VOUT_MAX", "VOUT_MARGIN_HIGH", "VOUT_MARGIN_LOW",
+                                                              "VOUT_MIN")]
+# The reads of two outputs that share their code, both ways.
+SHARED = {pair for output in (0, 1) for one, other in [((output, "VOUT_COMMAND"), (1 - output, "VOUT_MARGIN_LOW"))]
+          for pair in ((one, other), (other, one))}
 
 
 def call(bench, words, *more):
@@ -50,6 +57,17 @@ def untrue(bench, words, ran):
         yield f"{words}: status 0, {out!r} {err!r}, and {held:04X} is held"
 
 
+def passed_on(bench, first, second):
+    """Whether a late answer is believed where it shouldn't be, or not where the packet error code can't tell."""
+    bench.put("proved", "ok ok ok last")
+    status, out, err = call(bench, f"learn 0 + learn 1 + read {first[0]} {first[1]} + read {second[0]} {second[1]}", "--passes=1")
+    held = {(output, name): bench.ask()["cells"][f"{output} {CODES[name]:02X}"] for output, name in (first, second)}
+    found = re.search(rf"read {second[0]}: {second[1]} (\w+)", out)
+    is_believed = found is not None and re.fullmatch("[0-9A-F]+", found[1]) is not None
+    if is_believed != ((first, second) in SHARED):
+        yield f"status {status}, {out!r}, {err!r}, held {held}"
+
+
 def main(words):
     bench, tally = Bench(int(words[0])), Tally()
     if bench.number == WIRE:
@@ -65,7 +83,10 @@ def main(words):
         for each in CALLS:
             bench.put("proved", "hung " * 200)
             tally.tell(f"bus {bench.number}, each transfer fails as with a line held low, {each}", claims(each, call(bench, each)))
-        kinds = ["hung", "empty"]
+            bench.put("proved", "ok ok " + "gone " * 200)
+            each = "learn 0 + word 0 VOUT_COMMAND 34CD + known 0"
+            tally.tell(f"bus {bench.number}, the adapter is unplugged in the middle", untrue(bench, each, call(bench, each)))
+        kinds = ["hung", "empty", "gone"]
     for kind in kinds:
         for place in range(TRANSFERS):
             for passes in (1, 3):
@@ -74,4 +95,8 @@ def main(words):
                 ran = call(bench, each, f"--passes={passes}")
                 bench.say("plan")
                 tally.tell(f"bus {bench.number}, {kind} in transfer {place}, {passes} passes", untrue(bench, each, ran))
+    for first in REGISTERS:
+        for second in REGISTERS:
+            if first != second:
+                tally.tell(f"bus {bench.number}, {first}, and its answer once more for {second}", passed_on(bench, first, second))
     return tally.end()

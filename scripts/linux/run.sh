@@ -32,8 +32,8 @@ case " $* " in *" --help "* | *" -h "*) sed -n '2,/^[^#]/s/^# \{0,1\}//p' "$0"; 
 here=$(cd "$(dirname "$0")" && pwd)
 root=$(cd "$here/../.." && pwd)
 . "$here/start.sh"
-start "$@"
 command -v i2ctransfer > /dev/null || [ -x /usr/sbin/i2ctransfer ] || refuse "no i2ctransfer: install i2c-tools"
+start "$@"
 began=$(date +%s)
 kinds="faults rows commands captures together programs patience drawn lines"
 gcc -O2 -Wall -Wextra -Werror -I"$root/crates/pm_host_c/include" "$root/examples/c/i2c_dev.c" "$archive" -o "$CACHE/i2c_dev" ||

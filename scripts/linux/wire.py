@@ -188,6 +188,9 @@ class Wire:
             return answer[:1]
         if self.mishap == "empty":
             return [0] * 16
+        if self.mishap == "last":
+            answer = list(self.bench.last)
+        self.bench.last = bytes(answer)
         if answer and self.mishap == "damaged":
             answer[-1] ^= 4
         if answer and self.mishap == "cut":
