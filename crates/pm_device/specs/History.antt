@@ -1,18 +1,18 @@
 -- A converter's past, newest event first, and what it holds after it; and what one event makes of
 -- what it holds, where the status bits are latched.
-use Rattle.std.specs.Prelude.{◌≡◌, ◌⊎◌, ℕ, ◌<◌, ◌^◌, Bool, false, ◌||◌, true, ◌&&◌, if◌then◌else◌, List, [], ◌∷◌, ◌++◌, map, slice_set, Some}
+use Rattle.std.specs.Prelude.{◌≡◌, ◌⊎◌, ℕ, ◌<◌, ◌^◌, Bool, false, ◌||◌, true, ◌&&◌, not, ◌==◌, if◌then◌else◌, List, [], ◌∷◌, ◌++◌, map, slice_set, Some}
 use Rattle.std.specs.List.{range_with_len}
 use Rattle.pm_table.specs.declared.cell.Cell.{Cell}
 use Rattle.pm_table.specs.declared.cell.Cell.TheVariants.{Out}
 use Rattle.pm_table.specs.Cell.{cell_at, is_output_cell}
 use Rattle.pm_frame.specs.declared.message.Message.{Message}
-use Rattle.pm_frame.specs.Layout.{AreBytes, IsWrite}
+use Rattle.pm_frame.specs.Layout.{AreBytes, IsWrite, write_address}
 use Rattle.pm_frame.specs.View.{message_code}
 use Rattle.pm_model.specs.Settings.{Words, word_at}
 use Rattle.pm_device.specs.declared.act.Act.{Act}
 use Rattle.pm_device.specs.declared.act.Act.TheVariants.{Put, ClearFaults, ClearVout, Store, Restore}
 use Rattle.pm_device.specs.declared.config.Config.{Config}
-use Rattle.pm_device.specs.declared.ending.Ending.TheVariants.{Stop}
+use Rattle.pm_device.specs.declared.ending.Ending.TheVariants.{Stop, Restart}
 use Rattle.pm_device.specs.declared.heard.Heard.TheVariants.{Taken}
 use Rattle.pm_device.specs.declared.verdict.Verdict.TheVariants.{Takes}
 use Rattle.pm_device.specs.Held.{Held, Measured, CmlFaults, no_readings, no_faults, is_reading, with_reading}
@@ -193,3 +193,25 @@ pub record WasCarried (config : Config) (past : List Event) (cell : Cell) (word 
 -- a word is the one that the converter was made with, or one that a frame carried for this very cell
 abbrev pub IsEverHad : Config → List Event → Cell → ℕ → Type 0
 IsEverHad config past cell word = (word ≡ start_word config cell) ⊎ WasEverCarried config past cell word
+
+-- the past without the hearings that a repeated start ended, which are requests
+abbrev pub without_requests : List Event → List Event
+without_requests [] = []
+without_requests (Hearing bytes Restart ∷ past) = without_requests past
+without_requests (Hearing bytes Stop ∷ past) = Hearing bytes Stop ∷ without_requests past
+without_requests (Restarted ∷ past) = Restarted ∷ without_requests past
+without_requests (Reading output code word ∷ past) = Reading output code word ∷ without_requests past
+
+-- bytes are for another device: there is none, or the first isn't this address with the write bit, as it is of each frame
+-- for this device (SMBus)
+abbrev pub is_for_other : ℕ → List ℕ → Bool
+is_for_other addr [] = true
+is_for_other addr (first ∷ rest) = not (first == write_address addr)
+
+-- the past without the hearings of bytes for other devices
+abbrev pub without_others : ℕ → List Event → List Event
+without_others addr [] = []
+without_others addr (Hearing bytes ending ∷ past) =
+    if is_for_other addr bytes then without_others addr past else Hearing bytes ending ∷ without_others addr past
+without_others addr (Restarted ∷ past) = Restarted ∷ without_others addr past
+without_others addr (Reading output code word ∷ past) = Reading output code word ∷ without_others addr past

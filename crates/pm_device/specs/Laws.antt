@@ -14,7 +14,7 @@ use Rattle.pm_frame.specs.declared.message.Message.{Message}
 use Rattle.pm_frame.specs.declared.message.Message.TheVariants.{WriteByte, PagePlusWrite, ReadCommand, PagePlusRead, ReadCoefficients}
 use Rattle.pm_frame.specs.declared.payload.Payload.{Payload}
 use Rattle.pm_frame.specs.Fault.{write_fault, request_fault}
-use Rattle.pm_frame.specs.Layout.{AreBytes, IsWrite, IsRequest, IsAnswer}
+use Rattle.pm_frame.specs.Layout.{AreBytes, IsWrite, IsRequest, IsAnswer, write_address, read_address}
 use Rattle.pm_frame.specs.View.{payload_in, message_code}
 use Rattle.pm_model.specs.Settings.{AreWords, word_at, with_word, with_outputs}
 use Rattle.pm_model.specs.Commanded.{is_cut}
@@ -31,6 +31,7 @@ use Rattle.pm_device.specs.Effect.{Event, Hearing, Reading, Restarted, kept_in, 
 use Rattle.pm_device.specs.Status.{CmlBit, fault_bit, with_bit, cml_at, cml_in, cut_at, vout_in, marked, status_byte, status_cml, status_vout, status_word}
 use Rattle.pm_device.specs.Reply.{payload_for, register_bytes, register_word, reply_of}
 use Rattle.pm_device.specs.History.{AreHeard, IsEverHad, WasCarried, loaded_word, stored_word, next, now, start_of}
+use Rattle.pm_device.specs.History.{is_for_other, without_others, without_requests}
 
 -- What a converter with 1 to 8 outputs holds after any past is what one event after another makes of
 -- its start (`none`, `more`), so the status bits that are latched are those that are found by looking
@@ -328,3 +329,33 @@ pub record DeviceCodesIgnorePages : Type 0 where
       × (next held (Hearing bytes Restart) ≡ next held (Hearing others Restart))
   pub read : (held : Held) (output other code : ℕ) → is_device_code code ≡ true →
       register_word held output code ≡ register_word held other code
+
+-- A hearing that a repeated start ended, whatever its bytes, changes nothing but latched bits of STATUS_CML (`alone`), of
+-- which it clears none (`rises`): so every setting, the store and PAGE stay (`kept`), and the readings and the latches of
+-- STATUS_VOUT. What a converter with 1 to 8 outputs holds after any past is, but for these bits, what it holds after the
+-- past without those hearings (`past`).
+pub record RequestsLatchAtMost : Type 0 where
+  pub alone : (held : Held) (bytes : List ℕ) →
+      next held (Hearing bytes Restart) ≡ record held { faults = (next held (Hearing bytes Restart)).faults }
+  pub kept : (held : Held) (bytes : List ℕ) → kept_in (next held (Hearing bytes Restart)) ≡ kept_in held
+  pub rises : (held : Held) (bytes : List ℕ) (bit : CmlBit) → cml_at held.faults bit ≡ true →
+      cml_at (next held (Hearing bytes Restart)).faults bit ≡ true
+  pub past : (config : Config) (past : List Event) → 1 ≤ config.count → config.count ≤ 8 →
+      now config past ≡ record (now config (without_requests past)) { faults = (now config past).faults }
+
+-- Bytes are met with silence exactly where they are for another device (`silent`, `only`), and then change nothing that is
+-- held, however they end (`unchanged`). So do all that begin with the address of another device, with either direction,
+-- and with the own address and the read bit (`neighbour`, `read_bit`). What a converter with 1 to 8 outputs holds after
+-- any past is what it holds after the past without the bytes for other devices (`past`).
+pub record FramesForOthersAreSilent : Type 0 where
+  pub silent : (held : Held) (bytes : List ℕ) (ending : Ending) →
+      is_for_other held.config.addr bytes ≡ true → reply_of held bytes ending ≡ Silent
+  pub only : (held : Held) (bytes : List ℕ) (ending : Ending) →
+      reply_of held bytes ending ≡ Silent → is_for_other held.config.addr bytes ≡ true
+  pub unchanged : (held : Held) (bytes : List ℕ) (ending : Ending) →
+      is_for_other held.config.addr bytes ≡ true → next held (Hearing bytes ending) ≡ held
+  pub neighbour : (addr other : ℕ) (rest : List ℕ) → other ≢ addr →
+      (is_for_other addr (write_address other ∷ rest) ≡ true) × (is_for_other addr (read_address other ∷ rest) ≡ true)
+  pub read_bit : (addr : ℕ) (rest : List ℕ) → is_for_other addr (read_address addr ∷ rest) ≡ true
+  pub past : (config : Config) (past : List Event) → 1 ≤ config.count → config.count ≤ 8 →
+      now config past ≡ now config (without_others config.addr past)

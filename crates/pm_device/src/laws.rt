@@ -2,7 +2,7 @@
 //! each is the contract of a function that does nothing, or calls laws of the crates below. A past
 //! is a list of events, newest first. What each says in full stands in `specs/Laws.antt`.
 
-ghost use Rattle.pm_device.specs.Laws.{DeviceCodesIgnorePages, LatchesStay, PastsAreFollowed, ReadsAreAnswered, RefusalsSetOneBit, RegistersSayWhatCallsSay, RepliesFollowEndings, SoundConfigurationsHaveNoFault, UnknownCodesAreRefused, WordsHaveAnOrigin, WritesReachOneCell};
+ghost use Rattle.pm_device.specs.Laws.{DeviceCodesIgnorePages, FramesForOthersAreSilent, LatchesStay, PastsAreFollowed, ReadsAreAnswered, RefusalsSetOneBit, RegistersSayWhatCallsSay, RepliesFollowEndings, RequestsLatchAtMost, SoundConfigurationsHaveNoFault, UnknownCodesAreRefused, WordsHaveAnOrigin, WritesReachOneCell};
 
 use pm_frame::{requests_are_exact, writes_are_exact};
 use pm_model::{outputs_stand_alone, settings_are_a_map};
@@ -108,4 +108,24 @@ pub fn device_codes_ignore_pages()
     writes_are_exact();
     requests_are_exact();
     payloads_are_short();
+}
+
+/// A hearing that a repeated start ended, as the request of a read of any code is, changes no setting, no store, no PAGE,
+/// no reading and no latch of STATUS_VOUT: at most it latches a bit of STATUS_CML. So what is held after any past is, but
+/// for those bits, what is held after the past without such hearings.
+pub fn requests_latch_at_most()
+    ensures { RequestsLatchAtMost }
+{
+    // law: what is held follows one event after another
+    pasts_are_followed();
+}
+
+/// Whatever is heard for another device is met with silence and changes nothing that is held, and nothing else is met with
+/// silence: bytes for this device begin with its address and the write bit. So what is held after any past is what is held
+/// after the past without the bytes for others.
+pub fn frames_for_others_are_silent()
+    ensures { FramesForOthersAreSilent }
+{
+    // law: what is held follows one event after another
+    pasts_are_followed();
 }
