@@ -1,13 +1,14 @@
 mod calls;
 
-ghost use Rattle.std.specs.Prelude.{◌≡◌, ◌<◌, Some, None, IfOk, OnOk, OnErr, option_map, replicate, slice_set};
+ghost use Rattle.std.specs.Prelude.{◌≡◌, ◌<◌, Some, None, IfOk, OnOk, OnErr, [], ◌∷◌, option_map, replicate, slice_set};
 ghost use Rattle.std.specs.Result.{result_err};
 ghost use Rattle.pm_table.specs.Address.{IsAddress};
+ghost use Rattle.pm_table.specs.Rules.{first};
 ghost use Rattle.pm_host.specs.Refusals.{IsSetup, setup_fault};
 ghost use Rattle.pm_host.specs.Summary.{start};
 ghost use Rattle.pm_host.specs.Transcript.{Setup};
 ghost use Rattle.pm_limits.specs.Band.{band_at, within_of};
-ghost use Rattle.pm_limits.specs.Guard.{LetsBegin, limits_at, limits_for as spec_limits_for, narrow_fault, narrowed};
+ghost use Rattle.pm_limits.specs.Guard.{LetsBegin, limits_at, limits_for as spec_limits_for, narrow_fault, narrowed, narrower_fault, open_fault};
 ghost use Rattle.pm_limits.specs.Part.{all_registers};
 
 use crate::band::{Band, band_of};
@@ -220,17 +221,24 @@ impl Guard {
         if output >= self.host.outputs() {
             return Err(LimitFault::Host(HostFault::UnknownOutput));
         }
-        let limits = narrower_limits(
-            self.host.state(),
-            self.host.stage(),
-            self.registers,
-            self.limits(output),
-            output,
-            least,
-            most,
-        )?;
-        put(&mut self.limits, output, limits);
-        Ok(())
+        match self.narrower(output, least, most) {
+            Ok(limits) => {
+                put(&mut self.limits, output, limits);
+                Ok(())
+            }
+            Err(fault) => Err(fault),
+        }
+    }
+
+    // The narrower limits of an output, or why it takes none.
+    fn narrower(&self, output: u8, least: i64, most: i64) -> Result<Limits, LimitFault>
+        ensures made { IfOk result (λ limits. limits ≡ record { least = least; most = most }) }
+        ensures fault { result_err result ≡ first (narrower_fault (limits_at self.now output) least most
+            ∷ open_fault self.now.registers (record { least = least; most = most }) self.now.host output ∷ []) }
+    {
+        let old = self.limits(output);
+        let (state, stage) = (self.host.state(), self.host.stage());
+        narrower_limits(state, stage, self.registers, old, output, least, most)
     }
 
     /// Between which voltages an output may be, as [`band_of`] says. The output is there.
