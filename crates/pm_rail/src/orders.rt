@@ -1,9 +1,10 @@
-ghost use Rattle.std.specs.Prelude.{◌≡◌, ◌<◌, None, IfOk, OnErr};
+ghost use Rattle.std.specs.Prelude.{◌≡◌, ◌<◌, Some, None, IfOk, OnErr};
 ghost use Rattle.pm_num.specs.AnyFormat.{any_value, shape_of};
 ghost use Rattle.pm_host.specs.Image.{held as state_held};
+ghost use Rattle.pm_host.specs.Summary.{format_at};
 ghost use Rattle.pm_limits.specs.Guard.{limits_at};
 ghost use Rattle.pm_rail.specs.Known.{cells_of};
-ghost use Rattle.pm_rail.specs.Orders.{Begun, plan_of, planned as spec_planned};
+ghost use Rattle.pm_rail.specs.Orders.{Begun, plan_of, planned as spec_planned, planned_in as spec_planned_in};
 ghost use Rattle.pm_rail.specs.Registers.{held_by, wants_of};
 
 use crate::fault::PlanFault;
@@ -75,13 +76,42 @@ pub fn next_order_in(
     if let Some(fault) = refuse_missing(part, wanted) {
         return Err(fault);
     }
+    planned_in(host, part, limits, output, wanted)
+}
+
+// The next order in the output's format.
+fn planned_in(
+    host: &State,
+    part: PartRegisters,
+    limits: &Option<Limits>,
+    output: u8,
+    wanted: &Wanted,
+) -> Result<Option<PlanOrder>, PlanFault>
+    requires { output < 8 }
+    ensures { let s = state_held None host.now in
+        result ≡ spec_planned_in part s limits.now output (wants_of wanted.now) (format_at s output) }
+{
     match host.format(output).format() {
-        Some(format) => {
-            let known = known_of(host, part, &format, output);
-            planned(host, part, limits, output, &known, wanted, &format)
-        }
+        Some(format) => planned_by(host, part, limits, output, wanted, &format),
         None => Err(PlanFault::FormatUnknown),
     }
+}
+
+// The same in this format.
+fn planned_by(
+    host: &State,
+    part: PartRegisters,
+    limits: &Option<Limits>,
+    output: u8,
+    wanted: &Wanted,
+    format: &AnyFormat,
+) -> Result<Option<PlanOrder>, PlanFault>
+    requires { output < 8 }
+    ensures { let s = state_held None host.now in
+        result ≡ spec_planned_in part s limits.now output (wants_of wanted.now) (Some (shape_of format.now)) }
+{
+    let known = known_of(host, part, format, output);
+    planned(host, part, limits, output, &known, wanted, format)
 }
 
 // The next order by the words that are known to be held.
