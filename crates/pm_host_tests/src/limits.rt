@@ -4,6 +4,7 @@ mod bands;
 mod faults;
 mod guards;
 mod orders;
+mod parts;
 mod rails;
 
 use self::guards::{LINEAR, first, guard, learn, refusal};

@@ -1,23 +1,27 @@
 -- Between which voltages an output may be, by what a host knows: the band. This project's own choice.
-use Rattle.std.specs.Prelude.{◌<◌, ℕ, Bool, true, false, not, ◌||◌, if◌then◌else◌, List, [], ◌∷◌, Option, Some, None, option_map}
+use Rattle.std.specs.Prelude.{◌<◌, ◌/◌, ◌%◌, ◌==◌, ℕ, Bool, true, false, not, ◌&&◌, ◌||◌, if◌then◌else◌, List, [], ◌∷◌, Option, Some, None, option_map}
 use Rattle.std.specs.List.{list_any}
+use Rattle.std.specs.Option.{option_map_or}
 use Rattle.pm_num.specs.AnyFormat.{Shape, shape_value}
 use Rattle.pm_num.specs.Ratio.{Ratio, IsBetween, is_above, micros}
 use Rattle.pm_table.specs.declared.reg.Reg.{Reg}
 use Rattle.pm_table.specs.declared.reg.Reg.TheVariants.{Operation, VoutMax, VoutMin}
 use Rattle.pm_table.specs.declared.cell.Cell.TheVariants.{Out}
-use Rattle.pm_table.specs.Cell.{same_register}
+use Rattle.pm_table.specs.Cell.{is_operation, same_register}
 use Rattle.pm_model.specs.Commanded.{selected_register, limited}
 use Rattle.pm_host.specs.declared.possible.Possible.{Possible}
 use Rattle.pm_host.specs.declared.possible.Possible.TheVariants.{Any, Words}
+use Rattle.pm_host.specs.Possible.{only}
 use Rattle.pm_host.specs.Summary.{Summary, possible_at, format_at}
 use Rattle.pm_limits.specs.declared.band.Band.{Band}
+use Rattle.pm_limits.specs.declared.part_registers.PartRegisters.{PartRegisters}
 use Rattle.pm_limits.specs.declared.side.Side.{Side}
 use Rattle.pm_limits.specs.declared.side.Side.TheVariants.{Lowest, Highest}
 use Rattle.pm_limits.specs.declared.within.Within.{Within}
 use Rattle.pm_limits.specs.declared.within.Within.TheVariants.{Yes, No, NotKnown}
 use Rattle.pm_limits.specs.Bounds.{Bounds}
 use Rattle.pm_limits.specs.Ends.{end_of, farthest_of}
+use Rattle.pm_limits.specs.Part.{missing_word}
 
 -- the values of all words have positive denominators, as in each format that a device has or a host learns
 abbrev pub HasDens : Shape → Type 0
@@ -27,18 +31,37 @@ HasDens shape = (word : ℕ) → 0 < (shape_value shape word).den
 abbrev pub Known : Type 0
 Known = Reg → Possible
 
-abbrev pub known_of : Summary → ℕ → Known
-known_of s output = λ register. possible_at s (Out output register)
+-- What each may hold by what a host knows of a part with these registers, in a format: a missing VOUT_MIN and a missing
+-- VOUT_MAX the one word at which it stands. A missing margin is never read, and may hold any word.
+abbrev pub known_of : PartRegisters → Shape → Summary → ℕ → Known
+known_of registers shape s output = λ register.
+    option_map_or only (missing_word registers shape register) (possible_at s (Out output register))
 
 -- the word of a voltage, of those that it may hold, whose value lies farthest out
 abbrev pub word_end : Side → Shape → Known → Reg → ℕ
 word_end side shape known register = end_of side shape (shape_value shape) (known register)
 
--- the bytes that OPERATION may be, as far as it matters: where it may be any, one for each register that a byte
--- selects
+-- one byte for each register that a byte of OPERATION selects
+abbrev pub each_selection : List ℕ
+each_selection = 0x80 ∷ 0xA8 ∷ 0x94 ∷ []
+
+-- a byte that OPERATION doesn't take, and one of these whose bits 5 and 4 hand the voltage to AVSBus (PMBus 1.3 Part II)
+abbrev pub is_untaken : ℕ → Bool
+is_untaken byte = not (is_operation byte)
+
+abbrev pub selects_avsbus : ℕ → Bool
+selects_avsbus byte = is_untaken byte && (byte / 16) % 4 == 0b11
+
+-- The bytes that OPERATION may be, as far as it matters: one for each register that a byte selects where it may be any,
+-- or one that it doesn't take, of which nobody knows what it selects.
 abbrev pub operations : Possible → List ℕ
-operations Any = 0x80 ∷ 0xA8 ∷ 0x94 ∷ []
-operations (Words words) = words.items
+operations Any = each_selection
+operations (Words words) = if list_any is_untaken words.items then each_selection else words.items
+
+-- another than the registers that are spoken of here may decide the voltage
+abbrev pub may_select_avsbus : Possible → Bool
+may_select_avsbus Any = false
+may_select_avsbus (Words words) = list_any selects_avsbus words.items
 
 -- how far out a byte of OPERATION reaches: to the end of the register that it selects
 abbrev pub reach : Side → Shape → Known → ℕ → Ratio
@@ -62,15 +85,20 @@ band_with shape known bytes = record {
   greatest = end_with Highest shape known bytes;
 }
 
--- the band of an output, and what it would be with one byte in OPERATION; None where the format isn't known
-abbrev pub band_at : Summary → ℕ → Option Band
-band_at s output = option_map
-    (λ shape. band_with shape (known_of s output) (operations (possible_at s (Out output Operation))))
+-- The band of an output. None where the format isn't known, or OPERATION may be a byte by which no register of the
+-- output decides.
+abbrev pub band_at : PartRegisters → Summary → ℕ → Option Band
+band_at registers s output =
+    if may_select_avsbus (possible_at s (Out output Operation)) then None
+    else option_map
+    (λ shape. band_with shape (known_of registers shape s output) (operations (possible_at s (Out output Operation))))
     (format_at s output)
 
-abbrev pub band_on : Summary → ℕ → ℕ → Option Band
-band_on s output byte =
-    option_map (λ shape. band_with shape (known_of s output) (byte ∷ [])) (format_at s output)
+-- what it would be with this byte in OPERATION, one that it takes
+abbrev pub band_on : PartRegisters → Summary → ℕ → ℕ → Option Band
+band_on registers s output byte = option_map
+    (λ shape. band_with shape (known_of registers shape s output) (byte ∷ []))
+    (format_at s output)
 
 -- a value lies in a band, whose ends count as in it
 abbrev pub InBand : Band → Ratio → Type 0

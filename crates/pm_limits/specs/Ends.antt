@@ -1,6 +1,6 @@
 -- The word among several whose value lies farthest on one side. This project's own choice.
 use Rattle.std.specs.Prelude.{ℕ, Bool, List, [], ◌∷◌, if◌then◌else◌}
-use Rattle.pm_num.specs.AnyFormat.{Shape, InLinear11, InUlinear16, InDirect}
+use Rattle.pm_num.specs.AnyFormat.{Shape, InLinear11, InUlinear16, InDirect, shape_value}
 use Rattle.pm_num.specs.Ratio.{Ratio, AtMost, is_above}
 use Rattle.pm_num.specs.Value.{linear11_least, linear11_greatest}
 use Rattle.pm_host.specs.declared.possible.Possible.{Possible}
@@ -45,3 +45,7 @@ candidates shape (Words words) = words.items
 -- the word of a voltage, of those that it may hold, whose value lies farthest out
 abbrev pub end_of : Side → Shape → (ℕ → Ratio) → Possible → ℕ
 end_of side shape value possible = farthest_of side value (candidates shape possible)
+
+-- the word of a format's least value, and of its greatest
+abbrev pub format_end : Side → Shape → ℕ
+format_end side shape = farthest_of side (shape_value shape) (shape_ends shape)

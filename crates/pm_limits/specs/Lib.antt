@@ -2,6 +2,7 @@
 pub mod Band
 pub mod Bounds
 pub mod Ends
+pub mod Part
 pub mod FaultWords
 pub mod Guard
 pub mod Laws

@@ -1,12 +1,15 @@
-ghost use Rattle.std.specs.Prelude.{◌≡◌, ◌<◌, None};
-ghost use Rattle.pm_host.specs.Image.{held};
+ghost use Rattle.std.specs.Prelude.{◌≡◌, ◌<◌, None, MatchOption};
+ghost use Rattle.std.specs.List.{list_any};
+ghost use Rattle.pm_host.specs.declared.possible.Possible.TheVariants.{Any};
+ghost use Rattle.pm_host.specs.Image.{held, listing};
 ghost use Rattle.pm_num.specs.AnyFormat.{shape_of};
 ghost use Rattle.pm_table.specs.declared.cell.Cell.TheVariants.{Out};
 ghost use Rattle.pm_table.specs.declared.reg.Reg.TheVariants.{Operation};
 ghost use Rattle.pm_host.specs.Summary.{possible_at};
-ghost use Rattle.pm_limits.specs.Band.{band_at, band_on as spec_band_on, band_with, known_of, operations as spec_operations};
+ghost use Rattle.pm_limits.specs.Band.{band_at, band_on as spec_band_on, band_with, is_untaken as spec_is_untaken, known_of, may_select_avsbus as spec_may_select_avsbus, operations as spec_operations, selects_avsbus as spec_selects_avsbus};
 
 use crate::ends::{OutputEnds, format_in};
+use crate::part_registers::PartRegisters;
 use crate::side::Side;
 use pm_host::{Host, State};
 use pm_num::{AnyFormat, Frac};
@@ -26,46 +29,68 @@ pub struct Band {
 }
 
 /// Between which voltages an output may be, by what a host knows: the least and the greatest that it commands
-/// with the words that its registers may hold; where a register may hold any, the ends of its format stand.
-/// `None` exactly where the format isn't known. The output is there.
+/// with the words that its registers may hold; where a register may hold any, the ends of its format stand, and where
+/// the part doesn't have VOUT_MIN or VOUT_MAX, neither cuts. OPERATION may be any where it may be a byte that its cell
+/// doesn't take, as A0h. `None` exactly where the format isn't known, or where such a byte hands the voltage to AVSBus:
+/// its bits 5 and 4 are 11, as of B0h. The output is there.
 ///
 /// What the device commands lies in it, unless it restarted since the good answers that the band rests on. At
 /// most 16 words a register are looked at, and no combination is tried.
-pub fn band_of(host: &Host, output: u8) -> Option<Band>
+pub fn band_of(host: &Host, registers: PartRegisters, output: u8) -> Option<Band>
     requires { output < host.now.setup.outputs }
-    ensures { result ≡ band_at host.now output }
+    ensures { result ≡ band_at registers host.now output }
 {
-    band_in(host.state(), output)
+    band_in(host.state(), registers, output)
 }
 
 /// The same by what is held beside the open job. The output's number is below 8.
-pub fn band_in(host: &State, output: u8) -> Option<Band>
+pub fn band_in(host: &State, registers: PartRegisters, output: u8) -> Option<Band>
     requires { output < 8 }
-    ensures { result ≡ band_at (held None host.now) output }
+    ensures { result ≡ band_at registers (held None host.now) output }
 {
+    if may_select_avsbus(host, output) {
+        return None;
+    }
     match format_in(host, output) {
-        Some(format) => { Some(band_by(&format, host, output, operations(host, output))) }
+        Some(format) => Some(band_by(
+            &format,
+            host,
+            registers,
+            output,
+            operations(host, output),
+        )),
         None => None,
     }
 }
 
 /// What the band would be with this byte in OPERATION.
-pub(crate) fn band_on(host: &State, output: u8, byte: u16) -> Option<Band>
+pub(crate) fn band_on(
+    host: &State,
+    registers: PartRegisters,
+    output: u8,
+    byte: u16,
+) -> Option<Band>
     requires { output < 8 }
-    ensures { result ≡ spec_band_on (held None host.now) output byte }
+    ensures { result ≡ spec_band_on registers (held None host.now) output byte }
 {
     match format_in(host, output) {
-        Some(format) => Some(band_by(&format, host, output, &[byte])),
+        Some(format) => Some(band_by(&format, host, registers, output, &[byte])),
         None => None,
     }
 }
 
 // The band with one of these bytes in OPERATION.
-fn band_by(format: &AnyFormat, host: &State, output: u8, bytes: &[u16]) -> Band
+fn band_by(
+    format: &AnyFormat,
+    host: &State,
+    registers: PartRegisters,
+    output: u8,
+    bytes: &[u16],
+) -> Band
     requires { output < 8 }
-    ensures { result ≡ band_with (shape_of format.now) (known_of (held None host.now) output) bytes.now }
+    ensures { result ≡ band_with (shape_of format.now) (known_of registers (shape_of format.now) (held None host.now) output) bytes.now }
 {
-    let ends = OutputEnds::of(format, host, output);
+    let ends = OutputEnds::of(format, host, registers, output);
     Band {
         least: ends.reached(Side::Lowest, format, bytes),
         greatest: ends.reached(Side::Highest, format, bytes),
@@ -77,12 +102,64 @@ fn operations(host: &State, output: u8) -> &[u16]
     requires { output < 8 }
     ensures { result.now ≡ spec_operations (possible_at (held None host.now) (Out output Operation)) }
 {
-    match host
-        .known
-        .possible(Cell::Out(output, Reg::Operation))
-        .listed()
-    {
-        Some(bytes) => bytes,
+    match listed(host, output) {
+        Some(bytes) => {
+            if has_untaken(bytes) {
+                &EACH_SELECTION
+            } else {
+                bytes
+            }
+        }
         None => &EACH_SELECTION,
     }
+}
+
+// Whether an output's OPERATION may be a byte that hands the voltage to AVSBus.
+fn may_select_avsbus(host: &State, output: u8) -> bool
+    requires { output < 8 }
+    ensures { result ≡ spec_may_select_avsbus (possible_at (held None host.now) (Out output Operation)) }
+{
+    match listed(host, output) {
+        Some(bytes) => has_avsbus(bytes),
+        None => false,
+    }
+}
+
+// The bytes that an output's OPERATION may be, where it may not be any.
+fn listed(host: &State, output: u8) -> Option<&[u16]>
+    requires { output < 8 }
+    ensures { MatchOption result (possible_at (held None host.now) (Out output Operation) ≡ Any)
+        (λ bytes. possible_at (held None host.now) (Out output Operation) ≡ listing bytes.now) }
+{
+    host.known
+        .possible(Cell::Out(output, Reg::Operation))
+        .listed()
+}
+
+// Whether OPERATION doesn't take one of these bytes.
+fn has_untaken(bytes: &[u16]) -> bool
+    ensures { result ≡ list_any spec_is_untaken bytes.now }
+{
+    bytes.iter().any(|byte| is_untaken(*byte))
+}
+
+// Whether one of these bytes hands the voltage to AVSBus.
+fn has_avsbus(bytes: &[u16]) -> bool
+    ensures { result ≡ list_any spec_selects_avsbus bytes.now }
+{
+    bytes.iter().any(|byte| selects_avsbus(*byte))
+}
+
+// Whether OPERATION doesn't take a byte.
+fn is_untaken(byte: u16) -> bool
+    ensures { result ≡ spec_is_untaken byte }
+{
+    !Cell::Out(0, Reg::Operation).accepts(byte)
+}
+
+// Whether OPERATION doesn't take a byte, and its bits 5 and 4 hand the voltage to AVSBus.
+fn selects_avsbus(byte: u16) -> bool
+    ensures { result ≡ spec_selects_avsbus byte }
+{
+    is_untaken(byte) && (byte / 16) % 4 == 0b11
 }

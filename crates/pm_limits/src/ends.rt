@@ -8,10 +8,11 @@ ghost use Rattle.pm_table.specs.Cell.{IsCell};
 ghost use Rattle.pm_host.specs.Summary.{format_at, possible_at};
 ghost use Rattle.pm_model.specs.Commanded.{limited as spec_limited, selected_register};
 ghost use Rattle.pm_limits.specs.Band.{known_of, word_end};
-ghost use Rattle.pm_limits.specs.Ends.{candidates as spec_candidates, farthest as spec_farthest, farthest_of as spec_farthest_of, is_farther as spec_is_farther};
+ghost use Rattle.pm_limits.specs.Ends.{candidates as spec_candidates, format_end as spec_format_end, shape_ends, farthest as spec_farthest, end_of, farthest_of as spec_farthest_of, is_farther as spec_is_farther};
 ghost use Rattle.pm_limits.specs.OutputEnds.{end_in, selected_value, word_on};
 ghost use Rattle.pm_limits.specs.declared.side.Side.{Side};
 
+use crate::part_registers::PartRegisters;
 use crate::side::Side;
 use pm_host::State;
 use pm_num::{AnyFormat, Frac, NumFormat};
@@ -56,22 +57,27 @@ impl WordEnds {
 
 impl OutputEnds {
     /// The ends of what an output's registers may hold. The output's number is below 8.
-    pub(crate) fn of(format: &AnyFormat, host: &State, output: u8) -> OutputEnds
+    pub(crate) fn of(
+        format: &AnyFormat,
+        host: &State,
+        registers: PartRegisters,
+        output: u8,
+    ) -> OutputEnds
         requires { output < 8 }
         ensures selected { (side : Side) (byte : ℕ) →
             word_on side (end_in result (selected_register byte))
-            ≡ word_end side (shape_of format.now) (known_of (held None host.now) output) (selected_register byte) }
+            ≡ word_end side (shape_of format.now) (known_of registers (shape_of format.now) (held None host.now) output) (selected_register byte) }
         ensures least { (side : Side) → word_on side result.min
-            ≡ word_end side (shape_of format.now) (known_of (held None host.now) output) VoutMin }
+            ≡ word_end side (shape_of format.now) (known_of registers (shape_of format.now) (held None host.now) output) VoutMin }
         ensures greatest { (side : Side) → word_on side result.max
-            ≡ word_end side (shape_of format.now) (known_of (held None host.now) output) VoutMax }
+            ≡ word_end side (shape_of format.now) (known_of registers (shape_of format.now) (held None host.now) output) VoutMax }
     {
         OutputEnds {
-            command: ends_at(format, host, output, Reg::VoutCommand),
-            high: ends_at(format, host, output, Reg::MarginHigh),
-            low: ends_at(format, host, output, Reg::MarginLow),
-            min: ends_at(format, host, output, Reg::VoutMin),
-            max: ends_at(format, host, output, Reg::VoutMax),
+            command: ends_at(format, host, registers, output, Reg::VoutCommand),
+            high: ends_at(format, host, registers, output, Reg::MarginHigh),
+            low: ends_at(format, host, registers, output, Reg::MarginLow),
+            min: ends_at(format, host, registers, output, Reg::VoutMin),
+            max: ends_at(format, host, registers, output, Reg::VoutMax),
         }
     }
 
@@ -143,15 +149,54 @@ pub(crate) fn format_in(host: &State, output: u8) -> Option<AnyFormat>
 }
 
 // The words of an output's voltage, of those that it may hold, whose values lie farthest out.
-fn ends_at(format: &AnyFormat, host: &State, output: u8, register: Reg) -> WordEnds
+fn ends_at(
+    format: &AnyFormat,
+    host: &State,
+    registers: PartRegisters,
+    output: u8,
+    register: Reg,
+) -> WordEnds
     requires { output < 8 }
     ensures { (side : Side) → word_on side result
-        ≡ word_end side (shape_of format.now) (known_of (held None host.now) output) register }
+        ≡ word_end side (shape_of format.now) (known_of registers (shape_of format.now) (held None host.now) output) register }
 {
-    let words = candidates(format, host, Cell::Out(output, register));
+    match registers.missing_word(format, register) {
+        Some(word) => WordEnds {
+            lowest: word,
+            highest: word,
+        },
+        None => ends_in(format, host, Cell::Out(output, register)),
+    }
+}
+
+// The same of a cell, by what the host knows.
+fn ends_in(format: &AnyFormat, host: &State, cell: Cell) -> WordEnds
+    requires { IsCell 8 cell }
+    ensures { (side : Side) → word_on side result
+        ≡ end_of side (shape_of format.now) (any_value format.now) (possible_at (held None host.now) cell) }
+{
+    let words = candidates(format, host, cell);
     WordEnds {
         lowest: farthest(Side::Lowest, format, words),
         highest: farthest(Side::Highest, format, words),
+    }
+}
+
+/// The word of a format's least value, or of its greatest.
+pub(crate) fn format_end(side: Side, format: &AnyFormat) -> u16
+    ensures { result ≡ spec_format_end side (shape_of format.now) }
+{
+    farthest(side, format, format_ends(format))
+}
+
+// The words of the ends of a format.
+fn format_ends(format: &AnyFormat) -> &'static [u16]
+    ensures { result.now ≡ shape_ends (shape_of format.now) }
+{
+    match format {
+        AnyFormat::Linear11 => &LINEAR11_ENDS,
+        AnyFormat::Ulinear16(_) => &ULINEAR16_ENDS,
+        AnyFormat::Direct(_) => &DIRECT_ENDS,
     }
 }
 
@@ -178,11 +223,7 @@ fn candidates<'a>(format: &AnyFormat, host: &'a State, cell: Cell) -> &'a [u16]
 {
     match host.known.possible(cell).listed() {
         Some(words) => words,
-        None => match format {
-            AnyFormat::Linear11 => &LINEAR11_ENDS,
-            AnyFormat::Ulinear16(_) => &ULINEAR16_ENDS,
-            AnyFormat::Direct(_) => &DIRECT_ENDS,
-        },
+        None => format_ends(format),
     }
 }
 

@@ -9,7 +9,8 @@ use thiserror::Error;
 pub enum LimitFault {
     /// L1: the least voltage of limits is above the most.
     LimitsInverted,
-    /// L2: the output has limits, and the format of its voltages wasn't learned since the host started.
+    /// L2: the output has limits, and the format of its voltages wasn't learned since the host started: of an order of
+    /// a voltage, and of one of OPERATION that leaves the output on.
     FormatUnknown,
     /// L3: the word's value lies below the output's limits.
     BelowLimit,
@@ -20,6 +21,8 @@ pub enum LimitFault {
     NotKnownWithin,
     /// L6: the new limits let through what the old ones don't.
     LimitsWidened,
+    /// L7: the part doesn't have the register, or the margin that the byte of OPERATION selects.
+    MissingRegister,
     /// H1 to H7 or N3 to N5: the host's own refusal, or N5 where a limit is beyond 10^15.
     Host(HostFault),
 }
@@ -39,11 +42,12 @@ impl LimitFault {
             LimitFault::AboveLimit => "L4 AboveLimit",
             LimitFault::NotKnownWithin => "L5 NotKnownWithin",
             LimitFault::LimitsWidened => "L6 LimitsWidened",
+            LimitFault::MissingRegister => "L7 MissingRegister",
             LimitFault::Host(fault) => fault.words(),
         }
     }
 
-    /// The number of the fault as `pm.h` has it, 21h to 26h; a refusal of the host has its own.
+    /// The number of the fault as `pm.h` has it, 21h to 27h; a refusal of the host has its own.
     pub fn number(self) -> u8
         ensures number { result ≡ limit_fault_number self }
         ensures some { result ≢ 0 }
@@ -55,6 +59,7 @@ impl LimitFault {
             LimitFault::AboveLimit => 0x24,
             LimitFault::NotKnownWithin => 0x25,
             LimitFault::LimitsWidened => 0x26,
+            LimitFault::MissingRegister => 0x27,
             LimitFault::Host(fault) => fault.number(),
         }
     }

@@ -1,18 +1,24 @@
 mod calls;
 
-ghost use Rattle.std.specs.Prelude.{◌≡◌, ◌<◌, Some, None, IfOk, OnOk, OnErr, option_map, replicate, slice_set};
+ghost use Rattle.std.specs.Prelude.{◌≡◌, ◌<◌, Some, None, IfOk, OnOk, OnErr, [], ◌∷◌, option_map, replicate, slice_set};
 ghost use Rattle.std.specs.Result.{result_err};
 ghost use Rattle.pm_table.specs.Address.{IsAddress};
+ghost use Rattle.pm_table.specs.Rules.{first};
 ghost use Rattle.pm_host.specs.Refusals.{IsSetup, setup_fault};
 ghost use Rattle.pm_host.specs.Summary.{start};
 ghost use Rattle.pm_host.specs.Transcript.{Setup};
 ghost use Rattle.pm_limits.specs.Band.{band_at, within_of};
-ghost use Rattle.pm_limits.specs.Guard.{LetsBegin, limits_at, limits_for as spec_limits_for, narrow_fault, narrowed};
+ghost use Rattle.pm_limits.specs.Guard.{LetsBegin, limits_at, limits_for as spec_limits_for, narrow_fault, narrowed, narrower_fault, open_fault};
+ghost use Rattle.pm_limits.specs.Part.{all_registers};
 
 use crate::band::{Band, band_of};
 use crate::fault::LimitFault;
-use crate::judgement::{judge, judge_word, ordered_output, output_of, refuse_cell, within_limits};
+use crate::judgement::{
+    judge, judge_word, narrower_limits, ordered_output, output_of, refuse_cell, refuse_ordered,
+    within_limits,
+};
 use crate::limits::Limits;
+use crate::part_registers::PartRegisters;
 use crate::within::Within;
 use pm_host::{Host, HostFault, Job};
 use pm_table::Cell;
@@ -29,12 +35,16 @@ const OUTPUTS: usize = 8;
 /// unless the band with that byte lies within the limits. Turning an output off is never refused by a limit,
 /// and an output without limits is as at a host.
 ///
+/// It is told once which registers the part has. It refuses a job on another, and an order of OPERATION that selects
+/// a missing margin.
+///
 /// Limits can be narrowed, never widened. Words that were ordered before limits were narrowed stay
 /// possible: [`Guard::within`] says what holds of the output now.
 #[derive(Debug, Drop)]
 pub struct Guard {
     host: Host,
     limits: [Option<Limits>; OUTPUTS],
+    registers: PartRegisters,
 }
 
 impl Model for Guard {
@@ -44,12 +54,12 @@ impl Model for Guard {
 
     ghost use Rattle.std.specs.Prelude.{◌≡◌, length};
 
-    ghost view = { λ g. record { host = g.host; limits = g.limits } };
+    ghost view = { λ g. record { host = g.host; limits = g.limits; registers = g.registers } };
 }
 
 impl Guard {
     /// A guard whose host is as [`Host::new`] makes it, with the limits of each output; those of outputs that
-    /// aren't there mean nothing. H1 and H2 as there.
+    /// aren't there mean nothing. The part has every register. H1 and H2 as there.
     pub fn new(
         addr: u8,
         outputs: u8,
@@ -58,33 +68,63 @@ impl Guard {
     ) -> Result<Guard, HostFault>
         requires { IsAddress addr }
         ensures made { let setup : Setup = record { addr = addr; outputs = outputs; passes = passes } in
-            IfOk result (λ guard. guard ≡ record { host = start setup; limits = limits }) }
+            IfOk result (λ guard. guard ≡ record { host = start setup; limits = limits; registers = all_registers }) }
+        ensures setup { IfOk result (λ guard. IsSetup guard.host.setup) }
+        ensures fault { result_err result ≡ setup_fault outputs passes }
+    {
+        Guard::of_part(addr, outputs, passes, limits, PartRegisters::all())
+    }
+
+    /// The same of a part whose outputs have these registers.
+    pub fn of_part(
+        addr: u8,
+        outputs: u8,
+        passes: u8,
+        limits: [Option<Limits>; 8],
+        registers: PartRegisters,
+    ) -> Result<Guard, HostFault>
+        requires { IsAddress addr }
+        ensures made { let setup : Setup = record { addr = addr; outputs = outputs; passes = passes } in
+            IfOk result (λ guard. guard ≡ record { host = start setup; limits = limits; registers = registers }) }
         ensures setup { IfOk result (λ guard. IsSetup guard.host.setup) }
         ensures fault { result_err result ≡ setup_fault outputs passes }
     {
         match Host::new(addr, outputs, passes) {
-            Ok(host) => Ok(Guard { host, limits }),
+            Ok(host) => Ok(Guard {
+                host,
+                limits,
+                registers,
+            }),
             Err(fault) => Err(fault),
         }
     }
 
-    /// A host as a guard without limits, which does what the host does. Limits that it is given later are as those
+    /// A host as a guard without limits, whose part has every register: it does what the host does. Limits that it is given later are as those
     /// that are narrowed: what was ordered before stays possible.
     pub fn over(host: Host) -> Guard
-        ensures { result ≡ record { host = host; limits = replicate 8 None } }
+        ensures { result ≡ record { host = host; limits = replicate 8 None; registers = all_registers } }
     {
         Guard {
             host,
             limits: [None; OUTPUTS],
+            registers: PartRegisters::all(),
         }
+    }
+
+    /// Which registers the part has.
+    pub fn registers(&self) -> PartRegisters
+        ensures { result ≡ self.now.registers }
+    {
+        self.registers
     }
 
     /// Begins a job, as [`Host::begin`], or refuses it. A refusal changes nothing.
     ///
-    /// An order of a word is refused, in this order, with H3, H4, then by the limits, L2 where the format isn't
-    /// known, L3 below them and L4 above them, then H5, L5 for OPERATION, and H6. An order in microvolts with
-    /// H3, H4, H5, H7, N5, N3, N4, then L3 and L4, by the value of the nearest word, and H6. Every other job
-    /// is refused as the host refuses it.
+    /// An order of a word is refused, in this order, with H3, H4, L7 where the part doesn't have the register or the
+    /// margin that a byte of OPERATION selects, then by the limits, L2 where the format isn't known, L3 below them and
+    /// L4 above them, then H5, L2 or L5 for OPERATION, and H6. An order in microvolts with H3, H4, L7, H5, H7, N5, N3,
+    /// N4, then L3 and L4, by the value of the nearest word, and H6. A check with H3, H4 and L7. Every other job is
+    /// refused as the host refuses it.
     pub fn begin(&mut self, job: Job) -> Result<(), LimitFault>
         ensures { LetsBegin self.old job result self.new }
     {
@@ -99,9 +139,16 @@ impl Guard {
     fn begin_order(&mut self, cell: Cell, word: u16) -> Result<(), LimitFault>
         ensures { LetsBegin self.old (Job.Order cell word) result self.new }
     {
+        refuse_ordered(
+            self.host.state(),
+            self.host.stage(),
+            self.registers,
+            cell,
+            word,
+        )?;
         if let Some(limits) = self.limits_at(output_of(cell)) {
             refuse_cell(self.host.state(), self.host.stage(), cell)?;
-            judge_word(self.host.state(), limits, cell, word)?;
+            judge_word(self.host.state(), self.registers, limits, cell, word)?;
         }
         match self.host.order(cell, word) {
             Ok(()) => Ok(()),
@@ -115,7 +162,13 @@ impl Guard {
         ensures { LetsBegin self.old job result self.new }
     {
         let limits = self.limits_for(job);
-        let asked = judge(self.host.state(), self.host.stage(), limits, job)?;
+        let asked = judge(
+            self.host.state(),
+            self.host.stage(),
+            self.registers,
+            limits,
+            job,
+        )?;
         match self.host.begin(asked) {
             Ok(()) => Ok(()),
             Err(fault) => Err(LimitFault::Host(fault)),
@@ -155,7 +208,8 @@ impl Guard {
 
     /// Gives an output narrower limits of these microvolts; an output without limits takes any. H4 where the output
     /// isn't there, N5 where a limit is beyond 10^15 in size, L1 where the least is above the most, L6 where the
-    /// output has limits and these let through what those don't; then nothing changes.
+    /// output has limits and these let through what those don't, H3 where an order of the output is open that these
+    /// refuse, since its frame may be sent again; then nothing changes.
     ///
     /// A word that was ordered before stays possible, and one that the device holds stays there: ask
     /// [`Guard::within`].
@@ -167,17 +221,32 @@ impl Guard {
         if output >= self.host.outputs() {
             return Err(LimitFault::Host(HostFault::UnknownOutput));
         }
-        let limits = Limits::narrower(self.limits(output), least, most)?;
-        put(&mut self.limits, output, limits);
-        Ok(())
+        match self.narrower(output, least, most) {
+            Ok(limits) => {
+                put(&mut self.limits, output, limits);
+                Ok(())
+            }
+            Err(fault) => Err(fault),
+        }
+    }
+
+    // The narrower limits of an output, or why it takes none.
+    fn narrower(&self, output: u8, least: i64, most: i64) -> Result<Limits, LimitFault>
+        ensures made { IfOk result (λ limits. limits ≡ record { least = least; most = most }) }
+        ensures fault { result_err result ≡ first (narrower_fault (limits_at self.now output) least most
+            ∷ open_fault self.now.registers (record { least = least; most = most }) self.now.host output ∷ []) }
+    {
+        let old = self.limits(output);
+        let (state, stage) = (self.host.state(), self.host.stage());
+        narrower_limits(state, stage, self.registers, old, output, least, most)
     }
 
     /// Between which voltages an output may be, as [`band_of`] says. The output is there.
     pub fn band(&self, output: u8) -> Option<Band>
         requires { output < self.now.host.setup.outputs }
-        ensures { result ≡ band_at self.now.host output }
+        ensures { result ≡ band_at self.now.registers self.now.host output }
     {
-        band_of(&self.host, output)
+        band_of(&self.host, self.registers, output)
     }
 
     /// Whether an output's voltage lies within its limits, by the words that its registers may hold: `Yes` where its
@@ -189,7 +258,7 @@ impl Guard {
     /// holds no host can read: a restore or a restart of the device may bring it out.
     pub fn within(&self, output: u8) -> Within
         requires { output < self.now.host.setup.outputs }
-        ensures { result ≡ within_of (limits_at self.now output) (band_at self.now.host output) }
+        ensures { result ≡ within_of (limits_at self.now output) (band_at self.now.registers self.now.host output) }
     {
         within_limits(self.limits(output), self.band(output))
     }

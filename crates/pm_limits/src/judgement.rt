@@ -1,53 +1,109 @@
 //! What limits refuse beside a host, by what is held beside its open job.
 
-ghost use Rattle.std.specs.Prelude.{◌≡◌, ◌<◌, None, Some, IfErr, IfOk, OnOk};
+ghost use Rattle.std.specs.Prelude.{◌≡◌, ◌<◌, None, Some, IfErr, IfOk, OnOk, [], ◌∷◌};
 ghost use Rattle.std.specs.Result.{result_err};
 ghost use Rattle.pm_table.specs.Cell.{IsCell, output_of as spec_output_of};
-ghost use Rattle.pm_table.specs.Rules.{rule};
+ghost use Rattle.pm_table.specs.Rules.{first, rule};
 ghost use Rattle.pm_host.specs.Image.{held};
 ghost use Rattle.pm_host.specs.Jobs.{HasNearestWord, begin_fault};
 ghost use Rattle.pm_host.specs.Refusals.{cell_fault, micro_word as spec_micro_word};
 ghost use Rattle.pm_host.specs.Sound.{IsSound};
 ghost use Rattle.pm_host.specs.Summary.{format_at};
+ghost use Rattle.pm_host.specs.Transcript as accepted;
 ghost use Rattle.pm_limits.specs.Band.{within_of};
-ghost use Rattle.pm_limits.specs.declared.fault.LimitFault.TheVariants.{NotKnownWithin};
+ghost use Rattle.pm_limits.specs.declared.fault.LimitFault.TheVariants.{Host};
+ghost use Rattle.pm_host.specs.declared.fault.HostFault.TheVariants.{Busy};
 ghost use Rattle.pm_limits.specs.Bounds.{outside_fault, place_fault};
-ghost use Rattle.pm_limits.specs.Guard.{IsJudged, judged, limited_fault, of_host, operation_limit, ordered_output as spec_ordered_output, voltage_limit, word_fault};
+ghost use Rattle.pm_limits.specs.Guard.{IsJudged, is_beyond as spec_is_beyond, judged, limited_fault, missing_cell, missing_ordered, narrower_fault, of_host, open_fault, operation_limit, ordered_output as spec_ordered_output, unsure_fault, voltage_limit, word_fault};
 
 use crate::band::{Band, band_on};
 use crate::ends::format_in;
 use crate::fault::LimitFault;
 use crate::limits::Limits;
+use crate::part_registers::PartRegisters;
 use crate::within::Within;
 use pm_host::{HostFault, Job, Stage, State, nearest_word};
 use pm_num::{AnyFormat, Linear11, NumFormat};
 use pm_table::{Cell, Operation, Reg};
 use std::cmp::Ordering;
 
-/// What a host is to be asked for in place of this job, whose output has these limits: the same, and of an order in
-/// microvolts the order of the nearest word. Or why it isn't asked at all, as [`crate::Guard::begin`] says. A guard
-/// asks its host so; who keeps limits otherwise asks as well, and then begins what is answered.
-// An order of a word for an output without limits isn't judged: the host refuses it for all that a guard does.
+/// What a host is to be asked for in place of this job, whose output has these limits, and whose part these registers:
+/// the same, and of an order in microvolts the order of the nearest word. Or why it isn't asked at all, as
+/// [`crate::Guard::begin`] says. A guard asks its host so; who keeps limits otherwise asks as well, and then begins what
+/// is answered.
+// Of an order of a word for an output without limits it is asked alone whether the register is there: the host refuses
+// it for all else that a guard does.
 #[inline(always)]
 #[tactic(auto, using(crate::proofs::Unlimited::unlimited))]
 pub fn judge(
     state: &State,
     stage: Option<Stage>,
+    registers: PartRegisters,
     limits: Option<Limits>,
     job: Job,
 ) -> Result<Job, LimitFault>
     requires { IsSound (held stage state.now) }
-    ensures { IsJudged limits (held stage state.now) job result }
+    ensures { IsJudged registers limits (held stage state.now) job result }
 {
     match job {
         Job::Order(cell, word) => {
+            refuse_ordered(state, stage, registers, cell, word)?;
             if let Some(limits) = limits {
-                judge_order(state, stage, limits, cell, word)?;
+                judge_order(state, stage, registers, limits, cell, word)?;
             }
             Ok(job)
         }
-        Job::OrderMicro(cell, x) => judge_micro(state, stage, limits, cell, x),
+        Job::OrderMicro(cell, x) => judge_micro(state, stage, registers, limits, cell, x),
+        Job::Check(cell) => {
+            refuse_missing(state, stage, registers, cell)?;
+            Ok(job)
+        }
         _ => Ok(job),
+    }
+}
+
+// Refuses an order of a register that the part doesn't have, or of OPERATION whose byte selects one.
+#[inline(always)]
+pub(crate) fn refuse_ordered(
+    state: &State,
+    stage: Option<Stage>,
+    registers: PartRegisters,
+    cell: Cell,
+    word: u16,
+) -> Result<(), LimitFault>
+    requires { IsSound (held stage state.now) }
+    ensures refused { IfErr result
+        (λ fault. first (of_host (cell_fault (held stage state.now) cell) ∷ missing_ordered registers cell word ∷ []) ≡ Some fault) }
+    ensures passed { OnOk result (missing_ordered registers cell word ≡ None) }
+{
+    match cell {
+        Cell::Out(output, Reg::Operation) => {
+            let selected = Operation::selected_register(word);
+            refuse_missing(state, stage, registers, Cell::Out(output, selected))
+        }
+        _ => refuse_missing(state, stage, registers, cell),
+    }
+}
+
+// Refuses a job on a register that the part doesn't have.
+#[inline(always)]
+fn refuse_missing(
+    state: &State,
+    stage: Option<Stage>,
+    registers: PartRegisters,
+    cell: Cell,
+) -> Result<(), LimitFault>
+    requires { IsSound (held stage state.now) }
+    ensures refused { IfErr result
+        (λ fault. first (of_host (cell_fault (held stage state.now) cell) ∷ missing_cell registers cell ∷ []) ≡ Some fault) }
+    ensures passed { OnOk result (missing_cell registers cell ≡ None) }
+{
+    match cell {
+        Cell::Out(_, register) if !registers.has(register) => {
+            refuse_cell(state, stage, cell)?;
+            Err(LimitFault::MissingRegister)
+        }
+        _ => Ok(()),
     }
 }
 
@@ -57,18 +113,20 @@ pub fn judge(
 fn judge_order(
     state: &State,
     stage: Option<Stage>,
+    registers: PartRegisters,
     limits: Limits,
     cell: Cell,
     word: u16,
 ) -> Result<(), LimitFault>
-    requires { IsSound (held stage state.now) }
+    requires sound { IsSound (held stage state.now) }
+    requires there { missing_ordered registers cell word ≡ None }
     ensures refused { let s = held stage state.now in
-        IfErr result (λ fault. limited_fault (Some limits) s (Job.Order cell word) ≡ Some fault) }
+        IfErr result (λ fault. limited_fault registers (Some limits) s (Job.Order cell word) ≡ Some fault) }
     ensures passed { let s = held stage state.now in
-        OnOk result (limited_fault (Some limits) s (Job.Order cell word) ≡ of_host (begin_fault s (Job.Order cell word))) }
+        OnOk result (limited_fault registers (Some limits) s (Job.Order cell word) ≡ of_host (begin_fault s (Job.Order cell word))) }
 {
     refuse_cell(state, stage, cell)?;
-    judge_word(state, &limits, cell, word)?;
+    judge_word(state, registers, &limits, cell, word)?;
     Ok(())
 }
 
@@ -77,17 +135,20 @@ fn judge_order(
 fn judge_micro(
     state: &State,
     stage: Option<Stage>,
+    registers: PartRegisters,
     limits: Option<Limits>,
     cell: Cell,
     x: i64,
 ) -> Result<Job, LimitFault>
     requires { IsSound (held stage state.now) }
-    ensures { IsJudged limits (held stage state.now) (Job.OrderMicro cell x) result }
+    ensures { IsJudged registers limits (held stage state.now) (Job.OrderMicro cell x) result }
 {
+    refuse_missing(state, stage, registers, cell)?;
     refuse_cell(state, stage, cell)?;
     let word = micro_word(state, stage, cell, x)?;
+    refuse_ordered(state, stage, registers, cell, word)?;
     if let Some(limits) = limits {
-        judge_word(state, &limits, cell, word)?;
+        judge_word(state, registers, &limits, cell, word)?;
     }
     Ok(Job::Order(cell, word))
 }
@@ -168,15 +229,18 @@ fn micro_word(state: &State, stage: Option<Stage>, cell: Cell, x: i64) -> Result
 #[inline(always)]
 pub(crate) fn judge_word(
     state: &State,
+    registers: PartRegisters,
     limits: &Limits,
     cell: Cell,
     word: u16,
 ) -> Result<(), LimitFault>
     requires { IsCell 8 cell }
-    ensures { result_err result ≡ judged (Some limits.now) (held None state.now) cell word }
+    ensures { result_err result ≡ judged registers (Some limits.now) (held None state.now) cell word }
 {
     match cell {
-        Cell::Out(output, Reg::Operation) => judge_operation(state, limits, output, word),
+        Cell::Out(output, Reg::Operation) => {
+            judge_operation(state, registers, limits, output, word)
+        }
         Cell::Out(output, _) => judge_voltage(state, limits, output, word),
         Cell::Protect => Ok(()),
     }
@@ -221,23 +285,125 @@ fn place_in<F: NumFormat>(format: &F, limits: &Limits, word: u16) -> Ordering
 
 // Refuses a byte that leaves the output on where that isn't known to be within its limits.
 #[inline(always)]
-fn judge_operation(state: &State, limits: &Limits, output: u8, byte: u16) -> Result<(), LimitFault>
+fn judge_operation(
+    state: &State,
+    registers: PartRegisters,
+    limits: &Limits,
+    output: u8,
+    byte: u16,
+) -> Result<(), LimitFault>
     requires { output < 8 }
-    ensures { result_err result ≡ operation_limit (Some limits.now) (held None state.now) output byte }
+    ensures { result_err result ≡ operation_limit registers (Some limits.now) (held None state.now) output byte }
 {
-    if may_command_beyond(state, limits, output, byte) {
-        return Err(LimitFault::NotKnownWithin);
+    if may_command_beyond(state, registers, limits, output, byte) {
+        return Err(unsure(state, output));
     }
     Ok(())
+}
+
+// Why a band isn't known to lie within limits.
+#[inline(never)]
+fn unsure(state: &State, output: u8) -> LimitFault
+    requires { output < 8 }
+    ensures { result ≡ unsure_fault (format_at (held None state.now) output) }
+{
+    match format_in(state, output) {
+        Some(_) => LimitFault::NotKnownWithin,
+        None => LimitFault::FormatUnknown,
+    }
 }
 
 // Whether a byte leaves the output on where that isn't known to be within its limits. It isn't inlined: it would weigh
 // on each order of a voltage.
 #[inline(never)]
-fn may_command_beyond(state: &State, limits: &Limits, output: u8, byte: u16) -> bool
+fn may_command_beyond(
+    state: &State,
+    registers: PartRegisters,
+    limits: &Limits,
+    output: u8,
+    byte: u16,
+) -> bool
     requires { output < 8 }
-    ensures { rule result NotKnownWithin ≡ operation_limit (Some limits.now) (held None state.now) output byte }
+    ensures { let s = held None state.now in
+        rule result (unsure_fault (format_at s output)) ≡ operation_limit registers (Some limits.now) s output byte }
 {
     Operation::has_on(byte)
-        && within_limits(Some(*limits), band_on(state, output, byte)) != Within::Yes
+        && within_limits(Some(*limits), band_on(state, registers, output, byte)) != Within::Yes
+}
+
+/// Limits of these microvolts in the place of those that an output has, or of none, as [`crate::Guard::narrow`] says: N5,
+/// L1, L6, then H3 where an order of the output is open that these refuse, since its frame may be sent again.
+pub fn narrower_limits(
+    state: &State,
+    stage: Option<Stage>,
+    registers: PartRegisters,
+    old: Option<Limits>,
+    output: u8,
+    least: i64,
+    most: i64,
+) -> Result<Limits, LimitFault>
+    requires { IsSound (held stage state.now) }
+    ensures made { IfOk result (λ limits. limits ≡ record { least = least; most = most }) }
+    ensures fault { result_err result ≡ first (narrower_fault old least most
+        ∷ open_fault registers (record { least = least; most = most }) (held stage state.now) output ∷ []) }
+{
+    let limits = Limits::narrower(old, least, most)?;
+    refuse_open(state, stage, registers, &limits, output)?;
+    Ok(limits)
+}
+
+// Refuses limits where an order of the output is open that they refuse.
+fn refuse_open(
+    state: &State,
+    stage: Option<Stage>,
+    registers: PartRegisters,
+    limits: &Limits,
+    output: u8,
+) -> Result<(), LimitFault>
+    requires { IsSound (held stage state.now) }
+    ensures { result_err result ≡ open_fault registers limits.now (held stage state.now) output }
+{
+    match stage {
+        Some(Stage::Writes { cell, word, .. }) => {
+            refuse_beyond(state, registers, limits, output, cell, word)
+        }
+        Some(Stage::Reads { cell, word, .. }) => {
+            refuse_beyond(state, registers, limits, output, cell, word)
+        }
+        _ => Ok(()),
+    }
+}
+
+// Refuses limits that refuse this open order.
+fn refuse_beyond(
+    state: &State,
+    registers: PartRegisters,
+    limits: &Limits,
+    output: u8,
+    cell: Cell,
+    word: u16,
+) -> Result<(), LimitFault>
+    requires { IsCell 8 cell }
+    ensures { let s = held None state.now in
+        result_err result ≡ rule (spec_is_beyond registers limits.now s output (accepted.Order cell word)) (Host Busy) }
+{
+    if is_beyond(state, registers, limits, output, cell, word) {
+        return Err(LimitFault::Host(HostFault::Busy));
+    }
+    Ok(())
+}
+
+// Whether an order is one for this output that limits refuse.
+fn is_beyond(
+    state: &State,
+    registers: PartRegisters,
+    limits: &Limits,
+    output: u8,
+    cell: Cell,
+    word: u16,
+) -> bool
+    requires { IsCell 8 cell }
+    ensures { result ≡ spec_is_beyond registers limits.now (held None state.now) output (accepted.Order cell word) }
+{
+    output_of(cell) == output && judge_word(state, registers, limits, cell, word).is_err()
 }

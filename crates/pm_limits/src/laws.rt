@@ -1,12 +1,13 @@
 //! The laws of limits and bands, over the definitions alone: each is the contract of a function that does
 //! nothing.
 
-ghost use Rattle.pm_limits.specs.Laws.{BandsAreEnds, GuardedOrdersAreWithin};
+ghost use Rattle.pm_limits.specs.Laws.{BandsAreEnds, GuardedOrdersAreWithin, MissingLimitsCutNothing, WholePartsMissNothing};
 
 /// What a guard lets through: as a word or in microvolts, a voltage of an output with limits within them
 /// (`voltage`), and a byte of OPERATION that leaves it on only where the band with that byte lies within (`on`).
-/// A byte that turns an output off (`off`), and any order for an output without limits (`free`), is refused for
-/// the host's reasons alone.
+/// A byte that turns an output off (`off`), and any order for an output without limits whose register the part has
+/// (`free`), is refused for the host's reasons alone. No order of a register that the part doesn't have is let through
+/// (`missing`), and no check of one (`unread`).
 pub fn guarded_orders_are_within()
     ensures { GuardedOrdersAreWithin }
 {}
@@ -16,4 +17,16 @@ pub fn guarded_orders_are_within()
 /// fraction (`reached`).
 pub fn bands_are_ends()
     ensures { BandsAreEnds }
+{}
+
+/// Where a part has every register, each may hold what the host knows of it (`known`), and no order (`ordered`) and no
+/// check (`checked`) is of a missing one.
+pub fn whole_parts_miss_nothing()
+    ensures { WholePartsMissNothing }
+{}
+
+/// The words at which a missing VOUT_MIN (`least`) and a missing VOUT_MAX (`greatest`) stand lie below and above every
+/// other, or at it: they cut nothing.
+pub fn missing_limits_cut_nothing()
+    ensures { MissingLimitsCutNothing }
 {}

@@ -9,6 +9,9 @@
 //! A guard knows what was ordered through it and what was read. What a device or its user store held before
 //! it can't know: check the registers first, and ask [`Guard::within`].
 //!
+//! A part may lack VOUT_MAX, VOUT_MIN or a margin: [`PartRegisters`] says so to [`Guard::of_part`]. A guard refuses a job
+//! on a register that isn't there, and a missing VOUT_MIN or VOUT_MAX stands at the end of the format, where it cuts nothing.
+//!
 //! A 3.3 V rail that takes 3.200 V to 3.465 V:
 //!
 //! ```
@@ -27,14 +30,16 @@ mod guard;
 mod judgement;
 mod laws;
 mod limits;
+mod part_registers;
 mod side;
 mod within;
 
 pub use band::{Band, band_in, band_of};
 pub use fault::LimitFault;
 pub use guard::Guard;
-pub use judgement::{judge, ordered_output, within_limits};
-pub use laws::{bands_are_ends, guarded_orders_are_within};
+pub use judgement::{judge, narrower_limits, ordered_output, within_limits};
+pub use laws::{bands_are_ends, guarded_orders_are_within, missing_limits_cut_nothing, whole_parts_miss_nothing};
 pub use limits::Limits;
+pub use part_registers::PartRegisters;
 pub use side::Side;
 pub use within::Within;

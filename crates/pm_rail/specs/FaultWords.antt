@@ -3,12 +3,15 @@ use Rattle.std.specs.Prelude.{ℕ, List, codes, Option, Some, None}
 use Rattle.pm_table.specs.Cell.{cell_code, register_code}
 use Rattle.pm_host.specs.declared.fault.HostFault.TheVariants as host
 use Rattle.pm_host.specs.FaultWords.{host_fault_number, host_fault_words}
+use Rattle.pm_limits.specs.declared.fault.LimitFault.TheVariants as limit
+use Rattle.pm_limits.specs.FaultWords.{limit_fault_number, limit_fault_words}
 use Rattle.pm_rail.specs.declared.fault.PlanFault.{PlanFault}
-use Rattle.pm_rail.specs.declared.fault.PlanFault.TheVariants.{Busy, FormatUnknown, BelowLimit, AboveLimit, NotKnown, BelowMin, AboveMax, Protected}
+use Rattle.pm_rail.specs.declared.fault.PlanFault.TheVariants.{Busy, MissingRegister, FormatUnknown, BelowLimit, AboveLimit, NotKnown, BelowMin, AboveMax, Protected}
 
--- an open job is told as by the host
+-- an open job is told as by the host, and a register that the part doesn't have as by a guard
 abbrev pub plan_fault_words : PlanFault → List ℕ
 plan_fault_words Busy = host_fault_words host.Busy
+plan_fault_words (MissingRegister register) = limit_fault_words limit.MissingRegister
 plan_fault_words FormatUnknown = codes "P1 FormatUnknown"
 plan_fault_words (BelowLimit register) = codes "P2 BelowLimit"
 plan_fault_words (AboveLimit register) = codes "P3 AboveLimit"
@@ -20,6 +23,7 @@ plan_fault_words (Protected register) = codes "P7 Protected"
 -- the number of a fault as `pm.h` has it, which no other fault has
 abbrev pub plan_fault_number : PlanFault → ℕ
 plan_fault_number Busy = host_fault_number host.Busy
+plan_fault_number (MissingRegister register) = limit_fault_number limit.MissingRegister
 plan_fault_number FormatUnknown = 0x61
 plan_fault_number (BelowLimit register) = 0x62
 plan_fault_number (AboveLimit register) = 0x63
@@ -31,6 +35,7 @@ plan_fault_number (Protected register) = 0x67
 -- the command code of the register that a fault is about, or of WRITE_PROTECT
 abbrev pub plan_fault_code : PlanFault → Option ℕ
 plan_fault_code Busy = None
+plan_fault_code (MissingRegister register) = Some (register_code register)
 plan_fault_code FormatUnknown = None
 plan_fault_code (BelowLimit register) = Some (register_code register)
 plan_fault_code (AboveLimit register) = Some (register_code register)

@@ -1,6 +1,6 @@
 -- What the laws of this crate say.
 use Rattle.std.specs.Prelude.{◌≡◌, ◌≢◌, ◌⊎◌, ◌<◌, ◌+◌, ℕ, Bool, true, false, Option, Some, None, IsSomeAnd, is_none, is_some, option_map, Ok}
-use Rattle.pm_num.specs.AnyFormat.{shape_value}
+use Rattle.pm_num.specs.AnyFormat.{Shape, shape_value}
 use Rattle.pm_num.specs.Ratio.{Ratio}
 use Rattle.pm_table.specs.declared.reg.Reg.{Reg}
 use Rattle.pm_table.specs.declared.reg.Reg.TheVariants.{Operation, VoutMax, VoutMin}
@@ -10,15 +10,17 @@ use Rattle.pm_table.specs.declared.cell.Cell.TheVariants.{Out, Protect}
 use Rattle.pm_host.specs.declared.job.Job.TheVariants.{Order}
 use Rattle.pm_host.specs.Possible.{is_possible}
 use Rattle.pm_host.specs.Summary.{Summary, format_at, possible_at}
+use Rattle.pm_limits.specs.declared.part_registers.PartRegisters.{PartRegisters}
 use Rattle.pm_limits.specs.Bounds.{Bounds}
 use Rattle.pm_limits.specs.Guard.{Guarded, guard_fault, limits_at}
+use Rattle.pm_limits.specs.Part.{all_registers, has_register}
 use Rattle.pm_rail.specs.declared.orders.PlanOrder.{PlanOrder}
 use Rattle.pm_rail.specs.declared.survey.Survey.{Survey}
-use Rattle.pm_rail.specs.Known.{known_at, known_of}
+use Rattle.pm_rail.specs.Known.{cells_of, known_at, known_of, known_word}
 use Rattle.pm_rail.specs.Orders.{is_needed, order_of, plan_of}
 use Rattle.pm_rail.specs.Plan.{after, commands_by, goal_of, is_cut_by, next_register, stepped}
 use Rattle.pm_rail.specs.Registers.{Held, Wants, wants_of}
-use Rattle.pm_rail.specs.Survey.{asking, has_read, is_surveyed, next_job, wanted_in}
+use Rattle.pm_rail.specs.Survey.{asking, has_read, is_stuck, is_surveyed, next_job, wanted_in}
 
 -- each word has a value with a positive denominator, as in each format
 abbrev pub HasDens : Scale → Type 0
@@ -64,24 +66,28 @@ pub record PlansCutNothing : Type 0 where
       would_be_cut value (goal_of held wants) byte ≡ false →
       would_be_cut value (stepped value wants held) byte ≡ false
 
--- the words of the registers that a plan needs are ones that they may hold
-abbrev pub MayHold : Summary → ℕ → Wants → Held → Type 0
-MayHold s output wants held = (register : Reg) → is_needed (known_of s output) wants register ≡ true →
-    is_possible (held register) (possible_at s (Out output register)) ≡ true
+-- The words of the registers that a plan needs are ones that they may hold. A part without VOUT_MIN or VOUT_MAX holds
+-- there the word at which it stands, which never cuts.
+abbrev pub MayHold : PartRegisters → Summary → ℕ → Wants → Held → Type 0
+MayHold part s output wants held = (shape : Shape) → format_at s output ≡ Some shape →
+    let cells = cells_of part shape s in
+    (register : Reg) → is_needed (known_of cells output) wants register ≡ true →
+    is_possible (held register) (cells (Out output register)) ≡ true
 
 -- What a plan answers by what is known is what it answers for the words that are held, whichever of the possible
 -- ones these are: the next order is theirs (`next`), the output isn't cut by the words at the end (`uncut`), and where
 -- no order is left each wanted word is held (`done`). By these the other laws speak of what a plan answers.
 pub record PlansAreOfWhatIsHeld : Type 0 where
-  pub next : (s : Summary) (limits : Option Bounds) (output : ℕ) (wants : Wants) (order : Option PlanOrder) (held : Held) →
-      wants Operation ≡ None → MayHold s output wants held → plan_of s limits output wants ≡ Ok order →
+  pub next : (part : PartRegisters) (s : Summary) (limits : Option Bounds) (output : ℕ) (wants : Wants) (order : Option PlanOrder) (held : Held) →
+      wants Operation ≡ None → MayHold part s output wants held → plan_of part s limits output wants ≡ Ok order →
       IsSomeAnd (format_at s output)
       (λ shape. option_map (order_of held wants) (next_register (shape_value shape) held wants) ≡ order)
-  pub uncut : (s : Summary) (limits : Option Bounds) (output : ℕ) (wants : Wants) (order : Option PlanOrder) (held : Held) →
-      wants Operation ≡ None → MayHold s output wants held → plan_of s limits output wants ≡ Ok order →
+  pub uncut : (part : PartRegisters) (s : Summary) (limits : Option Bounds) (output : ℕ) (wants : Wants) (order : Option PlanOrder) (held : Held) →
+      wants Operation ≡ None → MayHold part s output wants held → plan_of part s limits output wants ≡ Ok order →
       IsSomeAnd (format_at s output) (λ shape. is_cut_by (shape_value shape) (goal_of held wants) ≡ false)
-  pub done : (s : Summary) (limits : Option Bounds) (output : ℕ) (wants : Wants) (held : Held) (register : Reg) (word : ℕ) →
-      wants Operation ≡ None → MayHold s output wants held → plan_of s limits output wants ≡ Ok None →
+  pub done : (part : PartRegisters) (s : Summary) (limits : Option Bounds) (output : ℕ) (wants : Wants) (held : Held)
+      (register : Reg) (word : ℕ) →
+      wants Operation ≡ None → MayHold part s output wants held → plan_of part s limits output wants ≡ Ok None →
       wants register ≡ Some word → held register ≡ word
 
 -- An order that a plan gives by a guard's limits is one that the guard lets through and its host accepts: nothing
@@ -89,19 +95,26 @@ pub record PlansAreOfWhatIsHeld : Type 0 where
 abbrev pub PlansAreAccepted : Type 0
 PlansAreAccepted = (g : Guarded) (output : ℕ) (wants : Wants) (register : Reg) (word : ℕ) →
     output < g.host.setup.outputs → wants Operation ≡ None →
-    plan_of g.host (limits_at g output) output wants ≡ Ok (Some (record { register = register; word = word })) →
+    plan_of g.registers g.host (limits_at g output) output wants ≡ Ok (Some (record { register = register; word = word })) →
     guard_fault g (Order (Out output register) word) ≡ None
 
--- A survey that has nothing left to ask for has its answers: since it began the format was learned and is known
--- (`format`), each register that is needed was read and is known (`known`), and for a plan WRITE_PROTECT too
--- (`protection`). Where it has tries left it asks as long as this isn't so, and each job takes one (`asks`).
+-- A survey that has ended by its own rule has its answers: since it began the format was learned and is known
+-- (`format`), each register that is needed is known, and was read where the part has it (`known`), and for a plan
+-- WRITE_PROTECT was read and is known too (`protection`). Where it has tries left it asks as long as this isn't so, and
+-- each job takes one (`asks`), unless it is stuck at a register that is needed and that the part doesn't have; a part
+-- with every register never is the reason (`whole`).
 pub record SurveysEndKnown : Type 0 where
-  pub format : (v : Survey) (s : Summary) → is_surveyed v s ≡ true →
+  pub format : (part : PartRegisters) (v : Survey) (s : Summary) → is_surveyed part v s ≡ true →
       (v.learned ≡ true) × (is_none (format_at s v.output) ≡ false)
-  pub known : (v : Survey) (s : Summary) (register : Reg) → is_surveyed v s ≡ true →
-      is_needed (known_of s v.output) (wants_of (wanted_in v.plan)) register ≡ true →
-      (has_read v.read register ≡ true) × (is_none (known_at s (Out v.output register)) ≡ false)
-  pub protection : (v : Survey) (s : Summary) → is_surveyed v s ≡ true → is_some v.plan ≡ true →
-      (v.read.protect ≡ true) × (is_none (known_at s Protect) ≡ false)
-  pub asks : (v : Survey) (s : Summary) → is_surveyed v s ≡ false → 0 < v.left →
-      (is_some (next_job v s) ≡ true) × ((asking v (next_job v s)).left + 1 ≡ v.left)
+  pub known : (part : PartRegisters) (v : Survey) (s : Summary) (shape : Shape) (register : Reg) →
+      is_surveyed part v s ≡ true → format_at s v.output ≡ Some shape →
+      let cells = cells_of part shape s in
+      is_needed (known_of cells v.output) (wants_of (wanted_in v.plan)) register ≡ true →
+      (has_register part register ≡ true → has_read v.read register ≡ true)
+      × (is_none (known_at cells (Out v.output register)) ≡ false)
+  pub protection : (part : PartRegisters) (v : Survey) (s : Summary) → is_surveyed part v s ≡ true →
+      is_some v.plan ≡ true → (v.read.protect ≡ true) × (is_none (known_word Protect (possible_at s Protect)) ≡ false)
+  pub asks : (part : PartRegisters) (v : Survey) (s : Summary) → is_surveyed part v s ≡ false →
+      is_stuck part v s ≡ false → 0 < v.left →
+      (is_some (next_job part v s) ≡ true) × ((asking v (next_job part v s)).left + 1 ≡ v.left)
+  pub whole : (v : Survey) (s : Summary) → is_stuck all_registers v s ≡ false

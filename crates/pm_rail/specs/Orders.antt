@@ -15,11 +15,13 @@ use Rattle.pm_model.specs.Commanded.{Scale}
 use Rattle.pm_host.specs.Refusals.{is_busy}
 use Rattle.pm_host.specs.Summary.{Summary, format_at, next}
 use Rattle.pm_host.specs.Transcript.{Accepted, Order}
+use Rattle.pm_limits.specs.declared.part_registers.PartRegisters.{PartRegisters}
 use Rattle.pm_limits.specs.Guard.{Guarded}
+use Rattle.pm_limits.specs.Part.{has_register}
 use Rattle.pm_rail.specs.declared.fault.PlanFault.{PlanFault}
-use Rattle.pm_rail.specs.declared.fault.PlanFault.TheVariants.{Busy, FormatUnknown, BelowLimit, AboveLimit, NotKnown, BelowMin, AboveMax, Protected}
+use Rattle.pm_rail.specs.declared.fault.PlanFault.TheVariants.{Busy, MissingRegister, FormatUnknown, BelowLimit, AboveLimit, NotKnown, BelowMin, AboveMax, Protected}
 use Rattle.pm_rail.specs.declared.orders.PlanOrder.{PlanOrder}
-use Rattle.pm_rail.specs.Known.{known_at, known_of, known_or}
+use Rattle.pm_rail.specs.Known.{Cells, cells_of, known_at, known_of, known_or}
 use Rattle.pm_rail.specs.Plan.{goal_of, is_due, next_register}
 use Rattle.pm_rail.specs.Registers.{Held, Wants}
 
@@ -66,13 +68,13 @@ limits_fault (Some bounds) value wants =
     option_or (below_fault (micros bounds.least) value wants) (above_fault (micros bounds.most) value wants)
 
 -- P4 for a register that is needed and isn't known
-abbrev pub is_missing : Summary → ℕ → Held → Wants → Reg → Bool
-is_missing s output held wants register =
-    is_needed held wants register && is_none (known_at s (Out output register))
+abbrev pub is_unknown : Cells → ℕ → Held → Wants → Reg → Bool
+is_unknown cells output held wants register =
+    is_needed held wants register && is_none (known_at cells (Out output register))
 
-abbrev pub unknown_fault : Summary → ℕ → Held → Wants → Option PlanFault
-unknown_fault s output held wants =
-    first_of registers (λ register. NotKnown (Out output register)) (is_missing s output held wants)
+abbrev pub unknown_fault : Cells → ℕ → Held → Wants → Option PlanFault
+unknown_fault cells output held wants =
+    first_of registers (λ register. NotKnown (Out output register)) (is_unknown cells output held wants)
 
 -- P5 for a word that is meant and is below VOUT_MIN at the end, P6 for one above VOUT_MAX
 abbrev pub is_below_min : Scale → Held → Wants → Reg → Bool
@@ -90,9 +92,9 @@ words_fault value held wants = first (
     [])
 
 -- P4 for WRITE_PROTECT, where an order is due
-abbrev pub protect_fault : Summary → Scale → Held → Wants → Option PlanFault
-protect_fault s value held wants =
-    rule (is_some (next_register value held wants) && is_none (known_at s Protect)) (NotKnown Protect)
+abbrev pub protect_fault : Cells → Scale → Held → Wants → Option PlanFault
+protect_fault cells value held wants =
+    rule (is_some (next_register value held wants) && is_none (known_at cells Protect)) (NotKnown Protect)
 
 -- P7 for a register that is still to get its word, where WRITE_PROTECT doesn't allow it
 abbrev pub is_protected : ℕ → Held → Wants → Reg → Bool
@@ -113,32 +115,48 @@ abbrev pub order_of : Held → Wants → Reg → PlanOrder
 order_of held wants register = record { register = register; word = goal_of held wants register }
 
 -- P2 and P3 by what is wanted alone, then P4, P5, P6 and P7
-abbrev pub planned_fault : Summary → Option Bounds → ℕ → Held → Wants → Scale → Option PlanFault
-planned_fault s limits output held wants value = first (
+abbrev pub planned_fault : Cells → Option Bounds → ℕ → Held → Wants → Scale → Option PlanFault
+planned_fault cells limits output held wants value = first (
     limits_fault limits value wants ∷
-    unknown_fault s output held wants ∷
-    protect_fault s value held wants ∷
+    unknown_fault cells output held wants ∷
+    protect_fault cells value held wants ∷
     words_fault value held wants ∷
-    protection_fault (known_or s Protect) held wants ∷
+    protection_fault (known_or cells Protect) held wants ∷
     [])
 
 -- The next order by the words that are known to be held. None where each register has its wanted word.
-abbrev pub planned : Summary → Option Bounds → ℕ → Held → Wants → Scale → Result (Option PlanOrder) PlanFault
-planned s limits output held wants value = answer (planned_fault s limits output held wants value)
+abbrev pub planned : Cells → Option Bounds → ℕ → Held → Wants → Scale → Result (Option PlanOrder) PlanFault
+planned cells limits output held wants value = answer (planned_fault cells limits output held wants value)
     (option_map (order_of held wants) (next_register value held wants))
 
 -- P1 before these
-abbrev pub planned_in : Summary → Option Bounds → ℕ → Held → Wants → Option Shape → Result (Option PlanOrder) PlanFault
-planned_in s limits output held wants None = Err FormatUnknown
-planned_in s limits output held wants (Some shape) = planned s limits output held wants (shape_value shape)
+abbrev pub planned_in : PartRegisters → Summary → Option Bounds → ℕ → Wants → Option Shape → Result (Option PlanOrder) PlanFault
+planned_in part s limits output wants None = Err FormatUnknown
+planned_in part s limits output wants (Some shape) =
+    let cells = cells_of part shape s in
+    planned cells limits output (known_of cells output) wants (shape_value shape)
 
--- The next order of an output with these limits, by what a host knows; H3 before all where a job is open.
-abbrev pub plan_of : Summary → Option Bounds → ℕ → Wants → Result (Option PlanOrder) PlanFault
-plan_of s limits output wants = if is_busy s then Err Busy
-    else planned_in s limits output (known_of s output) wants (format_at s output)
+-- L7 for a word that is wanted of a register that the part doesn't have
+abbrev pub is_wanted_missing : PartRegisters → Wants → Reg → Bool
+is_wanted_missing part wants register = is_some (wants register) && not (has_register part register)
+
+abbrev pub missing_fault : PartRegisters → Wants → Option PlanFault
+missing_fault part wants = first_of voltages (λ register. MissingRegister register) (is_wanted_missing part wants)
+
+-- a fault comes before an answer
+abbrev pub unless : {X : Type 0} → Option PlanFault → Result X PlanFault → Result X PlanFault
+unless None result = result
+unless (Some fault) result = Err fault
+
+-- The next order of an output with these limits, by what a host knows of a part with these registers; H3 before all
+-- where a job is open, then L7.
+abbrev pub plan_of : PartRegisters → Summary → Option Bounds → ℕ → Wants → Result (Option PlanOrder) PlanFault
+plan_of part s limits output wants = if is_busy s then Err Busy
+    else unless (missing_fault part wants) (planned_in part s limits output wants (format_at s output))
 
 -- the order has begun, and the limits stay; where there is none, nothing has
 abbrev pub Begun : Guarded → ℕ → Option PlanOrder → Guarded → Type 0
 Begun old output None new = new ≡ old
 Begun old output (Some order) new =
-    (new.host ≡ next old.host (Accepted (Order (Out output order.register) order.word))) × (new.limits ≡ old.limits)
+    (new.host ≡ next old.host (Accepted (Order (Out output order.register) order.word)))
+    × ((new.limits ≡ old.limits) × (new.registers ≡ old.registers))

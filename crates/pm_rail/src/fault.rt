@@ -1,6 +1,7 @@
 ghost use Rattle.std.specs.Prelude.{◌≡◌, ◌≢◌};
 
 use pm_host::HostFault;
+use pm_limits::LimitFault;
 use pm_table::{Cell, Code, Reg};
 use thiserror::Error;
 
@@ -11,6 +12,8 @@ use thiserror::Error;
 pub enum PlanFault {
     /// H3: a job is open.
     Busy,
+    /// L7: a word is wanted of this register, which the part doesn't have.
+    MissingRegister(Reg),
     /// P1: the format of the output's voltages wasn't learned since the host started. Learn it.
     FormatUnknown,
     /// P2: the word that is wanted of this register is below the output's limits.
@@ -37,6 +40,7 @@ impl PlanFault {
     {
         match self {
             PlanFault::Busy => HostFault::Busy.words(),
+            PlanFault::MissingRegister(_) => LimitFault::MissingRegister.words(),
             PlanFault::FormatUnknown => "P1 FormatUnknown",
             PlanFault::BelowLimit(_) => "P2 BelowLimit",
             PlanFault::AboveLimit(_) => "P3 AboveLimit",
@@ -47,13 +51,14 @@ impl PlanFault {
         }
     }
 
-    /// The number of the fault as `pm.h` has it, 61h to 67h; H3 has its own.
+    /// The number of the fault as `pm.h` has it, 61h to 67h; H3 and L7 have their own.
     pub fn number(self) -> u8
         ensures number { result ≡ plan_fault_number self }
         ensures some { result ≢ 0 }
     {
         match self {
             PlanFault::Busy => HostFault::Busy.number(),
+            PlanFault::MissingRegister(_) => LimitFault::MissingRegister.number(),
             PlanFault::FormatUnknown => 0x61,
             PlanFault::BelowLimit(_) => 0x62,
             PlanFault::AboveLimit(_) => 0x63,
@@ -71,7 +76,8 @@ impl PlanFault {
         match self {
             PlanFault::Busy | PlanFault::FormatUnknown => None,
             PlanFault::NotKnown(cell) => Some(cell.code()),
-            PlanFault::BelowLimit(register)
+            PlanFault::MissingRegister(register)
+            | PlanFault::BelowLimit(register)
             | PlanFault::AboveLimit(register)
             | PlanFault::BelowMin(register)
             | PlanFault::AboveMax(register)

@@ -1,48 +1,84 @@
 //! The words that a host knows cells to hold.
 
 ghost use Rattle.std.specs.Prelude.{◌≡◌, ◌<◌, None};
-ghost use Rattle.pm_table.specs.Cell.{IsCell};
+ghost use Rattle.pm_table.specs.Cell.{IsCell, cell_accepts};
 ghost use Rattle.pm_host.specs.Image.{held};
-ghost use Rattle.pm_rail.specs.Known.{known_at as spec_known_at, known_of as spec_known_of, known_or as spec_known_or};
+ghost use Rattle.pm_num.specs.AnyFormat.{shape_of};
+ghost use Rattle.pm_rail.specs.Known.{cells_of, known_at as spec_known_at, known_of as spec_known_of, known_or as spec_known_or, known_word};
+ghost use Rattle.pm_table.specs.Rules.{rule};
+ghost use Rattle.pm_host.specs.Summary.{possible_at};
 ghost use Rattle.pm_rail.specs.Registers.{held_by};
 
 use crate::registers::Registers;
 use pm_host::State;
+use pm_limits::PartRegisters;
+use pm_num::AnyFormat;
 use pm_table::{Cell, Reg};
 
 /// The word that a cell is known to hold: the only one that it may hold, where it is one that the cell takes.
-pub(crate) fn known_at(host: &State, cell: Cell) -> Option<u16>
+pub(crate) fn known_at(
+    host: &State,
+    part: PartRegisters,
+    format: &AnyFormat,
+    cell: Cell,
+) -> Option<u16>
     requires { IsCell 8 cell }
-    ensures { result ≡ spec_known_at (held None host.now) cell }
+    ensures { result ≡ spec_known_at (cells_of part (shape_of format.now) (held None host.now)) cell }
+{
+    match cell {
+        Cell::Out(_, register) => match part.missing_word(format, register) {
+            Some(word) => accepted(cell, word),
+            None => known_in(host, cell),
+        },
+        Cell::Protect => known_in(host, cell),
+    }
+}
+
+// The same by what the host knows alone.
+fn known_in(host: &State, cell: Cell) -> Option<u16>
+    requires { IsCell 8 cell }
+    ensures { result ≡ known_word cell (possible_at (held None host.now) cell) }
 {
     match host.known.possible(cell).listed() {
-        Some([word]) if cell.accepts(*word) => Some(*word),
+        Some([word]) => accepted(cell, *word),
         _ => None,
     }
 }
 
-/// The word of a cell, or 0 where it isn't known.
-pub(crate) fn known_or(host: &State, cell: Cell) -> u16
-    requires { IsCell 8 cell }
-    ensures { result ≡ spec_known_or (held None host.now) cell }
+// A word where it is one that the cell takes.
+fn accepted(cell: Cell, word: u16) -> Option<u16>
+    ensures { result ≡ rule (cell_accepts cell word) word }
 {
-    match known_at(host, cell) {
+    if cell.accepts(word) { Some(word) } else { None }
+}
+
+/// The word of a cell, or 0 where it isn't known.
+pub(crate) fn known_or(host: &State, part: PartRegisters, format: &AnyFormat, cell: Cell) -> u16
+    requires { IsCell 8 cell }
+    ensures { result ≡ spec_known_or (cells_of part (shape_of format.now) (held None host.now)) cell }
+{
+    match known_at(host, part, format, cell) {
         Some(word) => word,
         None => 0,
     }
 }
 
 /// The words that an output's registers are known to hold; 0 for those that aren't known.
-pub(crate) fn known_of(host: &State, output: u8) -> Registers
+pub(crate) fn known_of(
+    host: &State,
+    part: PartRegisters,
+    format: &AnyFormat,
+    output: u8,
+) -> Registers
     requires { output < 8 }
-    ensures { held_by result ≡ spec_known_of (held None host.now) output }
+    ensures { held_by result ≡ spec_known_of (cells_of part (shape_of format.now) (held None host.now)) output }
 {
     Registers {
-        operation: known_or(host, Cell::Out(output, Reg::Operation)),
-        command: known_or(host, Cell::Out(output, Reg::VoutCommand)),
-        max: known_or(host, Cell::Out(output, Reg::VoutMax)),
-        margin_high: known_or(host, Cell::Out(output, Reg::MarginHigh)),
-        margin_low: known_or(host, Cell::Out(output, Reg::MarginLow)),
-        min: known_or(host, Cell::Out(output, Reg::VoutMin)),
+        operation: known_or(host, part, format, Cell::Out(output, Reg::Operation)),
+        command: known_or(host, part, format, Cell::Out(output, Reg::VoutCommand)),
+        max: known_or(host, part, format, Cell::Out(output, Reg::VoutMax)),
+        margin_high: known_or(host, part, format, Cell::Out(output, Reg::MarginHigh)),
+        margin_low: known_or(host, part, format, Cell::Out(output, Reg::MarginLow)),
+        min: known_or(host, part, format, Cell::Out(output, Reg::VoutMin)),
     }
 }

@@ -25,7 +25,7 @@
 //!     };
 //!     let fault = next_order(&guard, 0, &wanted).err(); // P1 FormatUnknown
 //!     let mut survey = Survey::new(0, Some(wanted), 16);
-//!     Ok((fault, survey.next(guard.host()))) // Job::Learn(0), and then a check of OPERATION
+//!     Ok((fault, survey.next(&guard))) // Job::Learn(0), and then a check of OPERATION
 //! }
 //! ```
 #![tactic(auto)]
@@ -33,6 +33,7 @@
 mod fault;
 mod known;
 mod laws;
+mod missing;
 mod orders;
 mod plan;
 mod power;

@@ -25,7 +25,8 @@ pub struct Rail {
     /// Whether it is on.
     pub power: Power,
     /// Between which voltages it commands, in volts, as [`Guard::band`] says; an output that is off has its band too,
-    /// of the register that OPERATION selects then. `None` exactly where its format isn't learned.
+    /// of the register that OPERATION selects then. `None` exactly where its format isn't learned, or where OPERATION
+    /// may be a byte that hands the voltage to AVSBus.
     pub band: Option<Band>,
     /// Whether the band lies within its limits, as [`Guard::within`] says.
     pub within: Within,
@@ -35,8 +36,8 @@ pub struct Rail {
 pub fn rail_of(guard: &Guard, output: u8) -> Rail
     requires { output < guard.now.host.setup.outputs }
     ensures power { result.power ≡ spec_power_of (possible_at guard.now.host (Cell.Out output Reg.Operation)) }
-    ensures band { result.band ≡ band_at guard.now.host output }
-    ensures within { result.within ≡ within_of (limits_at guard.now output) (band_at guard.now.host output) }
+    ensures band { result.band ≡ band_at guard.now.registers guard.now.host output }
+    ensures within { result.within ≡ within_of (limits_at guard.now output) (band_at guard.now.registers guard.now.host output) }
 {
     Rail {
         power: power_of(guard.host(), output),

@@ -1,12 +1,12 @@
 //! Why no order of a plan is given.
 
 ghost use Rattle.std.specs.Prelude.{◌≡◌, ◌<◌, ◌≤◌, ◌^◌, None, find, unsigned_abs};
-ghost use Rattle.pm_num.specs.AnyFormat.{any_value};
+ghost use Rattle.pm_num.specs.AnyFormat.{any_value, shape_of};
 ghost use Rattle.pm_num.specs.Ratio.{is_above as spec_is_above, micros};
 ghost use Rattle.pm_table.specs.Cell.{registers};
 ghost use Rattle.pm_host.specs.Image.{held as state_held};
-ghost use Rattle.pm_rail.specs.Known.{known_or as spec_known_or};
-ghost use Rattle.pm_rail.specs.Orders.{above_fault, below_fault, is_above_max as spec_is_above_max, is_below_min as spec_is_below_min, is_meant as spec_is_meant, is_missing as spec_is_missing, is_needed as spec_is_needed, is_protected as spec_is_protected, is_wanted_above as spec_is_wanted_above, is_wanted_below as spec_is_wanted_below, limits_fault, planned_fault, protection_fault, unknown_fault, words_fault};
+ghost use Rattle.pm_rail.specs.Known.{cells_of};
+ghost use Rattle.pm_rail.specs.Orders.{above_fault, below_fault, is_above_max as spec_is_above_max, is_below_min as spec_is_below_min, is_meant as spec_is_meant, is_unknown as spec_is_unknown, is_wanted_missing as spec_is_wanted_missing, missing_fault, is_needed as spec_is_needed, is_protected as spec_is_protected, is_wanted_above as spec_is_wanted_above, is_wanted_below as spec_is_wanted_below, limits_fault, planned_fault, protection_fault, unknown_fault, words_fault};
 ghost use Rattle.pm_rail.specs.Plan.{next_register};
 ghost use Rattle.pm_rail.specs.Registers.{held_by, wants_of};
 
@@ -16,7 +16,7 @@ use crate::plan::goal;
 use crate::registers::Registers;
 use crate::wanted::Wanted;
 use pm_host::State;
-use pm_limits::Limits;
+use pm_limits::{Limits, PartRegisters};
 use pm_num::{AnyFormat, Frac, NumFormat, micro};
 use pm_table::{Cell, Operation, Reg, is_allowed};
 use std::cmp::Ordering;
@@ -24,6 +24,7 @@ use std::cmp::Ordering;
 /// P2 to P7, by the words that are known to be held and the register that is next.
 pub(crate) fn refuse(
     host: &State,
+    part: PartRegisters,
     limits: &Option<Limits>,
     output: u8,
     held: &Registers,
@@ -33,21 +34,22 @@ pub(crate) fn refuse(
 ) -> Option<PlanFault>
     requires output { output < 8 }
     requires next { next ≡ next_register (any_value format.now) (held_by held.now) (wants_of wanted.now) }
-    ensures { result ≡ planned_fault (state_held None host.now) limits.now output (held_by held.now) (wants_of wanted.now) (any_value format.now) }
+    ensures { let cells = cells_of part (shape_of format.now) (state_held None host.now) in
+        result ≡ planned_fault cells limits.now output (held_by held.now) (wants_of wanted.now) (any_value format.now) }
 {
     if let Some(fault) = refuse_limits(limits, format, wanted) {
         return Some(fault);
     }
-    if let Some(fault) = refuse_unknown(host, output, held, wanted) {
+    if let Some(fault) = refuse_unknown(host, part, format, output, held, wanted) {
         return Some(fault);
     }
-    if next.is_some() && known_at(host, Cell::Protect).is_none() {
+    if next.is_some() && known_at(host, part, format, Cell::Protect).is_none() {
         return Some(PlanFault::NotKnown(Cell::Protect));
     }
     if let Some(fault) = refuse_words(format, held, wanted) {
         return Some(fault);
     }
-    refuse_protected(known_or(host, Cell::Protect), held, wanted)
+    refuse_protected(known_or(host, part, format, Cell::Protect), held, wanted)
 }
 
 // P2 and P3.
@@ -157,49 +159,95 @@ fn is_wanted_above(most: &Frac, format: &AnyFormat, wanted: &Wanted, register: R
 }
 
 // P4 for a register.
-fn refuse_unknown(host: &State, output: u8, held: &Registers, wanted: &Wanted) -> Option<PlanFault>
+fn refuse_unknown(
+    host: &State,
+    part: PartRegisters,
+    format: &AnyFormat,
+    output: u8,
+    held: &Registers,
+    wanted: &Wanted,
+) -> Option<PlanFault>
     requires { output < 8 }
-    ensures { result ≡ unknown_fault (state_held None host.now) output (held_by held.now) (wants_of wanted.now) }
+    ensures { result ≡ unknown_fault (cells_of part (shape_of format.now) (state_held None host.now)) output (held_by held.now) (wants_of wanted.now) }
 {
-    match first_missing(host, output, held, wanted) {
+    match first_unknown(host, part, format, output, held, wanted) {
         Some(register) => Some(PlanFault::NotKnown(Cell::Out(output, register))),
         None => None,
     }
 }
 
-/// The first register that is needed and isn't known.
-pub(crate) fn first_missing(
+// The first register that is needed and isn't known.
+fn first_unknown(
     host: &State,
+    part: PartRegisters,
+    format: &AnyFormat,
     output: u8,
     held: &Registers,
     wanted: &Wanted,
 ) -> Option<Reg>
     requires { output < 8 }
-    ensures { result ≡ find (spec_is_missing (state_held None host.now) output (held_by held.now) (wants_of wanted.now)) registers }
+    ensures { let cells = cells_of part (shape_of format.now) (state_held None host.now) in
+        result ≡ find (spec_is_unknown cells output (held_by held.now) (wants_of wanted.now)) registers }
 {
-    if is_missing(host, output, held, wanted, Reg::Operation) {
+    if is_unknown(host, part, format, output, held, wanted, Reg::Operation) {
         Some(Reg::Operation)
-    } else if is_missing(host, output, held, wanted, Reg::VoutCommand) {
+    } else if is_unknown(host, part, format, output, held, wanted, Reg::VoutCommand) {
         Some(Reg::VoutCommand)
-    } else if is_missing(host, output, held, wanted, Reg::VoutMax) {
+    } else if is_unknown(host, part, format, output, held, wanted, Reg::VoutMax) {
         Some(Reg::VoutMax)
-    } else if is_missing(host, output, held, wanted, Reg::MarginHigh) {
+    } else if is_unknown(host, part, format, output, held, wanted, Reg::MarginHigh) {
         Some(Reg::MarginHigh)
-    } else if is_missing(host, output, held, wanted, Reg::MarginLow) {
+    } else if is_unknown(host, part, format, output, held, wanted, Reg::MarginLow) {
         Some(Reg::MarginLow)
-    } else if is_missing(host, output, held, wanted, Reg::VoutMin) {
+    } else if is_unknown(host, part, format, output, held, wanted, Reg::VoutMin) {
         Some(Reg::VoutMin)
     } else {
         None
     }
 }
 
-// Whether a register is needed and isn't known.
-fn is_missing(host: &State, output: u8, held: &Registers, wanted: &Wanted, register: Reg) -> bool
+/// Whether a register is needed and isn't known.
+pub(crate) fn is_unknown(
+    host: &State,
+    part: PartRegisters,
+    format: &AnyFormat,
+    output: u8,
+    held: &Registers,
+    wanted: &Wanted,
+    register: Reg,
+) -> bool
     requires { output < 8 }
-    ensures { result ≡ spec_is_missing (state_held None host.now) output (held_by held.now) (wants_of wanted.now) register }
+    ensures { let cells = cells_of part (shape_of format.now) (state_held None host.now) in
+        result ≡ spec_is_unknown cells output (held_by held.now) (wants_of wanted.now) register }
 {
-    is_needed(held, wanted, register) && known_at(host, Cell::Out(output, register)).is_none()
+    is_needed(held, wanted, register)
+        && known_at(host, part, format, Cell::Out(output, register)).is_none()
+}
+
+/// L7: the first register of which a word is wanted and that the part doesn't have.
+pub(crate) fn refuse_missing(part: PartRegisters, wanted: &Wanted) -> Option<PlanFault>
+    ensures { result ≡ missing_fault part (wants_of wanted.now) }
+{
+    if is_wanted_missing(part, wanted, Reg::VoutCommand) {
+        Some(PlanFault::MissingRegister(Reg::VoutCommand))
+    } else if is_wanted_missing(part, wanted, Reg::VoutMax) {
+        Some(PlanFault::MissingRegister(Reg::VoutMax))
+    } else if is_wanted_missing(part, wanted, Reg::MarginHigh) {
+        Some(PlanFault::MissingRegister(Reg::MarginHigh))
+    } else if is_wanted_missing(part, wanted, Reg::MarginLow) {
+        Some(PlanFault::MissingRegister(Reg::MarginLow))
+    } else if is_wanted_missing(part, wanted, Reg::VoutMin) {
+        Some(PlanFault::MissingRegister(Reg::VoutMin))
+    } else {
+        None
+    }
+}
+
+// Whether a word is wanted of a register that the part doesn't have.
+fn is_wanted_missing(part: PartRegisters, wanted: &Wanted, register: Reg) -> bool
+    ensures { result ≡ spec_is_wanted_missing part (wants_of wanted.now) register }
+{
+    wanted.word(register).is_some() && !part.has(register)
 }
 
 /// Whether what a register holds is to be known.

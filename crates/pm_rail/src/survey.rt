@@ -1,15 +1,19 @@
-ghost use Rattle.std.specs.Prelude.{◌≡◌, ◌<◌, None, find, is_none, not};
+ghost use Rattle.std.specs.Prelude.{◌≡◌, ◌<◌, None, Some, find};
+ghost use Rattle.pm_num.specs.AnyFormat.{shape_of};
 ghost use Rattle.pm_table.specs.Cell.{registers};
 ghost use Rattle.pm_host.specs.Image.{held};
-ghost use Rattle.pm_host.specs.Summary.{format_at};
+ghost use Rattle.pm_rail.specs.Known.{cells_of};
 ghost use Rattle.pm_rail.specs.Registers.{held_by, wants_of};
-ghost use Rattle.pm_rail.specs.Survey.{and_read, asking, due_in as spec_due_in, due_job, ended, has_read, is_surveyed, is_unread as spec_is_unread, next_job, survey_of, wanted_in};
+ghost use Rattle.pm_rail.specs.Survey.{and_read, asking, due_by as spec_due_by, due_in as spec_due_in, due_job, ended, has_read, is_stuck as spec_is_stuck, is_stuck_by as spec_is_stuck_by, is_surveyed, is_unread as spec_is_unread, next_job, survey_of, wanted_in};
 
 use crate::known::{known_at, known_of};
-use crate::refusals::{first_missing, is_needed};
+use crate::missing::{first_unsure, is_stuck_in};
+use crate::refusals::is_needed;
 use crate::registers::Registers;
 use crate::wanted::Wanted;
-use pm_host::{Host, Job, JobEnd, State};
+use pm_host::{Job, JobEnd, State};
+use pm_limits::{Guard, PartRegisters};
+use pm_num::AnyFormat;
 use pm_table::{Cell, Reg};
 
 /// Which cells had a good answer since a survey began.
@@ -46,32 +50,43 @@ impl Reads {
         }
     }
 
-    // The first register that is needed and wasn't read.
-    fn first_unread(&self, held: &Registers, wanted: &Wanted) -> Option<Reg>
-        ensures { result ≡ find (spec_is_unread self.now (held_by held.now) (wants_of wanted.now)) registers }
+    // The first register that the part has, that is needed and that wasn't read.
+    fn first_unread(
+        &self,
+        part: PartRegisters,
+        held: &Registers,
+        wanted: &Wanted,
+    ) -> Option<Reg>
+        ensures { result ≡ find (spec_is_unread part self.now (held_by held.now) (wants_of wanted.now)) registers }
     {
-        if self.is_unread(held, wanted, Reg::Operation) {
+        if self.is_unread(part, held, wanted, Reg::Operation) {
             Some(Reg::Operation)
-        } else if self.is_unread(held, wanted, Reg::VoutCommand) {
+        } else if self.is_unread(part, held, wanted, Reg::VoutCommand) {
             Some(Reg::VoutCommand)
-        } else if self.is_unread(held, wanted, Reg::VoutMax) {
+        } else if self.is_unread(part, held, wanted, Reg::VoutMax) {
             Some(Reg::VoutMax)
-        } else if self.is_unread(held, wanted, Reg::MarginHigh) {
+        } else if self.is_unread(part, held, wanted, Reg::MarginHigh) {
             Some(Reg::MarginHigh)
-        } else if self.is_unread(held, wanted, Reg::MarginLow) {
+        } else if self.is_unread(part, held, wanted, Reg::MarginLow) {
             Some(Reg::MarginLow)
-        } else if self.is_unread(held, wanted, Reg::VoutMin) {
+        } else if self.is_unread(part, held, wanted, Reg::VoutMin) {
             Some(Reg::VoutMin)
         } else {
             None
         }
     }
 
-    // Whether a register is needed and wasn't read.
-    fn is_unread(&self, held: &Registers, wanted: &Wanted, register: Reg) -> bool
-        ensures { result ≡ spec_is_unread self.now (held_by held.now) (wants_of wanted.now) register }
+    // Whether the part has a register, and it is needed and wasn't read.
+    fn is_unread(
+        &self,
+        part: PartRegisters,
+        held: &Registers,
+        wanted: &Wanted,
+        register: Reg,
+    ) -> bool
+        ensures { result ≡ spec_is_unread part self.now (held_by held.now) (wants_of wanted.now) register }
     {
-        is_needed(held, wanted, register) && !self.has(register)
+        part.has(register) && is_needed(held, wanted, register) && !self.has(register)
     }
 
     // One more cell is read.
@@ -93,9 +108,9 @@ impl Reads {
 }
 
 /// A survey of an output: it asks for one job after another until all that decides what the output commands, or all
-/// that a plan needs, is known by good answers that came since it began. It is a plain value, and holds no host.
+/// that a plan needs, is known by good answers that came since it began. It is a plain value, and holds no guard.
 ///
-/// Ask `next` for a job while the host is idle, carry the job out, and tell `told` how it ended; where `next` answers
+/// Ask `next` for a job while the guard's host is idle, carry the job out, and tell `told` how it ended; where `next` answers
 /// `None`, the survey has ended. It has ended by its own rule where [`Survey::is_done`] says so, and otherwise because it has
 /// no tries left.
 #[derive(Clone, Copy, Debug, PartialEq, Eq)]
@@ -139,24 +154,30 @@ impl Survey {
         }
     }
 
-    /// What to ask the host for now: a learn of the output first, then a check of each needed cell that had no good
-    /// answer since the survey began, then one of each that isn't known, as after an answer that showed a restart.
-    /// `None` where nothing is left to ask for, or no try. The output is there.
-    pub fn next(&mut self, host: &Host) -> Option<Job>
-        requires { self.old.output < host.now.setup.outputs }
-        ensures job { result ≡ next_job self.old host.now }
+    /// What to ask the guard for now: a learn of the output first, then a check of each needed cell that had no good
+    /// answer since the survey began, then one of each that isn't known, as after an answer that showed a restart. A
+    /// register that the part doesn't have is never asked for. `None` where nothing is left to ask for, or no try. The
+    /// output is there.
+    pub fn next(&mut self, guard: &Guard) -> Option<Job>
+        requires { self.old.output < guard.now.host.setup.outputs }
+        ensures job { result ≡ next_job guard.now.registers self.old guard.now.host }
         ensures after { self.new ≡ asking self.old result }
     {
-        self.next_in(host.state())
+        let host = guard.host();
+        self.next_in(host.state(), guard.registers())
     }
 
-    /// The same by what is held beside the open job. The output's number is below 8.
-    pub fn next_in(&mut self, host: &State) -> Option<Job>
+    /// The same by what is held beside the open job, of a part with these registers. The output's number is below 8.
+    pub fn next_in(&mut self, host: &State, part: PartRegisters) -> Option<Job>
         requires { self.old.output < 8 }
-        ensures job { result ≡ next_job self.old (held None host.now) }
+        ensures job { result ≡ next_job part self.old (held None host.now) }
         ensures after { self.new ≡ asking self.old result }
     {
-        let job = if self.left == 0 { None } else { self.due(host) };
+        let job = if self.left == 0 {
+            None
+        } else {
+            self.due(host, part)
+        };
         self.asked = job;
         if job.is_some() {
             self.left -= 1;
@@ -178,58 +199,91 @@ impl Survey {
 
     /// Whether the survey has ended by its own rule: the format and each needed cell is known by a good answer that came
     /// since it began, by `surveys_end_known`. The output is there.
-    pub fn is_done(&self, host: &Host) -> bool
-        requires { self.now.output < host.now.setup.outputs }
-        ensures { result ≡ is_surveyed self.now host.now }
+    pub fn is_done(&self, guard: &Guard) -> bool
+        requires { self.now.output < guard.now.host.setup.outputs }
+        ensures { result ≡ is_surveyed guard.now.registers self.now guard.now.host }
     {
-        self.is_done_in(host.state())
+        let host = guard.host();
+        self.is_done_in(host.state(), guard.registers())
     }
 
-    /// The same by what is held beside the open job. The output's number is below 8.
-    pub fn is_done_in(&self, host: &State) -> bool
+    /// The same by what is held beside the open job, of a part with these registers. The output's number is below 8.
+    pub fn is_done_in(&self, host: &State, part: PartRegisters) -> bool
         requires { self.now.output < 8 }
-        ensures { result ≡ is_surveyed self.now (held None host.now) }
+        ensures { result ≡ is_surveyed part self.now (held None host.now) }
     {
-        self.due(host).is_none()
+        self.due(host, part).is_none() && !self.is_stuck(host, part)
     }
 
     // What is still to be asked for.
-    fn due(&self, host: &State) -> Option<Job>
+    fn due(&self, host: &State, part: PartRegisters) -> Option<Job>
         requires { self.now.output < 8 }
-        ensures { result ≡ due_job self.now (held None host.now) }
+        ensures { result ≡ due_job part self.now (held None host.now) }
     {
-        self.due_in(host, &known_of(host, self.output), &wanted_of(self.plan))
+        match host.format(self.output).format() {
+            Some(format) => self.due_by(host, part, &format),
+            None => Some(Job::Learn(self.output)),
+        }
+    }
+
+    // The same in the output's format.
+    fn due_by(&self, host: &State, part: PartRegisters, format: &AnyFormat) -> Option<Job>
+        requires { self.now.output < 8 }
+        ensures { result ≡ spec_due_by part self.now (held None host.now) (Some (shape_of format.now)) }
+    {
+        let known = known_of(host, part, format, self.output);
+        self.due_in(host, part, format, &known, &wanted_of(self.plan))
     }
 
     // The same by the words that are known and those that are wanted.
-    fn due_in(&self, host: &State, known: &Registers, wanted: &Wanted) -> Option<Job>
+    fn due_in(
+        &self,
+        host: &State,
+        part: PartRegisters,
+        format: &AnyFormat,
+        known: &Registers,
+        wanted: &Wanted,
+    ) -> Option<Job>
         requires { self.now.output < 8 }
-        ensures { result ≡ spec_due_in self.now (held None host.now) (held_by known.now) (wants_of wanted.now) }
+        ensures { let cells = cells_of part (shape_of format.now) (held None host.now) in
+            result ≡ spec_due_in part self.now cells (held_by known.now) (wants_of wanted.now) }
     {
-        if !self.learned || !self.knows_format(host) {
+        if !self.learned {
             return Some(Job::Learn(self.output));
         }
-        if let Some(register) = self.read.first_unread(known, wanted) {
+        if let Some(register) = self.read.first_unread(part, known, wanted) {
             return Some(Job::Check(Cell::Out(self.output, register)));
         }
         if self.plan.is_some() && !self.read.protect {
             return Some(Job::Check(Cell::Protect));
         }
-        if let Some(register) = first_missing(host, self.output, known, wanted) {
+        if let Some(register) = first_unsure(host, part, format, self.output, known, wanted) {
             return Some(Job::Check(Cell::Out(self.output, register)));
         }
-        if self.plan.is_some() && known_at(host, Cell::Protect).is_none() {
+        if self.plan.is_some() && known_at(host, part, format, Cell::Protect).is_none() {
             return Some(Job::Check(Cell::Protect));
         }
         None
     }
 
-    // Whether the output's format is known.
-    fn knows_format(&self, host: &State) -> bool
+    // Whether a register is needed that isn't known and that the part doesn't have.
+    fn is_stuck(&self, host: &State, part: PartRegisters) -> bool
         requires { self.now.output < 8 }
-        ensures { result ≡ not (is_none (format_at (held None host.now) self.now.output)) }
+        ensures { result ≡ spec_is_stuck part self.now (held None host.now) }
     {
-        host.format(self.output).format().is_some()
+        match host.format(self.output).format() {
+            Some(format) => self.is_stuck_by(host, part, &format),
+            None => false,
+        }
+    }
+
+    // The same in the output's format.
+    fn is_stuck_by(&self, host: &State, part: PartRegisters, format: &AnyFormat) -> bool
+        requires { self.now.output < 8 }
+        ensures { result ≡ spec_is_stuck_by part self.now (held None host.now) (Some (shape_of format.now)) }
+    {
+        let known = known_of(host, part, format, self.output);
+        is_stuck_in(host, part, format, self.output, &known, &wanted_of(self.plan))
     }
 }
 

@@ -5,13 +5,14 @@ use pm_host::HostFault;
 use pm_limits::LimitFault;
 use std::alloc::AllocError;
 
-static LIMITS: [(LimitFault, &str); 7] = [
+static LIMITS: [(LimitFault, &str); 8] = [
     (LimitFault::LimitsInverted, "L1 LimitsInverted"),
     (LimitFault::FormatUnknown, "L2 FormatUnknown"),
     (LimitFault::BelowLimit, "L3 BelowLimit"),
     (LimitFault::AboveLimit, "L4 AboveLimit"),
     (LimitFault::NotKnownWithin, "L5 NotKnownWithin"),
     (LimitFault::LimitsWidened, "L6 LimitsWidened"),
+    (LimitFault::MissingRegister, "L7 MissingRegister"),
     (LimitFault::Host(HostFault::Busy), "H3 Busy"),
 ];
 

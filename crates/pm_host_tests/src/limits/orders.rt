@@ -151,7 +151,7 @@ static UNLEARNED: [(Call, Option<LimitFault>); 12] = [
     (Micro(Reg::VoutCommand, i64::MAX), NO_FORMAT),
     (Micro(Reg::Operation, 0), BAD_WORD),
     (MicroAt(Cell::Protect, 0), BAD_WORD),
-    (Word(Reg::Operation, 0x80), NOT_KNOWN),
+    (Word(Reg::Operation, 0x80), LIMITED),
     (Word(Reg::Operation, 0xB0), BAD_WORD),
     (Word(Reg::Operation, 0x180), BAD_WORD),
     (Word(Reg::Operation, 0x00), None),

@@ -92,7 +92,7 @@ fn rail_at(rt: &impl Abort, guard: &Guard, output: u8) -> Rail {
 // The next job of a survey of an output that there is.
 fn asks(rt: &impl Abort, survey: &mut Survey, guard: &Guard) -> Option<Job> {
     is_true(rt, survey.output < guard.host().outputs(), &survey.output);
-    survey.next(guard.host())
+    survey.next(guard)
 }
 
 // The orders of a plan in their order, from the words that are held to those that are wanted.
@@ -455,7 +455,7 @@ static POWERS: [(u16, Power, Within); 6] = [
     (0x94, Power::On, Within::No),
     (0x00, Power::Off, Within::Yes),
     (0x40, Power::Off, Within::Yes),
-    (0xA0, Power::NotKnown, Within::Yes),
+    (0xA0, Power::NotKnown, Within::NotKnown),
 ];
 
 #[test]
@@ -500,7 +500,7 @@ fn surveys(rt: &impl Abort, guard: &mut Guard, survey: &mut Survey, words: &[u16
 // Whether a survey has ended by its own rule.
 fn is_done(rt: &impl Abort, survey: &Survey, guard: &Guard) -> bool {
     is_true(rt, survey.output < guard.host().outputs(), &survey.output);
-    survey.is_done(guard.host())
+    survey.is_done(guard)
 }
 
 // Carries out what a survey asks for; whether it ended by its own rule, and how many jobs it took.
@@ -638,7 +638,7 @@ fn asked() -> Result<(Option<PlanFault>, Option<Job>), HostFault> {
     };
     let fault = next_order(&guard, 0, &wanted).err(); // P1 FormatUnknown
     let mut survey = Survey::new(0, Some(wanted), 16);
-    Ok((fault, survey.next(guard.host()))) // Job::Learn(0), and then a check of OPERATION
+    Ok((fault, survey.next(&guard))) // Job::Learn(0), and then a check of OPERATION
 }
 
 #[test]

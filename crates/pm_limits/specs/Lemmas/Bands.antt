@@ -1,10 +1,10 @@
 -- The ends of a band.
-use Rattle.std.specs.Prelude.{◌≡◌, ℕ, ◌^◌, ◌<◌, ◌==◌, pos, negsuc, Bool, true, false, ◌||◌, List, [], ◌∷◌, refl}
+use Rattle.std.specs.Prelude.{◌≡◌, ℕ, ◌^◌, ◌<◌, ◌==◌, pos, negsuc, Bool, true, false, cond, ◌||◌, List, [], ◌∷◌, refl}
 use Rattle.std.specs.List.{list_any}
 use Rattle.std.proofs.Common.{◌∙◌, ap, arith, subst}
 use Rattle.std.proofs.lemmas.Bool.Decides.{nat_tests}
 use Rattle.pm_num.specs.AnyFormat.{Shape, InLinear11, InUlinear16, InDirect, shape_value}
-use Rattle.pm_num.specs.Ratio.{Ratio, IsBetween}
+use Rattle.pm_num.specs.Ratio.{Ratio, IsBetween, is_above}
 use Rattle.pm_num.specs.Lemmas.Spelling.{linear11-within}
 use Rattle.pm_num.specs.Lemmas.Slope.{direct-within}
 use Rattle.pm_num.specs.Lemmas.Unsigned.{ulinear16-within}
@@ -19,10 +19,11 @@ use Rattle.pm_host.specs.declared.possible.Possible.TheVariants.{Any, Words as L
 use Rattle.pm_host.specs.Possible.{is_listed, is_possible}
 use Rattle.pm_limits.specs.declared.side.Side.{Side}
 use Rattle.pm_limits.specs.declared.side.Side.TheVariants.{Lowest, Highest}
-use Rattle.pm_limits.specs.Band.{HasDens, Known, decides, end_choice, end_with, is_selected, operation_end, operations, reach, word_end}
-use Rattle.pm_limits.specs.Ends.{Reaches, end_of, farthest_of, shape_ends}
+use Rattle.pm_limits.specs.Band.{HasDens, Known, decides, each_selection, end_choice, end_with, is_selected, is_untaken, operation_end, operations, reach, word_end}
+use Rattle.pm_limits.specs.Ends.{Reaches, end_of, farthest_of, format_end, shape_ends}
 use Rattle.pm_limits.specs.Lemmas.Cuts.{reaches-cut}
 use Rattle.pm_limits.specs.Lemmas.Farthest.{HaveDens, farthest_of-listed, reaches-through}
+use Rattle.pm_limits.specs.Lemmas.Order.{not-above}
 use Rattle.pm_limits.specs.Lemmas.Selected.{each-selected}
 
 -- where the value of every word has a positive denominator, the value of each listed word has
@@ -56,6 +57,17 @@ shape-held side (InDirect (pos n) b r) word dens short =
 shape-held side (InDirect (negsuc n) b r) word dens short =
     between side (shape_value (InDirect (negsuc n) b r)) (shape_ends (InDirect (negsuc n) b r)) 0x7FFF 0x8000
     (shape_value (InDirect (negsuc n) b r) word) dens refl refl (direct-within (negsuc n) b r word short)
+
+-- so a missing VOUT_MIN cuts none, and neither does a missing VOUT_MAX
+pub least-cuts-nothing : (shape : Shape) (word : ℕ) → HasDens shape → word < 2 ^ 16 →
+    is_above (shape_value shape (format_end Lowest shape)) (shape_value shape word) ≡ false
+least-cuts-nothing shape word dens short = not-above (shape_value shape (format_end Lowest shape)) (shape_value shape word)
+    (shape-held Lowest shape word dens short)
+
+pub greatest-cuts-nothing : (shape : Shape) (word : ℕ) → HasDens shape → word < 2 ^ 16 →
+    is_above (shape_value shape word) (shape_value shape (format_end Highest shape)) ≡ false
+greatest-cuts-nothing shape word dens short = not-above (shape_value shape word) (shape_value shape (format_end Highest shape))
+    (shape-held Highest shape word dens short)
 
 -- nor than the end of what its register may hold
 end-held : (side : Side) (shape : Shape) (possible : Possible) (word : ℕ) → HasDens shape → word < 2 ^ 16 →
@@ -100,22 +112,34 @@ byte-selects : (possible : Possible) (byte : ℕ) → is_possible byte possible 
     is_selected (operations possible) (selected_register byte) ≡ true
 byte-selects Any byte is =
     each-selected (λ r. is_selected (operations Any) r ≡ true) refl refl refl byte
-byte-selects (Listed words) byte is = listed-selected words.items byte is
+byte-selects (Listed words) byte is = go (list_any is_untaken words.items) where
+  go : (untaken : Bool) → is_selected (cond untaken each_selection words.items) (selected_register byte) ≡ true
+  go true = each-selected (λ r. is_selected each_selection r ≡ true) refl refl refl byte
+  go false = listed-selected words.items byte is
+
+-- any byte reaches no farther than the farthest of those that stand for all
+any-held : (side : Side) (shape : Shape) (known : Known) (byte : ℕ) → HasDens shape →
+    Reaches side (reach side shape known (operation_end side shape known each_selection)) (reach side shape known byte)
+any-held side shape known byte dens =
+    let far = reach side shape known (operation_end side shape known each_selection) in
+    let all = all-dens (reach side shape known) (λ b. dens (word_end side shape known (selected_register b))) each_selection in
+    each-selected (λ r. Reaches side far (shape_value shape (word_end side shape known r)))
+    (farthest_of-listed side (reach side shape known) each_selection 0x80 all refl)
+    (farthest_of-listed side (reach side shape known) each_selection 0xA8 all refl)
+    (farthest_of-listed side (reach side shape known) each_selection 0x94 all refl) byte
 
 -- a byte that OPERATION may be reaches no farther than the farthest
 byte-held : (side : Side) (shape : Shape) (known : Known) (possible : Possible) (byte : ℕ) → HasDens shape →
     is_possible byte possible ≡ true →
     Reaches side (reach side shape known (operation_end side shape known (operations possible))) (reach side shape known byte)
-byte-held side shape known Any byte dens is =
-    let far = reach side shape known (operation_end side shape known (operations Any)) in
-    let all = all-dens (reach side shape known) (λ b. dens (word_end side shape known (selected_register b))) (operations Any) in
-    each-selected (λ r. Reaches side far (shape_value shape (word_end side shape known r)))
-    (farthest_of-listed side (reach side shape known) (operations Any) 0x80 all refl)
-    (farthest_of-listed side (reach side shape known) (operations Any) 0xA8 all refl)
-    (farthest_of-listed side (reach side shape known) (operations Any) 0x94 all refl) byte
-byte-held side shape known (Listed words) byte dens is =
-    farthest_of-listed side (reach side shape known) words.items byte
-    (all-dens (reach side shape known) (λ b. dens (word_end side shape known (selected_register b))) words.items) is
+byte-held side shape known Any byte dens is = any-held side shape known byte dens
+byte-held side shape known (Listed words) byte dens is = go (list_any is_untaken words.items) where
+  go : (untaken : Bool) →
+      Reaches side (reach side shape known (operation_end side shape known (cond untaken each_selection words.items)))
+      (reach side shape known byte)
+  go true = any-held side shape known byte dens
+  go false = farthest_of-listed side (reach side shape known) words.items byte
+      (all-dens (reach side shape known) (λ b. dens (word_end side shape known (selected_register b))) words.items) is
 
 -- So no value that the output commands lies beyond an end.
 pub band-held : (side : Side) (shape : Shape) (known : Known) (words : Words) (output : ℕ) → HasDens shape →

@@ -1,15 +1,18 @@
 -- What a guard lets through.
 use Rattle.std.specs.Prelude.{◌≡◌, ℕ, Bool, true, false, cond, not, ◌&&◌, Option, Some, None, IsSomeAnd, refl, option_map, option_and_then}
-use Rattle.std.specs.Option.{option_or}
+use Rattle.std.specs.Option.{option_map_or, option_or}
 use Rattle.std.proofs.Common.{◌∙◌, ap, sym, subst}
 use Rattle.pm_num.specs.AnyFormat.{Shape, shape_value}
 use Rattle.pm_num.specs.Ratio.{Ratio, is_above, micros}
 use Rattle.pm_table.specs.declared.cell.Cell.{Cell}
 use Rattle.pm_table.specs.declared.cell.Cell.TheVariants.{Out}
 use Rattle.pm_table.specs.declared.reg.Reg.{Reg}
-use Rattle.pm_table.specs.declared.reg.Reg.TheVariants.{Operation}
+use Rattle.pm_table.specs.declared.operation.Operation.{Operation as Selection}
+use Rattle.pm_table.specs.declared.operation.Operation.TheVariants as selection
+use Rattle.pm_table.specs.declared.reg.Reg.TheVariants.{Operation, VoutCommand}
 use Rattle.pm_table.specs.Cell.{is_voltage, output_of}
-use Rattle.pm_table.specs.Operation.{has_on}
+use Rattle.pm_table.specs.Operation.{has_on, is_on, operation_of, register_for, selected_register}
+use Rattle.pm_table.specs.Rules.{rule}
 use Rattle.pm_host.specs.declared.fault.HostFault.{HostFault}
 use Rattle.pm_host.specs.declared.job.Job.{Job}
 use Rattle.pm_host.specs.declared.job.Job.TheVariants as job
@@ -18,13 +21,14 @@ use Rattle.pm_host.specs.Refusals.{cell_fault, micro_word, order_fault}
 use Rattle.pm_host.specs.Summary.{format_at}
 use Rattle.pm_host.specs.Transcript.{Order}
 use Rattle.pm_limits.specs.declared.fault.LimitFault.{LimitFault}
-use Rattle.pm_limits.specs.declared.fault.LimitFault.TheVariants.{BelowLimit, AboveLimit, NotKnownWithin}
+use Rattle.pm_limits.specs.declared.fault.LimitFault.TheVariants.{BelowLimit, AboveLimit, MissingRegister}
 use Rattle.pm_limits.specs.declared.within.Within.{Within}
 use Rattle.pm_limits.specs.declared.within.Within.TheVariants.{Yes, No, NotKnown}
 use Rattle.pm_limits.specs.Band.{band_on, is_yes, within_of}
 use Rattle.pm_limits.specs.Bounds.{Bounds, IsWithin, outside_fault}
-use Rattle.pm_limits.specs.Guard.{Guarded, guard_fault, guarded_order, judged, limits_at, of_host, operation_limit, voltage_limit}
+use Rattle.pm_limits.specs.Guard.{Guarded, guard_fault, guarded_order, judged, limits_at, missing_cell, missing_ordered, of_host, operation_limit, unsure_fault, voltage_limit}
 use Rattle.pm_limits.specs.Guard.{word_fault}
+use Rattle.pm_limits.specs.Part.{has_register}
 use Rattle.pm_limits.specs.Lemmas.Order.{at-most}
 
 -- the second of two faults is none where neither comes
@@ -58,19 +62,20 @@ let-through (Some own) (Some shape) word bounds is free =
 
 -- what is judged of a voltage
 judged-voltage : (g : Guarded) (output : ℕ) (register : Reg) (word : ℕ) → is_voltage register ≡ true →
-    judged (limits_at g output) g.host (Out output register) word ≡ voltage_limit (limits_at g output) (format_at g.host output) word
+    judged g.registers (limits_at g output) g.host (Out output register) word ≡ voltage_limit (limits_at g output) (format_at g.host output) word
 judged-voltage g output Operation word h = cc
 judged-voltage g output register word h = refl
 
 -- an order that is let through
 order-within : (g : Guarded) (cell : Cell) (output : ℕ) (register : Reg) (word : ℕ) (bounds : Bounds) →
-    guarded_order (limits_at g (output_of cell)) g.host cell word ≡ None → cell ≡ Out output register → is_voltage register ≡ true →
+    guarded_order g.registers (limits_at g (output_of cell)) g.host cell word ≡ None → cell ≡ Out output register → is_voltage register ≡ true →
     limits_at g output ≡ Some bounds →
     IsSomeAnd (format_at g.host output) (λ shape. IsWithin bounds (shape_value shape word))
 order-within g cell output register word bounds free is voltage limits =
-    let judge = head (judged (limits_at g (output_of cell)) g.host cell word) _ (second (of_host (cell_fault g.host cell)) _ free) in
+    let judge = head (judged g.registers (limits_at g (output_of cell)) g.host cell word) _
+    (second (missing_ordered g.registers cell word) _ (second (of_host (cell_fault g.host cell)) _ free)) in
     let none = sym (judged-voltage g output register word voltage)
-    ∙ ap (λ (c : Cell). judged (limits_at g (output_of c)) g.host c word) (sym is) ∙ judge in
+    ∙ ap (λ (c : Cell). judged g.registers (limits_at g (output_of c)) g.host c word) (sym is) ∙ judge in
     let-through (limits_at g output) (format_at g.host output) word bounds limits none
 
 -- as a word or in microvolts
@@ -84,11 +89,14 @@ guarded-voltage g (job.Order cell w) output register word bounds free is voltage
     subst (λ n. IsSomeAnd (format_at g.host output) (λ shape. IsWithin bounds (shape_value shape n))) same_word
     (order-within g cell output register w bounds free same_cell voltage limits)
 guarded-voltage g (job.OrderMicro cell x) output register word bounds free is voltage limits =
-    let third = second (word_fault g.host cell x) _ (second (of_host (cell_fault g.host cell)) _ free) in
+    let third = second (word_fault g.host cell x) _
+    (second (missing_cell g.registers cell) _ (second (of_host (cell_fault g.host cell)) _ free)) in
     go (micro_word g.host cell x)
-    (head (option_and_then (λ n. guarded_order (limits_at g (output_of cell)) g.host cell n) (micro_word g.host cell x)) None third) is
+    (head (option_and_then (λ n. guarded_order g.registers (limits_at g (output_of cell)) g.host cell n) (micro_word g.host cell x))
+    None third) is
   where
-    go : (found : Option ℕ) → option_and_then (λ n. guarded_order (limits_at g (output_of cell)) g.host cell n) found ≡ None →
+    go : (found : Option ℕ) →
+        option_and_then (λ n. guarded_order g.registers (limits_at g (output_of cell)) g.host cell n) found ≡ None →
         option_map (λ n. Order cell n) found ≡ Some (Order (Out output register) word) →
         IsSomeAnd (format_at g.host output) (λ shape. IsWithin bounds (shape_value shape word))
     go None none is' = cc
@@ -103,56 +111,113 @@ guarded-voltage g (job.Send command) output register word bounds free is voltage
 
 -- a byte that leaves the output on
 pub guarded-on : (g : Guarded) (output byte : ℕ) → guard_fault g (job.Order (Out output Operation) byte) ≡ None →
-    has_on byte ≡ true → within_of (limits_at g output) (band_on g.host output byte) ≡ Yes
+    has_on byte ≡ true → within_of (limits_at g output) (band_on g.registers g.host output byte) ≡ Yes
 guarded-on g output byte free on =
-    go (has_on byte) (within_of (limits_at g output) (band_on g.host output byte)) on
-    (head (operation_limit (limits_at g output) g.host output byte) _ (second (of_host (cell_fault g.host (Out output Operation))) _ free))
+    go (has_on byte) (within_of (limits_at g output) (band_on g.registers g.host output byte)) on
+    (head (operation_limit g.registers (limits_at g output) g.host output byte) _
+    (second (missing_ordered g.registers (Out output Operation) byte) _
+    (second (of_host (cell_fault g.host (Out output Operation))) _ free)))
   where
-    go : (b : Bool) (w : Within) → b ≡ true → cond (b && not (is_yes w)) (Some NotKnownWithin) None ≡ None → w ≡ Yes
+    go : (b : Bool) (w : Within) → b ≡ true →
+        cond (b && not (is_yes w)) (Some (unsure_fault (format_at g.host output))) None ≡ None → w ≡ Yes
     go false w on' none = cc
     go true Yes on' none = refl
     go true No on' none = cc
     go true NotKnown on' none = cc
 
 -- where the limits say nothing, the host alone refuses
-alone : (g : Guarded) (cell : Cell) (word : ℕ) → judged (limits_at g (output_of cell)) g.host cell word ≡ None →
-    guarded_order (limits_at g (output_of cell)) g.host cell word ≡ of_host (order_fault g.host cell word)
-alone g cell word none =
-    ap (λ (j : Option LimitFault). option_or (of_host (cell_fault g.host cell))
-    (option_or j (option_or (of_host (order_fault g.host cell word)) None)))
+alone : (g : Guarded) (cell : Cell) (word : ℕ) → missing_ordered g.registers cell word ≡ None →
+    judged g.registers (limits_at g (output_of cell)) g.host cell word ≡ None →
+    guarded_order g.registers (limits_at g (output_of cell)) g.host cell word ≡ of_host (order_fault g.host cell word)
+alone g cell word there none =
+    ap (λ (m : Option LimitFault). option_or (of_host (cell_fault g.host cell))
+    (option_or m (option_or (judged g.registers (limits_at g (output_of cell)) g.host cell word)
+    (option_or (of_host (order_fault g.host cell word)) None))))
+    there
+    ∙ ap (λ (j : Option LimitFault). option_or (of_host (cell_fault g.host cell))
+    (option_or None (option_or j (option_or (of_host (order_fault g.host cell word)) None))))
     none
     ∙ merge (cell_fault g.host cell) _
   where
     merge : (here later : Option HostFault) →
-        option_or (of_host here) (option_or None (option_or (of_host (option_or here later)) None)) ≡ of_host (option_or here later)
+        option_or (of_host here) (option_or None (option_or None (option_or (of_host (option_or here later)) None)))
+        ≡ of_host (option_or here later)
     merge (Some f) later = refl
     merge None (Some f) = refl
     merge None None = refl
+
+-- a byte that leaves the output off selects VOUT_COMMAND
+off-selects : (byte : ℕ) → has_on byte ≡ false → selected_register byte ≡ VoutCommand
+off-selects byte = go (operation_of byte) where
+  go : (o : Option Selection) → option_map_or is_on o false ≡ false → option_map_or register_for o VoutCommand ≡ VoutCommand
+  go None off = refl
+  go (Some selection.Off) off = refl
+  go (Some selection.On) off = refl
+  go (Some selection.MarginLow) off = cc
+  go (Some selection.MarginHigh) off = cc
 
 -- an order of a byte of OPERATION that leaves the output off is refused as the host refuses it, whatever its limits are
 pub guarded-off : (g : Guarded) (output byte : ℕ) → has_on byte ≡ false →
     guard_fault g (job.Order (Out output Operation) byte)
     ≡ of_host (begin_fault g.host (job.Order (Out output Operation) byte))
 guarded-off g output byte off = alone g (Out output Operation) byte
-    (ap (λ (b : Bool). cond (b && not (is_yes (within_of (limits_at g output) (band_on g.host output byte)))) (Some NotKnownWithin) None)
+    (ap (λ (r : Reg). rule (not (has_register g.registers r)) MissingRegister) (off-selects byte off))
+    (ap (λ (b : Bool). cond (b && not (is_yes (within_of (limits_at g output) (band_on g.registers g.host output byte))))
+    (Some (unsure_fault (format_at g.host output))) None)
     off)
 
 -- where an output has no limits, they say nothing
 judged-free : (g : Guarded) (output : ℕ) (register : Reg) (word : ℕ) → limits_at g output ≡ None →
-    judged (limits_at g output) g.host (Out output register) word ≡ None
+    judged g.registers (limits_at g output) g.host (Out output register) word ≡ None
 judged-free g output Operation word none =
-    ap (λ (l : Option Bounds). cond (has_on word && not (is_yes (within_of l (band_on g.host output word)))) (Some NotKnownWithin) None)
+    ap (λ (l : Option Bounds). cond (has_on word && not (is_yes (within_of l (band_on g.registers g.host output word))))
+    (Some (unsure_fault (format_at g.host output))) None)
     none
     ∙ go (has_on word)
   where
-    go : (b : Bool) → cond (b && false) (Some NotKnownWithin) None ≡ None
+    go : (b : Bool) → cond (b && false) (Some (unsure_fault (format_at g.host output))) None ≡ None
     go true = refl
     go false = refl
 judged-free g output register word none = ap (λ (l : Option Bounds). voltage_limit l (format_at g.host output) word) none
 
 -- an order for a register of an output without limits is refused as the host refuses it
 pub guarded-free : (g : Guarded) (output : ℕ) (register : Reg) (word : ℕ) → limits_at g output ≡ None →
+    missing_ordered g.registers (Out output register) word ≡ None →
     guard_fault g (job.Order (Out output register) word)
     ≡ of_host (begin_fault g.host (job.Order (Out output register) word))
-guarded-free g output register word none =
-    alone g (Out output register) word (judged-free g output register word none)
+guarded-free g output register word none there =
+    alone g (Out output register) word there (judged-free g output register word none)
+
+-- no order of a register that the part doesn't have is let through, as a word or in microvolts
+pub guarded-missing : (g : Guarded) (asked : Job) (cell : Cell) (word : ℕ) → guard_fault g asked ≡ None →
+    accepted_job g.host asked ≡ Some (Order cell word) → missing_ordered g.registers cell word ≡ None
+guarded-missing g (job.Order own w) cell word free is =
+    let same_cell : own ≡ cell = cc in
+    let same_word : w ≡ word = cc in
+    let there = head (missing_ordered g.registers own w) _ (second (of_host (cell_fault g.host own)) _ free) in
+    subst (λ (n : ℕ). missing_ordered g.registers cell n ≡ None) same_word
+    (subst (λ (c : Cell). missing_ordered g.registers c w ≡ None) same_cell there)
+guarded-missing g (job.OrderMicro own x) cell word free is =
+    let third = second (word_fault g.host own x) _
+    (second (missing_cell g.registers own) _ (second (of_host (cell_fault g.host own)) _ free)) in
+    go (micro_word g.host own x)
+    (head (option_and_then (λ n. guarded_order g.registers (limits_at g (output_of own)) g.host own n) (micro_word g.host own x))
+    None third) is
+  where
+    go : (found : Option ℕ) →
+        option_and_then (λ n. guarded_order g.registers (limits_at g (output_of own)) g.host own n) found ≡ None →
+        option_map (λ n. Order own n) found ≡ Some (Order cell word) → missing_ordered g.registers cell word ≡ None
+    go None none is' = cc
+    go (Some w) none is' =
+        let same_cell : own ≡ cell = cc in
+        let same_word : w ≡ word = cc in
+        let there = head (missing_ordered g.registers own w) _ (second (of_host (cell_fault g.host own)) _ none) in
+        subst (λ (n : ℕ). missing_ordered g.registers cell n ≡ None) same_word
+        (subst (λ (c : Cell). missing_ordered g.registers c w ≡ None) same_cell there)
+guarded-missing g (job.Check own) cell word free is = cc
+guarded-missing g (job.Learn o) cell word free is = cc
+guarded-missing g (job.Send command) cell word free is = cc
+
+-- nor a check of one
+pub guarded-unread : (g : Guarded) (cell : Cell) → guard_fault g (job.Check cell) ≡ None → missing_cell g.registers cell ≡ None
+guarded-unread g cell free = head (missing_cell g.registers cell) None (second (of_host (cell_fault g.host cell)) _ free)

@@ -87,6 +87,7 @@ impl Guard {
         requires { may_come self.old.host (entry_told told) ≡ true }
         ensures after { self.new.host ≡ next self.old.host (entry_told told.entry) }
         ensures limits { self.new.limits ≡ self.old.limits }
+        ensures registers { self.new.registers ≡ self.old.registers }
         ensures step { result ≡ step_of self.old.host (entry_told told.entry) }
         ensures kept { self.new.host.setup ≡ self.old.host.setup }
         ensures left { frames_left self.new.host < frames_left self.old.host }
@@ -99,6 +100,7 @@ impl Guard {
     pub fn restart(&mut self)
         ensures after { self.new.host ≡ next self.old.host Restarted }
         ensures limits { self.new.limits ≡ self.old.limits }
+        ensures registers { self.new.registers ≡ self.old.registers }
         ensures kept { self.new.host.setup ≡ self.old.host.setup }
         ensures left { frames_left self.new.host ≡ 0 }
     {

@@ -1,13 +1,13 @@
 -- An order that the plan gives is one that a guard lets through, and its host accepts.
-use Rattle.std.specs.Prelude.{◌≡◌, ◌≢◌, ◌<◌, ℕ, Bool, true, false, cond, not, ◌||◌, nat_lt, refl, Option, Some, None, is_none, is_some, option_map, unwrap_or, List, [], ◌∷◌, length, Ok}
+use Rattle.std.specs.Prelude.{◌≡◌, ◌≢◌, ◌<◌, ℕ, Bool, true, false, cond, if◌then◌else◌, not, ◌||◌, nat_lt, refl, Option, Some, None, is_none, is_some, option_map, unwrap_or, List, [], ◌∷◌, length, Ok}
 use Rattle.std.specs.Option.{option_map_or}
-use Rattle.std.proofs.Common.{sym, ◌∙◌, ap, arith}
+use Rattle.std.proofs.Common.{sym, ◌∙◌, ap, subst, arith}
 use Rattle.std.proofs.lemmas.Bool.Decides.{nat_tests}
 use Rattle.pm_num.specs.AnyFormat.{Shape, shape_value}
 use Rattle.pm_num.specs.Ratio.{is_above, micros}
 use Rattle.pm_table.specs.declared.cell.Cell.TheVariants.{Out}
 use Rattle.pm_table.specs.declared.reg.Reg.{Reg}
-use Rattle.pm_table.specs.declared.reg.Reg.TheVariants.{Operation}
+use Rattle.pm_table.specs.declared.reg.Reg.TheVariants.{Operation, VoutMax, VoutMin}
 use Rattle.pm_table.specs.Cell.{is_voltage, register_accepts}
 use Rattle.pm_table.specs.Operation.{is_operation}
 use Rattle.pm_table.specs.Rules.{first, rule}
@@ -16,19 +16,23 @@ use Rattle.pm_host.specs.declared.fault.HostFault.{HostFault}
 use Rattle.pm_host.specs.declared.fault.HostFault.TheVariants.{Busy, UnknownOutput, BadWord, TooUncertain}
 use Rattle.pm_host.specs.declared.possible.Possible.{Possible}
 use Rattle.pm_host.specs.declared.possible.Possible.TheVariants.{Any, Words}
-use Rattle.pm_host.specs.Possible.{has_room, is_listed}
+use Rattle.pm_host.specs.Possible.{has_room, is_listed, only}
 use Rattle.pm_host.specs.Refusals.{cell_fault, is_busy, order_fault}
 use Rattle.pm_host.specs.Summary.{Summary, format_at, possible_at}
 use Rattle.pm_limits.specs.declared.fault.LimitFault.TheVariants as limit
 use Rattle.pm_limits.specs.Bounds.{Bounds}
-use Rattle.pm_limits.specs.Guard.{Guarded, guard_fault, judged, limits_at, of_host, voltage_limit}
+use Rattle.pm_limits.specs.declared.part_registers.PartRegisters.{PartRegisters}
+use Rattle.pm_limits.specs.declared.side.Side.TheVariants.{Lowest, Highest}
+use Rattle.pm_limits.specs.Ends.{format_end}
+use Rattle.pm_limits.specs.Guard.{Guarded, guard_fault, judged, limits_at, missing_ordered, of_host, voltage_limit}
+use Rattle.pm_limits.specs.Part.{has_register, missing_word}
 use Rattle.pm_rail.specs.declared.orders.PlanOrder.{PlanOrder}
-use Rattle.pm_rail.specs.Known.{known_of, sole, sole_of}
-use Rattle.pm_rail.specs.Orders.{below_fault, is_wanted_above, is_wanted_below, limits_fault, order_of, plan_of}
+use Rattle.pm_rail.specs.Known.{Cells, cells_of, known_of, sole, sole_of}
+use Rattle.pm_rail.specs.Orders.{below_fault, is_wanted_above, is_wanted_below, is_wanted_missing, limits_fault, order_of, plan_of}
 use Rattle.pm_rail.specs.Plan.{goal_of, next_register}
 use Rattle.pm_rail.specs.Registers.{Held, Wants}
 use Rattle.pm_rail.specs.Lemmas.Ends.{due}
-use Rattle.pm_rail.specs.Lemmas.Known.{IsPlanned, head, is-planned, known-all, none-voltage, or-second, sole-known, tail, wanted-needed}
+use Rattle.pm_rail.specs.Lemmas.Known.{IsPlanned, head, is-planned, known-all, none-voltage, not-second, or-second, sole-known, tail, wanted-needed}
 
 -- there is room for another word beside one that is known
 room-listed : (word : ℕ) (words : List ℕ) → is_none (sole_of words) ≡ false →
@@ -74,10 +78,24 @@ a-voltage : (wants : Wants) (register : Reg) (word : ℕ) → wants Operation �
 a-voltage wants Operation word none is = absurd (let bad = sym none ∙ is in cc)
 a-voltage wants register word none is = refl
 
-judged-voltage : (limits : Option Bounds) (s : Summary) (output : ℕ) (register : Reg) (word : ℕ) → is_voltage register ≡ true →
-    judged limits s (Out output register) word ≡ voltage_limit limits (format_at s output) word
-judged-voltage limits s output Operation word h = cc
-judged-voltage limits s output register word h = refl
+judged-voltage : (part : PartRegisters) (limits : Option Bounds) (s : Summary) (output : ℕ) (register : Reg) (word : ℕ) →
+    is_voltage register ≡ true → judged part limits s (Out output register) word ≡ voltage_limit limits (format_at s output) word
+judged-voltage part limits s output Operation word h = cc
+judged-voltage part limits s output register word h = refl
+
+-- nor that its register is missing
+there-ordered : (part : PartRegisters) (output : ℕ) (register : Reg) (word : ℕ) → is_voltage register ≡ true →
+    has_register part register ≡ true → missing_ordered part (Out output register) word ≡ None
+there-ordered part output Operation word volt has = cc
+there-ordered part output register word volt has =
+    ap (λ (b : Bool). rule (not b) limit.MissingRegister) has
+
+four-none : {A : Type 0} (a b c d : Option A) → a ≡ None → b ≡ None → c ≡ None → d ≡ None → first (a ∷ b ∷ c ∷ d ∷ []) ≡ None
+four-none None None None None p q r t = refl
+four-none None None None (Some x) p q r t = cc
+four-none None None (Some x) d p q r t = cc
+four-none None (Some x) c d p q r t = cc
+four-none (Some x) b c d p q r t = cc
 
 first-none : {A : Type 0} (a b c : Option A) → a ≡ None → b ≡ None → c ≡ None → first (a ∷ b ∷ c ∷ []) ≡ None
 first-none None None None p q r = refl
@@ -88,9 +106,27 @@ first-none (Some x) b c p q r = cc
 below-count : (output count : ℕ) → output < count → nat_lt output count ≡ true
 below-count output count h = grind (arith, nat_tests)
 
+-- where a register isn't missing, it is there
+has-wanted : (b : Bool) → not b ≡ false → b ≡ true
+has-wanted true h = refl
+has-wanted false h = cc
+
+-- of a register that is there one word alone is possible where one is known
+sole-there : (part : PartRegisters) (shape : Shape) (s : Summary) (output : ℕ) (register : Reg) → has_register part register ≡ true →
+    is_none (sole (cells_of part shape s (Out output register))) ≡ false →
+    is_none (sole (possible_at s (Out output register))) ≡ false
+sole-there part shape s output register has some =
+    subst (λ (o : Option ℕ). is_none (sole (option_map_or only o (possible_at s (Out output register)))) ≡ false)
+    (stands-not register has) some
+  where
+    stands-not : (r : Reg) → has_register part r ≡ true → missing_word part shape r ≡ None
+    stands-not VoutMax h = ap (λ (b : Bool). if b then None else Some (format_end Highest shape)) h
+    stands-not VoutMin h = ap (λ (b : Bool). if b then None else Some (format_end Lowest shape)) h
+    stands-not r h = refl
+
 pub accepted : (g : Guarded) (output : ℕ) (wants : Wants) (register : Reg) (word : ℕ) →
     output < g.host.setup.outputs → wants Operation ≡ None →
-    plan_of g.host (limits_at g output) output wants ≡ Ok (Some (record { register = register; word = word })) →
+    plan_of g.registers g.host (limits_at g output) output wants ≡ Ok (Some (record { register = register; word = word })) →
     guard_fault g (Order (Out output register) word) ≡ None
 accepted g output wants register word here none is =
     go (next_register (shape_value planned.shape) known wants) refl planned.next
@@ -101,11 +137,14 @@ accepted g output wants register word here none is =
     limits : Option Bounds
     limits = limits_at g output
 
-    known : Held
-    known = known_of s output
+    planned : IsPlanned g.registers s limits output wants (Some (record { register = register; word = word }))
+    planned = is-planned g.registers s limits output wants (Some (record { register = register; word = word })) is
 
-    planned : IsPlanned s limits output wants (Some (record { register = register; word = word }))
-    planned = is-planned s limits output wants (Some (record { register = register; word = word })) is
+    cells : Cells
+    cells = cells_of g.registers planned.shape s
+
+    known : Held
+    known = known_of cells output
 
     free-cell : cell_fault s (Out output register) ≡ None
     free-cell = first-two (is_busy s) (nat_lt output s.setup.outputs) planned.idle (below-count output s.setup.outputs here) where
@@ -127,13 +166,19 @@ accepted g output wants register word here none is =
         ∙ ap (λ (w : ℕ). Some w) goal in
         let volt = a-voltage wants register word none asked in
         let needed = wanted-needed known wants register (ap (λ (o : Option ℕ). is_some o) asked) in
-        let some = sole-known (Out output register) (sole (possible_at s (Out output register)))
-        (known-all s output known wants planned.known register needed) in
+        let has = has-wanted (has_register g.registers register)
+        (not-second (is_some (wants register)) (not (has_register g.registers register))
+        (none-voltage _ (is_wanted_missing g.registers wants) planned.there register volt)
+        (ap (λ (o : Option ℕ). is_some o) asked)) in
+        let sure = sole-known (Out output register) (sole (cells (Out output register)))
+        (known-all cells output known wants planned.known register needed) in
+        let some = sole-there g.registers planned.shape s output register has sure in
         let here' = limit-says limits planned.shape wants register word planned.within volt asked in
-        first-none (of_host (cell_fault s (Out output register))) (judged limits s (Out output register) word)
-        (of_host (order_fault s (Out output register) word))
+        four-none (of_host (cell_fault s (Out output register))) (missing_ordered g.registers (Out output register) word)
+        (judged g.registers limits s (Out output register) word) (of_host (order_fault s (Out output register) word))
         (of _ free-cell)
-        (judged-voltage limits s output register word volt
+        (there-ordered g.registers output register word volt has)
+        (judged-voltage g.registers limits s output register word volt
         ∙ ap (λ (f : Option Shape). voltage_limit limits f word) planned.format ∙ here')
         (of _ (first-none (cell_fault s (Out output register)) _ _ free-cell
         (rule-off (not (register_accepts register word)) BadWord

@@ -19,12 +19,13 @@ use Rattle.pm_host.specs.declared.possible.Possible.{Possible}
 use Rattle.pm_host.specs.declared.possible.Possible.TheVariants.{Any, Words}
 use Rattle.pm_host.specs.Possible.{is_listed, is_possible}
 use Rattle.pm_host.specs.Refusals.{is_busy}
-use Rattle.pm_host.specs.Summary.{Summary, format_at, possible_at}
+use Rattle.pm_host.specs.Summary.{Summary, format_at}
+use Rattle.pm_limits.specs.declared.part_registers.PartRegisters.{PartRegisters}
 use Rattle.pm_rail.specs.declared.fault.PlanFault.{PlanFault}
 use Rattle.pm_rail.specs.declared.fault.PlanFault.TheVariants.{Busy, BelowMin}
 use Rattle.pm_rail.specs.declared.orders.PlanOrder.{PlanOrder}
-use Rattle.pm_rail.specs.Known.{known_at, known_of, known_or, sole, sole_of}
-use Rattle.pm_rail.specs.Orders.{answer, first_of, is_above_max, is_below_min, is_meant, is_missing, is_needed, limits_fault, order_of, plan_of, planned_in, selectable, unknown_fault, voltages, words_fault}
+use Rattle.pm_rail.specs.Known.{Cells, cells_of, known_at, known_of, known_or, sole, sole_of}
+use Rattle.pm_rail.specs.Orders.{answer, first_of, is_above_max, is_below_min, is_meant, is_needed, is_unknown, limits_fault, missing_fault, order_of, plan_of, planned_in, selectable, unknown_fault, unless, voltages, words_fault}
 use Rattle.pm_rail.specs.Plan.{goal_of, is_cut_by, is_due, next_register}
 use Rattle.pm_rail.specs.Registers.{Held, Wants}
 
@@ -103,53 +104,61 @@ none-selected fault test free byte =
     each-selected (λ r. test r ≡ false) (one.0) (two.0) (three.0) byte
 
 -- an answer that is no refusal
-pub record IsPlanned (s : Summary) (limits : Option Bounds) (output : ℕ) (wants : Wants) (order : Option PlanOrder) : Type 0 where
+pub record IsPlanned (part : PartRegisters) (s : Summary) (limits : Option Bounds) (output : ℕ) (wants : Wants)
+    (order : Option PlanOrder) : Type 0 where
   pub idle : is_busy s ≡ false
+  pub there : missing_fault part wants ≡ None
   pub shape : Shape
   pub format : format_at s output ≡ Some shape
   pub within : limits_fault limits (shape_value shape) wants ≡ None
-  pub known : unknown_fault s output (known_of s output) wants ≡ None
-  pub words : words_fault (shape_value shape) (known_of s output) wants ≡ None
-  pub next : option_map (order_of (known_of s output) wants) (next_register (shape_value shape) (known_of s output) wants) ≡ order
+  pub known : let cells = cells_of part shape s in unknown_fault cells output (known_of cells output) wants ≡ None
+  pub words : words_fault (shape_value shape) (known_of (cells_of part shape s) output) wants ≡ None
+  pub next : let known = known_of (cells_of part shape s) output in
+      option_map (order_of known wants) (next_register (shape_value shape) known wants) ≡ order
 
-pub is-planned : (s : Summary) (limits : Option Bounds) (output : ℕ) (wants : Wants) (order : Option PlanOrder) →
-    plan_of s limits output wants ≡ Ok order → IsPlanned s limits output wants order
-is-planned s limits output wants order is = either (is_busy s) refl is where
-  held : Held
-  held = known_of s output
-
+pub is-planned : (part : PartRegisters) (s : Summary) (limits : Option Bounds) (output : ℕ) (wants : Wants) (order : Option PlanOrder) →
+    plan_of part s limits output wants ≡ Ok order → IsPlanned part s limits output wants order
+is-planned part s limits output wants order is = either (is_busy s) refl is where
   by : (shape : Shape) (within unknown protect words protected : Option PlanFault) (next : Option PlanOrder) →
-      is_busy s ≡ false → format_at s output ≡ Some shape →
+      is_busy s ≡ false → missing_fault part wants ≡ None → format_at s output ≡ Some shape →
       limits_fault limits (shape_value shape) wants ≡ within →
-      unknown_fault s output held wants ≡ unknown → words_fault (shape_value shape) held wants ≡ words →
-      option_map (order_of held wants) (next_register (shape_value shape) held wants) ≡ next →
+      unknown_fault (cells_of part shape s) output (known_of (cells_of part shape s) output) wants ≡ unknown →
+      words_fault (shape_value shape) (known_of (cells_of part shape s) output) wants ≡ words →
+      option_map (order_of (known_of (cells_of part shape s) output) wants)
+      (next_register (shape_value shape) (known_of (cells_of part shape s) output) wants) ≡ next →
       answer (first (within ∷ unknown ∷ protect ∷ words ∷ protected ∷ [])) next ≡ Ok order →
-      IsPlanned s limits output wants order
-  by shape None None None None None next i f l u w n ok =
-      record { idle = i; shape = shape; format = f; within = l; known = u; words = w; next = n ∙ cc }
-  by shape None None None None (Some fault) next i f l u w n ok = cc
-  by shape None None None (Some fault) protected next i f l u w n ok = cc
-  by shape None None (Some fault) words protected next i f l u w n ok = cc
-  by shape None (Some fault) protect words protected next i f l u w n ok = cc
-  by shape (Some fault) unknown protect words protected next i f l u w n ok = cc
+      IsPlanned part s limits output wants order
+  by shape None None None None None next i m f l u w n ok =
+      record { idle = i; there = m; shape = shape; format = f; within = l; known = u; words = w; next = n ∙ cc }
+  by shape None None None None (Some fault) next i m f l u w n ok = cc
+  by shape None None None (Some fault) protected next i m f l u w n ok = cc
+  by shape None None (Some fault) words protected next i m f l u w n ok = cc
+  by shape None (Some fault) protect words protected next i m f l u w n ok = cc
+  by shape (Some fault) unknown protect words protected next i m f l u w n ok = cc
 
-  go : (format : Option Shape) → is_busy s ≡ false → format_at s output ≡ format →
-      planned_in s limits output held wants format ≡ Ok order → IsPlanned s limits output wants order
-  go None i f ok = cc
-  go (Some shape) i f ok = by shape _ _ _ _ _ _ i f refl refl refl refl ok
+  go : (format : Option Shape) → is_busy s ≡ false → missing_fault part wants ≡ None → format_at s output ≡ format →
+      planned_in part s limits output wants format ≡ Ok order → IsPlanned part s limits output wants order
+  go None i m f ok = cc
+  go (Some shape) i m f ok = by shape _ _ _ _ _ _ i m f refl refl refl refl ok
+
+  here : (missing : Option PlanFault) → is_busy s ≡ false → missing_fault part wants ≡ missing →
+      unless missing (planned_in part s limits output wants (format_at s output)) ≡ Ok order →
+      IsPlanned part s limits output wants order
+  here None i m ok = go (format_at s output) i m refl ok
+  here (Some fault) i m ok = cc
 
   either : (busy : Bool) → is_busy s ≡ busy →
-      (if busy then Err Busy else planned_in s limits output held wants (format_at s output)) ≡ Ok order →
-      IsPlanned s limits output wants order
+      (if busy then Err Busy else unless (missing_fault part wants) (planned_in part s limits output wants (format_at s output))) ≡ Ok order →
+      IsPlanned part s limits output wants order
   either true b ok = cc
-  either false b ok = go (format_at s output) b refl ok
+  either false b ok = here (missing_fault part wants) b refl ok
 
 -- what is needed is known
-pub known-all : (s : Summary) (output : ℕ) (held : Held) (wants : Wants) → unknown_fault s output held wants ≡ None →
-    (register : Reg) → is_needed held wants register ≡ true → is_none (known_at s (Out output register)) ≡ false
-known-all s output held wants free register needed =
+pub known-all : (cells : Cells) (output : ℕ) (held : Held) (wants : Wants) → unknown_fault cells output held wants ≡ None →
+    (register : Reg) → is_needed held wants register ≡ true → is_none (known_at cells (Out output register)) ≡ false
+known-all cells output held wants free register needed =
     not-second (is_needed held wants register) _
-    (all-off (is_missing s output held wants) (unmapped _ (find (is_missing s output held wants) registers) free) register) needed
+    (all-off (is_unknown cells output held wants) (unmapped _ (find (is_unknown cells output held wants) registers) free) register) needed
 
 -- of a cell that is known one word alone is possible
 pub sole-known : (cell : Cell) (word : Option ℕ) →
@@ -179,10 +188,10 @@ only-possible : (held : ℕ) (possible : Possible) → is_possible held possible
 only-possible held Any is some = cc
 only-possible held (Words words) is some = only-listed held words.items is some
 
-pub known-held : (s : Summary) (cell : Cell) (held : ℕ) → is_possible held (possible_at s cell) ≡ true →
-    is_none (known_at s cell) ≡ false → known_or s cell ≡ held
-known-held s cell held is some = known-sole cell (sole (possible_at s cell)) some
-    ∙ only-possible held (possible_at s cell) is (sole-known cell (sole (possible_at s cell)) some)
+pub known-held : (cells : Cells) (cell : Cell) (held : ℕ) → is_possible held (cells cell) ≡ true →
+    is_none (known_at cells cell) ≡ false → known_or cells cell ≡ held
+known-held cells cell held is some = known-sole cell (sole (cells cell)) some
+    ∙ only-possible held (cells cell) is (sole-known cell (sole (cells cell)) some)
 
 -- a register is itself
 one-register : (byte : ℕ) → same_register (selected_register byte) (selected_register byte) ≡ true

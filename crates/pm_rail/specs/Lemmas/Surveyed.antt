@@ -1,20 +1,25 @@
 -- What a survey has read and what is known where it has nothing left to ask for.
 use Rattle.std.specs.Prelude.{◌≡◌, ◌<◌, ◌+◌, ◌==◌, Bool, true, false, not, ◌&&◌, ◌||◌, if◌then◌else◌, refl, find, Option, Some, None, is_none, is_some, option_map}
 use Rattle.std.specs.Option.{option_or}
-use Rattle.std.proofs.Common.{arith}
+use Rattle.std.specs.List.{list_any}
+use Rattle.std.proofs.Common.{subst, arith}
 use Rattle.std.proofs.lemmas.Bool.Decides.{nat_tests}
 use Rattle.pm_table.specs.declared.cell.Cell.TheVariants.{Out, Protect}
 use Rattle.pm_table.specs.declared.reg.Reg.{Reg}
+use Rattle.pm_table.specs.declared.reg.Reg.TheVariants.{Operation, VoutCommand, VoutMax, MarginHigh, MarginLow, VoutMin}
 use Rattle.pm_table.specs.Cell.{registers}
 use Rattle.pm_table.specs.Rules.{rule}
 use Rattle.pm_host.specs.declared.job.Job.{Job}
 use Rattle.pm_host.specs.declared.job.Job.TheVariants.{Check, Learn}
-use Rattle.pm_host.specs.Summary.{Summary, format_at}
+use Rattle.pm_num.specs.AnyFormat.{Shape}
+use Rattle.pm_host.specs.Summary.{Summary, format_at, possible_at}
+use Rattle.pm_limits.specs.declared.part_registers.PartRegisters.{PartRegisters}
+use Rattle.pm_limits.specs.Part.{all_registers, has_register}
 use Rattle.pm_rail.specs.declared.survey.Survey.{Survey}
-use Rattle.pm_rail.specs.Known.{known_at, known_of}
-use Rattle.pm_rail.specs.Orders.{is_missing, is_needed}
+use Rattle.pm_rail.specs.Known.{Cells, cells_of, known_at, known_of, known_word}
+use Rattle.pm_rail.specs.Orders.{is_needed}
 use Rattle.pm_rail.specs.Registers.{Held, Wants, wants_of}
-use Rattle.pm_rail.specs.Survey.{asking, due_job, has_read, is_surveyed, is_unread, next_job, wanted_in}
+use Rattle.pm_rail.specs.Survey.{asking, due_by, due_in, due_job, has_read, is_lacking, is_stuck, is_stuck_by, is_stuck_in, is_surveyed, is_unread, is_unsure, next_job, wanted_in}
 use Rattle.pm_rail.specs.Lemmas.Known.{all-off, head, not-second, tail, unmapped, unruled}
 
 is-none : {A : Type 0} (o : Option A) → is_none o ≡ true → o ≡ None
@@ -25,68 +30,148 @@ on-not : (b : Bool) → not b ≡ false → b ≡ true
 on-not true h = refl
 on-not false h = cc
 
-neither : (a b : Bool) → (not a || b) ≡ false → (a ≡ true) × (b ≡ false)
-neither true b h = (refl, h)
-neither false b h = cc
+-- a conjunction that is true has two true parts, and a negation that is true a false one
+both-true : (a b : Bool) → (a && b) ≡ true → (a ≡ true) × (b ≡ true)
+both-true true b h = (refl, h)
+both-true false b h = cc
 
-module _ (v : Survey) (s : Summary) (is : is_surveyed v s ≡ true) where
-  held : Held
-  held = known_of s v.output
+off-not : (b : Bool) → not b ≡ true → b ≡ false
+off-not true h = cc
+off-not false h = refl
 
-  wants : Wants
-  wants = wants_of (wanted_in v.plan)
+-- no register is lacking where none of the list is
+none-lacking : (test : Reg → Bool) → list_any test registers ≡ false → (register : Reg) → test register ≡ false
+none-lacking test none register =
+    let one = or-off (test Operation) _ none in
+    let two = or-off (test VoutCommand) _ one.1 in
+    let three = or-off (test VoutMax) _ two.1 in
+    let four = or-off (test MarginHigh) _ three.1 in
+    let five = or-off (test MarginLow) _ four.1 in
+    let six = or-off (test VoutMin) false five.1 in
+    elim register as (λ r. test r ≡ false) [
+      | Operation ↦ one.0
+      | VoutCommand ↦ two.0
+      | VoutMax ↦ three.0
+      | MarginHigh ↦ four.0
+      | MarginLow ↦ five.0
+      | VoutMin ↦ six.0
+    ]
+  where
+    or-off : (a b : Bool) → (a || b) ≡ false → (a ≡ false) × (b ≡ false)
+    or-off true b h = cc
+    or-off false b h = (refl, h)
 
+-- what is due, where nothing is
+module _ (part : PartRegisters) (v : Survey) (cells : Cells) (held : Held) (wants : Wants)
+    (free : due_in part v cells held wants ≡ None) where
   learns : Option Job
-  learns = rule (not v.learned || is_none (format_at s v.output)) (Learn v.output)
+  learns = rule (not v.learned) (Learn v.output)
 
   reads : Option Job
-  reads = option_map (λ register. Check (Out v.output register)) (find (is_unread v.read (known_of s v.output) (wants_of (wanted_in v.plan))) registers)
+  reads = option_map (λ register. Check (Out v.output register)) (find (is_unread part v.read held wants) registers)
 
   protects : Option Job
   protects = rule (is_some v.plan && not v.read.protect) (Check Protect)
 
   checks : Option Job
-  checks = option_map (λ register. Check (Out v.output register)) (find (is_missing s v.output (known_of s v.output) (wants_of (wanted_in v.plan))) registers)
+  checks = option_map (λ register. Check (Out v.output register)) (find (is_unsure part cells v.output held wants) registers)
 
   protects_again : Option Job
-  protects_again = rule (is_some v.plan && is_none (known_at s Protect)) (Check Protect)
+  protects_again = rule (is_some v.plan && is_none (known_at cells Protect)) (Check Protect)
 
   all : option_or learns (option_or reads (option_or protects (option_or checks (option_or protects_again None)))) ≡ None
   unfolding learns reads protects checks protects_again
-  all = is-none (due_job v s) is
+  all = free
 
-  pub format : (v.learned ≡ true) × (is_none (format_at s v.output) ≡ false)
+  learned-in : v.learned ≡ true
   unfolding learns
-  format = neither v.learned (is_none (format_at s v.output)) (unruled _ _ (head learns _ all))
+  learned-in = on-not _ (unruled _ _ (head learns _ all))
 
-  pub known : (register : Reg) → is_needed (known_of s v.output) (wants_of (wanted_in v.plan)) register ≡ true →
-      (has_read v.read register ≡ true) × (is_none (known_at s (Out v.output register)) ≡ false)
+  -- a needed register that the part has was read, and it is known
+  known-in : is_stuck_in part v.output cells held wants ≡ false → (register : Reg) → is_needed held wants register ≡ true →
+      (has_register part register ≡ true → has_read v.read register ≡ true)
+      × (is_none (known_at cells (Out v.output register)) ≡ false)
   unfolding reads checks
-  known register needed =
+  known-in unstuck register needed =
       let others = tail learns _ all in
       let later = tail protects _ (tail reads _ others) in
-      let read = all-off (is_unread v.read (known_of s v.output) (wants_of (wanted_in v.plan)))
-      (unmapped _ _ (head reads _ others)) register in
-      let sole = all-off (is_missing s v.output (known_of s v.output) (wants_of (wanted_in v.plan)))
-      (unmapped _ _ (head checks _ later)) register in (
-        on-not _ (not-second (is_needed (known_of s v.output) (wants_of (wanted_in v.plan)) register) _ read needed),
-        not-second (is_needed (known_of s v.output) (wants_of (wanted_in v.plan)) register) _ sole needed,
+      let read = all-off (is_unread part v.read held wants) (unmapped _ _ (head reads _ others)) register in
+      let sole = all-off (is_unsure part cells v.output held wants) (unmapped _ _ (head checks _ later)) register in
+      let lack = none-lacking (is_lacking part cells v.output held wants) unstuck register in (
+        λ has. on-not _ (not-second (is_needed held wants register) _ (not-second (has_register part register) _ read has) needed),
+        not-second (is_needed held wants register) _ (either (has_register part register) _ sole lack) needed,
       )
+    where
+      either : (has unknown : Bool) → (has && unknown) ≡ false → (not has && unknown) ≡ false → unknown ≡ false
+      either true unknown h k = h
+      either false unknown h k = k
 
-  pub protection : is_some v.plan ≡ true → (v.read.protect ≡ true) × (is_none (known_at s Protect) ≡ false)
+  protection-in : is_some v.plan ≡ true → (v.read.protect ≡ true) × (is_none (known_at cells Protect) ≡ false)
   unfolding protects protects_again
-  protection plan =
+  protection-in plan =
       let others = tail reads _ (tail learns _ all) in
       let last = tail checks _ (tail protects _ others) in (
         on-not _ (not-second (is_some v.plan) _ (unruled _ _ (head protects _ others)) plan),
         not-second (is_some v.plan) _ (unruled _ _ (head protects_again _ last)) plan,
       )
 
-pub asks : (v : Survey) (s : Summary) → is_surveyed v s ≡ false → 0 < v.left →
-    (is_some (next_job v s) ≡ true) × ((asking v (next_job v s)).left + 1 ≡ v.left)
-asks v s busy left = go (v.left == 0) refl (due_job v s) busy where
-  go : (empty : Bool) → (v.left == 0) ≡ empty → (job : Option Job) → is_none job ≡ false →
-      (is_some (if empty then None else job) ≡ true) × ((asking v (if empty then None else job)).left + 1 ≡ v.left)
-  go true e job some = absurd (let bad : v.left ≡ 0 = grind (arith, nat_tests) in omega arith)
-  go false e None some = cc
-  go false e (Some job) some = (refl, omega arith)
+-- nothing is due, and the survey isn't stuck
+ended-free : (part : PartRegisters) (v : Survey) (s : Summary) → is_surveyed part v s ≡ true → due_job part v s ≡ None
+ended-free part v s is = is-none (due_job part v s) (both-true (is_none (due_job part v s)) _ is).0
+
+ended-unstuck : (part : PartRegisters) (v : Survey) (s : Summary) → is_surveyed part v s ≡ true → is_stuck part v s ≡ false
+ended-unstuck part v s is = off-not (is_stuck part v s) (both-true (is_none (due_job part v s)) _ is).1
+
+pub format : (part : PartRegisters) (v : Survey) (s : Summary) → is_surveyed part v s ≡ true →
+    (v.learned ≡ true) × (is_none (format_at s v.output) ≡ false)
+format part v s is = go (format_at s v.output) (ended-free part v s is) where
+  go : (format : Option Shape) → due_by part v s format ≡ None → (v.learned ≡ true) × (is_none format ≡ false)
+  go None free = cc
+  go (Some shape) free =
+      let cells = cells_of part shape s in
+      (learned-in part v cells (known_of cells v.output) (wants_of (wanted_in v.plan)) free, refl)
+
+pub known : (part : PartRegisters) (v : Survey) (s : Summary) (shape : Shape) (register : Reg) →
+    is_surveyed part v s ≡ true → format_at s v.output ≡ Some shape →
+    let cells = cells_of part shape s in
+    is_needed (known_of cells v.output) (wants_of (wanted_in v.plan)) register ≡ true →
+    (has_register part register ≡ true → has_read v.read register ≡ true)
+    × (is_none (known_at cells (Out v.output register)) ≡ false)
+known part v s shape register is learned needed =
+    let cells = cells_of part shape s in
+    known-in part v cells (known_of cells v.output) (wants_of (wanted_in v.plan))
+    (subst (λ (f : Option Shape). due_by part v s f ≡ None) learned (ended-free part v s is))
+    (subst (λ (f : Option Shape). is_stuck_by part v s f ≡ false) learned (ended-unstuck part v s is))
+    register needed
+
+pub protection : (part : PartRegisters) (v : Survey) (s : Summary) → is_surveyed part v s ≡ true → is_some v.plan ≡ true →
+    (v.read.protect ≡ true) × (is_none (known_word Protect (possible_at s Protect)) ≡ false)
+protection part v s is plan = go (format_at s v.output) (ended-free part v s is) where
+  go : (format : Option Shape) → due_by part v s format ≡ None →
+      (v.read.protect ≡ true) × (is_none (known_word Protect (possible_at s Protect)) ≡ false)
+  go None free = cc
+  go (Some shape) free =
+      let cells = cells_of part shape s in
+      protection-in part v cells (known_of cells v.output) (wants_of (wanted_in v.plan)) free plan
+
+pub asks : (part : PartRegisters) (v : Survey) (s : Summary) → is_surveyed part v s ≡ false → is_stuck part v s ≡ false → 0 < v.left →
+    (is_some (next_job part v s) ≡ true) × ((asking v (next_job part v s)).left + 1 ≡ v.left)
+asks part v s busy unstuck left = go (v.left == 0) refl (due_job part v s) (due (is_none (due_job part v s)) (is_stuck part v s) busy unstuck)
+  where
+    due : (none stuck : Bool) → (none && not stuck) ≡ false → stuck ≡ false → none ≡ false
+    due none true h k = cc
+    due true false h k = h
+    due false false h k = refl
+
+    go : (empty : Bool) → (v.left == 0) ≡ empty → (job : Option Job) → is_none job ≡ false →
+        (is_some (if empty then None else job) ≡ true) × ((asking v (if empty then None else job)).left + 1 ≡ v.left)
+    go true e job some = absurd (let bad : v.left ≡ 0 = grind (arith, nat_tests) in omega arith)
+    go false e None some = cc
+    go false e (Some job) some = (refl, omega arith)
+
+-- a part with every register lacks none
+pub whole : (v : Survey) (s : Summary) → is_stuck all_registers v s ≡ false
+whole v s = go (format_at s v.output) where
+  go : (format : Option Shape) → is_stuck_by all_registers v s format ≡ false
+  go None = refl
+  go (Some shape) = refl

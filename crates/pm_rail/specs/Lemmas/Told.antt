@@ -7,9 +7,10 @@ use Rattle.pm_table.specs.declared.reg.Reg.{Reg}
 use Rattle.pm_table.specs.declared.reg.Reg.TheVariants.{Operation}
 use Rattle.pm_model.specs.Commanded.{Scale}
 use Rattle.pm_host.specs.Summary.{Summary, format_at}
+use Rattle.pm_limits.specs.declared.part_registers.PartRegisters.{PartRegisters}
 use Rattle.pm_limits.specs.Bounds.{Bounds}
 use Rattle.pm_rail.specs.declared.orders.PlanOrder.{PlanOrder}
-use Rattle.pm_rail.specs.Known.{known_of}
+use Rattle.pm_rail.specs.Known.{cells_of, known_of}
 use Rattle.pm_rail.specs.Laws.{MayHold}
 use Rattle.pm_rail.specs.Orders.{is_needed, order_of, plan_of}
 use Rattle.pm_rail.specs.Plan.{goal_of, is_cut_by, next_register}
@@ -21,34 +22,34 @@ use Rattle.pm_rail.specs.Lemmas.Known.{IsPlanned, goal-same, is-planned, known-a
 at-some : {A : Type 0} (P : A → Type 0) (o : Option A) (a : A) → o ≡ Some a → P a → IsSomeAnd o P
 at-some {A = A} P o a is p = subst (λ (q : Option A). IsSomeAnd q P) (sym is) p
 
-module _ (s : Summary) (limits : Option Bounds) (output : ℕ) (wants : Wants) (order : Option PlanOrder) (held : Held)
-    (none : wants Operation ≡ None) (may : MayHold s output wants held)
-    (is : plan_of s limits output wants ≡ Ok order) where
-  known : Held
-  known = known_of s output
-
-  planned : IsPlanned s limits output wants order
-  planned = is-planned s limits output wants order is
+module _ (part : PartRegisters) (s : Summary) (limits : Option Bounds) (output : ℕ) (wants : Wants) (order : Option PlanOrder) (held : Held)
+    (none : wants Operation ≡ None) (may : MayHold part s output wants held)
+    (is : plan_of part s limits output wants ≡ Ok order) where
+  planned : IsPlanned part s limits output wants order
+  planned = is-planned part s limits output wants order is
 
   value : Scale
   value = shape_value planned.shape
 
-  agree : (register : Reg) → is_needed (known_of s output) wants register ≡ true → known_of s output register ≡ held register
-  agree register needed = known-held s (Out output register) (held register) (may register needed)
-      (known-all s output (known_of s output) wants planned.known register needed)
+  agree : (register : Reg) → is_needed (known_of (cells_of part planned.shape s) output) wants register ≡ true →
+      known_of (cells_of part planned.shape s) output register ≡ held register
+  agree register needed = known-held (cells_of part planned.shape s) (Out output register) (held register)
+      (may planned.shape planned.format register needed)
+      (known-all (cells_of part planned.shape s) output (known_of (cells_of part planned.shape s) output) wants planned.known
+      register needed)
 
   -- the orders are one
-  orders : (next : Option Reg) → next_register (shape_value planned.shape) (known_of s output) wants ≡ next →
-      option_map (order_of (known_of s output) wants) next ≡ option_map (order_of held wants) next
+  orders : (next : Option Reg) → next_register (shape_value planned.shape) (known_of (cells_of part planned.shape s) output) wants ≡ next →
+      option_map (order_of (known_of (cells_of part planned.shape s) output) wants) next ≡ option_map (order_of held wants) next
   orders None e = refl
   orders (Some register) e = ap (λ (word : ℕ). Some (record { register = register; word = word }))
-      (goal-same (wants register) (known_of s output register) (held register)
-      (due (shape_value planned.shape) (known_of s output) wants register e))
+      (goal-same (wants register) (known_of (cells_of part planned.shape s) output register) (held register)
+      (due (shape_value planned.shape) (known_of (cells_of part planned.shape s) output) wants register e))
 
   of-held : option_map (order_of held wants) (next_register (shape_value planned.shape) held wants) ≡ order
   of-held = ap (λ (next : Option Reg). option_map (order_of held wants) next)
-      (sym (next-same (shape_value planned.shape) (known_of s output) held wants none agree))
-      ∙ sym (orders (next_register (shape_value planned.shape) (known_of s output) wants) refl)
+      (sym (next-same (shape_value planned.shape) (known_of (cells_of part planned.shape s) output) held wants none agree))
+      ∙ sym (orders (next_register (shape_value planned.shape) (known_of (cells_of part planned.shape s) output) wants) refl)
       ∙ planned.next
 
   pub next : IsSomeAnd (format_at s output) (λ shape. option_map (order_of held wants) (next_register (shape_value shape) held wants) ≡ order)
@@ -58,8 +59,8 @@ module _ (s : Summary) (limits : Option Bounds) (output : ℕ) (wants : Wants) (
   pub uncut : IsSomeAnd (format_at s output) (λ shape. is_cut_by (shape_value shape) (goal_of held wants) ≡ false)
   uncut = at-some (λ shape. is_cut_by (shape_value shape) (goal_of held wants) ≡ false)
       (format_at s output) planned.shape planned.format
-      (sym (uncut-same (shape_value planned.shape) (known_of s output) held wants none agree)
-      ∙ uncut-goal (shape_value planned.shape) (known_of s output) wants none planned.words)
+      (sym (uncut-same (shape_value planned.shape) (known_of (cells_of part planned.shape s) output) held wants none agree)
+      ∙ uncut-goal (shape_value planned.shape) (known_of (cells_of part planned.shape s) output) wants none planned.words)
 
 unordered : (held : Held) (wants : Wants) (next : Option Reg) → option_map (order_of held wants) next ≡ None → next ≡ None
 unordered held wants None h = refl
@@ -68,11 +69,11 @@ unordered held wants (Some register) h = cc
 wanted-goal : (held : Held) (wants : Wants) (register : Reg) (word : ℕ) → wants register ≡ Some word → goal_of held wants register ≡ word
 wanted-goal held wants register word is = ap (λ (o : Option ℕ). unwrap_or o (held register)) is
 
-pub done-held : (s : Summary) (limits : Option Bounds) (output : ℕ) (wants : Wants) (held : Held) (register : Reg) (word : ℕ) →
-    wants Operation ≡ None → MayHold s output wants held → plan_of s limits output wants ≡ Ok None →
+pub done-held : (part : PartRegisters) (s : Summary) (limits : Option Bounds) (output : ℕ) (wants : Wants) (held : Held) (register : Reg) (word : ℕ) →
+    wants Operation ≡ None → MayHold part s output wants held → plan_of part s limits output wants ≡ Ok None →
     wants register ≡ Some word → held register ≡ word
-done-held s limits output wants held register word none may is wanted =
-    let answer = planned s limits output wants None held none may is in
+done-held part s limits output wants held register word none may is wanted =
+    let answer = planned part s limits output wants None held none may is in
     done (shape_value answer.shape) held wants none
-    (unordered held wants _ (of-held s limits output wants None held none may is)) register
+    (unordered held wants _ (of-held part s limits output wants None held none may is)) register
     ∙ wanted-goal held wants register word wanted

@@ -17,7 +17,7 @@ unfolding end_with selected_value
 returns c =
     let value = any_value c.args.format.now in
     let shape = shape_of c.args.format.now in
-    let known = known_of (held None c.args.host.now) c.args.output in
+    let known = known_of c.args.registers shape (held None c.args.host.now) c.args.output in
     let bytes = c.args.bytes.now in
     let ends = c.of-ends.result in
     let at : (side : Side) → limited (selected_value side value ends (farthest_of side (selected_value side value ends) bytes))

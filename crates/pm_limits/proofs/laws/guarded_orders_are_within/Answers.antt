@@ -1,5 +1,12 @@
-use Rattle.pm_limits.specs.Lemmas.Guarded.{guarded-voltage, guarded-on, guarded-off, guarded-free}
+use Rattle.pm_limits.specs.Lemmas.Guarded.{guarded-voltage, guarded-on, guarded-off, guarded-free, guarded-missing, guarded-unread}
 use Rattle.pm_limits.proofs.laws.guarded_orders_are_within.Goals as goal
 
 pub returns : goal.returns
-returns c = record { voltage = guarded-voltage; on = guarded-on; off = guarded-off; free = guarded-free }
+returns c = record {
+  voltage = guarded-voltage;
+  on = guarded-on;
+  off = guarded-off;
+  free = guarded-free;
+  missing = guarded-missing;
+  unread = guarded-unread;
+}

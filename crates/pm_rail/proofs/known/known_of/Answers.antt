@@ -4,7 +4,8 @@ use Rattle.pm_host.specs.Image.{held}
 use Rattle.pm_table.specs.declared.reg.Reg.{Reg}
 use Rattle.pm_table.specs.declared.reg.Reg.TheVariants.{Operation, VoutCommand, VoutMax, MarginHigh, MarginLow, VoutMin}
 use Rattle.pm_rail.specs.declared.registers.Registers.{Registers}
-use Rattle.pm_rail.specs.Known.{known_of}
+use Rattle.pm_num.specs.AnyFormat.{shape_of}
+use Rattle.pm_rail.specs.Known.{cells_of, known_of}
 use Rattle.pm_rail.specs.Registers.{held_by}
 use Rattle.pm_rail.proofs.known.known_of.Goals as goal
 
@@ -18,7 +19,7 @@ returns c =
       margin_low = c.known_or-5.result;
       min = c.known_or-6.result;
     } in
-    fun_ext (λ (r : Reg). elim r as (λ q. held_by registers q ≡ known_of (held None c.args.host.now) c.args.output q) [
+    fun_ext (λ (r : Reg). elim r as (λ q. held_by registers q ≡ known_of (cells_of c.args.part (shape_of c.args.format.now) (held None c.args.host.now)) c.args.output q) [
       | Operation ↦ c.known_or.ensures
       | VoutCommand ↦ c.known_or-2.ensures
       | VoutMax ↦ c.known_or-3.ensures

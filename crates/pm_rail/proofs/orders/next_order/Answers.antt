@@ -2,7 +2,9 @@ use Rattle.std.proofs.Common.{◌∙◌, Option, ap}
 use Rattle.pm_host.specs.declared.stage.Stage.{Stage}
 use Rattle.pm_host.specs.Image.{held}
 use Rattle.pm_host.specs.Summary.{Summary}
+use Rattle.pm_limits.specs.declared.part_registers.PartRegisters.{PartRegisters}
 use Rattle.pm_limits.specs.Bounds.{Bounds}
+use Rattle.pm_limits.specs.Guard.{limits_at}
 use Rattle.pm_rail.specs.Orders.{plan_of}
 use Rattle.pm_rail.specs.Registers.{wants_of}
 use Rattle.pm_rail.proofs.orders.next_order.Goals as goal
@@ -11,7 +13,9 @@ pub returns : goal.returns
 returns c =
     let wants = wants_of c.args.wanted.now in
     c.next_order_in.ensures
-    ∙ ap (λ (stage : Option Stage). plan_of (held stage c.state.result.now) c.limits-limits.result c.args.output wants)
+    ∙ ap (λ (stage : Option Stage). plan_of c.registers.result (held stage c.state.result.now) c.limits-limits.result c.args.output wants)
     c.stage.ensures
-    ∙ ap (λ (s : Summary). plan_of s c.limits-limits.result c.args.output wants) (c.state.ensures.state ∙ c.host-host.ensures)
-    ∙ ap (λ (l : Option Bounds). plan_of c.args.guard.now.host l c.args.output wants) c.limits-limits.ensures
+    ∙ ap (λ (s : Summary). plan_of c.registers.result s c.limits-limits.result c.args.output wants) (c.state.ensures.state ∙ c.host-host.ensures)
+    ∙ ap (λ (l : Option Bounds). plan_of c.registers.result c.args.guard.now.host l c.args.output wants) c.limits-limits.ensures
+    ∙ ap (λ (part : PartRegisters). plan_of part c.args.guard.now.host (limits_at c.args.guard.now c.args.output) c.args.output wants)
+    c.registers.ensures
