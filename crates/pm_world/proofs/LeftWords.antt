@@ -3,6 +3,7 @@
 use Rattle.std.proofs.Common.{◌≡◌, ℕ, ◌≤◌, ◌<◌, Bool, true, false, cond, ◌||◌, List, [], ◌∷◌, length, refl, sym, ◌∙◌, ap, ap₂, subst, arith}
 use Rattle.pm_table.specs.declared.cell.Cell.{Cell}
 use Rattle.pm_table.specs.declared.cell.Cell.TheVariants.{Out}
+use Rattle.pm_table.specs.declared.reg.Reg.{Reg}
 use Rattle.pm_table.specs.Cell.{cell_accepts, IsCell}
 use Rattle.pm_device.specs.declared.config.Config.{Config}
 use Rattle.pm_host.specs.declared.possible.Possible.{Possible}
@@ -87,6 +88,21 @@ left-possible laws {config = config} {passes = passes} {events = events} {retold
     (ap₂ is_possible (sym left) same ∙ among)
     (ap (cell_accepts cell) (sym left) ∙ (knows laws other passes retold again).accepted cell
     (subst (λ (c : Config). IsCell c.count cell) (sym (now-config other passes retold)) there))
+
+-- the words that are left are ones that their cells accept
+pub chosen-accepted : Below → {config : Config} {passes : ℕ} {events retold : List Event} {chosen : Choice} {other : Config} →
+    IsLived config passes events →
+    Leaves config passes (since_restart (life config passes events).entries) chosen other retold →
+    (output : ℕ) (register : Reg) → output < config.count → cell_accepts (Out output register) (chosen (Out output register)) ≡ true
+chosen-accepted laws {config = config} {passes = passes} {events = events} {retold = retold} {chosen = chosen} {other = other} lived leaves
+    output register below =
+    let cell = Out output register in
+    let setup = like-setup config other passes leaves.alike.addr leaves.alike.count in
+    let there : IsCell other.count cell = subst (λ n. output < n) (sym leaves.alike.count) below in
+    let again : IsLived other passes retold =
+    record { sound = leaves.sound; made = subst IsSetup (sym setup) lived.made; legal = leaves.legal } in
+    ap (cell_accepts cell) (sym (leaves.left output register below)) ∙ (knows laws other passes retold again).accepted cell
+    (subst (λ (c : Config). IsCell c.count cell) (sym (now-config other passes retold)) there)
 
 -- legal events are taken, where there is room for them
 pub legal-taken : (config : Config) (passes : ℕ) (events : List Event) → length events ≤ event_limit → AreLegal config passes events →

@@ -34,6 +34,7 @@ use Rattle.pm_host.specs.Jobs.{accepted_job}
 use Rattle.pm_host.specs.Summary.{format_at}
 use Rattle.pm_host.specs.Transcript as host
 use Rattle.pm_limits.specs.Band.{HasDens}
+use Rattle.pm_limits.specs.declared.part_registers.PartRegisters.{PartRegisters}
 use Rattle.pm_limits.specs.Bounds.{Bounds, IsWithin}
 use Rattle.pm_limits.specs.Guard.{Guarded, guard_fault}
 use Rattle.pm_limits.specs.Lemmas.Cuts.{Cut, cut-greatest, cut-least}
@@ -115,7 +116,7 @@ commands-own laws {config = config} {passes = passes} {events = events} output l
     }
 
 -- a voltage's register
-selected-voltage : (byte : ℕ) → is_voltage (selected_register byte) ≡ true
+pub selected-voltage : (byte : ℕ) → is_voltage (selected_register byte) ≡ true
 selected-voltage byte = each-selected (λ r. is_voltage r ≡ true) refl refl refl byte
 
 -- the value and the limits of what an output commands
@@ -133,7 +134,7 @@ cut-of config output sound here selected least most =
     }
 
 -- what is cut is at most what the selected value and VOUT_MIN's are at most
-cut-upper : (c : Cut) (z : Ratio) → AtMost c.selected z → AtMost c.least z → AtMost (limited c.selected c.least c.greatest) z
+pub cut-upper : (c : Cut) (z : Ratio) → AtMost c.selected z → AtMost c.least z → AtMost (limited c.selected c.least c.greatest) z
 cut-upper c z s l =
     go (is_above c.selected c.greatest) (is_above c.least c.selected) (is_above c.least c.greatest) refl refl
   where
@@ -145,7 +146,7 @@ cut-upper c z s l =
     go false false crossed o x = s
 
 -- what is cut is at least what the selected value and VOUT_MAX's are at least
-cut-lower : (c : Cut) (z : Ratio) → AtMost z c.selected → AtMost z c.greatest → AtMost z (limited c.selected c.least c.greatest)
+pub cut-lower : (c : Cut) (z : Ratio) → AtMost z c.selected → AtMost z c.greatest → AtMost z (limited c.selected c.least c.greatest)
 cut-lower c z s g =
     go (is_above c.selected c.greatest) (is_above c.least c.selected) (is_above c.least c.greatest) refl
   where
@@ -317,14 +318,15 @@ stays-kept config passes output bounds later before own all register word voltag
       go (inr within) = word-within register bounds (value_for config output word) within
 
 -- a guard lets each event of a guarded life through
-guarded-at : (config : Config) (passes : ℕ) (limits : List (Option Bounds)) (later : List Event) (event : Event) (before : List Event) →
-    AreGuarded config passes limits (later ++ event ∷ before) →
-    option_and_then (guard_fault (record { host = (now config passes before).host; limits = limits })) (asked_by event) ≡ None
-guarded-at config passes limits [] event before all = all.0
-guarded-at config passes limits (newer ∷ later) event before all = guarded-at config passes limits later event before all.1
+guarded-at : (config : Config) (passes : ℕ) (part : PartRegisters) (limits : List (Option Bounds)) (later : List Event) (event : Event) (before : List Event) →
+    AreGuarded config passes part limits (later ++ event ∷ before) →
+    option_and_then (guard_fault (record { host = (now config passes before).host; limits = limits; registers = part }))
+    (asked_by event) ≡ None
+guarded-at config passes part limits [] event before all = all.0
+guarded-at config passes part limits (newer ∷ later) event before all = guarded-at config passes part limits later event before all.1
 
 -- a word that a guard lets be ordered lies within its limits, in the format that the host knows
-ordered-within : (g : Guarded) (asked : Option Job) (output : ℕ) (register : Reg) (word : ℕ) (bounds : Bounds) →
+pub ordered-within : (g : Guarded) (asked : Option Job) (output : ℕ) (register : Reg) (word : ℕ) (bounds : Bounds) →
     option_and_then (guard_fault g) asked ≡ None →
     option_and_then (accepted_job g.host) asked ≡ Some (host.Order (Out output register) word) →
     is_voltage register ≡ true → slice_index_or g.limits output None ≡ Some bounds →
@@ -334,7 +336,7 @@ ordered-within g (Some job) output register word bounds free is voltage limits =
     guarded-voltage g job output register word bounds free is voltage limits
 
 -- a word within limits in the format that a host knows lies within them in the converter's own, which is the same
-in-format : (known : Option Shape) (own : Shape) (word : ℕ) (bounds : Bounds) →
+pub in-format : (known : Option Shape) (own : Shape) (word : ℕ) (bounds : Bounds) →
     ((shape : Shape) → known ≡ Some shape → shape ≡ own) →
     IsSomeAnd known (λ shape. IsWithin bounds (shape_value shape word)) → IsWithin bounds (shape_value own word)
 in-format None own word bounds agree within = absurd within
@@ -343,31 +345,31 @@ in-format (Some shape) own word bounds agree within =
 
 -- where each job went through a guard, an own word is the start word or lies within the guard's limits
 stays-ordered : Below → {config : Config} {passes : ℕ} {events : List Event} → IsLived config passes events → IsSpelled config →
-    (output : ℕ) (bounds : Bounds) (limits : List (Option Bounds)) → output < config.count →
-    slice_index_or limits output None ≡ Some bounds → AreGuarded config passes limits events →
+    (output : ℕ) (bounds : Bounds) (part : PartRegisters) (limits : List (Option Bounds)) → output < config.count →
+    slice_index_or limits output None ≡ Some bounds → AreGuarded config passes part limits events →
     (register : Reg) (word : ℕ) → is_voltage register ≡ true → IsOwnWord config passes events (Out output register) word →
     (word ≡ start_word config (Out output register)) ⊎ IsWithin bounds (value_for config output word)
-stays-ordered laws lived spelled output bounds limits here are all register word voltage (inl start) = inl start
-stays-ordered laws {config = config} {passes = passes} {events = events} lived spelled output bounds limits here are all register
+stays-ordered laws lived spelled output bounds part limits here are all register word voltage (inl start) = inl start
+stays-ordered laws {config = config} {passes = passes} {events = events} lived spelled output bounds part limits here are all register
     word voltage (inr was) =
     let s = (now config passes was.before).host in
-    let past = subst (AreGuarded config passes limits) was.is all in
+    let past = subst (AreGuarded config passes part limits) was.is all in
     let whole = subst (IsLived config passes) was.is lived in
     let newest = lived-before config passes was.later (was.event ∷ was.before) whole in
     let before = lived-before config passes (was.event ∷ []) was.before newest in
     let agree = formats-agree laws config passes was.before before spelled in
     inr (in-format (format_at s output) (shape_for config output) word bounds (agree.held output)
-    (ordered-within (record { host = s; limits = limits }) (asked_by was.event) output register word bounds
-    (guarded-at config passes limits was.later was.event was.before past)
+    (ordered-within (record { host = s; limits = limits; registers = part }) (asked_by was.event) output register word bounds
+    (guarded-at config passes part limits was.later was.event was.before past)
     (told-asked config passes was.before was.event (Out output register) word was.orders) voltage are))
 
 -- limits allow an output's own words where they allow its start words and each job went through a guard with them
 stays-guarded : Below → {config : Config} {passes : ℕ} {events : List Event} → IsLived config passes events → IsSpelled config →
-    (output : ℕ) (bounds : Bounds) (limits : List (Option Bounds)) → output < config.count →
-    slice_index_or limits output None ≡ Some bounds → AreGuarded config passes limits events →
+    (output : ℕ) (bounds : Bounds) (part : PartRegisters) (limits : List (Option Bounds)) → output < config.count →
+    slice_index_or limits output None ≡ Some bounds → AreGuarded config passes part limits events →
     StartsWithin config output bounds → OwnWithin config passes events output bounds
-stays-guarded laws {config = config} lived spelled output bounds limits here are all starts register word voltage is =
-    go (stays-ordered laws lived spelled output bounds limits here are all register word voltage is) where
+stays-guarded laws {config = config} lived spelled output bounds part limits here are all starts register word voltage is =
+    go (stays-ordered laws lived spelled output bounds part limits here are all register word voltage is) where
       go : (word ≡ start_word config (Out output register)) ⊎ IsWithin bounds (value_for config output word) →
           WordWithin register bounds (value_for config output word)
       go (inl start) = subst (λ (w : ℕ). WordWithin register bounds (value_for config output w)) (sym start) (starts register voltage)

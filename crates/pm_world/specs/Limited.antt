@@ -10,6 +10,7 @@ use Rattle.pm_device.specs.declared.config.Config.{Config}
 use Rattle.pm_device.specs.Held.{value_for}
 use Rattle.pm_device.specs.Start.{start_word}
 use Rattle.pm_host.specs.Transcript as host
+use Rattle.pm_limits.specs.declared.part_registers.PartRegisters.{PartRegisters}
 use Rattle.pm_limits.specs.Bounds.{Bounds, IsWithin}
 use Rattle.pm_limits.specs.Guard.{guard_fault}
 use Rattle.pm_world.specs.declared.event.Event.{Event}
@@ -65,13 +66,13 @@ pub record MinAtLeast (config : Config) (passes : ℕ) (events : List Event) (ou
       IsOwnWord config passes events (Out output VoutMax) most →
       AtMost (value_for config output word) (value_for config output most)
 
--- each job that was asked for is one that a guard with these limits lets through
-abbrev pub AreGuarded : Config → ℕ → List (Option Bounds) → List Event → Type 0
-AreGuarded config passes limits [] = Unit {0}
-AreGuarded config passes limits (event ∷ before) =
-    (option_and_then (guard_fault (record { host = (now config passes before).host; limits = limits }))
+-- each job that was asked for is one that a guard with these limits, of a part with these registers, lets through
+abbrev pub AreGuarded : Config → ℕ → PartRegisters → List (Option Bounds) → List Event → Type 0
+AreGuarded config passes part limits [] = Unit {0}
+AreGuarded config passes part limits (event ∷ before) =
+    (option_and_then (guard_fault (record { host = (now config passes before).host; limits = limits; registers = part }))
     (asked_by event) ≡ None)
-    × AreGuarded config passes limits before
+    × AreGuarded config passes part limits before
 
 -- At each moment of the events, whatever was lost, cut, damaged or repeated, and whichever end restarted: an output
 -- whose own words are all within limits commands a voltage within them (`limited`); it commands no more than the
@@ -89,11 +90,11 @@ pub record StaysLimited (config : Config) (passes : ℕ) (events : List Event) :
   pub least : (output : ℕ) (least : Ratio) (later before : List Event) → output < config.count →
       events ≡ later ++ before → MinAtLeast config passes events output least →
       AtMost least (commands config passes before output)
-  pub guarded : (output : ℕ) (bounds : Bounds) (limits : List (Option Bounds)) → output < config.count →
-      slice_index_or limits output None ≡ Some bounds → AreGuarded config passes limits events →
+  pub guarded : (output : ℕ) (bounds : Bounds) (part : PartRegisters) (limits : List (Option Bounds)) → output < config.count →
+      slice_index_or limits output None ≡ Some bounds → AreGuarded config passes part limits events →
       StartsWithin config output bounds → OwnWithin config passes events output bounds
-  pub ordered : (output : ℕ) (bounds : Bounds) (limits : List (Option Bounds)) → output < config.count →
-      slice_index_or limits output None ≡ Some bounds → AreGuarded config passes limits events →
+  pub ordered : (output : ℕ) (bounds : Bounds) (part : PartRegisters) (limits : List (Option Bounds)) → output < config.count →
+      slice_index_or limits output None ≡ Some bounds → AreGuarded config passes part limits events →
       (register : Reg) (word : ℕ) → is_voltage register ≡ true →
       IsOwnWord config passes events (Out output register) word →
       (word ≡ start_word config (Out output register)) ⊎ IsWithin bounds (value_for config output word)

@@ -8,12 +8,12 @@ use Rattle.pm_world.proofs.Exact.{witness-leaves}
 use Rattle.pm_world.proofs.laws.bands_are_exact.Goals as goal
 
 pub returns : goal.returns
-returns c = λ config passes events sides spelled lived fresh open'.
+returns c = λ config passes part events sides spelled lived fresh untold open'.
     let laws = c.lower_laws.ensures in
     let entries = since_restart (life config passes events).entries in
-    let chosen = end_choices config (now config passes events).host sides in
-    let leaves = witness-leaves laws chosen lived fresh open' (ends-possible laws sides lived) in (
+    let chosen = end_choices part config (now config passes events).host sides in
+    let leaves = witness-leaves laws chosen lived fresh open' (ends-possible laws part sides lived fresh open' untold) in (
       leaves,
-      end-left laws sides lived spelled entries (witness_start config (due_before chosen (marks (setup_of config passes) entries)))
+      end-left laws part sides lived spelled entries (witness_start config (due_before chosen (marks (setup_of config passes) entries)))
           (witness_events (setup_of config passes) chosen entries) leaves,
     )
