@@ -20,8 +20,12 @@ use Rattle.pm_limits.specs.declared.fault.LimitFault.TheVariants.{LimitsInverted
 use Rattle.pm_limits.specs.declared.fault.LimitFault.TheVariants.{Host}
 use Rattle.pm_limits.specs.declared.fault.LimitFault.TheVariants as limits
 use Rattle.pm_limits.specs.FaultWords.{limit_fault_number, limit_fault_words}
+use Rattle.pm_rail.specs.declared.fault.PlanFault.{PlanFault}
+use Rattle.pm_rail.specs.declared.fault.PlanFault.TheVariants as plan
+use Rattle.pm_rail.specs.FaultWords.{plan_fault_words}
 use Rattle.pm_host_c.specs.Host.{step_kind}
 use Rattle.pm_host_c.specs.Names.{end_words, refusal_words, step_words}
+use Rattle.pm_host_c.specs.Numbers.{plan_number}
 
 -- under its number each fault of limits, those of their host included, has its own words
 limit : (fault : LimitFault) → refusal_words (limit_fault_number fault) ≡ Some (limit_fault_words fault)
@@ -72,6 +76,17 @@ config (setup.BadStart cell) = refl
 config setup.Address = refl
 config (setup.BadMode output fault) = refl
 config (setup.BadCoefficients fault) = refl
+
+-- under its number each refusal of a plan, about whatever cell, has its own words
+planned : (fault : PlanFault) → refusal_words (plan_number fault) ≡ Some (plan_fault_words fault)
+planned plan.Busy = refl
+planned plan.FormatUnknown = refl
+planned (plan.BelowLimit register) = refl
+planned (plan.AboveLimit register) = refl
+planned (plan.NotKnown cell) = refl
+planned (plan.BelowMin register) = refl
+planned (plan.AboveMax register) = refl
+planned (plan.Protected register) = refl
 
 -- under its number each answer of how a job stands has its own words
 step : (s : Step) → end_words (step_kind s) ≡ Some (step_words s)

@@ -2,6 +2,7 @@
 
 ghost use Rattle.pm_host_c.specs.Memory.{MemoriesAreMeanings};
 ghost use Rattle.pm_host_c.specs.Names.{RefusalsAreNamed};
+ghost use Rattle.pm_host_c.specs.Survey.{SurveysAreKept};
 
 use pm_host::images_are_meanings;
 
@@ -18,3 +19,8 @@ pub fn memories_are_meanings()
     // law: an image of a host is that of what it means
     images_are_meanings();
 }
+
+/// What the calls of a survey leave in its memory reads as the survey that they speak of.
+pub fn surveys_are_kept()
+    ensures { SurveysAreKept }
+{}
