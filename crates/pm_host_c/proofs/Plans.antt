@@ -1,5 +1,5 @@
 -- What a plan answers of a host in a caller's memory.
-use Rattle.std.proofs.Common.{◌≡◌, ◌<◌, ℕ, Bool, true, false, List, Option, Some, None, Result, Ok, Err, refl, sym, ap, ◌∙◌, rules}
+use Rattle.std.proofs.Common.{◌≡◌, ◌<◌, ℕ, Bool, true, false, Option, Some, None, Result, Ok, Err, refl, ap, ◌∙◌, rules}
 use Rattle.std.specs.Prelude.{nat_lt, slice_index_or}
 use Rattle.pm_table.specs.declared.cell.Cell.TheVariants.{Out}
 use Rattle.pm_table.specs.declared.reg.Reg.TheVariants.{Operation}
@@ -15,7 +15,6 @@ use Rattle.pm_rail.specs.Laws.{PlansAreAccepted}
 use Rattle.pm_rail.specs.Orders.{plan_of}
 use Rattle.pm_rail.specs.Registers.{Wants}
 use Rattle.pm_host_c.specs.declared.guard_image.GuardImage.{GuardImage}
-use Rattle.pm_host_c.specs.declared.plan.Refused.{Refused}
 use Rattle.pm_host_c.specs.Guard.{guard_of, limits_kept}
 use Rattle.pm_host_c.specs.Host.{job_number}
 use Rattle.pm_host_c.specs.Numbers.{accepted, limit_outcome}
@@ -52,6 +51,6 @@ begins law (Some g) output wants order none is =
     by false false b t = let never = rw (b, t) at is in cc
     by false true b t =
         let plan : plan_of g.host (limits_at g output) output wants ≡ Ok (Some order) =
-            rw b (unnumbered _ _ (rw (b, t) at is)) in
+        rw b (unnumbered _ _ (rw (b, t) at is)) in
         let below : output < g.host.setup.outputs = search rules in
         ap limit_outcome (law g output wants order.register order.word below none plan)

@@ -1,10 +1,10 @@
 -- What a survey asks for, and how its memory is kept.
-use Rattle.std.proofs.Common.{◌≡◌, ◌≢◌, ◌<◌, ℕ, Bool, true, false, List, [], ◌∷◌, Option, Some, None, option_map, refl, sym, ap, ◌∙◌, rules}
+use Rattle.std.proofs.Common.{◌≡◌, ◌≢◌, ◌<◌, ℕ, Bool, true, false, [], ◌∷◌, Option, Some, None, option_map, refl, sym, ap, ◌∙◌, rules}
 use Rattle.std.specs.Prelude.{nat_lt, ◌==◌, ◌&&◌, ◌||◌, not, if◌then◌else◌, is_some, is_none, find}
 use Rattle.pm_table.specs.declared.cell.Cell.TheVariants.{Out, Protect}
 use Rattle.pm_table.specs.declared.reg.Reg.{Reg}
-use Rattle.pm_table.specs.declared.reg.Reg.TheVariants.{Operation, VoutCommand, VoutMax, MarginHigh, MarginLow, VoutMin}
 use Rattle.pm_table.specs.Cell.{registers}
+use Rattle.pm_table.specs.Laws.{RegistersAreInTheTable}
 use Rattle.pm_table.specs.Rules.{first, rule}
 use Rattle.pm_host.specs.declared.job.Job.{Job}
 use Rattle.pm_host.specs.declared.job.Job.TheVariants.{Check, Learn}
@@ -12,7 +12,6 @@ use Rattle.pm_host.specs.declared.job_end.JobEnd.{JobEnd}
 use Rattle.pm_host.specs.declared.job_end.JobEnd.TheVariants.{Done, Learned}
 use Rattle.pm_host.specs.declared.stage.Stage.{Stage}
 use Rattle.pm_host.specs.Image.{held, host_of}
-use Rattle.pm_host.specs.Refusals.{is_busy}
 use Rattle.pm_host.specs.Summary.{Summary, format_at}
 use Rattle.pm_rail.specs.declared.survey.Survey.{Survey}
 use Rattle.pm_rail.specs.declared.wanted.Wanted.{Wanted}
@@ -22,12 +21,11 @@ use Rattle.pm_rail.specs.Registers.{wants_of}
 use Rattle.pm_rail.specs.Survey.{asking, due_job, ended, is_surveyed, is_unread, next_job, survey_of, wanted_in}
 use Rattle.pm_host_c.specs.declared.guard_image.GuardImage.{GuardImage}
 use Rattle.pm_host_c.specs.declared.survey_image.SurveyImage.{SurveyImage}
-use Rattle.pm_host_c.specs.declared.wanted_image.WishImage.{WishImage}
 use Rattle.pm_host_c.specs.Guard.{guard_of}
 use Rattle.pm_host_c.specs.Host.{job_begun, job_number}
 use Rattle.pm_host_c.specs.Memory.{IsMemory}
 use Rattle.pm_host_c.specs.Numbers.{accepted}
-use Rattle.pm_host_c.specs.Survey.{asked_code, asked_held, asked_kind, asked_number, flag, planned_held, survey_image, survey_in, AsksNext}
+use Rattle.pm_host_c.specs.Survey.{asked_code, asked_held, asked_kind, asked_number, flag, survey_image, survey_in, AsksNext}
 use Rattle.pm_host_c.specs.Wanted.{wanted_image, wanted_meant, wish_image, wish_meant}
 use Rattle.pm_host_c.proofs.Plans.{IsAt}
 
@@ -138,30 +136,32 @@ kept : (v : Survey) → v.output < 8 → asked_held (asked_kind v.asked) (asked_
     → survey_in (survey_image v) ≡ Some v
 kept v below asked =
     let there : nat_lt v.output 8 ≡ true = search rules in
-    rw (there, plan-kept v.plan, flag-kept v.learned, flag-kept v.read.operation, flag-kept v.read.command, flag-kept v.read.max,
-    flag-kept v.read.margin_high, flag-kept v.read.margin_low, flag-kept v.read.min, flag-kept v.read.protect, asked) refl
+    rw (
+      there,
+      plan-kept v.plan,
+      flag-kept v.learned,
+      flag-kept v.read.operation,
+      flag-kept v.read.command,
+      flag-kept v.read.max,
+      flag-kept v.read.margin_high,
+      flag-kept v.read.margin_low,
+      flag-kept v.read.min,
+      flag-kept v.read.protect,
+      asked,
+    ) refl
 
 -- a survey that has begun, one that has asked, and one that was told
 pub begun-kept : (output : ℕ) (plan : Option Wanted) (tries : ℕ) → output < 8
     → survey_in (survey_image (survey_of output plan tries)) ≡ Some (survey_of output plan tries)
 begun-kept output plan tries below = kept (survey_of output plan tries) below refl
 
-check-kept : (output : ℕ) (register : Reg)
-    → asked_held (asked_kind (Some (Check (Out output register)))) (asked_code (Some (Check (Out output register)))) output
-    ≡ Some (Check (Out output register))
-check-kept output Operation = refl
-check-kept output VoutCommand = refl
-check-kept output VoutMax = refl
-check-kept output MarginHigh = refl
-check-kept output MarginLow = refl
-check-kept output VoutMin = refl
-
-pub asked-kept : (v : Survey) (s : Summary) → v.output < 8
+pub asked-kept : RegistersAreInTheTable → (v : Survey) (s : Summary) → v.output < 8
     → survey_in (survey_image (asking v (next_job v s))) ≡ Some (asking v (next_job v s))
-asked-kept v s below = next (λ job. survey_in (survey_image (asking v job)) ≡ Some (asking v job)) v s (record {
+asked-kept table v s below = next (λ job. survey_in (survey_image (asking v job)) ≡ Some (asking v job)) v s (record {
   nothing = kept (asking v None) below refl;
   learn = kept (asking v (Some (Learn v.output))) below refl;
-  check = λ register. kept (asking v (Some (Check (Out v.output register)))) below (check-kept v.output register);
+  check = λ register. kept (asking v (Some (Check (Out v.output register)))) below
+      (ap (option_map (λ cell. Check cell)) (table.found register v.output));
   protect = kept (asking v (Some (Check Protect))) below refl;
 })
 

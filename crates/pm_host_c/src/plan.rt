@@ -77,11 +77,13 @@ pub extern "C" fn pm_host_next(
     let plan = planned(host, output, wanted);
     *next = PlanOrderImage::of(plan);
     match plan {
-        Ok(Some(order)) => begin(
-            host,
-            Some(Job::Order(Cell::Out(output, order.register), order.word)),
-        ),
-        Ok(None) => PLAN_DONE,
+        Ok(next) => match next {
+            Some(order) => begin(
+                host,
+                Some(Job::Order(Cell::Out(output, order.register), order.word)),
+            ),
+            None => PLAN_DONE,
+        },
         Err(refused) => refused.number,
     }
 }

@@ -5,7 +5,7 @@ ghost use Rattle.std.specs.Option.{option_map_or};
 ghost use Rattle.pm_host.specs.Image.{held, host_of};
 ghost use Rattle.pm_host.specs.Summary.{possible_at};
 ghost use Rattle.pm_rail.specs.Rail.{are_off as spec_are_off, are_on as spec_are_on, is_off as spec_is_off, power_by as spec_power_by, power_of as spec_power_of};
-ghost use Rattle.pm_host_c.specs.Guard.{guard_of};
+ghost use Rattle.pm_host_c.specs.Guard.{guard_of, limits_kept};
 ghost use Rattle.pm_host_c.specs.Rail.{ends_in, power_word, IsEnds, IsRail};
 ghost use Rattle.pm_host_c.specs.Voltages.{output_number};
 
@@ -46,20 +46,28 @@ pub extern "C" fn pm_host_rail(host: &GuardImage, output: u8, rail: &mut RailIma
     if host.host.state.outputs <= output {
         return HostFault::UnknownOutput.number();
     }
+    *rail = rail_in(host, output);
+    ACCEPTED
+}
+
+// The same of an output that is there. Its number is below 8.
+fn rail_in(host: &GuardImage, output: u8) -> RailImage
+    requires { output < 8 }
+    ensures { IsRail (record { host = held None host.now.host.state; limits = limits_kept host.now }) output result }
+{
     let known = band_in(&host.host.state, output);
     let mut ends = BandImage {
         least: 0,
         greatest: 0,
     };
     let band = put_known(&known, &mut ends);
-    *rail = RailImage {
+    RailImage {
         power: of_power(power_in(&host.host.state, output)),
         within: of_within(within_limits(host.limits(output), known)),
         band,
         unused: [0; 5],
         ends,
-    };
-    ACCEPTED
+    }
 }
 
 // The ends of a band that may be known. H7 where none is, N5 where an end is beyond 10^15 microvolts in size.

@@ -90,7 +90,10 @@ impl SurveyImage {
     pub(crate) fn survey(&self) -> Option<Survey>
         ensures { result ≡ survey_in self.now }
     {
-        if self.mark != SurveyImage::MARK || self.version != SurveyImage::VERSION || 8 <= self.output {
+        if self.mark != SurveyImage::MARK
+            || self.version != SurveyImage::VERSION
+            || 8 <= self.output
+        {
             return None;
         }
         Some(Survey {
