@@ -280,6 +280,13 @@ pm_host_clear(&host, 0)
 pm_host_store(&host)
 pm_host_restore(&host)
 pm_host_run(&host, 0, 0, 0).kind
+pm_host_plan(&host, 0, &wanted, &next)
+pm_host_next(&host, 0, &wanted, &next)
+pm_survey_new(&survey, 0, 8)
+pm_survey_for(&survey, 0, &wanted, 8)
+pm_host_survey(&host, &survey)
+pm_host_run_survey(&host, &survey, 0, 0, 0).kind
+pm_host_run_apply(&host, 0, &wanted, 8, 0, 0, 0).kind
 END
 }
 
@@ -287,7 +294,10 @@ END
 dropped() {
     local call before='#include "pm.h"
 static pm_host host;
-int main(void) {' row=0
+static pm_wanted wanted;
+static pm_plan_order next;
+static pm_survey survey;
+int main(void) { (void)wanted; (void)next; (void)survey;' row=0
     while read -r call; do
         row=$((row + 1))
         echo "$before return $call; }" > "$folder/asks.c"
@@ -358,6 +368,7 @@ for each in $compilers; do
         program "$name pm_host_run" examples/c/run_rows.expected "$compiler $strict" examples/c/run_rows.c $rest --
         program "$name pm_patient_run" examples/c/patient_rows.expected "$compiler $strict" examples/c/patient_rows.c $rest --
         program "$name both ends" examples/c/faults.expected "$compiler $strict" examples/c/faults.c $rest --
+        program "$name rail" examples/c/rail.expected "$compiler $strict" examples/c/rail.c $rest --
         case $each in gcc | clang)
             program "$name firmware" examples/firmware/console.expected "$compiler $strict -Iexamples/firmware" $firmware -- ;;
         esac

@@ -49,17 +49,21 @@ extern "C" {
 /* The version of the library, the greater part in the upper byte; pm_version answers that of the one that was linked. */
 #define PM_VERSION 0x0100
 
-/* The version of a host's layout, its size in bytes, and the stack that a call takes at most: PM_STACK, and PM_NAME_STACK
+/* The versions of a host's layout and a survey's, their sizes in bytes, and the stack that a call takes at most: PM_STACK, and PM_NAME_STACK
  * of pm_refusal_name, in which a loader may bind memmove. docs/firmware.md has what calls take on each processor, and an
  * archive says its own bound as stack-bytes in its section .comment. */
 #define PM_HOST_VERSION 4
 #define PM_HOST_SIZE 2056
+#define PM_SURVEY_VERSION 1
+#define PM_SURVEY_SIZE 40
 #define PM_STACK 2048
 #define PM_NAME_STACK 4096
 
-/* What a call answers: 0, or why it is refused. A refused call changes nothing, but for one: pm_host_sending
- * then writes PM_NOTHING. pm_pec, pm_host_restart_seen and pm_host_within answer something else: each says what, and
- * what the last answers is no number of these. pm_refusal_name gives the name of each, and of those of pm_part.h. */
+/* What a call answers: 0, or why it is refused. A refused call changes nothing, but for three: pm_host_sending then
+ * writes PM_NOTHING, pm_host_plan and pm_host_next the code of the register that the refusal is about. pm_pec,
+ * pm_host_restart_seen and pm_host_within answer something else: each says what, and what the last answers is no number
+ * of these; nor are PM_PLAN_DONE, PM_SURVEY_DONE and PM_SURVEY_SPENT, which refuse nothing. pm_refusal_name gives the
+ * name of each, and of those of pm_part.h. */
 enum {
     PM_OK = 0,
     PM_H1_OUTPUT_COUNT = 0x01,    /* a number of outputs other than 1 to 8 */
@@ -80,6 +84,13 @@ enum {
     PM_L4_ABOVE_LIMIT = 0x24,     /* the word's value is above the output's limits */
     PM_L5_NOT_KNOWN_WITHIN = 0x25, /* this byte leaves the output on, and it isn't known to be within its limits */
     PM_L6_LIMITS_WIDENED = 0x26,  /* the new limits let through what the old ones don't */
+    PM_P1_FORMAT_UNKNOWN = 0x61,  /* P1 to P7: why a plan gives no order. The output's format isn't learned */
+    PM_P2_BELOW_LIMIT = 0x62,     /* a wanted word is below the output's limits */
+    PM_P3_ABOVE_LIMIT = 0x63,     /* a wanted word is above the output's limits */
+    PM_P4_NOT_KNOWN = 0x64,       /* what a register or WRITE_PROTECT holds isn't known: check it */
+    PM_P5_BELOW_MIN = 0x65,       /* a word will be below VOUT_MIN as that will be */
+    PM_P6_ABOVE_MAX = 0x66,       /* a word will be above VOUT_MAX as that will be */
+    PM_P7_PROTECTED = 0x67,       /* WRITE_PROTECT doesn't allow each order that is still to come */
     PM_NO_HOST = 0xE0,            /* the memory holds no host of this version */
     PM_NO_CELL = 0xE1,            /* the command code is no cell's */
     PM_OTHER_FRAME = 0xE2,        /* no frame of this kind is being sent */
@@ -87,6 +98,8 @@ enum {
     PM_NO_PACKET = 0xE4,          /* no packet has these numbers */
     PM_NO_LIMITS = 0xE6,          /* the output has no limits */
     PM_NO_NAME = 0xE7,            /* the number has no name */
+    PM_NO_SURVEY = 0xE9,          /* the memory holds no survey of this version */
+    PM_NO_END = 0xEA,             /* the number is no end of a job */
     PM_F1_NOT_OURS = 0x31,        /* F1 to F8: what is wrong with the bytes of a packet */
     PM_F2_SHORT = 0x32,
     PM_F3_LONG = 0x33,
@@ -96,6 +109,9 @@ enum {
     PM_F7_WRONG_DIRECTION = 0x37,
     PM_F8_NESTED = 0x38
 };
+
+/* What pm_host_plan, pm_host_next and pm_host_survey answer beside 0 where nothing is refused. */
+enum { PM_PLAN_DONE = 0x94, PM_SURVEY_DONE = 0x95, PM_SURVEY_SPENT = 0x96 };
 
 /* The cells: an output and one of these command codes; with WRITE_PROTECT, which is the device's, the
  * output isn't looked at. */
@@ -160,6 +176,37 @@ typedef struct { uint16_t count; pm_cell cells[PM_CELLS]; } pm_known;
 typedef struct { int64_t least, most; } pm_limits;
 typedef struct { int64_t least, greatest; } pm_band;
 
+/* What an output commands, by what is known. An output that is off has its band too, of the register that OPERATION
+ * selects then. */
+enum { PM_POWER_ANY = 0, PM_POWER_ON = 1, PM_POWER_OFF = 2 };
+typedef struct {
+    uint8_t power;     /* PM_POWER_ON or PM_POWER_OFF where each byte that OPERATION may hold has it so, or PM_POWER_ANY */
+    uint8_t within;    /* PM_WITHIN, PM_OUTSIDE or PM_NOT_KNOWN, as pm_host_within answers */
+    uint8_t band;      /* 0 where the band is told in `ends`; otherwise why it isn't, as pm_host_band answers: H7, N5 */
+    uint8_t unused[5];
+    pm_band ends;      /* zeros where it isn't told */
+} pm_rail;
+
+/* A word that is wanted of a register, where `has` isn't 0; and the words that are wanted of an output's voltages. A
+ * register of which none is wanted stays as it is. */
+typedef struct { uint16_t has; uint16_t word; } pm_wish;
+typedef struct { pm_wish command, max, margin_high, margin_low, min; } pm_wanted;
+
+/* An order of a plan: a register, by its command code, and its wanted word. Of a refusal: the code of the register that it
+ * is about, or of WRITE_PROTECT, 0 where it is about none, and word 0. */
+typedef struct {
+    uint8_t code;
+    uint8_t unused;
+    uint16_t word;
+} pm_plan_order;
+
+/* A survey, in memory of yours. Nothing in it is for callers. Any bytes may stand there: each call but pm_survey_new and
+ * pm_survey_for, which make one, asks first for its mark, its version and an output from 0 to 7, and answers PM_NO_SURVEY
+ * where one lacks. It may be copied, and what stands in it is a function of what it means. */
+typedef struct { uint64_t held[PM_SURVEY_SIZE / 8]; } pm_survey;
+
+typedef char pm_survey_has_its_size[sizeof(pm_survey) == PM_SURVEY_SIZE ? 1 : -1];
+
 /* The format of an output's voltages, or of a reading: LINEAR11, which READ_VIN, READ_IOUT and READ_TEMPERATURE_1
  * have, and which no host learns of an output. Microvolts are then millionths of a volt, an ampere or a degree. */
 enum { PM_NO_FORMAT = 0, PM_ULINEAR16 = 1, PM_DIRECT = 2, PM_LINEAR11 = 3 };
@@ -173,9 +220,12 @@ typedef struct {
 /* The version of this library: compare it at start with PM_VERSION, of which the upper byte has to be the same. */
 uint16_t pm_version(void);
 
-/* The size and the version of a pm_host: compare them at start with PM_HOST_SIZE and PM_HOST_VERSION. */
+/* The sizes and the versions of a pm_host and a pm_survey: compare them at start with PM_HOST_SIZE, PM_HOST_VERSION,
+ * PM_SURVEY_SIZE and PM_SURVEY_VERSION. */
 uint64_t pm_host_size(void);
 uint16_t pm_host_version(void);
+uint64_t pm_survey_size(void);
+uint16_t pm_survey_version(void);
 
 /* Makes a host, whatever stood in the memory, for the device at this address, 08h to 77h, which has this
  * many outputs, 1 to 8; a job has at most this many passes or tries, 1 to 15. Nothing is known, and no output has
@@ -268,6 +318,43 @@ uint8_t pm_host_known(const pm_host *host, pm_known *known);
 /* 1 where a restart of the device was seen since the host started, 0 where none was. PM_NO_HOST, which isn't
  * 0 either: ask `pm_host_restart_seen(host) == 1`. */
 uint8_t pm_host_restart_seen(const pm_host *host);
+
+/* ---- A rail ---- */
+
+/* What an output commands, by what is known. PM_NO_HOST, H4; then nothing is written. */
+uint8_t pm_host_rail(const pm_host *host, uint8_t output, pm_rail *rail);
+
+/* The next order on the way from what an output's registers hold to what is wanted, by what is known: 0, and `next` has it;
+ * PM_PLAN_DONE where each has its wanted word, with zeros; or a refusal with its register. No list is kept: after each order
+ * ask again. Each order leaves what the output commands or makes it what it is to be, whatever stood before, and five are the
+ * most. OPERATION is no part of a plan, and has to be known; so have VOUT_MAX, VOUT_MIN, the register that OPERATION selects,
+ * each of which a word is wanted, and WRITE_PROTECT where an order is due: a pm_survey_for reads them. A register is known where one
+ * word alone is possible. PM_NO_HOST, H3, H4, P1 to P7, of several the first; of several registers the first in the order of
+ * OPERATION, VOUT_COMMAND, VOUT_MAX, VOUT_MARGIN_HIGH, VOUT_MARGIN_LOW, VOUT_MIN. All of `next` is written in any case. */
+PM_MUST_USE
+uint8_t pm_host_plan(const pm_host *host, uint8_t output, const pm_wanted *wanted, pm_plan_order *next);
+
+/* The same, and the order begins in the same call, as by pm_host_order: 0, and it has begun. Otherwise nothing has. */
+PM_MUST_USE
+uint8_t pm_host_next(pm_host *host, uint8_t output, const pm_wanted *wanted, pm_plan_order *next);
+
+/* Makes a survey, whatever stood in the memory: of what decides what an output commands (OPERATION, the register that it
+ * selects, VOUT_MAX and VOUT_MIN), or of all that a plan for these words needs. It asks for at most this many jobs. H4 for
+ * an output above 7; then nothing is written. */
+PM_MUST_USE
+uint8_t pm_survey_new(pm_survey *survey, uint8_t output, uint16_t tries);
+PM_MUST_USE
+uint8_t pm_survey_for(pm_survey *survey, uint8_t output, const pm_wanted *wanted, uint16_t tries);
+
+/* Begins the next job of a survey, a learn of its output or a check: 0, and it has begun. Carry it out, and tell the survey
+ * how it ended. PM_SURVEY_DONE where all that it is for is known by good answers that came since it began; PM_SURVEY_SPENT
+ * where it isn't, and no try is left: then nothing begins. PM_NO_HOST, PM_NO_SURVEY, H3, H4. */
+PM_MUST_USE
+uint8_t pm_host_survey(pm_host *host, pm_survey *survey);
+
+/* How that job ended, by the `kind` of its last step: PM_DONE, PM_DIFFERS, PM_UNKNOWN or PM_LEARNED. PM_NO_SURVEY, PM_NO_END
+ * for another number. */
+uint8_t pm_survey_told(pm_survey *survey, uint16_t kind);
 
 /* ---- Names ---- */
 
@@ -365,6 +452,111 @@ static inline pm_step pm_host_run(pm_host *host, pm_write write, pm_read read, v
     if (number != PM_OK)
         step.kind = number;
     return step;
+}
+
+/* How the two loops below end. */
+enum {
+    PM_REACHED = 1,       /* a survey: all that it is for is known; an apply: each wanted word is held, as its last survey says */
+    PM_REFUSED = 2,       /* a call was refused: `number` says why, and `code` which register that is about, or 0 */
+    PM_STILL_DIFFERS = 3, /* the order of the register `code` was given twice, and `word` was read back last in place of its own */
+    PM_SPENT = 4          /* no try is left */
+};
+typedef struct {
+    uint8_t kind;
+    uint8_t number;
+    uint8_t code;
+    uint8_t unused;
+    uint16_t word;
+} pm_rail_end;
+
+static inline pm_rail_end pm_ended(uint8_t kind, uint8_t number, uint8_t code, uint16_t word) {
+    pm_rail_end end = {0, 0, 0, 0, 0};
+    end.kind = kind;
+    end.number = number;
+    end.code = code;
+    end.word = word;
+    return end;
+}
+
+/* Carries a survey out, and takes a try of `left` for each of its jobs. */
+static inline pm_rail_end pm_run_jobs_of(pm_host *host, pm_survey *survey, uint16_t *left, pm_write write, pm_read read,
+                                         void *context) {
+    for (;;) {
+        pm_step step;
+        uint8_t number = pm_host_survey(host, survey);
+        if (number == PM_SURVEY_DONE)
+            return pm_ended(PM_REACHED, 0, 0, 0);
+        if (number == PM_SURVEY_SPENT)
+            return pm_ended(PM_SPENT, 0, 0, 0);
+        if (number != PM_OK)
+            return pm_ended(PM_REFUSED, number, 0, 0);
+        *left = (uint16_t)(*left - 1);
+        step = pm_host_run(host, write, read, context);
+        if (step.kind > PM_LEARNED)
+            return pm_ended(PM_REFUSED, (uint8_t)step.kind, 0, 0);
+        number = pm_survey_told(survey, step.kind);
+        if (number != PM_OK)
+            return pm_ended(PM_REFUSED, number, 0, 0);
+    }
+}
+
+/* Carries a survey out, job after job, until it ends by its own rule, has no tries left or is refused. This loop and the
+ * next are C of the header too: tried under faults (examples/c/rail.c), and not proved. Which job, order or end comes next
+ * is what the library says. */
+PM_MUST_USE
+static inline pm_rail_end pm_host_run_survey(pm_host *host, pm_survey *survey, pm_write write, pm_read read, void *context) {
+    uint16_t left = 0xFFFF;
+    return pm_run_jobs_of(host, survey, &left, write, read, context);
+}
+
+/* Brings an output's registers to the wanted words by at most this many jobs: a survey for the plan, then order after order,
+ * and a survey again where something was ordered. Where nothing is due nothing is written, and what is refused before the
+ * first order has written nothing. An order that differs is given once again, and PM_STILL_DIFFERS at the second time; a
+ * register that isn't known behind an order is checked first. */
+PM_MUST_USE
+static inline pm_rail_end pm_host_run_apply(pm_host *host, uint8_t output, const pm_wanted *wanted, uint16_t tries,
+                                            pm_write write, pm_read read, void *context) {
+    uint16_t left = tries;
+    unsigned differed = 0; /* a bit for each register whose order has differed, by the lower digit of its code */
+    for (;;) {
+        int has_ordered = 0;
+        pm_survey survey;
+        pm_rail_end end;
+        uint8_t number = pm_survey_for(&survey, output, wanted, left);
+        if (number != PM_OK)
+            return pm_ended(PM_REFUSED, number, 0, 0);
+        end = pm_run_jobs_of(host, &survey, &left, write, read, context);
+        if (end.kind != PM_REACHED)
+            return end;
+        for (;;) {
+            pm_step step;
+            pm_plan_order next;
+            unsigned bit;
+            number = left == 0 ? pm_host_plan(host, output, wanted, &next) : pm_host_next(host, output, wanted, &next);
+            if (number == PM_PLAN_DONE)
+                break;
+            if (number != PM_OK && number != PM_P4_NOT_KNOWN)
+                return pm_ended(PM_REFUSED, number, next.code, 0);
+            if (left == 0)
+                return pm_ended(PM_SPENT, 0, next.code, 0);
+            if (number == PM_OK)
+                has_ordered = 1;
+            else if ((number = pm_host_check(host, output, next.code)) != PM_OK)
+                return pm_ended(PM_REFUSED, number, next.code, 0);
+            left = (uint16_t)(left - 1);
+            step = pm_host_run(host, write, read, context);
+            if (step.kind > PM_LEARNED)
+                return pm_ended(PM_REFUSED, (uint8_t)step.kind, 0, 0);
+            if (step.kind != PM_DIFFERS)
+                continue;
+            bit = 1u << (next.code & 15);
+            if (differed & bit)
+                return pm_ended(PM_STILL_DIFFERS, 0, next.code, step.word);
+            differed |= bit;
+        }
+        if (!has_ordered)
+            return pm_ended(PM_REACHED, 0, 0, 0);
+    }
 }
 #endif
 

@@ -1,3 +1,5 @@
 mod Tells
 mod Named
 mod Ceils
+mod Plans
+mod Surveys

@@ -20,11 +20,15 @@ use Rattle.pm_limits.specs.declared.fault.LimitFault.TheVariants.{LimitsInverted
 use Rattle.pm_limits.specs.declared.fault.LimitFault.TheVariants.{Host}
 use Rattle.pm_limits.specs.declared.fault.LimitFault.TheVariants as limits
 use Rattle.pm_limits.specs.FaultWords.{limit_fault_number, limit_fault_words}
+use Rattle.pm_rail.specs.declared.fault.PlanFault.{PlanFault}
+use Rattle.pm_rail.specs.declared.fault.PlanFault.TheVariants as plan
+use Rattle.pm_rail.specs.FaultWords.{plan_fault_words}
 use Rattle.pm_host_c.specs.Host.{step_kind}
 use Rattle.pm_host_c.specs.Names.{end_words, refusal_words, step_words}
+use Rattle.pm_host_c.specs.Numbers.{plan_number}
 
 -- under its number each fault of limits, those of their host included, has its own words
-limit : (fault : LimitFault) → refusal_words (limit_fault_number fault) ≡ Some (limit_fault_words fault)
+pub limit : (fault : LimitFault) → refusal_words (limit_fault_number fault) ≡ Some (limit_fault_words fault)
 limit (Host OutputCount) = refl
 limit (Host Passes) = refl
 limit (Host Busy) = refl
@@ -45,7 +49,7 @@ limit NotKnownWithin = refl
 limit LimitsWidened = refl
 
 -- under its number each fault of a frame, at whatever place, has its own words
-frame : (fault : FrameFault) → refusal_words (frame_fault_number fault) ≡ Some (frame_fault_words fault)
+pub frame : (fault : FrameFault) → refusal_words (frame_fault_number fault) ≡ Some (frame_fault_words fault)
 frame NotOurs = refl
 frame (Short place) = refl
 frame (Long place) = refl
@@ -56,7 +60,7 @@ frame (WrongDirection place) = refl
 frame (Nested place) = refl
 
 -- under its number each refusal of a converter has its own words
-converter : (fault : DeviceFault) → refusal_words (device_fault_number fault) ≡ Some (device_fault_words fault)
+pub converter : (fault : DeviceFault) → refusal_words (device_fault_number fault) ≡ Some (device_fault_words fault)
 converter (device.Frame fault) = refl
 converter device.UnsupportedCode = refl
 converter device.UnsupportedData = refl
@@ -66,15 +70,26 @@ converter device.Nested = refl
 converter device.ReadOnly = refl
 
 -- under its number each fault of a configuration has its own words
-config : (fault : ConfigFault) → refusal_words (config_fault_number fault) ≡ Some (config_fault_words fault)
+pub config : (fault : ConfigFault) → refusal_words (config_fault_number fault) ≡ Some (config_fault_words fault)
 config setup.OutputCount = refl
 config (setup.BadStart cell) = refl
 config setup.Address = refl
 config (setup.BadMode output fault) = refl
 config (setup.BadCoefficients fault) = refl
 
+-- under its number each refusal of a plan, about whatever cell, has its own words
+pub planned : (fault : PlanFault) → refusal_words (plan_number fault) ≡ Some (plan_fault_words fault)
+planned plan.Busy = refl
+planned plan.FormatUnknown = refl
+planned (plan.BelowLimit register) = refl
+planned (plan.AboveLimit register) = refl
+planned (plan.NotKnown cell) = refl
+planned (plan.BelowMin register) = refl
+planned (plan.AboveMax register) = refl
+planned (plan.Protected register) = refl
+
 -- under its number each answer of how a job stands has its own words
-step : (s : Step) → end_words (step_kind s) ≡ Some (step_words s)
+pub step : (s : Step) → end_words (step_kind s) ≡ Some (step_words s)
 step Next = refl
 step (Ended Done) = refl
 step (Ended (Differs word)) = refl

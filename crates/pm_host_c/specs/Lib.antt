@@ -7,5 +7,9 @@ pub mod Memory
 pub mod Names
 pub mod Numbers
 pub mod Packets
+pub mod Plan
+pub mod Rail
 pub mod Sizes
+pub mod Survey
 pub mod Voltages
+pub mod Wanted

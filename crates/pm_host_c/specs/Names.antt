@@ -16,6 +16,10 @@ use Rattle.pm_device.specs.declared.config_fault.ConfigFault.{ConfigFault}
 use Rattle.pm_device.specs.declared.config_fault.ConfigFault.TheVariants as config
 use Rattle.pm_table.specs.declared.fault.TableFault.TheVariants.{VidMode}
 use Rattle.pm_table.specs.declared.cell.Cell.TheVariants.{Protect}
+use Rattle.pm_table.specs.declared.reg.Reg.TheVariants.{VoutCommand}
+use Rattle.pm_rail.specs.declared.fault.PlanFault.{PlanFault}
+use Rattle.pm_rail.specs.declared.fault.PlanFault.TheVariants as plan
+use Rattle.pm_rail.specs.FaultWords.{plan_fault_words}
 use Rattle.pm_device.specs.FaultWords.{config_fault_number, config_fault_words, device_fault_number, device_fault_words}
 use Rattle.pm_limits.specs.declared.fault.LimitFault.{LimitFault}
 use Rattle.pm_limits.specs.declared.fault.LimitFault.TheVariants.{LimitsInverted, BelowLimit, AboveLimit, NotKnownWithin, LimitsWidened, Host}
@@ -23,7 +27,7 @@ use Rattle.pm_limits.specs.declared.fault.LimitFault.TheVariants as limits
 use Rattle.pm_limits.specs.FaultWords.{limit_fault_number, limit_fault_words}
 use Rattle.pm_host_c.specs.declared.name_image.NameImage.{NameImage}
 use Rattle.pm_host_c.specs.Host.{step_kind}
-use Rattle.pm_host_c.specs.Numbers.{accepted, no_name}
+use Rattle.pm_host_c.specs.Numbers.{accepted, no_name, plan_number}
 
 -- every fault of limits, of their host and of a number
 abbrev pub limit_faults : List LimitFault
@@ -50,6 +54,12 @@ config_faults =
     config.OutputCount ∷ config.BadStart Protect ∷ config.Address ∷ config.BadMode 0 VidMode
     ∷ config.BadCoefficients ZeroSlope ∷ []
 
+-- every refusal of a plan, P2 to P7 for some cell; H3 is the host's
+abbrev pub plan_faults : List PlanFault
+plan_faults =
+    plan.FormatUnknown ∷ plan.BelowLimit VoutCommand ∷ plan.AboveLimit VoutCommand ∷ plan.NotKnown Protect
+    ∷ plan.BelowMin VoutCommand ∷ plan.AboveMax VoutCommand ∷ plan.Protected VoutCommand ∷ []
+
 -- the words of the fault that has a number
 abbrev pub limit_words : ℕ → Option (List ℕ)
 limit_words n = option_map limit_fault_words (find (λ fault. limit_fault_number fault == n) limit_faults)
@@ -63,7 +73,10 @@ device_words n = option_map device_fault_words (find (λ fault. device_fault_num
 abbrev pub config_words : ℕ → Option (List ℕ)
 config_words n = option_map config_fault_words (find (λ fault. config_fault_number fault == n) config_faults)
 
--- what only a caller in C can ask wrongly, of a host or of a part
+abbrev pub plan_words : ℕ → Option (List ℕ)
+plan_words n = option_map plan_fault_words (find (λ fault. plan_number fault == n) plan_faults)
+
+-- what only a caller in C can ask wrongly, of a host, a survey or a part
 abbrev pub own_words : ℕ → Option (List ℕ)
 own_words n =
     if n == 0xE0 then Some (codes "NoHost")
@@ -74,7 +87,9 @@ own_words n =
     else (if n == 0xE5 then Some (codes "NoPart")
     else (if n == 0xE6 then Some (codes "NoLimits")
     else (if n == 0xE7 then Some (codes "NoName")
-    else (if n == 0xE8 then Some (codes "NoReading") else None))))))))
+    else (if n == 0xE8 then Some (codes "NoReading")
+    else (if n == 0xE9 then Some (codes "NoSurvey")
+    else (if n == 0xEA then Some (codes "NoEnd") else None))))))))))
 
 -- the words of a refusal, of which each kind has numbers that begin with a digit of its own
 abbrev pub refusal_words : ℕ → Option (List ℕ)
@@ -85,7 +100,8 @@ refusal_words n =
     else (if n / 16 == 3 then frame_words n
     else (if n / 16 == 4 then device_words n
     else (if n / 16 == 5 then config_words n
-    else (if n / 16 == 14 then own_words n else None))))))
+    else (if n / 16 == 6 then plan_words n
+    else (if n / 16 == 14 then own_words n else None)))))))
 
 -- how a job stands, in the words of its lines
 abbrev pub step_words : Step → List ℕ
@@ -116,4 +132,5 @@ pub record RefusalsAreNamed : Type 0 where
   pub frame : (fault : FrameFault) → refusal_words (frame_fault_number fault) ≡ Some (frame_fault_words fault)
   pub device : (fault : DeviceFault) → refusal_words (device_fault_number fault) ≡ Some (device_fault_words fault)
   pub config : (fault : ConfigFault) → refusal_words (config_fault_number fault) ≡ Some (config_fault_words fault)
+  pub plan : (fault : PlanFault) → refusal_words (plan_number fault) ≡ Some (plan_fault_words fault)
   pub step : (step : Step) → end_words (step_kind step) ≡ Some (step_words step)

@@ -1,11 +1,13 @@
 -- The numbers that calls answer, of which no two mean two things: 0 where nothing is refused; a refusal's own,
--- which stands beside its words; E0h to E4h, E6h and E7h for what only a caller in C can ask wrongly; and 91h to 93h
--- for where a voltage lies. This project's own choice.
-use Rattle.std.specs.Prelude.{ℕ, Option, Some, None}
+-- which stands beside its words; E0h to E4h, E6h, E7h, E9h and EAh for what only a caller in C can ask wrongly; 91h to
+-- 93h for where a voltage lies; and 94h to 96h for what has ended. This project's own choice.
+use Rattle.std.specs.Prelude.{ℕ, ◌+◌, ◌/◌, ◌==◌, if◌then◌else◌, Option, Some, None}
 use Rattle.pm_host.specs.declared.fault.HostFault.{HostFault}
 use Rattle.pm_host.specs.FaultWords.{host_fault_number}
 use Rattle.pm_limits.specs.declared.fault.LimitFault.{LimitFault}
 use Rattle.pm_limits.specs.FaultWords.{limit_fault_number}
+use Rattle.pm_rail.specs.declared.fault.PlanFault.{PlanFault}
+use Rattle.pm_rail.specs.FaultWords.{plan_fault_number}
 
 -- nothing is refused
 abbrev pub accepted : ℕ
@@ -39,6 +41,14 @@ no_limits_there = 0xE6
 abbrev pub no_name : ℕ
 no_name = 0xE7
 
+-- the memory holds no survey
+abbrev pub no_survey : ℕ
+no_survey = 0xE9
+
+-- the number is no end of a job
+abbrev pub no_end : ℕ
+no_end = 0xEA
+
 -- an output's voltage lies within its limits, or outside them, or it isn't known
 abbrev pub within_yes : ℕ
 within_yes = 0x91
@@ -48,6 +58,21 @@ within_no = 0x92
 
 abbrev pub within_not_known : ℕ
 within_not_known = 0x93
+
+-- the plan of an output is done, a survey has ended by its own rule, or has no tries left
+abbrev pub plan_done : ℕ
+plan_done = 0x94
+
+abbrev pub survey_done : ℕ
+survey_done = 0x95
+
+abbrev pub survey_spent : ℕ
+survey_spent = 0x96
+
+-- A refusal of a plan: P1 to P7 are 61h to 67h, since the converter's K1 to K7 have 41h to 47h; any other is as the host
+-- has it.
+abbrev pub plan_number : PlanFault → ℕ
+plan_number fault = if plan_fault_number fault / 16 == 4 then plan_fault_number fault + 0x20 else plan_fault_number fault
 
 -- what a call answers that is refused with this, or accepted
 abbrev pub outcome : Option HostFault → ℕ

@@ -33,3 +33,7 @@ host_size = 2 * word_size + 4 + stage_size + 8 * format_size + places * cell_siz
 -- the version of this library, 1.0: the greater part in the upper byte, the lesser in the lower one
 abbrev pub library_version : ℕ
 library_version = 0x0100
+
+-- a survey: the mark, the version and the tries left; six bytes, eight of what was read, and five wishes of a flag and a word
+abbrev pub survey_size : ℕ
+survey_size = 3 * word_size + 6 + 8 + 5 * (2 * word_size)

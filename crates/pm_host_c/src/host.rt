@@ -71,9 +71,9 @@ pub extern "C" fn pm_host_new(host: &mut GuardImage, address: u8, outputs: u8, p
     }
 }
 
-// Begins a job; none is asked for by a code that is no cell's.
+/// Begins a job; none is asked for by a code that is no cell's.
 #[inline(never)]
-fn begin(host: &mut GuardImage, job: Option<Job>) -> u8
+pub(crate) fn begin(host: &mut GuardImage, job: Option<Job>) -> u8
     ensures { BeginsJob host.old job result host.new }
 {
     let Ok(stage) = host.host.read_stage() else {

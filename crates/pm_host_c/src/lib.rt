@@ -18,9 +18,14 @@ mod name_image;
 mod names;
 mod numbers;
 mod packet;
+mod plan;
+mod rail;
 mod sending;
 mod sending_image;
+mod survey;
+mod survey_image;
 #[cfg(test)]
 mod tests;
 mod told;
 mod voltages;
+mod wanted_image;

@@ -85,8 +85,8 @@ pub extern "C" fn pm_host_within(host: &GuardImage, output: u8) -> u8
     of_within(within_limits(host.limits(output), band_in(&host.host.state, output)))
 }
 
-// The number of an answer.
-fn of_within(within: Within) -> u8
+/// The number of an answer.
+pub(crate) fn of_within(within: Within) -> u8
     ensures { result ≡ within_word within }
 {
     match within {
@@ -117,8 +117,8 @@ pub extern "C" fn pm_host_band(host: &GuardImage, output: u8, band: &mut BandIma
     }
 }
 
-// The ends of a band in whole microvolts. N5 where one is beyond 10^15 in size.
-fn put_band(known: &Band, band: &mut BandImage) -> u8
+/// The ends of a band in whole microvolts. N5 where one is beyond 10^15 in size.
+pub(crate) fn put_band(known: &Band, band: &mut BandImage) -> u8
     ensures number { result ≡ ends_number known.now }
     ensures said { result ≡ 0 → IsBand known.now band.new }
     ensures refused { result ≢ 0 → band.new ≡ band.old }

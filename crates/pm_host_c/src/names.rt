@@ -1,7 +1,7 @@
 //! The names of the numbers that calls answer, each from the type whose number it is.
 
 ghost use Rattle.std.specs.Prelude.{◌≡◌, ◌≢◌, ◌≤◌, length, option_map, IfSome, IsSomeAnd};
-ghost use Rattle.pm_host_c.specs.Names.{config_words, device_words, end_words, frame_words, limit_words, own_words, refusal_words as spec_refusal_words, named_number, HasText};
+ghost use Rattle.pm_host_c.specs.Names.{config_words, device_words, end_words, frame_words, limit_words, own_words, plan_words, refusal_words as spec_refusal_words, named_number, HasText};
 
 use crate::name_image::NameImage;
 use crate::numbers::{ACCEPTED, NO_NAME};
@@ -10,7 +10,8 @@ use pm_frame::FrameFault;
 use pm_host::HostFault;
 use pm_limits::LimitFault;
 use pm_num::NumFault;
-use pm_table::{Cell, TableFault};
+use pm_rail::PlanFault;
+use pm_table::{Cell, Reg, TableFault};
 
 /// The letter and the name of a refusal: `H6 TooUncertain`. E7h where the number is no refusal's.
 #[unsafe(no_mangle)]
@@ -71,6 +72,7 @@ fn refusal_words(number: u8) -> Option<&'static str>
         3 => words_of_frame(number),
         4 => words_of_device(number),
         5 => words_of_config(number),
+        6 => words_of_plan(number),
         14 => words_of_own(number),
         _ => None,
     }
@@ -161,7 +163,26 @@ fn words_of_config(number: u8) -> Option<&'static str>
     Some(fault.words())
 }
 
-// The words of what only a caller in C can ask wrongly, of a host or of a part.
+// The words of why a plan gives no order.
+#[inline(never)]
+fn words_of_plan(number: u8) -> Option<&'static str>
+    ensures words { option_map (λ words. words.now) result ≡ plan_words number }
+    ensures short { IfSome result (λ words. length words.now ≤ 31) }
+{
+    let fault = match number {
+        0x61 => PlanFault::FormatUnknown,
+        0x62 => PlanFault::BelowLimit(Reg::VoutCommand),
+        0x63 => PlanFault::AboveLimit(Reg::VoutCommand),
+        0x64 => PlanFault::NotKnown(Cell::Protect),
+        0x65 => PlanFault::BelowMin(Reg::VoutCommand),
+        0x66 => PlanFault::AboveMax(Reg::VoutCommand),
+        0x67 => PlanFault::Protected(Reg::VoutCommand),
+        _ => return None,
+    };
+    Some(fault.words())
+}
+
+// The words of what only a caller in C can ask wrongly, of a host, a survey or a part.
 #[inline(never)]
 fn words_of_own(number: u8) -> Option<&'static str>
     ensures words { option_map (λ words. words.now) result ≡ own_words number }
@@ -177,6 +198,8 @@ fn words_of_own(number: u8) -> Option<&'static str>
         0xE6 => Some("NoLimits"),
         0xE7 => Some("NoName"),
         0xE8 => Some("NoReading"),
+        0xE9 => Some("NoSurvey"),
+        0xEA => Some("NoEnd"),
         _ => None,
     }
 }

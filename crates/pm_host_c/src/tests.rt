@@ -2,6 +2,7 @@ mod calls;
 mod checks;
 mod limits;
 mod packets;
+mod rails;
 
 use self::calls::{
     band, check, clear, finished, format, got, host, learn, limits, microvolts, narrow, nearest,
@@ -11,12 +12,15 @@ use self::calls::{
 use self::checks::{equal, is_true};
 use crate::guard_image::GuardImage;
 use crate::host::{pm_host_size, pm_host_version, pm_version};
+use crate::survey::{pm_survey_size, pm_survey_version};
 use pm_host::{FormatImage, WordsImage};
 
 #[test]
 fn sizes_are_those_of_the_header(rt: HostRuntime) {
     equal(&rt, &pm_host_size(), &2056, &1);
     equal(&rt, &(pm_version(), pm_host_version()), &(0x0100, 4), &2);
+    equal(&rt, &pm_survey_size(), &40, &3);
+    equal(&rt, &pm_survey_version(), &1, &4);
 }
 
 #[test]

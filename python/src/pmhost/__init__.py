@@ -11,10 +11,11 @@ What the library's calls answer is proved (docs/firmware.md says of what); this 
 from ._version import __version__
 from .bus import DeskBus, LinuxBus, NoBus, NoTransfer, PatientBus, Smbus2Bus
 from .errors import (Differs, FrameRefused, HostRefused, LimitRefused, MemoryRefused, NotDone, NumberRefused, PartRefused,
-                     PmhostError, Refused, SetupRefused, Unknown)
-from .host import Band, Bus, Host, Known, Limits, Sending, Step
+                     PlanRefused, PmhostError, Refused, SetupRefused, Unknown)
+from .host import Bus, Host, Known, Limits, Sending, Step
 from .packets import Packet, pec, read_answer, read_request, read_write
 from .part import Output, Part, PartBus
+from .plans import Band, PlanOrder, RailEnd, RailState, Survey, Wanted
 from .pmbus import Pmbus
 from .transfers import Transfers
 from .values import CODES, LINEAR11, Format
@@ -22,7 +23,7 @@ from .values import CODES, LINEAR11, Format
 __all__ = [
     "Band", "Bus", "CODES", "DeskBus", "Differs", "Format", "FrameRefused", "Host", "HostRefused", "Known", "LINEAR11",
     "LimitRefused", "Limits", "LinuxBus", "MemoryRefused", "NoBus", "NoTransfer", "NotDone", "NumberRefused", "Output", "Packet",
-    "Part", "PartBus", "PartRefused", "PatientBus", "PmhostError",
-    "Pmbus", "Refused", "Sending", "SetupRefused", "Smbus2Bus", "Step",
-    "Transfers", "Unknown", "__version__", "pec", "read_answer", "read_request", "read_write",
+    "Part", "PartBus", "PartRefused", "PatientBus", "PlanOrder", "PlanRefused", "PmhostError",
+    "Pmbus", "RailEnd", "RailState", "Refused", "Sending", "SetupRefused", "Smbus2Bus", "Step", "Survey",
+    "Transfers", "Unknown", "Wanted", "__version__", "pec", "read_answer", "read_request", "read_write",
 ]

@@ -8,6 +8,8 @@ PATH = os.environ.get("PMHOST_LIBRARY") or os.path.join(os.path.dirname(os.path.
 VERSION = 0x0100
 HOST_VERSION = 4
 HOST_SIZE = 2056
+SURVEY_VERSION = 1
+SURVEY_SIZE = 40
 CELLS = 49
 
 
@@ -74,6 +76,26 @@ class BandImage(c.Structure):
     _fields_ = [("least", c.c_int64), ("greatest", c.c_int64)]
 
 
+class RailImage(c.Structure):
+    _fields_ = [("power", c.c_uint8), ("within", c.c_uint8), ("band", c.c_uint8), ("unused", c.c_uint8 * 5), ("ends", BandImage)]
+
+
+class WishImage(c.Structure):
+    _fields_ = [("has", c.c_uint16), ("word", c.c_uint16)]
+
+
+class WantedImage(c.Structure):
+    _fields_ = [("command", WishImage), ("max", WishImage), ("margin_high", WishImage), ("margin_low", WishImage), ("min", WishImage)]
+
+
+class PlanOrderImage(c.Structure):
+    _fields_ = [("code", c.c_uint8), ("unused", c.c_uint8), ("word", c.c_uint16)]
+
+
+class SurveyImage(c.Structure):
+    _fields_ = [("held", c.c_uint64 * (SURVEY_SIZE // 8))]
+
+
 class NameImage(c.Structure):
     _fields_ = [("text", c.c_char * 32)]
 
@@ -108,6 +130,7 @@ class ReplyImage(c.Structure):
 
 _u8, _u16, _u64, _i64, _at = c.c_uint8, c.c_uint16, c.c_uint64, c.c_int64, c.POINTER
 _host, _part, _bytes = _at(HostImage), _at(PartImage), c.c_char_p
+_survey, _wanted = _at(SurveyImage), _at(WantedImage)
 
 # Each call: what it answers, and what it takes.
 CALLS = {
@@ -135,6 +158,15 @@ CALLS = {
     "pm_host_format": (_u8, [_host, _u8, _at(FormatImage)]),
     "pm_host_known": (_u8, [_host, _at(KnownImage)]),
     "pm_host_restart_seen": (_u8, [_host]),
+    "pm_host_rail": (_u8, [_host, _u8, _at(RailImage)]),
+    "pm_host_plan": (_u8, [_host, _u8, _wanted, _at(PlanOrderImage)]),
+    "pm_host_next": (_u8, [_host, _u8, _wanted, _at(PlanOrderImage)]),
+    "pm_survey_size": (_u64, []),
+    "pm_survey_version": (_u16, []),
+    "pm_survey_new": (_u8, [_survey, _u8, _u16]),
+    "pm_survey_for": (_u8, [_survey, _u8, _wanted, _u16]),
+    "pm_host_survey": (_u8, [_host, _survey]),
+    "pm_survey_told": (_u8, [_survey, _u16]),
     "pm_refusal_name": (_u8, [_u8, _at(NameImage)]),
     "pm_end_name": (_u8, [_u16, _at(NameImage)]),
     "pm_microvolts": (_u8, [_at(FormatImage), _u16, _at(_i64)]),
@@ -167,8 +199,9 @@ def _library() -> c.CDLL:
             raise ImportError(f"{PATH} is another library than this package is for: it has no {name}")
         call = getattr(_loaded, name)
         call.restype, call.argtypes = answers, takes
-    found = _loaded.pm_version() >> 8, _loaded.pm_host_version(), _loaded.pm_host_size()
-    wanted = VERSION >> 8, HOST_VERSION, c.sizeof(HostImage)
+    found = (_loaded.pm_version() >> 8, _loaded.pm_host_version(), _loaded.pm_host_size(),
+             _loaded.pm_survey_version(), _loaded.pm_survey_size())
+    wanted = VERSION >> 8, HOST_VERSION, c.sizeof(HostImage), SURVEY_VERSION, c.sizeof(SurveyImage)
     if found != wanted:
         raise ImportError(f"{PATH} is another library than this package is for: it says {found}, and not {wanted}")
     return _loaded

@@ -24,6 +24,13 @@ SAYINGS = {
     "L4": "above the output's limits",
     "L5": "the output isn't known to be within its limits: check its registers first",
     "L6": "limits are narrowed, never widened",
+    "P1": "the output's format isn't known: learn it first",
+    "P2": "a wanted word is below the output's limits",
+    "P3": "a wanted word is above the output's limits",
+    "P4": "what the register holds isn't known: check it first",
+    "P5": "the word would be below VOUT_MIN",
+    "P6": "the word would be above VOUT_MAX",
+    "P7": "WRITE_PROTECT doesn't allow an order that is still to come",
     "F1": "bytes of another device, or none",
     "F2": "too few bytes",
     "F3": "too many bytes",
@@ -74,6 +81,16 @@ class LimitRefused(Refused):
     """L1 to L6: what limits refuse."""
 
 
+class PlanRefused(Refused):
+    """P1 to P7: why a plan gives no order. `register` is the one that it is about, None of P1."""
+
+    def __init__(self, number: int, register: str | None = None) -> None:
+        super().__init__(number)
+        self.register = register
+        if register is not None:
+            self.args = (f"{register}: {self.args[0]}",)
+
+
 class FrameRefused(Refused):
     """F1 to F8: bytes that are no packet."""
 
@@ -87,11 +104,12 @@ class PartRefused(Refused):
 
 
 class MemoryRefused(Refused):
-    """What only a caller of the library can ask wrongly: no host, no cell, a frame of the other kind, a word in the store of
-    WRITE_PROTECT, which has none."""
+    """What only a caller of the library can ask wrongly: no host, no cell, no survey, a frame of the other kind, a word in the
+    store of WRITE_PROTECT, which has none."""
 
 
-FAMILIES = {"H": HostRefused, "N": NumberRefused, "L": LimitRefused, "F": FrameRefused, "K": PartRefused, "V": SetupRefused}
+FAMILIES = {"H": HostRefused, "N": NumberRefused, "L": LimitRefused, "P": PlanRefused, "F": FrameRefused, "K": PartRefused,
+            "V": SetupRefused}
 
 
 class NotDone(PmhostError):
@@ -122,6 +140,12 @@ def name_of(number: int) -> str:
 def refusal(number: int) -> Refused:
     """The exception of a refusal's number."""
     return FAMILIES.get(name_of(number)[:1] if " " in name_of(number) else "", MemoryRefused)(number)
+
+
+def refusal_of_plan(number: int, register: str | None) -> Refused:
+    """The same of a plan, with the register that it is about."""
+    found = refusal(number)
+    return PlanRefused(number, register) if isinstance(found, PlanRefused) else found
 
 
 def accepted(number: int) -> None:

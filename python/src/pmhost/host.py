@@ -3,11 +3,12 @@ from __future__ import annotations
 
 import ctypes
 from dataclasses import dataclass
-from typing import Protocol
+from typing import Callable, Protocol
 
 from . import _library as at
 from ._library import library
-from .errors import accepted, refusal
+from .errors import PlanRefused, Refused, accepted, refusal, refusal_of_plan
+from .plans import APPLY_TRIES, ENDS, Band, PlanOrder, RailEnd, RailState, Survey, Tries, Wanted, wanted_image
 from .transfers import Transfers
 from .values import NAMES, Format, code_of, frame_bytes, whole
 
@@ -66,16 +67,10 @@ class Limits:
     most: int
 
 
-@dataclass(frozen=True)
-class Band:
-    """Between which voltages an output may be, in microvolts, the least rounded down and the greatest up."""
-
-    least: int
-    greatest: int
-
-
-ENDS = ("next", "done", "differs", "unknown", "learned")
 WITHIN = {0x91: True, 0x92: False, 0x93: None}
+POWER = {0: None, 1: True, 2: False}
+PLAN_DONE = 0x94
+SURVEYS = {0: "begun", 0x95: "done", 0x96: "spent"}
 
 
 def words_of(image: at.WordsImage) -> tuple[int, ...] | None:
@@ -150,6 +145,40 @@ class Host:
         found = at.BandImage()
         accepted(library.pm_host_band(REFERENCE(self._image), self._there(output), REFERENCE(found)))
         return Band(found.least, found.greatest)
+
+    def rail(self, output: int) -> RailState:
+        """What an output commands, by what is known. An output that is off has its band too."""
+        found = at.RailImage()
+        accepted(library.pm_host_rail(REFERENCE(self._image), self._there(output), REFERENCE(found)))
+        band = None if found.band else Band(found.ends.least, found.ends.greatest)
+        return RailState(POWER[found.power], band, WITHIN[found.within])
+
+    # ---- Plans and surveys ----
+
+    def plan(self, output: int, wanted: Wanted) -> PlanOrder | None:
+        """The next order on the way to the wanted words, by what is known; None where each register has its own. H3, P1 to P7."""
+        return self._planned(library.pm_host_plan, output, wanted)
+
+    def next(self, output: int, wanted: Wanted) -> PlanOrder | None:
+        """The same, and the order begins; None where nothing has begun. H3, P1 to P7."""
+        return self._planned(library.pm_host_next, output, wanted)
+
+    def _planned(self, call: Callable[..., int], output: int, wanted: Wanted) -> PlanOrder | None:
+        found = at.PlanOrderImage()
+        number = call(REFERENCE(self._image), self._there(output), REFERENCE(wanted_image(wanted)), REFERENCE(found))
+        if number == PLAN_DONE:
+            return None
+        if number:
+            raise refusal_of_plan(number, NAMES.get(found.code))
+        return PlanOrder(NAMES[found.code], found.word)
+
+    def survey(self, survey: Survey) -> str:
+        """Begins a survey's next job: `begun`; or it has ended, `done` by its own rule or `spent`, where it has no tries left. H3,
+        H4."""
+        number = library.pm_host_survey(REFERENCE(self._image), REFERENCE(survey.image))
+        if number not in SURVEYS:
+            raise refusal(number)
+        return SURVEYS[number]
 
     # ---- Jobs ----
 
@@ -233,6 +262,64 @@ class Host:
         if step is None:
             raise ValueError("run: no job is open")
         return step
+
+    def run_survey(self, survey: Survey, bus: Bus, transfers: Transfers | None = None) -> RailEnd:
+        """Carries a survey out over a bus, job after job, as `run` does each."""
+        return self._surveyed(survey, bus, transfers, Tries(survey.tries))
+
+    def _surveyed(self, survey: Survey, bus: Bus, transfers: Transfers | None, tries: Tries) -> RailEnd:
+        while True:
+            try:
+                state = self.survey(survey)
+            except Refused as fault:
+                return RailEnd("refused", fault)
+            if state != "begun":
+                return RailEnd("reached" if state == "done" else "spent")
+            tries.left -= 1
+            survey.told(self.run(bus, transfers))
+
+    def run_apply(self, output: int, wanted: Wanted, bus: Bus, tries: int = APPLY_TRIES, transfers: Transfers | None = None,
+                  before_order: Callable[[PlanOrder], None] = lambda order: None,
+                  after_order: Callable[[PlanOrder, Step], None] = lambda order, step: None) -> RailEnd:
+        """Brings an output's registers to the wanted words over a bus, by at most so many jobs: a survey for the plan, then
+        order after order, and a survey again where something was ordered.
+
+        Where nothing is due nothing is written, and what is refused before the first order has written nothing. An order that
+        differs is given once again, and is the end at the second time; a register that isn't known behind an order is checked
+        first. `before_order` is told of each order before its first frame, `after_order` of how it ended."""
+        left, differed = Tries(whole(tries, 0, 0xFFFF, "tries")), set[str]()
+        while True:
+            end = self._surveyed(Survey(output, wanted, left.left), bus, transfers, left)
+            if end.kind != "reached":
+                return end
+            has_ordered = False
+            while True:
+                try:
+                    order = self.next(output, wanted) if left.left else self.plan(output, wanted)
+                except PlanRefused as fault:
+                    if fault.letter != "P4" or fault.register is None:
+                        return RailEnd("refused", fault, fault.register)
+                    if left.left == 0:
+                        return RailEnd("spent", None, fault.register)
+                    self.check(output, fault.register)
+                    left.left -= 1
+                    self.run(bus, transfers)
+                    continue
+                if order is None:
+                    break
+                if left.left == 0:
+                    return RailEnd("spent", None, order.register)
+                has_ordered = True
+                left.left -= 1
+                before_order(order)
+                step = self.run(bus, transfers)
+                after_order(order, step)
+                if step.kind == "differs" and order.register in differed:
+                    return RailEnd("differs", None, order.register, step.word)
+                if step.kind == "differs":
+                    differed.add(order.register)
+            if not has_ordered:
+                return RailEnd("reached")
 
     def give_up(self) -> None:
         """Ends the open job: its frames that are left aren't sent, and are told as failed."""

@@ -2,10 +2,11 @@
 from __future__ import annotations
 
 from decimal import Decimal
-from typing import Iterable, Mapping
+from typing import Callable, Iterable, Mapping
 
 from .errors import Differs, Refused, Unknown
 from .host import Bus, Host, Known, Step
+from .plans import APPLY_TRIES, SURVEY_TRIES, PlanOrder, RailEnd, RailState, Survey, Wanted
 from .transfers import Transfers
 from .values import Volts, code_of, microvolts_of, volts_of, NAMES
 
@@ -56,6 +57,10 @@ class Pmbus:
                 return None
             raise
         return volts_of(found.least), volts_of(found.greatest)
+
+    def rail(self, output: int) -> RailState:
+        """What the output commands, by what is known: `survey` reads what that needs."""
+        return self.host.rail(output)
 
     def volts(self, output: int, register: str | int = "VOUT_COMMAND") -> Decimal | None:
         """The volts of a register whose word is confirmed, rounded down to microvolts; None where none is."""
@@ -124,6 +129,34 @@ class Pmbus:
     def turn_off(self, output: int) -> None:
         """Orders OPERATION 00h. No limit refuses it."""
         self.order(output, "OPERATION", 0x00)
+
+    def survey(self, output: int, wanted: Wanted | None = None, tries: int = SURVEY_TRIES) -> RailEnd:
+        """Reads all that decides what the output commands, or all that a plan for the wanted words needs."""
+        self.transfers = Transfers()
+        return self.host.run_survey(Survey(output, wanted, tries), self.bus, self.transfers)
+
+    def apply(self, output: int, wanted: Wanted, tries: int = APPLY_TRIES,
+              before_order: Callable[[PlanOrder], None] = lambda order: None,
+              after_order: Callable[[PlanOrder, Step], None] = lambda order, step: None) -> RailEnd:
+        """Brings the output's registers to the wanted words, as `Host.run_apply` does."""
+        self.transfers = Transfers()
+        return self.host.run_apply(output, wanted, self.bus, tries, self.transfers, before_order, after_order)
+
+    def set_volts(self, output: int, volts: Volts, register: str | int = "VOUT_COMMAND", tries: int = APPLY_TRIES) -> RailState:
+        """Learns the output's format where it isn't known, applies the word nearest to a voltage, and says what the output
+        commands then. Raises what refused it, and Differs or Unknown where the word isn't known to be held."""
+        if self.host.format(output) is None:
+            self.learn(output)
+        form, name = self.host.format(output), NAMES[code_of(register)]
+        assert form is not None
+        end = self.apply(output, {name: form.nearest(microvolts_of(volts))}, tries)
+        if end.refused is not None:
+            raise end.refused
+        if end.kind != "reached":
+            cell = end.register or name
+            self._ended(Step("differs" if end.kind == "differs" else "unknown", end.word), f"set {output} {volts} V: {cell}",
+                        (output, cell))
+        return self.rail(output)
 
     def clear(self, output: int) -> None:
         """Clears the latched faults of an output: acknowledged, and no more than that."""

@@ -129,7 +129,7 @@ fn a_band_beyond_its_limits_is_outside(rt: HostRuntime) {
 
 // Each refusal that a caller in C alone gets and one of each other kind, with its name; an empty name for a number
 // that has none.
-static REFUSALS: [(u8, &[u8]); 18] = [
+static REFUSALS: [(u8, &[u8]); 24] = [
     (0x00, b""),
     (0x06, b"H6 TooUncertain\0\0"),
     (0x15, b"N5 TooLarge\0"),
@@ -139,6 +139,10 @@ static REFUSALS: [(u8, &[u8]); 18] = [
     (0x47, b"K7 ReadOnly\0"),
     (0x50, b""),
     (0x55, b"V5 BadCoefficients\0"),
+    (0x60, b""),
+    (0x61, b"P1 FormatUnknown\0"),
+    (0x67, b"P7 Protected\0"),
+    (0x68, b""),
     (0xE0, b"NoHost\0"),
     (0xE1, b"NoCell\0"),
     (0xE2, b"OtherFrame\0"),
@@ -148,6 +152,8 @@ static REFUSALS: [(u8, &[u8]); 18] = [
     (0xE6, b"NoLimits\0"),
     (0xE7, b"NoName\0"),
     (0xE8, b"NoReading\0"),
+    (0xE9, b"NoSurvey\0"),
+    (0xEA, b"NoEnd\0"),
 ];
 
 // The kind of a step, and its name.

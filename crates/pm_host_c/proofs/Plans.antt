@@ -1,0 +1,56 @@
+-- What a plan answers of a host in a caller's memory.
+use Rattle.std.proofs.Common.{◌≡◌, ◌<◌, ℕ, Bool, true, false, Option, Some, None, Result, Ok, Err, refl, ap, ◌∙◌, rules}
+use Rattle.std.specs.Prelude.{nat_lt, slice_index_or}
+use Rattle.pm_table.specs.declared.cell.Cell.TheVariants.{Out}
+use Rattle.pm_table.specs.declared.reg.Reg.TheVariants.{Operation}
+use Rattle.pm_host.specs.declared.job.Job.TheVariants.{Order}
+use Rattle.pm_host.specs.Image.{host_of}
+use Rattle.pm_host.specs.Refusals.{is_busy}
+use Rattle.pm_host.specs.Summary.{Summary}
+use Rattle.pm_limits.specs.Bounds.{Bounds}
+use Rattle.pm_limits.specs.Guard.{Guarded, limits_at}
+use Rattle.pm_rail.specs.declared.fault.PlanFault.{PlanFault}
+use Rattle.pm_rail.specs.declared.orders.PlanOrder.{PlanOrder}
+use Rattle.pm_rail.specs.Laws.{PlansAreAccepted}
+use Rattle.pm_rail.specs.Orders.{plan_of}
+use Rattle.pm_rail.specs.Registers.{Wants}
+use Rattle.pm_host_c.specs.declared.guard_image.GuardImage.{GuardImage}
+use Rattle.pm_host_c.specs.Guard.{guard_of, limits_kept}
+use Rattle.pm_host_c.specs.Host.{job_number}
+use Rattle.pm_host_c.specs.Numbers.{accepted, limit_outcome}
+use Rattle.pm_host_c.specs.Plan.{numbered, plan_in}
+
+-- a host whose memory it is, that has no open job, and an output of it
+pub record IsAt (image : GuardImage) (s : Summary) (output : ℕ) : Type 0 where
+  pub found : host_of image.host ≡ Some s
+  pub idle : is_busy s ≡ false
+  pub there : nat_lt output s.setup.outputs ≡ true
+
+-- its plan decides
+pub decides : (image : GuardImage) (s : Summary) (output : ℕ) (wants : Wants) (limits : Option Bounds)
+    (answer : Result (Option PlanOrder) PlanFault) → IsAt image s output → limits ≡ slice_index_or (limits_kept image) output None
+    → answer ≡ plan_of s limits output wants → numbered answer ≡ plan_in (guard_of image) output wants
+decides image s output wants limits answer at same is =
+    ap numbered (is ∙ ap (λ (l : Option Bounds). plan_of s l output wants) same) ∙ rw (at.found, at.idle, at.there) refl
+
+-- an order is one of the plan
+unnumbered : (r : Result (Option PlanOrder) PlanFault) (next : Option PlanOrder) → numbered r ≡ Ok next → r ≡ Ok next
+unnumbered (Ok x) next same = cc
+unnumbered (Err fault) next same = cc
+
+-- what a plan orders is refused by nothing
+pub begins : PlansAreAccepted → (g : Option Guarded) (output : ℕ) (wants : Wants) (order : PlanOrder) → wants Operation ≡ None
+    → plan_in g output wants ≡ Ok (Some order) → job_number g (Some (Order (Out output order.register) order.word)) ≡ accepted
+begins law None output wants order none is = cc
+begins law (Some g) output wants order none is =
+    by (is_busy g.host) (nat_lt output g.host.setup.outputs) refl refl
+  where
+    by : (busy there : Bool) → is_busy g.host ≡ busy → nat_lt output g.host.setup.outputs ≡ there
+        → job_number (Some g) (Some (Order (Out output order.register) order.word)) ≡ accepted
+    by true there b t = let never = rw b at is in cc
+    by false false b t = let never = rw (b, t) at is in cc
+    by false true b t =
+        let plan : plan_of g.host (limits_at g output) output wants ≡ Ok (Some order) =
+        rw b (unnumbered _ _ (rw (b, t) at is)) in
+        let below : output < g.host.setup.outputs = search rules in
+        ap limit_outcome (law g output wants order.register order.word below none plan)

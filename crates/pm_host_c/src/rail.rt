@@ -1,0 +1,153 @@
+//! What an output commands, by what is known.
+
+ghost use Rattle.std.specs.Prelude.{◌≡◌, ◌≢◌, ◌<◌, None, IsSomeAnd};
+ghost use Rattle.std.specs.Option.{option_map_or};
+ghost use Rattle.pm_host.specs.Image.{held, host_of};
+ghost use Rattle.pm_host.specs.Summary.{possible_at};
+ghost use Rattle.pm_rail.specs.Rail.{are_off as spec_are_off, are_on as spec_are_on, is_off as spec_is_off, power_by as spec_power_by, power_of as spec_power_of};
+ghost use Rattle.pm_host_c.specs.Guard.{guard_of, limits_kept};
+ghost use Rattle.pm_host_c.specs.Rail.{ends_in, power_word, IsEnds, IsRail};
+ghost use Rattle.pm_host_c.specs.Voltages.{output_number};
+
+use crate::guard_image::GuardImage;
+use crate::limits::{BandImage, of_within, put_band};
+use crate::numbers::{ACCEPTED, NO_HOST};
+use pm_host::{HostFault, State};
+use pm_limits::{Band, band_in, within_limits};
+use pm_rail::Power;
+use pm_table::{Cell, Operation, Reg};
+
+/// What an output commands, by what is known, as plain numbers. It has no padding.
+#[repr(C)]
+#[derive(Clone, Copy, Debug)]
+pub struct RailImage {
+    /// 1 where it is on, 2 where it is off, 0 where that isn't known.
+    pub power: u8,
+    /// 91h where its band lies within its limits or it has none, 92h where it lies below or above them, otherwise 93h.
+    pub within: u8,
+    /// 0 where its band is told; otherwise why it isn't, H7 or N5.
+    pub band: u8,
+    /// No meaning.
+    pub unused: [u8; 5],
+    /// The ends of its band; zeros where it isn't told.
+    pub ends: BandImage,
+}
+
+/// What an output commands, by what is known: whether it is on, its band and whether that lies within its limits. E0h, H4.
+#[unsafe(no_mangle)]
+pub extern "C" fn pm_host_rail(host: &GuardImage, output: u8, rail: &mut RailImage) -> u8
+    ensures number { result ≡ output_number (host_of host.now.host) output }
+    ensures said { result ≡ 0 → IsSomeAnd (guard_of host.now) (λ g. IsRail g output rail.new) }
+    ensures refused { result ≢ 0 → rail.new ≡ rail.old }
+{
+    if host.host.read_stage().is_err() {
+        return NO_HOST;
+    }
+    if host.host.state.outputs <= output {
+        return HostFault::UnknownOutput.number();
+    }
+    *rail = rail_in(host, output);
+    ACCEPTED
+}
+
+// The same of an output that is there. Its number is below 8.
+fn rail_in(host: &GuardImage, output: u8) -> RailImage
+    requires { output < 8 }
+    ensures { IsRail (record { host = held None host.now.host.state; limits = limits_kept host.now }) output result }
+{
+    let known = band_in(&host.host.state, output);
+    let mut ends = BandImage {
+        least: 0,
+        greatest: 0,
+    };
+    let band = put_known(&known, &mut ends);
+    RailImage {
+        power: of_power(power_in(&host.host.state, output)),
+        within: of_within(within_limits(host.limits(output), known)),
+        band,
+        unused: [0; 5],
+        ends,
+    }
+}
+
+// The ends of a band that may be known. H7 where none is, N5 where an end is beyond 10^15 microvolts in size.
+fn put_known(known: &Option<Band>, ends: &mut BandImage) -> u8
+    ensures number { result ≡ ends_in known.now }
+    ensures said { result ≡ 0 → IsEnds known.now ends.new }
+    ensures refused { result ≢ 0 → ends.new ≡ ends.old }
+{
+    match known {
+        Some(known) => put_band(known, ends),
+        None => HostFault::FormatUnknown.number(),
+    }
+}
+
+// The number of an answer.
+fn of_power(power: Power) -> u8
+    ensures { result ≡ power_word power }
+{
+    match power {
+        Power::On => 1,
+        Power::Off => 2,
+        Power::NotKnown => 0,
+    }
+}
+
+// Whether an output is on.
+fn power_in(host: &State, output: u8) -> Power
+    requires { output < 8 }
+    ensures { result ≡ spec_power_of (possible_at (held None host.now) (Cell.Out output Reg.Operation)) }
+{
+    match host
+        .known
+        .possible(Cell::Out(output, Reg::Operation))
+        .listed()
+    {
+        Some(bytes) => power_by(bytes),
+        None => Power::NotKnown,
+    }
+}
+
+// The same by the bytes that OPERATION may be.
+fn power_by(bytes: &[u16]) -> Power
+    ensures { result ≡ spec_power_by bytes.now }
+{
+    if are_on(bytes) {
+        Power::On
+    } else if are_off(bytes) {
+        Power::Off
+    } else {
+        Power::NotKnown
+    }
+}
+
+// Whether each byte has the output on.
+fn are_on(bytes: &[u16]) -> bool
+    ensures { result ≡ spec_are_on bytes.now }
+{
+    for byte in bytes {
+        if !Operation::has_on(*byte) {
+            return false;
+        }
+    }
+    true
+}
+
+// Whether each byte has the output off.
+fn are_off(bytes: &[u16]) -> bool
+    ensures { result ≡ spec_are_off bytes.now }
+{
+    for byte in bytes {
+        if !is_off(*byte) {
+            return false;
+        }
+    }
+    true
+}
+
+// Whether a byte is one that OPERATION takes, and has the output off.
+fn is_off(byte: u16) -> bool
+    ensures { result ≡ spec_is_off byte }
+{
+    Cell::Out(0, Reg::Operation).accepts(byte) && !Operation::has_on(byte)
+}
