@@ -23,8 +23,9 @@ use Rattle.pm_host.specs.Jobs.{accepted_job}
 use Rattle.pm_host.specs.Refusals.{cell_fault, job_fault, micro_word, order_fault}
 use Rattle.pm_host.specs.Summary.{Summary, format_at, next as host_next, start as host_start}
 use Rattle.pm_host.specs.Transcript as host
+use Rattle.pm_limits.specs.declared.part_registers.PartRegisters.{PartRegisters}
 use Rattle.pm_limits.specs.Bounds.{Bounds, IsWithin, is_wider}
-use Rattle.pm_limits.specs.Guard.{Guarded, LetsBegin, guard_fault, guarded_order, judged, limits_at, of_host, word_fault}
+use Rattle.pm_limits.specs.Guard.{Guarded, LetsBegin, guard_fault, guarded_order, judged, limits_at, missing_cell, missing_ordered, of_host, word_fault}
 use Rattle.pm_limits.specs.Lemmas.Guarded.{guarded-voltage}
 use Rattle.pm_limits.specs.Lemmas.Order.{through}
 use Rattle.pm_world.specs.declared.event.Event.{Event}
@@ -62,33 +63,36 @@ host-none None h = refl
 host-none (Some f) h = cc
 
 -- an order that a guard doesn't refuse isn't refused by its host
-order-free : (limits : Option Bounds) (s : Summary) (cell : Cell) (word : ℕ) → guarded_order limits s cell word ≡ None →
-    order_fault s cell word ≡ None
-order-free limits s cell word free =
+order-free : (part : PartRegisters) (limits : Option Bounds) (s : Summary) (cell : Cell) (word : ℕ) →
+    guarded_order part limits s cell word ≡ None → order_fault s cell word ≡ None
+order-free part limits s cell word free =
     host-none (order_fault s cell word) (first-none (of_host (order_fault s cell word)) None
-    (later-none (judged limits s cell word) _ (later-none (of_host (cell_fault s cell)) _ free)))
+    (later-none (judged part limits s cell word) _
+    (later-none (missing_ordered part cell word) _ (later-none (of_host (cell_fault s cell)) _ free))))
 
 -- a job that is let begin isn't refused by the host
 pub guard-free : (g : Guarded) (asked : Job) (begun : host.Job) → guard_fault g asked ≡ None → accepted_job g.host asked ≡ Some begun →
     job_fault g.host begun ≡ None
 guard-free g (job.Order cell word) begun free is =
     let same : host.Order cell word ≡ begun = cc in
-    subst (λ j. job_fault g.host j ≡ None) same (order-free (limits_at g (output_of cell)) g.host cell word free)
+    subst (λ j. job_fault g.host j ≡ None) same (order-free g.registers (limits_at g (output_of cell)) g.host cell word free)
 guard-free g (job.OrderMicro cell x) begun free is =
-    let third = later-none (word_fault g.host cell x) _ (later-none (of_host (cell_fault g.host cell)) _ free) in
+    let third = later-none (word_fault g.host cell x) _
+    (later-none (missing_cell g.registers cell) _ (later-none (of_host (cell_fault g.host cell)) _ free)) in
     go (micro_word g.host cell x)
-    (first-none (option_and_then (λ n. guarded_order (limits_at g (output_of cell)) g.host cell n) (micro_word g.host cell x)) None
-    third) is
+    (first-none (option_and_then (λ n. guarded_order g.registers (limits_at g (output_of cell)) g.host cell n) (micro_word g.host cell x))
+    None third) is
   where
-    go : (found : Option ℕ) → option_and_then (λ n. guarded_order (limits_at g (output_of cell)) g.host cell n) found ≡ None →
+    go : (found : Option ℕ) →
+        option_and_then (λ n. guarded_order g.registers (limits_at g (output_of cell)) g.host cell n) found ≡ None →
         option_map (λ n. host.Order cell n) found ≡ Some begun → job_fault g.host begun ≡ None
     go None none is' = cc
     go (Some w) none is' =
         let same : host.Order cell w ≡ begun = cc in
-        subst (λ j. job_fault g.host j ≡ None) same (order-free (limits_at g (output_of cell)) g.host cell w none)
+        subst (λ j. job_fault g.host j ≡ None) same (order-free g.registers (limits_at g (output_of cell)) g.host cell w none)
 guard-free g (job.Check cell) begun free is =
     let same : host.Check cell ≡ begun = cc in
-    subst (λ j. job_fault g.host j ≡ None) same (host-none (job_fault g.host (host.Check cell)) free)
+    subst (λ j. job_fault g.host j ≡ None) same (host-none (job_fault g.host (host.Check cell)) (first-none (of_host (cell_fault g.host cell)) _ free))
 guard-free g (job.Learn output) begun free is =
     let same : host.Learn output ≡ begun = cc in
     subst (λ j. job_fault g.host j ≡ None) same (host-none (job_fault g.host (host.Learn output)) free)
@@ -239,9 +243,9 @@ pub runs-so : LawsOfLives → EndsAreTrue → {B : Type 0} (gives : B → Call �
     JobsLead gives held restarts → LeadsCompose gives held restarts → (asked : Job) (end : JobEnd) (old new : Driving B) (middle : Guarded) →
     HasLife old.guard.host (held old.bus) → LetsBegin old.guard asked (Ok tt) middle →
     Leads gives held restarts [] (Some end) (record { host = middle.host; bus = old.bus }) (driven new) → frames_left new.guard.host ≡ 0 →
-    new.guard.limits ≡ middle.limits → new.guard.host.setup ≡ middle.host.setup →
+    new.guard.limits ≡ middle.limits → new.guard.registers ≡ middle.registers → new.guard.host.setup ≡ middle.host.setup →
     Runs gives held restarts asked old (Ok end) new
-runs-so laws law gives held restarts jobs compose asked end old new middle has begins leads over limits kept =
+runs-so laws law gives held restarts jobs compose asked end old new middle has begins leads over limits registers kept =
     let led = job-leads gives held restarts jobs compose asked end (driven old) (driven new) middle.host
     (guard-begun old.guard middle asked begins) leads in
     record {
@@ -253,6 +257,7 @@ runs-so laws law gives held restarts jobs compose asked end old new middle has b
       over = over;
       err = tt;
       limits = limits ∙ begins.limits;
+      registers = registers ∙ begins.registers;
       kept = kept ∙ begins.kept;
       within = λ output bounds narrow lived. stays (accepted_job old.guard.host asked) refl led output bounds narrow lived;
     } where

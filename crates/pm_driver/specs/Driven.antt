@@ -89,6 +89,7 @@ pub record Runs {B : Type 0} (gives : B → Call → B → Type 0) (held : B →
   pub over : OnOk result (frames_left new.guard.host ≡ 0)
   pub err : OnErr result (new ≡ old)
   pub limits : new.guard.limits ≡ old.guard.limits
+  pub registers : new.guard.registers ≡ old.guard.registers
   pub kept : new.guard.host.setup ≡ old.guard.host.setup
   pub within : (output : ℕ) (bounds : Bounds) → AreAsNarrow (limits_at old.guard output) bounds →
       HasLifeWithin output bounds old.guard.host (held old.bus) →

@@ -7,6 +7,7 @@ ghost use Rattle.pm_host.specs.Summary.{Summary};
 ghost use Rattle.pm_table.specs.declared.cell.Cell.{Cell as Place};
 ghost use Rattle.pm_limits.specs.Bounds.{Bounds};
 ghost use Rattle.pm_limits.specs.Guard.{narrow_fault, narrowed};
+ghost use Rattle.pm_limits.specs.Part.{all_registers};
 ghost use Rattle.pm_driver.specs.Acts.{Renewed};
 ghost use Rattle.pm_driver.specs.Driven.{HasLifeWithin, HasNoRestartSince, IsTrueOf, MayBegin, Runs, driven};
 ghost use Rattle.pm_driver.specs.Lives.{Leads};
@@ -43,7 +44,7 @@ impl<B: Bus> Driver<B> {
     /// A driver of a new host without limits, which is otherwise as [`guarded`](Driver::guarded).
     pub fn new(host: Host, bus: B) -> Driver<B>
         requires { MayBegin host (B.held bus) }
-        ensures guard { result.guard ≡ record { host = host; limits = replicate 8 None } }
+        ensures guard { result.guard ≡ record { host = host; limits = replicate 8 None; registers = all_registers } }
         ensures bus { result.bus ≡ bus }
         ensures within { (was : Summary) (output : ℕ) (bounds : Bounds) → was.setup ≡ host.setup →
             HasLifeWithin output bounds was (B.held bus) → HasLifeWithin output bounds host (B.held bus) }
@@ -150,6 +151,7 @@ impl<B: Bus> Driver<B> {
             HasNoRestartSince cell self.new.guard.host (B.held self.new.bus) }
         ensures over { frames_left self.new.guard.host ≡ 0 }
         ensures limits { self.new.guard.limits ≡ self.old.guard.limits }
+        ensures registers { self.new.guard.registers ≡ self.old.guard.registers }
         ensures kept { self.new.guard.host.setup ≡ self.old.guard.host.setup }
         ensures within { (output : ℕ) (bounds : Bounds) →
             HasLifeWithin output bounds self.old.guard.host (B.held self.old.bus) →

@@ -22,6 +22,7 @@ pub fn carry_out<B: Bus>(guard: &mut Guard, bus: &mut B) -> Option<JobEnd>
     ensures some { is_some result ≡ is_busy guard.old.host }
     ensures over { frames_left guard.new.host ≡ 0 }
     ensures limits { guard.new.limits ≡ guard.old.limits }
+    ensures registers { guard.new.registers ≡ guard.old.registers }
     ensures kept { guard.new.host.setup ≡ guard.old.host.setup }
 {
     // Hands its law to the prover.
@@ -46,6 +47,7 @@ fn send<B: Bus>(guard: &mut Guard, bus: &mut B) -> Option<Step>
     ensures over { MatchOption result (frames_left guard.new.host ≡ 0)
         (λ step. OnEnded step (frames_left guard.new.host ≡ 0)) }
     ensures limits { guard.new.limits ≡ guard.old.limits }
+    ensures registers { guard.new.registers ≡ guard.old.registers }
     ensures kept { guard.new.host.setup ≡ guard.old.host.setup }
 {
     // Hands its law to the prover.

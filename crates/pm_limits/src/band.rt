@@ -52,24 +52,13 @@ pub fn band_in(host: &State, registers: PartRegisters, output: u8) -> Option<Ban
         return None;
     }
     match format_in(host, output) {
-        Some(format) => Some(band_by(
-            &format,
-            host,
-            registers,
-            output,
-            operations(host, output),
-        )),
+        Some(format) => Some(band_by(&format, host, registers, output, operations(host, output))),
         None => None,
     }
 }
 
 /// What the band would be with this byte in OPERATION.
-pub(crate) fn band_on(
-    host: &State,
-    registers: PartRegisters,
-    output: u8,
-    byte: u16,
-) -> Option<Band>
+pub(crate) fn band_on(host: &State, registers: PartRegisters, output: u8, byte: u16) -> Option<Band>
     requires { output < 8 }
     ensures { result ≡ spec_band_on registers (held None host.now) output byte }
 {

@@ -38,7 +38,9 @@ pub use band::{Band, band_in, band_of};
 pub use fault::LimitFault;
 pub use guard::Guard;
 pub use judgement::{judge, narrower_limits, ordered_output, within_limits};
-pub use laws::{bands_are_ends, guarded_orders_are_within, missing_limits_cut_nothing, whole_parts_miss_nothing};
+pub use laws::{
+    bands_are_ends, guarded_orders_are_within, missing_limits_cut_nothing, whole_parts_miss_nothing,
+};
 pub use limits::Limits;
 pub use part_registers::PartRegisters;
 pub use side::Side;

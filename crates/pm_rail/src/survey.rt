@@ -51,12 +51,7 @@ impl Reads {
     }
 
     // The first register that the part has, that is needed and that wasn't read.
-    fn first_unread(
-        &self,
-        part: PartRegisters,
-        held: &Registers,
-        wanted: &Wanted,
-    ) -> Option<Reg>
+    fn first_unread(&self, part: PartRegisters, held: &Registers, wanted: &Wanted) -> Option<Reg>
         ensures { result ≡ find (spec_is_unread part self.now (held_by held.now) (wants_of wanted.now)) registers }
     {
         if self.is_unread(part, held, wanted, Reg::Operation) {
@@ -283,7 +278,14 @@ impl Survey {
         ensures { result ≡ spec_is_stuck_by part self.now (held None host.now) (Some (shape_of format.now)) }
     {
         let known = known_of(host, part, format, self.output);
-        is_stuck_in(host, part, format, self.output, &known, &wanted_of(self.plan))
+        is_stuck_in(
+            host,
+            part,
+            format,
+            self.output,
+            &known,
+            &wanted_of(self.plan),
+        )
     }
 }
 

@@ -265,9 +265,11 @@ all-taken (byte ∷ bytes) each =
   where
     or-here : (a b : Bool) → a ≡ true → (a || b) ≡ true
     or-here a b h = cc
+
     or-there : (a b : Bool) → b ≡ true → (a || b) ≡ true
     or-there true b h = refl
     or-there false b h = h
+
     same-number : (n : ℕ) → (n == n) ≡ true
     same-number n = grind (arith, nat_tests)
 

@@ -99,12 +99,7 @@ fn a_part_without_vout_min_is_turned_on_and_put_on_both_margins(rt: HostRuntime)
     for byte in ON {
         let job = Job::Order(first(Reg::Operation), byte);
         equal(&rt, &refusal(&mut guard, job), &None, &byte);
-        equal(
-            &rt,
-            &is_within(&rt, &guard),
-            &(Within::Yes, true),
-            &byte,
-        );
+        equal(&rt, &is_within(&rt, &guard), &(Within::Yes, true), &byte);
     }
     is_band(&rt, &guard, 3892, 4300);
 }
@@ -141,7 +136,10 @@ const ABSENT: Option<LimitFault> = Some(LimitFault::Host(HostFault::UnknownOutpu
 static JOBS: [(Job, Option<LimitFault>); 15] = [
     (Job::Order(Cell::Out(0, Reg::VoutMin), 0), MISSING),
     (Job::OrderMicro(Cell::Out(0, Reg::VoutMin), 0), MISSING),
-    (Job::OrderMicro(Cell::Out(0, Reg::VoutMin), i64::MAX), MISSING),
+    (
+        Job::OrderMicro(Cell::Out(0, Reg::VoutMin), i64::MAX),
+        MISSING,
+    ),
     (Job::Check(Cell::Out(0, Reg::VoutMin)), MISSING),
     (Job::Check(Cell::Out(0, Reg::MarginHigh)), MISSING),
     (Job::Check(Cell::Out(0, Reg::MarginLow)), MISSING),
@@ -363,11 +361,31 @@ fn a_plan_needs_no_missing_register(rt: HostRuntime) {
 
 // Whether a part has VOUT_MAX, the margins, high first, and VOUT_MIN; the word of each of its registers; whether a survey ends by its own rule, and after how many jobs.
 static SURVEYS: [([bool; 4], [u16; 6], (bool, u16)); 5] = [
-    ([true, true, true, true], [0x80, 4096, 5325, 0, 0, 0], (true, 5)),
-    ([true, true, true, false], [0x80, 4096, 5325, 0, 0, 0], (true, 4)),
-    ([false, true, true, true], [0x80, 4096, 5325, 0, 0, 0], (true, 4)),
-    ([true, false, false, true], [0x80, 4096, 5325, 0, 0, 0], (true, 5)),
-    ([true, false, false, true], [0xA8, 4096, 5325, 0, 0, 0], (false, 4)),
+    (
+        [true, true, true, true],
+        [0x80, 4096, 5325, 0, 0, 0],
+        (true, 5),
+    ),
+    (
+        [true, true, true, false],
+        [0x80, 4096, 5325, 0, 0, 0],
+        (true, 4),
+    ),
+    (
+        [false, true, true, true],
+        [0x80, 4096, 5325, 0, 0, 0],
+        (true, 4),
+    ),
+    (
+        [true, false, false, true],
+        [0x80, 4096, 5325, 0, 0, 0],
+        (true, 5),
+    ),
+    (
+        [true, false, false, true],
+        [0xA8, 4096, 5325, 0, 0, 0],
+        (false, 4),
+    ),
 ];
 
 #[test]

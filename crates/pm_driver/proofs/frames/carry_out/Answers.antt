@@ -7,6 +7,7 @@ frames-init g c = record {
   leads = leads-nothing g.B.Bus.gives g.B.Bus.held g.B.Bus.restarts (record { host = c.args.guard.now.host; bus = c.args.bus.now });
   some = refl;
   limits = refl;
+  registers = refl;
   kept = refl;
 }
 
@@ -21,6 +22,7 @@ frames-preserved g c = record {
   some = (let open_now = (rw c.in-Some-Next.field-0-is at c.in-Some-Next.ensures).open in
       open_now ∙ (c.in-Some-Next.ensures.some ∙ c.frames.invariant.some));
   limits = c.in-Some-Next.ensures.limits ∙ c.frames.invariant.limits;
+  registers = c.in-Some-Next.ensures.registers ∙ c.frames.invariant.registers;
   kept = c.in-Some-Next.ensures.kept ∙ c.frames.invariant.kept;
 }
 

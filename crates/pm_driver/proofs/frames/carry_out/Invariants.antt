@@ -10,6 +10,7 @@ invariant-frames g l = record {
       (record { host = l.guard.host; bus = l.bus });
   some : is_busy l.guard.host ≡ is_busy l.fn.guard.host;
   limits : l.guard.limits ≡ l.fn.guard.limits;
+  registers : l.guard.registers ≡ l.fn.guard.registers;
   kept : l.guard.host.setup ≡ l.fn.guard.host.setup;
 }
 

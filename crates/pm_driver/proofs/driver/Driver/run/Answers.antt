@@ -23,4 +23,4 @@ returns g c =
     (runs-so c.laws_of_lives.ensures c.ends_are_true.ensures g.B.Bus.gives g.B.Bus.held g.B.Bus.restarts c.jobs_lead.ensures
     c.leads_compose.ensures c.args.job c.in-Some.end (record { guard = c.self.inside.guard; bus = c.self.inside.bus }) after
     c.begin.new.self c.self.invariant c.in_ok-begin.ensures c.in-Some.ensures.leads c.in-Some.ensures.over c.in-Some.ensures.limits
-    c.in-Some.ensures.kept)
+    c.in-Some.ensures.registers c.in-Some.ensures.kept)
