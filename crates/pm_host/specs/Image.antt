@@ -131,7 +131,7 @@ abbrev pub image_mark : ℕ
 image_mark = 0x504D
 
 abbrev pub image_version : ℕ
-image_version = 4
+image_version = 5
 
 -- the image has this layout
 abbrev pub is_current : Image → Bool

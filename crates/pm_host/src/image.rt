@@ -43,8 +43,8 @@ impl Image {
     /// The mark of an image.
     pub const MARK: u16 = 0x504D;
 
-    /// The number of the layout that this is a part of: `pm_host_c` keeps limits behind it.
-    pub const VERSION: u16 = 4;
+    /// The number of the layout that this is a part of: `pm_host_c` keeps registers and limits behind it.
+    pub const VERSION: u16 = 5;
 
     /// Zeros, which are the image of no host.
     #[tactic(auto, unfolding(crate::specs::Image::host_of))]

@@ -18,7 +18,7 @@
  * A host lives in memory of yours, a pm_host. Any bytes may stand there: each call but pm_host_new, which
  * makes one, asks first whether it is a host, and answers PM_NO_HOST where it isn't, as for zeros and for a
  * host of another version. It looks at the mark, the version, the setup and the stage of the open job, 13 of
- * the 2,056 bytes, and while an order is open at what is known of its cell; at nothing else. So most damage
+ * the 2,064 bytes, and while an order is open at what is known of its cell; at nothing else. So most damage
  * isn't noticed: of flipped bits and overwritten bytes about 0.4 %. Damaged memory that still reads as a
  * host is safe to use, and what it says may be wrong, its limits too: keep it from others.
  *
@@ -52,8 +52,8 @@ extern "C" {
 /* The versions of a host's layout and a survey's, their sizes in bytes, and the stack that a call takes at most: PM_STACK, and PM_NAME_STACK
  * of pm_refusal_name, in which a loader may bind memmove. docs/firmware.md has what calls take on each processor, and an
  * archive says its own bound as stack-bytes in its section .comment. */
-#define PM_HOST_VERSION 4
-#define PM_HOST_SIZE 2056
+#define PM_HOST_VERSION 5
+#define PM_HOST_SIZE 2064
 #define PM_SURVEY_VERSION 1
 #define PM_SURVEY_SIZE 40
 #define PM_STACK 2048
@@ -62,8 +62,8 @@ extern "C" {
 /* What a call answers: 0, or why it is refused. A refused call changes nothing, but for three: pm_host_sending then
  * writes PM_NOTHING, pm_host_plan and pm_host_next the code of the register that the refusal is about. pm_pec,
  * pm_host_restart_seen and pm_host_within answer something else: each says what, and what the last answers is no number
- * of these; nor are PM_PLAN_DONE, PM_SURVEY_DONE and PM_SURVEY_SPENT, which refuse nothing. pm_refusal_name gives the
- * name of each, and of those of pm_part.h. */
+ * of these; nor are PM_PLAN_DONE, PM_SURVEY_DONE, PM_SURVEY_SPENT and PM_SURVEY_STUCK, which refuse nothing.
+ * pm_refusal_name gives the name of each, and of those of pm_part.h. */
 enum {
     PM_OK = 0,
     PM_H1_OUTPUT_COUNT = 0x01,    /* a number of outputs other than 1 to 8 */
@@ -84,6 +84,7 @@ enum {
     PM_L4_ABOVE_LIMIT = 0x24,     /* the word's value is above the output's limits */
     PM_L5_NOT_KNOWN_WITHIN = 0x25, /* this byte leaves the output on, and it isn't known to be within its limits */
     PM_L6_LIMITS_WIDENED = 0x26,  /* the new limits let through what the old ones don't */
+    PM_L7_MISSING_REGISTER = 0x27, /* the part doesn't have the register, or the margin that a byte of OPERATION selects */
     PM_P1_FORMAT_UNKNOWN = 0x61,  /* P1 to P7: why a plan gives no order. The output's format isn't learned */
     PM_P2_BELOW_LIMIT = 0x62,     /* a wanted word is below the output's limits */
     PM_P3_ABOVE_LIMIT = 0x63,     /* a wanted word is above the output's limits */
@@ -100,6 +101,7 @@ enum {
     PM_NO_NAME = 0xE7,            /* the number has no name */
     PM_NO_SURVEY = 0xE9,          /* the memory holds no survey of this version */
     PM_NO_END = 0xEA,             /* the number is no end of a job */
+    PM_NO_BAND = 0xEB,            /* OPERATION may be a byte that hands the output's voltage to AVSBus */
     PM_F1_NOT_OURS = 0x31,        /* F1 to F8: what is wrong with the bytes of a packet */
     PM_F2_SHORT = 0x32,
     PM_F3_LONG = 0x33,
@@ -111,7 +113,7 @@ enum {
 };
 
 /* What pm_host_plan, pm_host_next and pm_host_survey answer beside 0 where nothing is refused. */
-enum { PM_PLAN_DONE = 0x94, PM_SURVEY_DONE = 0x95, PM_SURVEY_SPENT = 0x96 };
+enum { PM_PLAN_DONE = 0x94, PM_SURVEY_DONE = 0x95, PM_SURVEY_SPENT = 0x96, PM_SURVEY_STUCK = 0x97 };
 
 /* The cells: an output and one of these command codes; with WRITE_PROTECT, which is the device's, the
  * output isn't looked at. */
@@ -172,6 +174,10 @@ typedef struct {
 #define PM_CELLS 49
 typedef struct { uint16_t count; pm_cell cells[PM_CELLS]; } pm_known;
 
+/* Which registers of an output a part has, beside OPERATION and VOUT_COMMAND: 0 where it lacks one, any other number where
+ * it has it. The data sheet says it: a part with PAGE_PLUS and no VOUT_MIN is common. */
+typedef struct { uint8_t vout_max, vout_margin_high, vout_margin_low, vout_min; } pm_registers;
+
 /* Limits of an output's voltage in microvolts, which count as within; and the band in which it is known to be. */
 typedef struct { int64_t least, most; } pm_limits;
 typedef struct { int64_t least, greatest; } pm_band;
@@ -182,7 +188,7 @@ enum { PM_POWER_ANY = 0, PM_POWER_ON = 1, PM_POWER_OFF = 2 };
 typedef struct {
     uint8_t power;     /* PM_POWER_ON or PM_POWER_OFF where each byte that OPERATION may hold has it so, or PM_POWER_ANY */
     uint8_t within;    /* PM_WITHIN, PM_OUTSIDE or PM_NOT_KNOWN, as pm_host_within answers */
-    uint8_t band;      /* 0 where the band is told in `ends`; otherwise why it isn't, as pm_host_band answers: H7, N5 */
+    uint8_t band;      /* 0 where the band is told in `ends`; otherwise why it isn't: H7, PM_NO_BAND, N5 */
     uint8_t unused[5];
     pm_band ends;      /* zeros where it isn't told */
 } pm_rail;
@@ -233,12 +239,19 @@ uint16_t pm_survey_version(void);
 PM_MUST_USE
 uint8_t pm_host_new(pm_host *host, uint8_t address, uint8_t outputs, uint8_t passes);
 
+/* The same of a part that lacks registers. A missing VOUT_MIN or VOUT_MAX stands at the end of the output's format, where it
+ * cuts nothing, and is never read by a survey; a job on a missing register, and an order of OPERATION that selects a missing
+ * margin, is refused (L7). pm_host_new makes a host of a part that has all. PM_NO_ADDRESS, H1, H2. */
+PM_MUST_USE
+uint8_t pm_host_new_with(pm_host *host, uint8_t address, uint8_t outputs, uint8_t passes, const pm_registers *registers);
+
 /* Gives an output limits, or narrower ones than it has: a least and a most in microvolts. From then on every order for
  * the output is judged by them, however it is asked: a voltage (VOUT_COMMAND, VOUT_MAX, VOUT_MIN, the margins) by the
  * value of the word that would be sent, and a byte of OPERATION that leaves the output on by the band that would then
  * hold. Turning an output off is never refused by a limit. pm_host_restart keeps limits, pm_host_new drops them. A
  * word that was ordered before stays possible, and what the part or its store holds no host knows: check the
- * registers, and ask pm_host_within. PM_NO_HOST, H4, N5 beyond 10^15, L1, L6. */
+ * registers, and ask pm_host_within. PM_NO_HOST, H4, N5 beyond 10^15, L1, L6, and H3 where an order of the output is
+ * open that the new limits would refuse, since its frame may be sent again. */
 PM_MUST_USE
 uint8_t pm_host_narrow(pm_host *host, uint8_t output, int64_t least, int64_t most);
 
@@ -253,23 +266,24 @@ uint8_t pm_host_within(const pm_host *host, uint8_t output);
 
 /* Between which voltages an output may be, by what is known. No narrower band is true where, since the host started, the
  * device didn't restart, WRITE_PROTECT was neither ordered nor read as other than 00h, and no restore was begun. The least
- * is rounded down, the greatest up. PM_NO_HOST, H4, H7 where its format isn't known, N5 where an end is beyond 10^15
- * microvolts; then nothing is written. */
+ * is rounded down, the greatest up. PM_NO_HOST, H4, H7 where its format isn't known, PM_NO_BAND where OPERATION may hand
+ * its voltage to AVSBus, N5 where an end is beyond 10^15 microvolts; then nothing is written. */
 uint8_t pm_host_band(const pm_host *host, uint8_t output, pm_band *band);
 
 /* Begins an order: at most `passes` times the word is written once and read back once. It ends as
- * PM_DONE, PM_DIFFERS or PM_UNKNOWN. PM_NO_HOST, PM_NO_CELL, H3, H4, then by the output's limits L2, L3 or L4, then
- * H5, L5, H6. */
+ * PM_DONE, PM_DIFFERS or PM_UNKNOWN. PM_NO_HOST, PM_NO_CELL, H3, H4, L7, then by the output's limits L2, L3 or L4,
+ * then H5, L2 or L5 of OPERATION, H6. */
 PM_MUST_USE
 uint8_t pm_host_order(pm_host *host, uint8_t output, uint8_t code, uint16_t word);
 
 /* Begins an order of the word nearest to a number of microvolts, in the format that the last learn of the
- * output found. PM_NO_HOST, PM_NO_CELL, H3, H4, H5, H7, N5, N3 or N4, then L3 or L4 by the value of that word, H6. */
+ * output found. PM_NO_HOST, PM_NO_CELL, H3, H4, L7, H5, H7, N5, N3 or N4, then L3 or L4 by the value of that word,
+ * H6. */
 PM_MUST_USE
 uint8_t pm_host_order_micro(pm_host *host, uint8_t output, uint8_t code, int64_t microvolts);
 
 /* Begins a check: the cell is read at most `passes` times. PM_DONE or PM_UNKNOWN. PM_NO_HOST, PM_NO_CELL,
- * H3, H4. */
+ * H3, H4, L7. */
 PM_MUST_USE
 uint8_t pm_host_check(pm_host *host, uint8_t output, uint8_t code);
 
@@ -303,7 +317,7 @@ pm_step pm_host_finished(pm_host *host, uint8_t acked);
  * PM_NO_HOST, PM_OTHER_FRAME where no request is to be sent. */
 pm_step pm_host_got(pm_host *host, const uint8_t *bytes, uint64_t count);
 
-/* Drops the open job and all that is known of cells and formats. The limits stay. PM_NO_HOST. */
+/* Drops the open job and all that is known of cells and formats. The limits and the registers stay. PM_NO_HOST. */
 uint8_t pm_host_restart(pm_host *host);
 
 /* What is known of a cell's word, the words that it may hold, the format of an output's voltages.
@@ -328,9 +342,10 @@ uint8_t pm_host_rail(const pm_host *host, uint8_t output, pm_rail *rail);
  * PM_PLAN_DONE where each has its wanted word, with zeros; or a refusal with its register. No list is kept: after each order
  * ask again. Each order leaves what the output commands or makes it what it is to be, whatever stood before, and five are the
  * most. OPERATION is no part of a plan, and has to be known; so have VOUT_MAX, VOUT_MIN, the register that OPERATION selects,
- * each of which a word is wanted, and WRITE_PROTECT where an order is due: a pm_survey_for reads them. A register is known where one
- * word alone is possible. PM_NO_HOST, H3, H4, P1 to P7, of several the first; of several registers the first in the order of
- * OPERATION, VOUT_COMMAND, VOUT_MAX, VOUT_MARGIN_HIGH, VOUT_MARGIN_LOW, VOUT_MIN. All of `next` is written in any case. */
+ * each of which a word is wanted, and WRITE_PROTECT where an order is due: a pm_survey_for reads them. A register is known
+ * where one word alone is possible. PM_NO_HOST, H3, H4, L7 where a word is wanted of a register that the part doesn't have,
+ * P1 to P7, of several the first; of several registers the first in the order of OPERATION, VOUT_COMMAND, VOUT_MAX,
+ * VOUT_MARGIN_HIGH, VOUT_MARGIN_LOW, VOUT_MIN. All of `next` is written in any case. */
 PM_MUST_USE
 uint8_t pm_host_plan(const pm_host *host, uint8_t output, const pm_wanted *wanted, pm_plan_order *next);
 
@@ -348,7 +363,8 @@ uint8_t pm_survey_for(pm_survey *survey, uint8_t output, const pm_wanted *wanted
 
 /* Begins the next job of a survey, a learn of its output or a check: 0, and it has begun. Carry it out, and tell the survey
  * how it ended. PM_SURVEY_DONE where all that it is for is known by good answers that came since it began; PM_SURVEY_SPENT
- * where it isn't, and no try is left: then nothing begins. PM_NO_HOST, PM_NO_SURVEY, H3, H4. */
+ * where it isn't, and no try is left; PM_SURVEY_STUCK where it needs a register that isn't known and that the part doesn't
+ * have, as the margin that OPERATION selects: then nothing begins. PM_NO_HOST, PM_NO_SURVEY, H3, H4. */
 PM_MUST_USE
 uint8_t pm_host_survey(pm_host *host, pm_survey *survey);
 
@@ -488,6 +504,8 @@ static inline pm_rail_end pm_run_jobs_of(pm_host *host, pm_survey *survey, uint1
             return pm_ended(PM_REACHED, 0, 0, 0);
         if (number == PM_SURVEY_SPENT)
             return pm_ended(PM_SPENT, 0, 0, 0);
+        if (number == PM_SURVEY_STUCK)
+            return pm_ended(PM_REFUSED, PM_L7_MISSING_REGISTER, 0, 0);
         if (number != PM_OK)
             return pm_ended(PM_REFUSED, number, 0, 0);
         *left = (uint16_t)(*left - 1);

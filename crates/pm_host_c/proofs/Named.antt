@@ -16,7 +16,7 @@ use Rattle.pm_device.specs.declared.config_fault.ConfigFault.{ConfigFault}
 use Rattle.pm_device.specs.declared.config_fault.ConfigFault.TheVariants as setup
 use Rattle.pm_device.specs.FaultWords.{config_fault_number, config_fault_words, device_fault_number, device_fault_words}
 use Rattle.pm_limits.specs.declared.fault.LimitFault.{LimitFault}
-use Rattle.pm_limits.specs.declared.fault.LimitFault.TheVariants.{LimitsInverted, BelowLimit, AboveLimit, NotKnownWithin, LimitsWidened}
+use Rattle.pm_limits.specs.declared.fault.LimitFault.TheVariants.{LimitsInverted, BelowLimit, AboveLimit, NotKnownWithin, LimitsWidened, MissingRegister}
 use Rattle.pm_limits.specs.declared.fault.LimitFault.TheVariants.{Host}
 use Rattle.pm_limits.specs.declared.fault.LimitFault.TheVariants as limits
 use Rattle.pm_limits.specs.FaultWords.{limit_fault_number, limit_fault_words}
@@ -47,6 +47,7 @@ limit BelowLimit = refl
 limit AboveLimit = refl
 limit NotKnownWithin = refl
 limit LimitsWidened = refl
+limit MissingRegister = refl
 
 -- under its number each fault of a frame, at whatever place, has its own words
 pub frame : (fault : FrameFault) → refusal_words (frame_fault_number fault) ≡ Some (frame_fault_words fault)
@@ -80,6 +81,7 @@ config (setup.BadCoefficients fault) = refl
 -- under its number each refusal of a plan, about whatever cell, has its own words
 pub planned : (fault : PlanFault) → refusal_words (plan_number fault) ≡ Some (plan_fault_words fault)
 planned plan.Busy = refl
+planned (plan.MissingRegister register) = refl
 planned plan.FormatUnknown = refl
 planned (plan.BelowLimit register) = refl
 planned (plan.AboveLimit register) = refl

@@ -15,7 +15,7 @@ use Rattle.pm_rail.specs.Laws.{PlansAreAccepted}
 use Rattle.pm_rail.specs.Orders.{plan_of}
 use Rattle.pm_rail.specs.Registers.{Wants}
 use Rattle.pm_host_c.specs.declared.guard_image.GuardImage.{GuardImage}
-use Rattle.pm_host_c.specs.Guard.{guard_of, limits_kept}
+use Rattle.pm_host_c.specs.Guard.{guard_of, limits_kept, registers_held}
 use Rattle.pm_host_c.specs.Host.{job_number}
 use Rattle.pm_host_c.specs.Numbers.{accepted, limit_outcome}
 use Rattle.pm_host_c.specs.Plan.{numbered, plan_in}
@@ -29,9 +29,9 @@ pub record IsAt (image : GuardImage) (s : Summary) (output : ℕ) : Type 0 where
 -- its plan decides
 pub decides : (image : GuardImage) (s : Summary) (output : ℕ) (wants : Wants) (limits : Option Bounds)
     (answer : Result (Option PlanOrder) PlanFault) → IsAt image s output → limits ≡ slice_index_or (limits_kept image) output None
-    → answer ≡ plan_of s limits output wants → numbered answer ≡ plan_in (guard_of image) output wants
+    → answer ≡ plan_of (registers_held image.registers) s limits output wants → numbered answer ≡ plan_in (guard_of image) output wants
 decides image s output wants limits answer at same is =
-    ap numbered (is ∙ ap (λ (l : Option Bounds). plan_of s l output wants) same) ∙ rw (at.found, at.idle, at.there) refl
+    ap numbered (is ∙ ap (λ (l : Option Bounds). plan_of (registers_held image.registers) s l output wants) same) ∙ rw (at.found, at.idle, at.there) refl
 
 -- an order is one of the plan
 unnumbered : (r : Result (Option PlanOrder) PlanFault) (next : Option PlanOrder) → numbered r ≡ Ok next → r ≡ Ok next
@@ -50,7 +50,7 @@ begins law (Some g) output wants order none is =
     by true there b t = let never = rw b at is in cc
     by false false b t = let never = rw (b, t) at is in cc
     by false true b t =
-        let plan : plan_of g.host (limits_at g output) output wants ≡ Ok (Some order) =
+        let plan : plan_of g.registers g.host (limits_at g output) output wants ≡ Ok (Some order) =
         rw b (unnumbered _ _ (rw (b, t) at is)) in
         let below : output < g.host.setup.outputs = search rules in
         ap limit_outcome (law g output wants order.register order.word below none plan)

@@ -23,11 +23,12 @@ awaited stage state (Got bytes) is = is
 -- the host takes it, and answers how the job stands
 pub tells : (old new : GuardImage) (s : Summary) (e : Entry) (result : HostStep) → host_of old.host ≡ Some s
     → may_come s e ≡ true → host_of new.host ≡ Some (next s e) → result ≡ host_step (fault_in s e) (step_of s e)
-    → new.limits ≡ old.limits → (IsMemory old → IsMemory new) → TellsHost old e result new
-tells old new s e result found may became answered limits written = record {
+    → new.limits ≡ old.limits → new.registers ≡ old.registers → (IsMemory old → IsMemory new) → TellsHost old e result new
+tells old new s e result found may became answered limits registers written = record {
   answer = rw (found, may) answered;
   told = λ is. rw found became;
   limits = limits;
+  registers = registers;
   written = written;
   refused = λ is. let never = rw found at is in cc;
 }

@@ -46,11 +46,12 @@ job_begun host job = option_and_then (λ s. option_map (λ accepted. next s (Acc
     (option_and_then (accepted_job s) job)) host
 
 -- How a call begins a job: exactly where the guard of these limits refuses it, it is refused, and leaves the
--- memory as it is. The limits stay, and what stands in memory stays a function of what it means.
+-- memory as it is. The limits and the registers stay, and what stands in memory stays a function of what it means.
 pub record BeginsJob (old : GuardImage) (job : Option Job) (result : ℕ) (new : GuardImage) : Type 0 where
   pub number : result ≡ job_number (guard_of old) job
   pub begun : result ≡ 0 → host_of new.host ≡ job_begun (host_of old.host) job
   pub limits : new.limits ≡ old.limits
+  pub registers : new.registers ≡ old.registers
   pub written : IsMemory old → IsMemory new
   pub refused : result ≢ 0 → new ≡ old
 
@@ -130,6 +131,7 @@ pub record TellsHost (old : GuardImage) (entry : Entry) (result : HostStep) (new
   pub answer : result ≡ told_answer (host_of old.host) entry
   pub told : is_told (host_of old.host) entry ≡ true → host_of new.host ≡ after (host_of old.host) entry
   pub limits : new.limits ≡ old.limits
+  pub registers : new.registers ≡ old.registers
   pub written : IsMemory old → IsMemory new
   pub refused : is_told (host_of old.host) entry ≡ false → new ≡ old
 

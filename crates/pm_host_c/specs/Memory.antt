@@ -1,12 +1,15 @@
 -- What stands in a caller's memory, as a function of what it means: a number without a meaning is 0, and so is each
 -- behind a count. Two hosts that mean the same are then equal byte for byte. This project's own choice.
-use Rattle.std.specs.Prelude.{◌≡◌, pos, List, map, Option, Some, None}
+use Rattle.std.specs.Prelude.{◌≡◌, pos, List, map, replicate, Option, Some, None}
+use Rattle.pm_limits.specs.declared.part_registers.PartRegisters.{PartRegisters}
 use Rattle.pm_limits.specs.Bounds.{Bounds}
 use Rattle.pm_limits.specs.Guard.{Guarded}
 use Rattle.pm_host.specs.Memory.{image_of, IsImage}
 use Rattle.pm_host_c.specs.declared.guard_image.GuardImage.{GuardImage}
 use Rattle.pm_host_c.specs.declared.guard_image.LimitsImage.{LimitsImage}
-use Rattle.pm_host_c.specs.Guard.{guard_of, limits_held}
+use Rattle.pm_host_c.specs.declared.guard_image.RegistersImage.{RegistersImage}
+use Rattle.pm_host_c.specs.Guard.{guard_of, limits_held, registers_held}
+use Rattle.pm_host_c.specs.Numbers.{flag}
 
 -- the limits of an output; a least above the most where it has none
 abbrev pub limits_image : Option Bounds → LimitsImage
@@ -17,15 +20,30 @@ limits_image (Some l) = record { least = l.least; most = l.most }
 abbrev pub AreLimits : List LimitsImage → Type 0
 AreLimits limits = limits ≡ map limits_image (map limits_held limits)
 
--- a host and its limits are
+-- which registers a part has
+abbrev pub registers_image : PartRegisters → RegistersImage
+registers_image r = record {
+  vout_max = flag r.vout_max;
+  vout_margin_high = flag r.vout_margin_high;
+  vout_margin_low = flag r.vout_margin_low;
+  vout_min = flag r.vout_min;
+}
+
+-- a host, its part's registers and its limits are written so
 pub record IsMemory (image : GuardImage) : Type 0 where
   pub host : IsImage image.host
-  pub unused : image.unused ≡ 0
+  pub registers : image.registers ≡ registers_image (registers_held image.registers)
+  pub unused : image.unused ≡ replicate 3 0
   pub limits : AreLimits image.limits
 
 -- the memory of a host with limits
 abbrev pub memory_of : Guarded → GuardImage
-memory_of g = record { host = image_of g.host; unused = 0; limits = map limits_image g.limits }
+memory_of g = record {
+  host = image_of g.host;
+  registers = registers_image g.registers;
+  unused = replicate 3 0;
+  limits = map limits_image g.limits;
+}
 
 -- Memory that is written so is that of the host that it means: two hosts that mean the same have equal memories.
 pub record MemoriesAreMeanings : Type 0 where

@@ -22,7 +22,7 @@ use Rattle.pm_rail.specs.declared.fault.PlanFault.TheVariants as plan
 use Rattle.pm_rail.specs.FaultWords.{plan_fault_words}
 use Rattle.pm_device.specs.FaultWords.{config_fault_number, config_fault_words, device_fault_number, device_fault_words}
 use Rattle.pm_limits.specs.declared.fault.LimitFault.{LimitFault}
-use Rattle.pm_limits.specs.declared.fault.LimitFault.TheVariants.{LimitsInverted, BelowLimit, AboveLimit, NotKnownWithin, LimitsWidened, Host}
+use Rattle.pm_limits.specs.declared.fault.LimitFault.TheVariants.{LimitsInverted, BelowLimit, AboveLimit, NotKnownWithin, LimitsWidened, MissingRegister, Host}
 use Rattle.pm_limits.specs.declared.fault.LimitFault.TheVariants as limits
 use Rattle.pm_limits.specs.FaultWords.{limit_fault_number, limit_fault_words}
 use Rattle.pm_host_c.specs.declared.name_image.NameImage.{NameImage}
@@ -35,7 +35,7 @@ limit_faults =
     Host OutputCount ∷ Host Passes ∷ Host Busy ∷ Host UnknownOutput ∷ Host BadWord ∷ Host TooUncertain
     ∷ Host host.FormatUnknown ∷ Host (Num ZeroSlope) ∷ Host (Num ExponentRange) ∷ Host (Num BelowLeast)
     ∷ Host (Num AboveGreatest) ∷ Host (Num TooLarge) ∷ LimitsInverted ∷ limits.FormatUnknown ∷ BelowLimit
-    ∷ AboveLimit ∷ NotKnownWithin ∷ LimitsWidened ∷ []
+    ∷ AboveLimit ∷ NotKnownWithin ∷ LimitsWidened ∷ MissingRegister ∷ []
 
 -- every fault of a frame, at some place
 abbrev pub frame_faults : List FrameFault
@@ -54,7 +54,7 @@ config_faults =
     config.OutputCount ∷ config.BadStart Protect ∷ config.Address ∷ config.BadMode 0 VidMode
     ∷ config.BadCoefficients ZeroSlope ∷ []
 
--- every refusal of a plan, P2 to P7 for some cell; H3 is the host's
+-- every refusal of a plan, P2 to P7 for some cell; H3 is the host's, L7 the limits'
 abbrev pub plan_faults : List PlanFault
 plan_faults =
     plan.FormatUnknown ∷ plan.BelowLimit VoutCommand ∷ plan.AboveLimit VoutCommand ∷ plan.NotKnown Protect
@@ -89,7 +89,8 @@ own_words n =
     else (if n == 0xE7 then Some (codes "NoName")
     else (if n == 0xE8 then Some (codes "NoReading")
     else (if n == 0xE9 then Some (codes "NoSurvey")
-    else (if n == 0xEA then Some (codes "NoEnd") else None))))))))))
+    else (if n == 0xEA then Some (codes "NoEnd")
+    else (if n == 0xEB then Some (codes "NoBand") else None)))))))))))
 
 -- the words of a refusal, of which each kind has numbers that begin with a digit of its own
 abbrev pub refusal_words : ℕ → Option (List ℕ)

@@ -1,7 +1,7 @@
 -- The numbers that calls answer, of which no two mean two things: 0 where nothing is refused; a refusal's own,
--- which stands beside its words; E0h to E4h, E6h, E7h, E9h and EAh for what only a caller in C can ask wrongly; 91h to
--- 93h for where a voltage lies; and 94h to 96h for what has ended. This project's own choice.
-use Rattle.std.specs.Prelude.{ℕ, ◌+◌, ◌/◌, ◌==◌, if◌then◌else◌, Option, Some, None}
+-- which stands beside its words; E0h to E4h, E6h, E7h and E9h to EBh for what only a caller in C can ask wrongly; 91h
+-- to 93h for where a voltage lies; and 94h to 97h for what has ended. This project's own choice.
+use Rattle.std.specs.Prelude.{ℕ, ◌+◌, ◌/◌, ◌==◌, Bool, if◌then◌else◌, Option, Some, None}
 use Rattle.pm_host.specs.declared.fault.HostFault.{HostFault}
 use Rattle.pm_host.specs.FaultWords.{host_fault_number}
 use Rattle.pm_limits.specs.declared.fault.LimitFault.{LimitFault}
@@ -49,6 +49,10 @@ no_survey = 0xE9
 abbrev pub no_end : ℕ
 no_end = 0xEA
 
+-- another than the output's registers may decide its voltage
+abbrev pub no_band_there : ℕ
+no_band_there = 0xEB
+
 -- an output's voltage lies within its limits, or outside them, or it isn't known
 abbrev pub within_yes : ℕ
 within_yes = 0x91
@@ -59,7 +63,8 @@ within_no = 0x92
 abbrev pub within_not_known : ℕ
 within_not_known = 0x93
 
--- the plan of an output is done, a survey has ended by its own rule, or has no tries left
+-- the plan of an output is done, a survey has ended by its own rule, has no tries left, or needs a register that the
+-- part doesn't have
 abbrev pub plan_done : ℕ
 plan_done = 0x94
 
@@ -68,6 +73,13 @@ survey_done = 0x95
 
 abbrev pub survey_spent : ℕ
 survey_spent = 0x96
+
+abbrev pub survey_stuck : ℕ
+survey_stuck = 0x97
+
+-- a flag is 1 or 0
+abbrev pub flag : Bool → ℕ
+flag b = if b then 1 else 0
 
 -- A refusal of a plan: P1 to P7 are 61h to 67h, since the converter's K1 to K7 have 41h to 47h; any other is as the host
 -- has it.

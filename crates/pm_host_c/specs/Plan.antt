@@ -34,7 +34,7 @@ abbrev pub plan_in : Option Guarded → ℕ → Wants → Result (Option PlanOrd
 plan_in None output wants = Err (refused_by no_host)
 plan_in (Some g) output wants =
     if is_busy g.host then Err (refused_by (host_fault_number Busy))
-    else (if nat_lt output g.host.setup.outputs then numbered (plan_of g.host (limits_at g output) output wants)
+    else (if nat_lt output g.host.setup.outputs then numbered (plan_of g.registers g.host (limits_at g output) output wants)
     else Err (refused_by (host_fault_number UnknownOutput)))
 
 -- the number that a call answers

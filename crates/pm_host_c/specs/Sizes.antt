@@ -25,10 +25,10 @@ abbrev pub limits_size : ℕ
 limits_size = 2 * 8
 
 -- a host: the mark, the version, four bytes of setup, its stage, the formats, what is known of each cell, and
--- whether a restart was seen; a word of no meaning, and the limits of each output
+-- whether a restart was seen; four bytes of the part's registers, three words of no meaning, and the limits of each output
 abbrev pub host_size : ℕ
 host_size = 2 * word_size + 4 + stage_size + 8 * format_size + places * cell_size + word_size
-    + word_size + 8 * limits_size
+    + 4 + 3 * word_size + 8 * limits_size
 
 -- the version of this library, 1.0: the greater part in the upper byte, the lesser in the lower one
 abbrev pub library_version : ℕ

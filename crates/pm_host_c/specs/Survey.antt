@@ -13,6 +13,8 @@ use Rattle.pm_host.specs.FaultWords.{host_fault_number}
 use Rattle.pm_host.specs.Image.{host_of}
 use Rattle.pm_host.specs.Refusals.{is_busy}
 use Rattle.pm_host.specs.Summary.{Summary}
+use Rattle.pm_limits.specs.declared.part_registers.PartRegisters.{PartRegisters}
+use Rattle.pm_limits.specs.Guard.{Guarded}
 use Rattle.pm_rail.specs.declared.survey.Reads.{Reads}
 use Rattle.pm_rail.specs.declared.survey.Survey.{Survey}
 use Rattle.pm_rail.specs.declared.wanted.Wanted.{Wanted}
@@ -22,7 +24,8 @@ use Rattle.pm_host_c.specs.declared.survey_image.ReadsImage.{ReadsImage}
 use Rattle.pm_host_c.specs.declared.survey_image.SurveyImage.{SurveyImage}
 use Rattle.pm_host_c.specs.Host.{job_begun, step_kind}
 use Rattle.pm_host_c.specs.Memory.{IsMemory}
-use Rattle.pm_host_c.specs.Numbers.{accepted, no_end, no_host, no_survey, survey_done, survey_spent}
+use Rattle.pm_host_c.specs.Guard.{guard_of}
+use Rattle.pm_host_c.specs.Numbers.{accepted, flag, no_end, no_host, no_survey, survey_done, survey_spent, survey_stuck}
 use Rattle.pm_host_c.specs.Wanted.{wanted_image, wanted_meant}
 
 -- the bytes 'PS' and the number of this layout, which other memory lacks
@@ -32,11 +35,7 @@ survey_mark = 0x5350
 abbrev pub survey_version : ℕ
 survey_version = 1
 
--- a flag is 1 or 0; in memory that was damaged any number but 1 counts as 0
-abbrev pub flag : Bool → ℕ
-flag b = if b then 1 else 0
-
--- which cells were read
+-- which cells were read; in memory that was damaged any number but 1 counts as 0
 abbrev pub reads_held : ReadsImage → Reads
 reads_held i = record {
   operation = i.operation == 1;
@@ -130,49 +129,52 @@ abbrev pub told_image : SurveyImage → Option JobEnd → SurveyImage
 told_image was None = was
 told_image was (Some end) = option_map_or (λ v. survey_image (ended v v.asked end)) (survey_in was) was
 
--- its next job begins; or it has ended by its own rule, or has no tries left
-abbrev pub asked_number : Survey → Summary → ℕ
-asked_number v s =
-    if is_some (next_job v s) then accepted else (if is_surveyed v s then survey_done else survey_spent)
+-- its next job begins; or it has ended by its own rule, has no tries left, or needs a register that the part lacks
+abbrev pub asked_number : PartRegisters → Survey → Summary → ℕ
+asked_number part v s =
+    if is_some (next_job part v s) then accepted
+    else (if is_surveyed part v s then survey_done
+    else (if v.left == 0 then survey_spent else survey_stuck))
 
 -- H3 where a job is open, H4 where its output isn't there
-abbrev pub survey_number : Option Summary → Option Survey → ℕ
+abbrev pub survey_number : Option Guarded → Option Survey → ℕ
 survey_number None survey = no_host
-survey_number (Some s) None = no_survey
-survey_number (Some s) (Some v) =
-    if is_busy s then host_fault_number Busy
-    else (if nat_lt v.output s.setup.outputs then asked_number v s else host_fault_number UnknownOutput)
+survey_number (Some g) None = no_survey
+survey_number (Some g) (Some v) =
+    if is_busy g.host then host_fault_number Busy
+    else (if nat_lt v.output g.host.setup.outputs then asked_number g.registers v g.host else host_fault_number UnknownOutput)
 
 -- the job that begins, where one does
-abbrev pub survey_job : Option Summary → Option Survey → Option Job
-survey_job host survey = option_and_then (λ s. option_and_then (λ v. next_job v s) survey) host
+abbrev pub survey_job : Option Guarded → Option Survey → Option Job
+survey_job guard survey = option_and_then (λ g. option_and_then (λ v. next_job g.registers v g.host) survey) guard
 
 -- the memory of the survey behind the call: where nothing is refused that of the survey that has asked, or has ended
-abbrev pub asked_in : Summary → SurveyImage → Survey → SurveyImage
-asked_in s was v =
-    if is_busy s then was
-    else (if nat_lt v.output s.setup.outputs then survey_image (asking v (next_job v s)) else was)
+abbrev pub asked_in : Guarded → SurveyImage → Survey → SurveyImage
+asked_in g was v =
+    if is_busy g.host then was
+    else (if nat_lt v.output g.host.setup.outputs then survey_image (asking v (next_job g.registers v g.host)) else was)
 
-abbrev pub asked_image : Option Summary → SurveyImage → SurveyImage
+abbrev pub asked_image : Option Guarded → SurveyImage → SurveyImage
 asked_image None was = was
-asked_image (Some s) was = option_map_or (asked_in s was) (survey_in was) was
+asked_image (Some g) was = option_map_or (asked_in g was) (survey_in was) was
 
 -- How a call begins a survey's next job: a job begins exactly where it answers 0, and with each other number the host
 -- stays as it is. A refusal leaves the survey as it is too.
 pub record AsksNext (old : GuardImage) (was : SurveyImage) (result : ℕ) (new : GuardImage) (is : SurveyImage) : Type 0 where
-  pub number : result ≡ survey_number (host_of old.host) (survey_in was)
+  pub number : result ≡ survey_number (guard_of old) (survey_in was)
   pub begun : result ≡ accepted →
-      host_of new.host ≡ job_begun (host_of old.host) (survey_job (host_of old.host) (survey_in was))
+      host_of new.host ≡ job_begun (host_of old.host) (survey_job (guard_of old) (survey_in was))
   pub idle : result ≢ accepted → new ≡ old
   pub limits : new.limits ≡ old.limits
+  pub registers : new.registers ≡ old.registers
   pub written : IsMemory old → IsMemory new
-  pub survey : is ≡ asked_image (host_of old.host) was
+  pub survey : is ≡ asked_image (guard_of old) was
 
 -- What the calls of a survey leave in its memory is that of the survey that they speak of: it reads as that one again.
 pub record SurveysAreKept : Type 0 where
   pub begun : (output : ℕ) (plan : Option Wanted) (tries : ℕ) → output < 8 →
       survey_in (survey_image (survey_of output plan tries)) ≡ Some (survey_of output plan tries)
-  pub asked : (v : Survey) (s : Summary) → v.output < 8 →
-      survey_in (survey_image (asking v (next_job v s))) ≡ Some (asking v (next_job v s))
+  pub asked : (part : PartRegisters) (v : Survey) (s : Summary) → v.output < 8 →
+      survey_in (survey_image (asking v (next_job part v s))) ≡ Some (asking v (next_job part v s))
   pub told : (v : Survey) (end : JobEnd) → v.output < 8 →
       survey_in (survey_image (ended v v.asked end)) ≡ Some (ended v v.asked end)

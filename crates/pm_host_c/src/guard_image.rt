@@ -1,24 +1,69 @@
 ghost use Rattle.std.specs.Prelude.{◌≡◌, ◌<◌, map, slice_index_or, slice_set, Some, None};
-ghost use Rattle.pm_host_c.specs.Guard.{job_limits, limits_held, limits_kept, no_limits};
-ghost use Rattle.pm_host_c.specs.Memory.{limits_image, AreLimits, IsMemory};
+ghost use Rattle.pm_host_c.specs.Guard.{job_limits, limits_held, limits_kept, no_limits, registers_held};
+ghost use Rattle.pm_host_c.specs.Memory.{limits_image, registers_image, AreLimits, IsMemory};
 ghost use Rattle.pm_host.specs.Memory.{IsImage};
 
 use pm_host::{Image, Job};
-use pm_limits::{Limits, ordered_output};
+use pm_limits::{Limits, PartRegisters, ordered_output};
 
 /// How many outputs a device has at most.
 pub const OUTPUTS: usize = 8;
 
-/// A host and the limits of its outputs, in a caller's memory. It has no padding.
+/// A host, which registers its part has, and the limits of its outputs, in a caller's memory. It has no padding.
 #[repr(C)]
 #[derive(Drop)]
 pub struct GuardImage {
     /// The host.
     pub host: Image,
+    /// Which registers the part has.
+    pub registers: RegistersImage,
     /// No meaning.
-    pub unused: u16,
+    pub unused: [u16; 3],
     /// The limits of each output.
     pub limits: [LimitsImage; OUTPUTS],
+}
+
+/// Which registers of an output a part has, beside OPERATION and VOUT_COMMAND: 0 where it lacks one, and any other number
+/// where it has it.
+#[repr(C)]
+#[derive(Clone, Copy, Debug)]
+pub struct RegistersImage {
+    /// VOUT_MAX.
+    pub vout_max: u8,
+    /// VOUT_MARGIN_HIGH.
+    pub vout_margin_high: u8,
+    /// VOUT_MARGIN_LOW.
+    pub vout_margin_low: u8,
+    /// VOUT_MIN.
+    pub vout_min: u8,
+}
+
+impl RegistersImage {
+    // These registers.
+    fn of(registers: PartRegisters) -> RegistersImage
+        ensures held { registers_held result ≡ registers }
+        ensures written { result ≡ registers_image registers }
+    {
+        RegistersImage {
+            vout_max: u8::from(registers.vout_max),
+            vout_margin_high: u8::from(registers.vout_margin_high),
+            vout_margin_low: u8::from(registers.vout_margin_low),
+            vout_min: u8::from(registers.vout_min),
+        }
+    }
+
+    /// What the numbers mean.
+    #[inline(always)]
+    pub(crate) fn registers(&self) -> PartRegisters
+        ensures { result ≡ registers_held self.now }
+    {
+        PartRegisters {
+            vout_max: self.vout_max != 0,
+            vout_margin_high: self.vout_margin_high != 0,
+            vout_margin_low: self.vout_margin_low != 0,
+            vout_min: self.vout_min != 0,
+        }
+    }
 }
 
 /// The limits of an output's voltage, in microvolts, as plain numbers. Numbers that are no limits, as a least above
@@ -65,19 +110,22 @@ impl GuardImage {
     pub(crate) fn blank() -> GuardImage {
         GuardImage {
             host: Image::blank(),
-            unused: 0,
+            registers: RegistersImage::of(PartRegisters::all()),
+            unused: [0; 3],
             limits: [LimitsImage { least: 0, most: 0 }; OUTPUTS],
         }
     }
 
-    /// No output has limits.
+    /// The part has these registers, and no output has limits.
     #[tactic(auto, unfolding(crate::specs::Guard::limits_kept))]
-    pub(crate) fn free(&mut self)
+    pub(crate) fn free(&mut self, registers: PartRegisters)
         ensures free { limits_kept self.new ≡ no_limits }
+        ensures registers { registers_held self.new.registers ≡ registers }
         ensures host { self.new.host ≡ self.old.host }
         ensures written { IsImage self.old.host → IsMemory self.new }
     {
-        self.unused = 0;
+        self.registers = RegistersImage::of(registers);
+        self.unused = [0; 3];
         self.limits.fill(LimitsImage::NONE);
     }
 
@@ -109,6 +157,7 @@ impl GuardImage {
     pub(crate) fn put_limits(&mut self, output: u8, limits: &Limits)
         requires { output < 8 }
         ensures limits { limits_kept self.new ≡ slice_set (limits_kept self.old) output (Some limits.now) }
+        ensures registers { self.new.registers ≡ self.old.registers }
         ensures host { self.new.host ≡ self.old.host }
         ensures written { IsMemory self.old → IsMemory self.new }
     {

@@ -10,15 +10,16 @@ ghost use Rattle.pm_host.specs.Sound.{IsSound};
 ghost use Rattle.pm_host.specs.Summary.{start};
 ghost use Rattle.pm_host.specs.Transcript.{Setup, Restarted};
 ghost use Rattle.pm_limits.specs.Guard.{limited_fault, of_host};
-ghost use Rattle.pm_host_c.specs.Guard.{guard_of, no_limits};
+ghost use Rattle.pm_limits.specs.Part.{all_registers};
+ghost use Rattle.pm_host_c.specs.Guard.{guard_of, no_limits, registers_held};
 ghost use Rattle.pm_host_c.specs.Memory.{IsMemory};
 ghost use Rattle.pm_host_c.specs.Sizes.{host_size, library_version};
 ghost use Rattle.pm_host_c.specs.Host.{new_number, memory_number, after, job_begun, BeginsJob};
 
-use crate::guard_image::GuardImage;
+use crate::guard_image::{GuardImage, RegistersImage};
 use crate::numbers::{ACCEPTED, NO_ADDRESS, NO_CELL, NO_HOST};
 use pm_host::{Command, Image, Job, Stage, State};
-use pm_limits::{LimitFault, Limits, judge};
+use pm_limits::{LimitFault, Limits, PartRegisters, judge};
 use pm_table::{Code, address_ok, cell_of};
 use std::mem::size_of;
 
@@ -49,13 +50,49 @@ pub extern "C" fn pm_host_version() -> u16
     Image::VERSION
 }
 
-/// Makes a host for the device at this address, which has this many outputs; a job has at most this
-/// many passes or tries. No output has limits. E3h, H1, H2.
+/// Makes a host for the device at this address, which has this many outputs, each with every register; a job has at most
+/// this many passes or tries. No output has limits. E3h, H1, H2.
 #[unsafe(no_mangle)]
 pub extern "C" fn pm_host_new(host: &mut GuardImage, address: u8, outputs: u8, passes: u8) -> u8
     ensures number { result ≡ new_number address outputs passes }
     ensures begun { let setup : Setup = record { addr = address; outputs = outputs; passes = passes } in
-        result ≡ 0 → guard_of host.new ≡ Some (record { host = start setup; limits = no_limits }) }
+        result ≡ 0 → guard_of host.new ≡ Some (record { host = start setup; limits = no_limits; registers = all_registers }) }
+    ensures written { result ≡ 0 → IsMemory host.new }
+    ensures refused { result ≢ 0 → host.new ≡ host.old }
+{
+    start_with(host, address, outputs, passes, PartRegisters::all())
+}
+
+/// The same of a part whose outputs have these registers. E3h, H1, H2.
+#[unsafe(no_mangle)]
+pub extern "C" fn pm_host_new_with(
+    host: &mut GuardImage,
+    address: u8,
+    outputs: u8,
+    passes: u8,
+    registers: &RegistersImage,
+) -> u8
+    ensures number { result ≡ new_number address outputs passes }
+    ensures begun { let setup : Setup = record { addr = address; outputs = outputs; passes = passes } in
+        result ≡ 0 → guard_of host.new
+        ≡ Some (record { host = start setup; limits = no_limits; registers = registers_held registers.now }) }
+    ensures written { result ≡ 0 → IsMemory host.new }
+    ensures refused { result ≢ 0 → host.new ≡ host.old }
+{
+    start_with(host, address, outputs, passes, registers.registers())
+}
+
+// Makes a host of a part with these registers.
+fn start_with(
+    host: &mut GuardImage,
+    address: u8,
+    outputs: u8,
+    passes: u8,
+    registers: PartRegisters,
+) -> u8
+    ensures number { result ≡ new_number address outputs passes }
+    ensures begun { let setup : Setup = record { addr = address; outputs = outputs; passes = passes } in
+        result ≡ 0 → guard_of host.new ≡ Some (record { host = start setup; limits = no_limits; registers = registers }) }
     ensures written { result ≡ 0 → IsMemory host.new }
     ensures refused { result ≢ 0 → host.new ≡ host.old }
 {
@@ -64,7 +101,7 @@ pub extern "C" fn pm_host_new(host: &mut GuardImage, address: u8, outputs: u8, p
     }
     match host.host.start(address, outputs, passes) {
         Ok(()) => {
-            host.free();
+            host.free(registers);
             ACCEPTED
         }
         Err(fault) => fault.number(),
@@ -83,7 +120,8 @@ pub(crate) fn begin(host: &mut GuardImage, job: Option<Job>) -> u8
         return NO_CELL;
     };
     let limits = host.limits_for(job);
-    match begin_within(&mut host.host.state, stage, limits, job) {
+    let registers = host.registers.registers();
+    match begin_within(&mut host.host.state, stage, registers, limits, job) {
         Ok(stage) => {
             host.host.write_stage(Some(stage));
             ACCEPTED
@@ -92,22 +130,23 @@ pub(crate) fn begin(host: &mut GuardImage, job: Option<Job>) -> u8
     }
 }
 
-// Begins a job whose output has these limits, as a guard does.
+// Begins a job whose output has these limits, and whose part these registers, as a guard does.
 #[inline(always)]
 fn begin_within(
     state: &mut State,
     stage: Option<Stage>,
+    registers: PartRegisters,
     limits: Option<Limits>,
     job: Job,
 ) -> Result<Stage, LimitFault>
     requires sound { IsSound (held stage state.old) }
     ensures sound { IfOk result (λ at. IsSound (held (Some at) state.new)) }
-    ensures fault { result_err result ≡ limited_fault limits (held stage state.old) job }
+    ensures fault { result_err result ≡ limited_fault registers limits (held stage state.old) job }
     ensures ok { IfOk result (λ at. Some (held (Some at) state.new) ≡ job_begun (Some (held stage state.old)) (Some job)) }
     ensures err { OnErr result (state.new ≡ state.old) }
     ensures written { IsState state.old → IsState state.new }
 {
-    let asked = judge(state, stage, limits, job)?;
+    let asked = judge(state, stage, registers, limits, job)?;
     begin_asked(state, stage, asked)
 }
 
@@ -127,7 +166,7 @@ fn begin_asked(state: &mut State, stage: Option<Stage>, job: Job) -> Result<Stag
     }
 }
 
-/// Begins an order. E0h, E1h, H3, H4, then by the output's limits L2, L3 or L4, then H5, L5 and H6.
+/// Begins an order. E0h, E1h, H3, H4, L7, then by the output's limits L2, L3 or L4, then H5, L2 or L5 and H6.
 #[unsafe(no_mangle)]
 pub extern "C" fn pm_host_order(host: &mut GuardImage, output: u8, code: u8, word: u16) -> u8
     ensures { let job = option_map (λ cell. Job.Order cell word) (cell_at code output) in
@@ -138,7 +177,7 @@ pub extern "C" fn pm_host_order(host: &mut GuardImage, output: u8, code: u8, wor
 }
 
 /// Begins an order of the word nearest to a number of microvolts, in the format that was learned for
-/// the output. E0h, E1h, H3, H4, H5, H7, N5, N3 or N4, L3 or L4, H6.
+/// the output. E0h, E1h, H3, H4, L7, H5, H7, N5, N3 or N4, L3 or L4, H6.
 #[unsafe(no_mangle)]
 pub extern "C" fn pm_host_order_micro(
     host: &mut GuardImage,
@@ -153,7 +192,7 @@ pub extern "C" fn pm_host_order_micro(
     begin(host, cell.map(|cell| Job::OrderMicro(cell, microvolts)))
 }
 
-/// Begins a check of a cell. E0h, E1h, H3, H4.
+/// Begins a check of a cell. E0h, E1h, H3, H4, L7.
 #[unsafe(no_mangle)]
 pub extern "C" fn pm_host_check(host: &mut GuardImage, output: u8, code: u8) -> u8
     ensures { let job = option_map (λ cell. Job.Check cell) (cell_at code output) in
@@ -195,13 +234,14 @@ pub extern "C" fn pm_host_restore(host: &mut GuardImage) -> u8
     begin(host, Some(Job::Send(Command::RestoreUserAll)))
 }
 
-/// Drops the open job and all that is known of cells and formats. The limits stay. E0h.
+/// Drops the open job and all that is known of cells and formats. The limits and the registers stay. E0h.
 #[tactic(auto, unfolding(pm_host::specs::Summary::next))]
 #[unsafe(no_mangle)]
 pub extern "C" fn pm_host_restart(host: &mut GuardImage) -> u8
     ensures number { result ≡ memory_number (host_of host.old.host) }
     ensures begun { host_of host.new.host ≡ after (host_of host.old.host) Restarted }
     ensures limits { host.new.limits ≡ host.old.limits }
+    ensures registers { host.new.registers ≡ host.old.registers }
     ensures written { IsMemory host.old → IsMemory host.new }
     ensures refused { result ≢ 0 → host.new ≡ host.old }
 {

@@ -1,18 +1,21 @@
 //! Limits of an output's voltage, and the band that is known.
 
-ghost use Rattle.std.specs.Prelude.{◌≡◌, ◌≢◌, IsSomeAnd, option_map};
-ghost use Rattle.pm_host.specs.Image.{host_of};
+ghost use Rattle.std.specs.Prelude.{◌≡◌, ◌≢◌, ◌<◌, None, IsSomeAnd, option_map};
+ghost use Rattle.pm_host.specs.Image.{held};
+ghost use Rattle.pm_host.specs.Summary.{format_at};
 ghost use Rattle.pm_limits.specs.Band.{band_at};
 ghost use Rattle.pm_limits.specs.Guard.{limits_at, narrowed};
 ghost use Rattle.pm_host_c.specs.Guard.{guard_of, limits_held};
 ghost use Rattle.pm_host_c.specs.Memory.{IsMemory};
-ghost use Rattle.pm_host_c.specs.Limits.{band_number, limits_number, narrow_number, within_number, within_word, ends_number, IsBand};
+ghost use Rattle.pm_host_c.specs.Limits.{band_number, ends_in, ends_number, limits_number, narrow_number, no_band_number, within_number, within_word, IsBand, IsEnds};
 
 use crate::guard_image::{GuardImage, LimitsImage};
-use crate::numbers::{ACCEPTED, NO_HOST, NO_LIMITS, WITHIN_NO, WITHIN_NOT_KNOWN, WITHIN_YES};
+use crate::numbers::{
+    ACCEPTED, NO_BAND, NO_HOST, NO_LIMITS, WITHIN_NO, WITHIN_NOT_KNOWN, WITHIN_YES,
+};
 use crate::voltages::{put_ceil, put_floor};
-use pm_host::HostFault;
-use pm_limits::{Band, Limits, Within, band_in, within_limits};
+use pm_host::{HostFault, State};
+use pm_limits::{Band, Within, band_in, narrower_limits, within_limits};
 
 /// The ends of the band of an output's voltage, in whole microvolts, as plain numbers.
 #[repr(C)]
@@ -24,7 +27,8 @@ pub struct BandImage {
     pub greatest: i64,
 }
 
-/// Gives an output narrower limits; an output without limits takes any. E0h, H4, N5, L1, L6.
+/// Gives an output narrower limits; an output without limits takes any. E0h, H4, N5, L1, L6, then H3 where an order of the
+/// output is open that these would refuse.
 #[unsafe(no_mangle)]
 pub extern "C" fn pm_host_narrow(host: &mut GuardImage, output: u8, least: i64, most: i64) -> u8
     ensures number { result ≡ narrow_number (guard_of host.old) output least most }
@@ -32,13 +36,15 @@ pub extern "C" fn pm_host_narrow(host: &mut GuardImage, output: u8, least: i64, 
     ensures written { IsMemory host.old → IsMemory host.new }
     ensures refused { result ≢ 0 → host.new ≡ host.old }
 {
-    if host.host.read_stage().is_err() {
+    let Ok(stage) = host.host.read_stage() else {
         return NO_HOST;
-    }
+    };
     if host.host.state.outputs <= output {
         return HostFault::UnknownOutput.number();
     }
-    match Limits::narrower(host.limits(output), least, most) {
+    let registers = host.registers.registers();
+    let old = host.limits(output);
+    match narrower_limits(&host.host.state, stage, registers, old, output, least, most) {
         Ok(limits) => {
             host.put_limits(output, &limits);
             ACCEPTED
@@ -82,7 +88,8 @@ pub extern "C" fn pm_host_within(host: &GuardImage, output: u8) -> u8
     if host.host.state.outputs <= output {
         return HostFault::UnknownOutput.number();
     }
-    of_within(within_limits(host.limits(output), band_in(&host.host.state, output)))
+    let band = band_in(&host.host.state, host.registers.registers(), output);
+    of_within(within_limits(host.limits(output), band))
 }
 
 /// The number of an answer.
@@ -96,13 +103,12 @@ pub(crate) fn of_within(within: Within) -> u8
     }
 }
 
-/// Between which voltages an output may be, by what is known. E0h, H4, H7 where its format isn't known, N5 where an
-/// end is beyond 10^15 microvolts in size.
+/// Between which voltages an output may be, by what is known. E0h, H4, H7 where its format isn't known, EBh where OPERATION
+/// may hand its voltage to AVSBus, N5 where an end is beyond 10^15 microvolts in size.
 #[unsafe(no_mangle)]
 pub extern "C" fn pm_host_band(host: &GuardImage, output: u8, band: &mut BandImage) -> u8
-    ensures number { result ≡ band_number (host_of host.now.host) output }
-    ensures said { result ≡ 0 → IsSomeAnd (host_of host.now.host)
-        (λ s. IsSomeAnd (band_at s output) (λ known. IsBand known band.new)) }
+    ensures number { result ≡ band_number (guard_of host.now) output }
+    ensures said { result ≡ 0 → IsSomeAnd (guard_of host.now) (λ g. IsEnds (band_at g.registers g.host output) band.new) }
     ensures refused { result ≢ 0 → band.new ≡ band.old }
 {
     if host.host.read_stage().is_err() {
@@ -111,14 +117,43 @@ pub extern "C" fn pm_host_band(host: &GuardImage, output: u8, band: &mut BandIma
     if host.host.state.outputs <= output {
         return HostFault::UnknownOutput.number();
     }
-    match band_in(&host.host.state, output) {
-        Some(known) => put_band(&known, band),
+    let known = band_in(&host.host.state, host.registers.registers(), output);
+    put_known(&host.host.state, output, &known, band)
+}
+
+/// The ends of a band of an output, where there is one. H7 where its format isn't known, EBh where AVSBus may decide, N5 where
+/// an end is beyond 10^15 microvolts in size.
+pub(crate) fn put_known(
+    state: &State,
+    output: u8,
+    known: &Option<Band>,
+    ends: &mut BandImage,
+) -> u8
+    requires { output < 8 }
+    ensures number { result ≡ ends_in (format_at (held None state.now) output) known.now }
+    ensures said { result ≡ 0 → IsEnds known.now ends.new }
+    ensures refused { result ≢ 0 → ends.new ≡ ends.old }
+{
+    match known {
+        Some(known) => put_band(known, ends),
+        None => no_band(state, output),
+    }
+}
+
+// Why an output has no band.
+fn no_band(state: &State, output: u8) -> u8
+    requires { output < 8 }
+    ensures number { result ≡ no_band_number (format_at (held None state.now) output) }
+    ensures some { result ≢ 0 }
+{
+    match state.format(output).format() {
+        Some(_) => NO_BAND,
         None => HostFault::FormatUnknown.number(),
     }
 }
 
-/// The ends of a band in whole microvolts. N5 where one is beyond 10^15 in size.
-pub(crate) fn put_band(known: &Band, band: &mut BandImage) -> u8
+// The ends of a band in whole microvolts. N5 where one is beyond 10^15 in size.
+fn put_band(known: &Band, band: &mut BandImage) -> u8
     ensures number { result ≡ ends_number known.now }
     ensures said { result ≡ 0 → IsBand known.now band.new }
     ensures refused { result ≢ 0 → band.new ≡ band.old }

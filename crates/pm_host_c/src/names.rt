@@ -103,6 +103,7 @@ fn words_of_limit(number: u8) -> Option<&'static str>
         0x24 => LimitFault::AboveLimit,
         0x25 => LimitFault::NotKnownWithin,
         0x26 => LimitFault::LimitsWidened,
+        0x27 => LimitFault::MissingRegister,
         _ => return None,
     };
     Some(fault.words())
@@ -200,6 +201,7 @@ fn words_of_own(number: u8) -> Option<&'static str>
         0xE8 => Some("NoReading"),
         0xE9 => Some("NoSurvey"),
         0xEA => Some("NoEnd"),
+        0xEB => Some("NoBand"),
         _ => None,
     }
 }

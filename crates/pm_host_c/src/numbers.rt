@@ -30,6 +30,9 @@ pub const NO_SURVEY: u8 = 0xE9;
 /// The number is no end of a job.
 pub const NO_END: u8 = 0xEA;
 
+/// Another than the output's registers may decide its voltage.
+pub const NO_BAND: u8 = 0xEB;
+
 /// An output's voltage lies within its limits.
 pub const WITHIN_YES: u8 = 0x91;
 
@@ -47,3 +50,6 @@ pub const SURVEY_DONE: u8 = 0x95;
 
 /// A survey has no tries left.
 pub const SURVEY_SPENT: u8 = 0x96;
+
+/// A survey needs a register that isn't known and that the part doesn't have.
+pub const SURVEY_STUCK: u8 = 0x97;

@@ -39,7 +39,7 @@ pub struct Refused {
 }
 
 /// The next order of an output's plan: 0 and the order, 94h where the plan is done, or why none is given, with the
-/// register's code. E0h, H3, H4, P1 to P7. What stood in `next` before doesn't count.
+/// register's code. E0h, H3, H4, L7, P1 to P7. What stood in `next` before doesn't count.
 #[unsafe(no_mangle)]
 pub extern "C" fn pm_host_plan(
     host: &GuardImage,
@@ -69,6 +69,7 @@ pub extern "C" fn pm_host_next(
     ensures begun { let plan = plan_in (guard_of host.old) output (wants_meant wanted.now) in
         result ≡ 0 → host_of host.new.host ≡ job_begun (host_of host.old.host) (plan_job output plan) }
     ensures limits { host.new.limits ≡ host.old.limits }
+    ensures registers { host.new.registers ≡ host.old.registers }
     ensures written { IsMemory host.old → IsMemory host.new }
     ensures refused { result ≢ 0 → host.new ≡ host.old }
 {
@@ -105,8 +106,9 @@ fn planned(
     if host.host.state.outputs <= output {
         return Err(Refused::by(HostFault::UnknownOutput.number()));
     }
+    let registers = host.registers.registers();
     let limits = host.limits(output);
-    match next_order_in(&host.host.state, stage, &limits, output, &wanted.wanted()) {
+    match next_order_in(&host.host.state, stage, registers, &limits, output, &wanted.wanted()) {
         Ok(next) => Ok(next),
         Err(fault) => Err(Refused::of(fault)),
     }

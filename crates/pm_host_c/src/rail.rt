@@ -1,19 +1,18 @@
 //! What an output commands, by what is known.
 
 ghost use Rattle.std.specs.Prelude.{◌≡◌, ◌≢◌, ◌<◌, None, IsSomeAnd};
-ghost use Rattle.std.specs.Option.{option_map_or};
 ghost use Rattle.pm_host.specs.Image.{held, host_of};
 ghost use Rattle.pm_host.specs.Summary.{possible_at};
 ghost use Rattle.pm_rail.specs.Rail.{are_off as spec_are_off, are_on as spec_are_on, is_off as spec_is_off, power_by as spec_power_by, power_of as spec_power_of};
-ghost use Rattle.pm_host_c.specs.Guard.{guard_of, limits_kept};
-ghost use Rattle.pm_host_c.specs.Rail.{ends_in, power_word, IsEnds, IsRail};
+ghost use Rattle.pm_host_c.specs.Guard.{guard_of, limits_kept, registers_held};
+ghost use Rattle.pm_host_c.specs.Rail.{power_word, IsRail};
 ghost use Rattle.pm_host_c.specs.Voltages.{output_number};
 
 use crate::guard_image::GuardImage;
-use crate::limits::{BandImage, of_within, put_band};
+use crate::limits::{BandImage, of_within, put_known};
 use crate::numbers::{ACCEPTED, NO_HOST};
 use pm_host::{HostFault, State};
-use pm_limits::{Band, band_in, within_limits};
+use pm_limits::{band_in, within_limits};
 use pm_rail::Power;
 use pm_table::{Cell, Operation, Reg};
 
@@ -25,7 +24,7 @@ pub struct RailImage {
     pub power: u8,
     /// 91h where its band lies within its limits or it has none, 92h where it lies below or above them, otherwise 93h.
     pub within: u8,
-    /// 0 where its band is told; otherwise why it isn't, H7 or N5.
+    /// 0 where its band is told; otherwise why it isn't, H7, EBh or N5.
     pub band: u8,
     /// No meaning.
     pub unused: [u8; 5],
@@ -53,32 +52,21 @@ pub extern "C" fn pm_host_rail(host: &GuardImage, output: u8, rail: &mut RailIma
 // The same of an output that is there. Its number is below 8.
 fn rail_in(host: &GuardImage, output: u8) -> RailImage
     requires { output < 8 }
-    ensures { IsRail (record { host = held None host.now.host.state; limits = limits_kept host.now }) output result }
+    ensures { let s = held None host.now.host.state in
+        IsRail (record { host = s; limits = limits_kept host.now; registers = registers_held host.now.registers }) output result }
 {
-    let known = band_in(&host.host.state, output);
+    let known = band_in(&host.host.state, host.registers.registers(), output);
     let mut ends = BandImage {
         least: 0,
         greatest: 0,
     };
-    let band = put_known(&known, &mut ends);
+    let band = put_known(&host.host.state, output, &known, &mut ends);
     RailImage {
         power: of_power(power_in(&host.host.state, output)),
         within: of_within(within_limits(host.limits(output), known)),
         band,
         unused: [0; 5],
         ends,
-    }
-}
-
-// The ends of a band that may be known. H7 where none is, N5 where an end is beyond 10^15 microvolts in size.
-fn put_known(known: &Option<Band>, ends: &mut BandImage) -> u8
-    ensures number { result ≡ ends_in known.now }
-    ensures said { result ≡ 0 → IsEnds known.now ends.new }
-    ensures refused { result ≢ 0 → ends.new ≡ ends.old }
-{
-    match known {
-        Some(known) => put_band(known, ends),
-        None => HostFault::FormatUnknown.number(),
     }
 }
 

@@ -8,7 +8,7 @@ ghost use Rattle.pm_rail.specs.Survey.{survey_of};
 
 use crate::guard_image::GuardImage;
 use crate::host::begin;
-use crate::numbers::{ACCEPTED, NO_END, NO_HOST, NO_SURVEY, SURVEY_DONE, SURVEY_SPENT};
+use crate::numbers::{ACCEPTED, NO_END, NO_HOST, NO_SURVEY, SURVEY_DONE, SURVEY_SPENT, SURVEY_STUCK};
 use crate::survey_image::SurveyImage;
 use crate::wanted_image::WantedImage;
 use pm_host::{HostFault, JobEnd};
@@ -64,8 +64,9 @@ pub extern "C" fn pm_survey_for(
     ACCEPTED
 }
 
-/// Begins the next job of a survey: 0, and a learn or a check has begun; 95h where it has ended by its own rule, 96h where
-/// it has no tries left, and nothing begins. E0h, E9h, H3, H4.
+/// Begins the next job of a survey: 0, and a learn or a check has begun. Nothing begins at 95h where it has ended by its own
+/// rule, 96h where it has no tries left, and 97h where it needs a register that isn't known and that the part doesn't have.
+/// E0h, E9h, H3, H4.
 #[unsafe(no_mangle)]
 pub extern "C" fn pm_host_survey(host: &mut GuardImage, survey: &mut SurveyImage) -> u8
     ensures { AsksNext host.old survey.old result host.new survey.new }
@@ -82,15 +83,19 @@ pub extern "C" fn pm_host_survey(host: &mut GuardImage, survey: &mut SurveyImage
     if host.host.state.outputs <= asks.output {
         return HostFault::UnknownOutput.number();
     }
-    let job = asks.next_in(&host.host.state);
+    let registers = host.registers.registers();
+    let job = asks.next_in(&host.host.state, registers);
     *survey = SurveyImage::of(&asks);
     if job.is_some() {
         return begin(host, job);
     }
-    if asks.is_done_in(&host.host.state) {
-        SURVEY_DONE
-    } else {
+    if asks.is_done_in(&host.host.state, registers) {
+        return SURVEY_DONE;
+    }
+    if asks.left == 0 {
         SURVEY_SPENT
+    } else {
+        SURVEY_STUCK
     }
 }
 

@@ -6,8 +6,8 @@ import sys
 PATH = os.environ.get("PMHOST_LIBRARY") or os.path.join(os.path.dirname(os.path.abspath(__file__)), "libpmhost.so")
 
 VERSION = 0x0100
-HOST_VERSION = 4
-HOST_SIZE = 2056
+HOST_VERSION = 5
+HOST_SIZE = 2064
 SURVEY_VERSION = 1
 SURVEY_SIZE = 40
 CELLS = 49
@@ -66,6 +66,10 @@ class KnownImage(c.Structure):
 
 class FormatImage(c.Structure):
     _fields_ = [("kind", c.c_uint8), ("exponent", c.c_int8), ("m", c.c_int16), ("b", c.c_int16)]
+
+
+class RegistersImage(c.Structure):
+    _fields_ = [("vout_max", c.c_uint8), ("vout_margin_high", c.c_uint8), ("vout_margin_low", c.c_uint8), ("vout_min", c.c_uint8)]
 
 
 class LimitsImage(c.Structure):
@@ -138,6 +142,7 @@ CALLS = {
     "pm_host_size": (_u64, []),
     "pm_host_version": (_u16, []),
     "pm_host_new": (_u8, [_host, _u8, _u8, _u8]),
+    "pm_host_new_with": (_u8, [_host, _u8, _u8, _u8, _at(RegistersImage)]),
     "pm_host_narrow": (_u8, [_host, _u8, _i64, _i64]),
     "pm_host_limits": (_u8, [_host, _u8, _at(LimitsImage)]),
     "pm_host_within": (_u8, [_host, _u8]),

@@ -24,6 +24,7 @@ SAYINGS = {
     "L4": "above the output's limits",
     "L5": "the output isn't known to be within its limits: check its registers first",
     "L6": "limits are narrowed, never widened",
+    "L7": "the part doesn't have this register, or the margin that OPERATION selects",
     "P1": "the output's format isn't known: learn it first",
     "P2": "a wanted word is below the output's limits",
     "P3": "a wanted word is above the output's limits",
@@ -78,7 +79,7 @@ class NumberRefused(Refused):
 
 
 class LimitRefused(Refused):
-    """L1 to L6: what limits refuse."""
+    """L1 to L7: what limits refuse, and a job on a register that the part doesn't have."""
 
 
 class PlanRefused(Refused):

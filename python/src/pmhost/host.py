@@ -3,7 +3,7 @@ from __future__ import annotations
 
 import ctypes
 from dataclasses import dataclass
-from typing import Callable, Protocol
+from typing import Callable, Iterable, Protocol
 
 from . import _library as at
 from ._library import library
@@ -70,7 +70,19 @@ class Limits:
 WITHIN = {0x91: True, 0x92: False, 0x93: None}
 POWER = {0: None, 1: True, 2: False}
 PLAN_DONE = 0x94
-SURVEYS = {0: "begun", 0x95: "done", 0x96: "spent"}
+SURVEYS = {0: "begun", 0x95: "done", 0x96: "spent", 0x97: "stuck"}
+MISSING_REGISTER = 0x27
+
+
+def registers_image(without: Iterable[str | int]) -> at.RegistersImage:
+    """Which registers a part has that lacks these."""
+    image = at.RegistersImage(*(1 for _ in at.RegistersImage._fields_))
+    for register in without:
+        name = NAMES[code_of(register)]
+        if not hasattr(image, name.lower()):
+            raise ValueError(f"without: {name} is a register that every part has")
+        setattr(image, name.lower(), 0)
+    return image
 
 
 def words_of(image: at.WordsImage) -> tuple[int, ...] | None:
@@ -82,18 +94,20 @@ def word_of(image: at.StandingImage) -> int | None:
 
 
 class Host:
-    """A host for the device at an address, 08h to 77h, with 1 to 8 outputs; a job has at most 1 to 15 passes.
+    """A host for the device at an address, 08h to 77h, with 1 to 8 outputs; a job has at most 1 to 15 passes. `without` names the
+    registers that the part doesn't have: of VOUT_MAX, VOUT_MARGIN_HIGH, VOUT_MARGIN_LOW and VOUT_MIN.
 
     It says by `sending` what to send, and is told what became of it by `finished` or `got`; `run` does so over a bus.
     Copies share nothing. It isn't for several threads at once.
     """
 
-    def __init__(self, address: int, outputs: int = 1, passes: int = 3) -> None:
+    def __init__(self, address: int, outputs: int = 1, passes: int = 3, without: Iterable[str | int] = ()) -> None:
         self._image = at.HostImage()
         self._address = whole(address, 0x08, 0x77, "address")
         self._outputs = whole(outputs, 1, 8, "outputs")
         self._passes = whole(passes, 1, 15, "passes")
-        accepted(library.pm_host_new(REFERENCE(self._image), address, outputs, passes))
+        has = registers_image(without)
+        accepted(library.pm_host_new_with(REFERENCE(self._image), address, outputs, passes, REFERENCE(has)))
 
     def __repr__(self) -> str:
         known = [f"{'' if it.output is None else f'{it.output} '}{it.register} {it.confirmed:04X}"
@@ -173,8 +187,8 @@ class Host:
         return PlanOrder(NAMES[found.code], found.word)
 
     def survey(self, survey: Survey) -> str:
-        """Begins a survey's next job: `begun`; or it has ended, `done` by its own rule or `spent`, where it has no tries left. H3,
-        H4."""
+        """Begins a survey's next job: `begun`; or it has ended, `done` by its own rule, `spent` where it has no tries left, or
+        `stuck` where it needs a register that isn't known and that the part doesn't have. H3, H4."""
         number = library.pm_host_survey(REFERENCE(self._image), REFERENCE(survey.image))
         if number not in SURVEYS:
             raise refusal(number)
@@ -273,6 +287,8 @@ class Host:
                 state = self.survey(survey)
             except Refused as fault:
                 return RailEnd("refused", fault)
+            if state == "stuck":
+                return RailEnd("refused", refusal(MISSING_REGISTER))
             if state != "begun":
                 return RailEnd("reached" if state == "done" else "spent")
             tries.left -= 1

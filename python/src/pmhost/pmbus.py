@@ -15,15 +15,16 @@ class Pmbus:
     """A part on a bus, through a host of its own.
 
     `limits` gives outputs a least and a most, as {0: ("3.2", "3.465")}: no order beyond them leaves this host, and
-    they can be narrowed by `limit`. Volts are text, as "3.3", or a decimal.Decimal; never a float.
+    they can be narrowed by `limit`. `without` names registers that the part doesn't have, as ("VOUT_MIN",). Volts are text, as
+    "3.3", or a decimal.Decimal; never a float.
     """
 
     def __init__(self, bus: Bus, address: int, outputs: int = 1, passes: int = 3,
-                 limits: Mapping[int, tuple[Volts, Volts]] | None = None) -> None:
+                 limits: Mapping[int, tuple[Volts, Volts]] | None = None, without: Iterable[str | int] = ()) -> None:
         for name in ("write", "read"):
             if not callable(getattr(bus, name, None)):
                 raise TypeError(f"bus: {bus!r} has no call {name}: see pmhost.Bus")
-        self.bus, self.host = bus, Host(address, outputs, passes)
+        self.bus, self.host = bus, Host(address, outputs, passes, without)
         self.transfers = Transfers()
         for output, pair in dict(limits or {}).items():
             if not isinstance(pair, (tuple, list)) or len(pair) != 2:

@@ -129,12 +129,13 @@ fn a_band_beyond_its_limits_is_outside(rt: HostRuntime) {
 
 // Each refusal that a caller in C alone gets and one of each other kind, with its name; an empty name for a number
 // that has none.
-static REFUSALS: [(u8, &[u8]); 24] = [
+static REFUSALS: [(u8, &[u8]); 26] = [
     (0x00, b""),
     (0x06, b"H6 TooUncertain\0\0"),
     (0x15, b"N5 TooLarge\0"),
     (0x25, b"L5 NotKnownWithin\0"),
-    (0x27, b""),
+    (0x27, b"L7 MissingRegister\0"),
+    (0x28, b""),
     (0x35, b"F5 WrongPec\0"),
     (0x47, b"K7 ReadOnly\0"),
     (0x50, b""),
@@ -154,6 +155,7 @@ static REFUSALS: [(u8, &[u8]); 24] = [
     (0xE8, b"NoReading\0"),
     (0xE9, b"NoSurvey\0"),
     (0xEA, b"NoEnd\0"),
+    (0xEB, b"NoBand\0"),
 ];
 
 // The kind of a step, and its name.

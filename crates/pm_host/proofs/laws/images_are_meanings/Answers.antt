@@ -3,7 +3,7 @@ use Rattle.std.proofs.Common.{◌≡◌, Bool, true, false, cond, Option, Some, 
 use Rattle.pm_host.specs.declared.image.Image.{Image}
 use Rattle.pm_host.specs.declared.stage.Stage.{Stage}
 use Rattle.pm_host.specs.declared.state.State.{State}
-use Rattle.pm_host.specs.Image.{held, host_of, is_current, is_sound, sound_in, stage_held}
+use Rattle.pm_host.specs.Image.{held, host_of, image_mark, image_version, is_current, is_sound, sound_in, stage_held}
 use Rattle.pm_host.specs.Memory.{image_of, stage_image, state_image, AreFormats, IsImage, IsKnown, IsState}
 use Rattle.pm_host.specs.Summary.{Summary}
 use Rattle.pm_host.proofs.laws.images_are_meanings.Goals as goal
@@ -19,11 +19,11 @@ state-meant state stage is =
 image-meant : (image : Image) (stage : Option Stage) → is_current image ≡ true
     → stage_held image.stage ≡ Some stage → IsImage image → image ≡ image_of (held stage image.state)
 image-meant image stage current at is =
-    let mark : image.mark ≡ 0x504D = search rules in
-    let version : image.version ≡ 4 = search rules in
+    let mark : image.mark ≡ image_mark = search rules in
+    let version : image.version ≡ image_version = search rules in
     let written : image.stage ≡ stage_image stage = let e = is.stage in search rules in
     ap₂ (λ m v. record image { mark = m; version = v }) mark version
-    ∙ ap₂ (λ at state. record { mark = 0x504D; version = 4; stage = at; state = state }) written
+    ∙ ap₂ (λ at state. record { mark = image_mark; version = image_version; stage = at; state = state }) written
     (state-meant image.state stage is.state)
 
 meant : (image : Image) (s : Summary) → IsImage image → host_of image ≡ Some s → image ≡ image_of s

@@ -18,5 +18,10 @@ returns-in-Some c =
     let answered : c.step_after.result ≡ host_step (fault_in s entry) (step_of s entry) = search rules in
     tells before (record before { host = c.write_stage.new.self }) (held (Some stage) before.host.state) entry c.step_after.result
     (c.in-Ok.ensures.found ∙ ap (λ at. Some (held at before.host.state)) is_open)
-    (awaited stage before.host.state c.args.told (search rules)) became answered refl
-    (λ is. record { host = c.write_stage.ensures.written (c.told-progress.ensures.written is.host.state); unused = is.unused; limits = is.limits })
+    (awaited stage before.host.state c.args.told (search rules)) became answered refl refl
+    (λ is. record {
+      host = c.write_stage.ensures.written (c.told-progress.ensures.written is.host.state);
+      registers = is.registers;
+      unused = is.unused;
+      limits = is.limits;
+    })
