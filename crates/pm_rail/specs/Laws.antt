@@ -7,7 +7,7 @@ use Rattle.pm_table.specs.declared.reg.Reg.TheVariants.{Operation, VoutMax, Vout
 use Rattle.pm_table.specs.Operation.{selected_register}
 use Rattle.pm_model.specs.Commanded.{Scale, is_outside}
 use Rattle.pm_table.specs.declared.cell.Cell.TheVariants.{Out, Protect}
-use Rattle.pm_host.specs.declared.job.Job.TheVariants.{Order}
+use Rattle.pm_host.specs.declared.job.Job.TheVariants.{Order, Check}
 use Rattle.pm_host.specs.Possible.{is_possible}
 use Rattle.pm_host.specs.Summary.{Summary, format_at, possible_at}
 use Rattle.pm_limits.specs.declared.part_registers.PartRegisters.{PartRegisters}
@@ -102,7 +102,7 @@ PlansAreAccepted = (g : Guarded) (output : ℕ) (wants : Wants) (register : Reg)
 -- (`format`), each register that is needed is known, and was read where the part has it (`known`), and for a plan
 -- WRITE_PROTECT was read and is known too (`protection`). Where it has tries left it asks as long as this isn't so, and
 -- each job takes one (`asks`), unless it is stuck at a register that is needed and that the part doesn't have; a part
--- with every register never is the reason (`whole`).
+-- with every register never is the reason (`whole`). It never asks for a register that the part doesn't have (`unread`).
 pub record SurveysEndKnown : Type 0 where
   pub format : (part : PartRegisters) (v : Survey) (s : Summary) → is_surveyed part v s ≡ true →
       (v.learned ≡ true) × (is_none (format_at s v.output) ≡ false)
@@ -118,3 +118,5 @@ pub record SurveysEndKnown : Type 0 where
       is_stuck part v s ≡ false → 0 < v.left →
       (is_some (next_job part v s) ≡ true) × ((asking v (next_job part v s)).left + 1 ≡ v.left)
   pub whole : (v : Survey) (s : Summary) → is_stuck all_registers v s ≡ false
+  pub unread : (part : PartRegisters) (v : Survey) (s : Summary) (output : ℕ) (register : Reg) →
+      next_job part v s ≡ Some (Check (Out output register)) → has_register part register ≡ true

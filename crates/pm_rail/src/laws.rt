@@ -35,7 +35,9 @@ pub fn plans_are_accepted()
 
 /// A survey that has nothing left to ask for has its answers: since it began the format was learned and is known
 /// (`format`), each register that is needed was read and is known (`known`), and for a plan WRITE_PROTECT too
-/// (`protection`). Where it has tries left it asks as long as this isn't so, and each job takes one (`asks`).
+/// (`protection`). Where it has tries left it asks as long as this isn't so, and each job takes one (`asks`), unless it is
+/// stuck at a needed register that the part doesn't have; of a part with every register it never is (`whole`). It never
+/// asks for a register that the part doesn't have (`unread`).
 pub fn surveys_end_known()
     ensures { SurveysEndKnown }
 {}

@@ -17,6 +17,7 @@ use Rattle.pm_host.specs.Messages.{cell_read, cell_write, command_message}
 use Rattle.pm_host.specs.Refusals.{IsSetup}
 use Rattle.pm_host.specs.Transcript.{Order}
 use Rattle.pm_limits.specs.declared.band.Band.{Band}
+use Rattle.pm_limits.specs.declared.part_registers.PartRegisters.{PartRegisters}
 use Rattle.pm_limits.specs.declared.side.Side.{Side}
 use Rattle.pm_limits.specs.Band.{band_at, side_end}
 use Rattle.pm_world.specs.declared.arrival.Arrival.{Arrival}
@@ -25,7 +26,7 @@ use Rattle.pm_world.specs.declared.back.Back.TheVariants as back
 use Rattle.pm_world.specs.declared.event.Event.{Event}
 use Rattle.pm_world.specs.declared.event.Event.TheVariants.{Exchange, Finish}
 use Rattle.pm_world.specs.declared.way.Way.TheVariants.{Sent}
-use Rattle.pm_world.specs.Bands.{end_choices}
+use Rattle.pm_world.specs.Bands.{MissingUntold, end_choices}
 use Rattle.pm_world.specs.Bytes.{CarryBytes, StartsShort}
 use Rattle.pm_world.specs.GoodBus.{GoodFrames, IsRead, IsWritten, ReadDone, WentInPass, held_after, stage_after}
 use Rattle.pm_world.specs.Honest.{IsSpelled, honest, sent_by}
@@ -53,15 +54,15 @@ GoesThrough config passes cell word acked events =
 
 -- One life, which tells the host just what these events told it, leaves each output that has a band at its end on the
 -- chosen side.
-unfoldable pub IsReached : Config → ℕ → List Event → (ℕ → Side) → Type 0
-IsReached config passes events sides =
+unfoldable pub IsReached : Config → ℕ → PartRegisters → List Event → (ℕ → Side) → Type 0
+IsReached config passes part events sides =
     let host = (now config passes events).host in
     let entries = since_restart (life config passes events).entries in
-    let chosen = end_choices config host sides in
+    let chosen = end_choices part config host sides in
     let first = witness_start config (due_before chosen (marks (setup_of config passes) entries)) in
     let retold = witness_events (setup_of config passes) chosen entries in
     Leaves config passes entries chosen first retold
-    × ((output : ℕ) (band : Band) → output < config.count → band_at host output ≡ Some band →
+    × ((output : ℕ) (band : Band) → output < config.count → band_at part host output ≡ Some band →
     commands first passes retold output ≡ side_end (sides output) band)
 
 -- What came back since the host last restarted were bytes; the chosen words have two bytes; and so have those with which
@@ -105,11 +106,12 @@ pub record LawsByName : Type 0 where
       IsSound config → IsSetup (setup_of config passes) → AreTaken config passes events →
       way_of config passes events ≡ Sent cell word true → (now config passes events).taken + 2 ≤ event_limit →
       GoesThrough config passes cell word acked events
-  pub reached : (config : Config) (passes : ℕ) (events : List Event) (sides : ℕ → Side) →
+  pub reached : (config : Config) (passes : ℕ) (part : PartRegisters) (events : List Event) (sides : ℕ → Side) →
       IsSpelled config → IsLived config passes events →
       restarted_since_host events ≡ false →
+      MissingUntold part config (now config passes events).host →
       AreOpen (marks (setup_of config passes) (since_restart (life config passes events).entries)) →
-      IsReached config passes events sides
+      IsReached config passes part events sides
   pub came : (config : Config) (passes : ℕ) (events : List Event) →
       IsSpelled config → StartsShort config → IsLived config passes events → CarryBytes events → CameInBytes config passes events
   pub words : (config : Config) (passes : ℕ) (events : List Event) (chosen : Choice) → IsSound config →

@@ -5,9 +5,10 @@ ghost use Rattle.std.specs.Prelude.{◌≡◌, ◌∷◌, ◌<◌, ℕ, Some, fa
 ghost use Rattle.std.specs.List.{list_any};
 ghost use Rattle.pm_host.specs.Marks.{marks};
 ghost use Rattle.pm_limits.specs.declared.band.Band.{Band};
+ghost use Rattle.pm_limits.specs.declared.part_registers.PartRegisters.{PartRegisters};
 ghost use Rattle.pm_limits.specs.declared.side.Side.{Side};
 ghost use Rattle.pm_limits.specs.Band.{InBand, band_at, side_end};
-ghost use Rattle.pm_world.specs.Bands.{AreShort, BandStands, end_choices};
+ghost use Rattle.pm_world.specs.Bands.{AreShort, BandStands, HoldsMissing, MissingUntold, end_choices};
 ghost use Rattle.pm_world_examples.specs.ByName.{IsReached};
 ghost use Rattle.pm_world.specs.Confirmed.{restarts_converter};
 ghost use Rattle.pm_world.specs.Honest.{IsSpelled};
@@ -24,7 +25,8 @@ use pm_world::{
     Event, SetupFault, World, bands_are_held, lists_say_enough, run_open, words_are_short,
 };
 
-/// What an output commands lies in the band that the host gives.
+/// What an output commands lies in the band that the host gives; of a part that lacks VOUT_MIN or VOUT_MAX, where the
+/// converter holds there a word that never cuts.
 pub fn a_band_after_a_run(
     c: Config,
     passes: u8,
@@ -32,9 +34,10 @@ pub fn a_band_after_a_run(
     output: u8,
 ) -> Result<Option<World>, SetupFault>
     requires { output < c.count }
-    ensures { IfOk result (λ found. OnSome found ((band : Band) →
+    ensures { IfOk result (λ found. OnSome found ((part : PartRegisters) (band : Band) →
         BandStands c passes (reverse events.now) (now c passes (reverse events.now)).host output →
-        band_at (now c passes (reverse events.now)).host output ≡ Some band →
+        HoldsMissing part c (now c passes (reverse events.now)).device.words output →
+        band_at part (now c passes (reverse events.now)).host output ≡ Some band →
         InBand band (commands c passes (reverse events.now) output))) }
 {
     // Hands its law to the prover.
@@ -73,10 +76,11 @@ pub fn a_band_that_is_exact(
     events: &[Event],
     more: &Event,
 ) -> Result<Option<World>, SetupFault>
-    ensures { IfOk result (λ found. OnSome found ((sides : ℕ → Side) →
+    ensures { IfOk result (λ found. OnSome found ((part : PartRegisters) (sides : ℕ → Side) →
         list_any restarts_converter (more.now ∷ reverse events.now) ≡ false →
+        MissingUntold part c (now c passes (more.now ∷ reverse events.now)).host →
         AreOpen (marks (setup_of c passes) (since_restart (life c passes (more.now ∷ reverse events.now)).entries)) →
-        IsReached c passes (more.now ∷ reverse events.now) sides)) }
+        IsReached c passes part (more.now ∷ reverse events.now) sides)) }
 {
     // These hand their laws to the prover.
     lists_say_enough();
@@ -91,8 +95,10 @@ pub fn a_band_of_an_open_list(
     passes: u8,
     events: &[Event],
 ) -> Result<Option<World>, SetupFault>
-    ensures { IfOk result (λ found. OnSome found ((sides : ℕ → Side) →
-        list_any restarts_converter (reverse events.now) ≡ false → IsReached c passes (reverse events.now) sides)) }
+    ensures { IfOk result (λ found. OnSome found ((part : PartRegisters) (sides : ℕ → Side) →
+        list_any restarts_converter (reverse events.now) ≡ false →
+        MissingUntold part c (now c passes (reverse events.now)).host →
+        IsReached c passes part (reverse events.now) sides)) }
 {
     // These hand their laws to the prover.
     lists_say_enough();
@@ -111,15 +117,16 @@ pub fn a_band_that_is_reached(
     passes: u8,
     events: &[Event],
 ) -> Result<Option<World>, SetupFault>
-    ensures { IfOk result (λ found. OnSome found ((sides : ℕ → Side) →
+    ensures { IfOk result (λ found. OnSome found ((part : PartRegisters) (sides : ℕ → Side) →
         list_any restarts_converter (reverse events.now) ≡ false →
         let host = (now c passes (reverse events.now)).host in
+        MissingUntold part c host →
         let entries = since_restart (life c passes (reverse events.now)).entries in
-        let chosen = end_choices c host sides in
+        let chosen = end_choices part c host sides in
         let first = witness_start c (due_before chosen (marks (setup_of c passes) entries)) in
         let retold = witness_events (setup_of c passes) chosen entries in
         Leaves c passes entries chosen first retold
-        × ((output : ℕ) (band : Band) → output < c.count → band_at host output ≡ Some band →
+        × ((output : ℕ) (band : Band) → output < c.count → band_at part host output ≡ Some band →
         commands first passes retold output ≡ side_end (sides output) band))) }
 {
     a_band_of_an_open_list(c, passes, events)

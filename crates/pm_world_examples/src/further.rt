@@ -9,9 +9,10 @@ ghost use Rattle.pm_model.specs.Commanded.{commanded};
 ghost use Rattle.pm_model.specs.Settings.{word_at};
 ghost use Rattle.pm_device.specs.Held.{value_for};
 ghost use Rattle.pm_limits.specs.declared.band.Band.{Band};
+ghost use Rattle.pm_limits.specs.declared.part_registers.PartRegisters.{PartRegisters};
 ghost use Rattle.pm_limits.specs.Band.{InBand, band_at};
 ghost use Rattle.pm_world.specs.declared.event.Event.{Event as Happening};
-ghost use Rattle.pm_world.specs.Bands.{AreShort, BandStands};
+ghost use Rattle.pm_world.specs.Bands.{AreShort, BandStands, HoldsMissing};
 ghost use Rattle.pm_world.specs.Bytes.{CarryBytes, StartsShort};
 ghost use Rattle.pm_world.specs.Confirmed.{ConfirmedIsHeld};
 ghost use Rattle.pm_device.specs.Start.{IsSound};
@@ -196,9 +197,10 @@ pub fn a_band_after_a_step(
     output: u8,
 ) -> Result<Option<World>, SetupFault>
     requires { output < c.count }
-    ensures { IfOk result (λ found. OnSome found ((band : Band) →
+    ensures { IfOk result (λ found. OnSome found ((part : PartRegisters) (band : Band) →
         BandStands c passes (more.now ∷ reverse events.now) (now c passes (more.now ∷ reverse events.now)).host output →
-        band_at (now c passes (more.now ∷ reverse events.now)).host output ≡ Some band →
+        HoldsMissing part c (now c passes (more.now ∷ reverse events.now)).device.words output →
+        band_at part (now c passes (more.now ∷ reverse events.now)).host output ≡ Some band →
         InBand band (commands c passes (more.now ∷ reverse events.now) output))) }
 {
     // Hands its law to the prover.

@@ -1,5 +1,5 @@
 -- What a survey has read and what is known where it has nothing left to ask for.
-use Rattle.std.specs.Prelude.{◌≡◌, ◌<◌, ◌+◌, ◌==◌, Bool, true, false, not, ◌&&◌, ◌||◌, if◌then◌else◌, refl, find, Option, Some, None, is_none, is_some, option_map}
+use Rattle.std.specs.Prelude.{◌≡◌, ◌<◌, ◌+◌, ◌==◌, ℕ, Bool, true, false, not, ◌&&◌, ◌||◌, if◌then◌else◌, refl, find, List, [], ◌∷◌, Option, Some, None, is_none, is_some, option_map}
 use Rattle.std.specs.Option.{option_or}
 use Rattle.std.specs.List.{list_any}
 use Rattle.std.proofs.Common.{subst, arith}
@@ -175,3 +175,49 @@ whole v s = go (format_at s v.output) where
   go : (format : Option Shape) → is_stuck_by all_registers v s format ≡ false
   go None = refl
   go (Some shape) = refl
+
+-- what is found passes the test
+found : (test : Reg → Bool) (listed : List Reg) (register : Reg) → find test listed ≡ Some register → test register ≡ true
+found test [] register is = cc
+found test (one ∷ rest) register is = go (found test rest register) (test one) refl is where
+  go : (find test rest ≡ Some register → test register ≡ true) → (b : Bool) → test one ≡ b →
+      (if b then Some one else find test rest) ≡ Some register → test register ≡ true
+  go later true e same =
+      let it : one ≡ register = cc in subst (λ (r : Reg). test r ≡ true) it e
+  go later false e same = later same
+
+-- a survey asks for no register that the part doesn't have
+asked-there : (part : PartRegisters) (v : Survey) (cells : Cells) (held : Held) (wants : Wants) (output : ℕ) (register : Reg) →
+    due_in part v cells held wants ≡ Some (Check (Out output register)) → has_register part register ≡ true
+asked-there part v cells held wants output register is =
+    go (not v.learned) (find (is_unread part v.read held wants) registers) (is_some v.plan && not v.read.protect)
+    (find (is_unsure part cells v.output held wants) registers) (is_some v.plan && is_none (known_at cells Protect)) refl refl is
+  where
+    go : (l : Bool) (u : Option Reg) (p : Bool) (n : Option Reg) (q : Bool) → find (is_unread part v.read held wants) registers ≡ u →
+        find (is_unsure part cells v.output held wants) registers ≡ n →
+        option_or (rule l (Learn v.output)) (option_or (option_map (λ r. Check (Out v.output r)) u) (option_or (rule p (Check Protect))
+        (option_or (option_map (λ r. Check (Out v.output r)) n) (option_or (rule q (Check Protect)) None))))
+        ≡ Some (Check (Out output register)) → has_register part register ≡ true
+    go true u p n q eu en h = cc
+    go false (Some r) p n q eu en h =
+        let same : r ≡ register = cc in
+        subst (λ (x : Reg). has_register part x ≡ true) same
+        (both-true (has_register part r) _ (found (is_unread part v.read held wants) registers r eu)).0
+    go false None true n q eu en h = cc
+    go false None false (Some r) q eu en h =
+        let same : r ≡ register = cc in
+        subst (λ (x : Reg). has_register part x ≡ true) same
+        (both-true (has_register part r) _ (found (is_unsure part cells v.output held wants) registers r en)).0
+    go false None false None true eu en h = cc
+    go false None false None false eu en h = cc
+
+pub unread : (part : PartRegisters) (v : Survey) (s : Summary) (output : ℕ) (register : Reg) →
+    next_job part v s ≡ Some (Check (Out output register)) → has_register part register ≡ true
+unread part v s output register is = go (v.left == 0) (format_at s v.output) is where
+  go : (empty : Bool) (format : Option Shape) → (if empty then None else due_by part v s format) ≡ Some (Check (Out output register)) →
+      has_register part register ≡ true
+  go true format h = cc
+  go false None h = cc
+  go false (Some shape) h =
+      let cells = cells_of part shape s in
+      asked-there part v cells (known_of cells v.output) (wants_of (wanted_in v.plan)) output register h

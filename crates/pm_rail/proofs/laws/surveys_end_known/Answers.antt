@@ -1,4 +1,4 @@
-use Rattle.pm_rail.specs.Lemmas.Surveyed.{asks, format, known, protection, whole}
+use Rattle.pm_rail.specs.Lemmas.Surveyed.{asks, format, known, protection, unread, whole}
 use Rattle.pm_rail.proofs.laws.surveys_end_known.Goals as goal
 
 pub returns : goal.returns
@@ -8,4 +8,5 @@ returns c = record {
   protection = protection;
   asks = asks;
   whole = whole;
+  unread = unread;
 }
