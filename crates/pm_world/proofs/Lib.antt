@@ -41,6 +41,7 @@ mod OrderEvents
 mod OwnRequests
 mod OwnWords
 mod ReadBack
+mod PlanSteps
 mod Registers
 mod Retellings
 mod Retold

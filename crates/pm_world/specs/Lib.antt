@@ -18,6 +18,8 @@ pub mod Laws
 pub mod Limited
 pub mod Bands
 pub mod LimitLaws
+pub mod Plans
+pub mod Surveys
 pub mod FaultWords
 pub mod Moves
 pub mod GoodBus
