@@ -67,7 +67,7 @@ alone : (word only_word : ℕ) → word ≡ only_word → is_possible word (only
 alone word only_word is = grind (arith, nat_tests)
 
 -- a word that decides is possible
-stands : (possible : Possible) (word : ℕ) → (possible ≢ Any → is_possible word possible ≡ true) → is_possible word possible ≡ true
+pub stands : (possible : Possible) (word : ℕ) → (possible ≢ Any → is_possible word possible ≡ true) → is_possible word possible ≡ true
 stands Any word held = refl
 stands (Words words) word held = held (λ (e : Words words ≡ Any). cc)
 

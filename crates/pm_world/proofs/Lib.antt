@@ -41,7 +41,9 @@ mod OrderEvents
 mod OwnRequests
 mod OwnWords
 mod ReadBack
+mod PlanLives
 mod PlanSteps
+mod PlannedOrders
 mod Registers
 mod Retellings
 mod Retold

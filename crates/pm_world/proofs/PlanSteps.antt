@@ -17,9 +17,8 @@ use Rattle.pm_host.specs.declared.stage.Stage.{Stage}
 use Rattle.pm_host.specs.declared.step.Step.{Step}
 use Rattle.pm_host.specs.declared.step.Step.TheVariants.{Next, Ended}
 use Rattle.pm_host.specs.Ended.{StepTells, job_in}
-use Rattle.pm_host.specs.Now.{now as host_now}
 use Rattle.pm_host.specs.Refusals.{is_busy}
-use Rattle.pm_host.specs.Summary.{Summary, step_by}
+use Rattle.pm_host.specs.Summary.{Summary}
 use Rattle.pm_host.specs.Transcript as host
 use Rattle.pm_rail.specs.Plan.{goal_of, is_cut_by, next_register, put}
 use Rattle.pm_rail.specs.Registers.{Held, Wants}

@@ -5,7 +5,6 @@ use Rattle.pm_table.specs.declared.cell.Cell.{Cell}
 use Rattle.pm_table.specs.declared.cell.Cell.TheVariants.{Out, Protect}
 use Rattle.pm_table.specs.declared.reg.Reg.{Reg}
 use Rattle.pm_device.specs.declared.config.Config.{Config}
-use Rattle.pm_device.specs.Held.{value_for}
 use Rattle.pm_host.specs.declared.job.Job.{Job}
 use Rattle.pm_host.specs.declared.job_end.JobEnd.{JobEnd}
 use Rattle.pm_host.specs.declared.possible.Possible.TheVariants.{Any}
@@ -16,7 +15,6 @@ use Rattle.pm_limits.specs.Band.{InBand, band_at, decides}
 use Rattle.pm_rail.specs.declared.survey.Survey.{Survey}
 use Rattle.pm_rail.specs.Known.{known_at, known_of}
 use Rattle.pm_rail.specs.Orders.{is_needed}
-use Rattle.pm_rail.specs.Plan.{commands_by}
 use Rattle.pm_rail.specs.Registers.{Wants, wants_of}
 use Rattle.pm_rail.specs.Survey as survey
 use Rattle.pm_rail.specs.Survey.{asking, ended, is_surveyed, next_job, nothing_read, wanted_in}

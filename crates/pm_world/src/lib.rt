@@ -35,6 +35,7 @@ mod event;
 mod laws;
 mod legal;
 mod openness;
+mod rail_laws;
 mod short;
 mod stop;
 mod watch;
@@ -60,6 +61,7 @@ pub use legal::{
     is_legal_return,
 };
 pub use openness::run_open;
+pub use rail_laws::plans_hold_in_lives;
 pub use pm_setup::SetupFault;
 pub use short::words_are_short;
 pub use stop::Stop;

@@ -1,0 +1,22 @@
+//! The laws of rails over a whole life: each is the contract of a function that does nothing when it runs.
+
+ghost use Rattle.pm_world.specs.Plans.{PlansHoldInLives};
+
+use crate::laws::lower_laws;
+use pm_rail::{plans_are_of_what_is_held, plans_are_without_glitch};
+
+/// However frames are delivered, lost, cut, damaged, repeated or falsely acknowledged, however orders end and whatever
+/// else is asked for: from a moment on at which the host is idle and what it has read of what a plan needs was read since
+/// the converter's last restart, while the converter doesn't restart, no restore is asked for and each order of the output
+/// is the plan's next one or the last one again, the output commands at the later of any two moments what it commands at the
+/// earlier one, or what is wanted (`held`), so that it changes once at most. What has been read by then was read since the
+/// converter's last restart (`read`); where that is so and the plan has no further order, each wanted word is the only one
+/// possible, and the one that is held (`come_true`). The law speaks of one output, whatever is ordered of others; so of a
+/// list of rails it holds of each.
+pub fn plans_hold_in_lives()
+    ensures { PlansHoldInLives }
+{
+    lower_laws();
+    plans_are_without_glitch();
+    plans_are_of_what_is_held();
+}
