@@ -52,7 +52,7 @@ use Rattle.pm_world.proofs.Seen.{possible-held}
 use Rattle.pm_world.proofs.Standings.{same-cells}
 
 -- the band that a host gives is that of the converter's format
-band-of : (elsewhere : Bool) (format : Option Shape) (known : Shape → Known) (bytes : List ℕ) (own : Shape) (band : Band) →
+pub band-of : (elsewhere : Bool) (format : Option Shape) (known : Shape → Known) (bytes : List ℕ) (own : Shape) (band : Band) →
     ((shape : Shape) → format ≡ Some shape → shape ≡ own) →
     cond elsewhere None (option_map (λ shape. band_with shape (known shape) bytes) format) ≡ Some band →
     band_with own (known own) bytes ≡ band
@@ -72,7 +72,7 @@ stands Any word held = refl
 stands (Words words) word held = held (λ (e : Words words ≡ Any). cc)
 
 -- a word is possible that is the one of a missing register, or that the host calls possible
-here-possible : (missing : Option ℕ) (possible : Possible) (word : ℕ) → ((stands_at : ℕ) → missing ≡ Some stands_at → word ≡ stands_at) →
+pub here-possible : (missing : Option ℕ) (possible : Possible) (word : ℕ) → ((stands_at : ℕ) → missing ≡ Some stands_at → word ≡ stands_at) →
     is_possible word possible ≡ true → is_possible word (option_map_or only missing possible) ≡ true
 here-possible None possible word holds is = is
 here-possible (Some stands_at) possible word holds is = alone word stands_at (holds stands_at refl)
@@ -106,7 +106,7 @@ in-band laws {config = config} {passes = passes} {events = events} part output b
     })
 
 -- where words are listed there is one
-abbrev IsFilled : List ℕ → Type 0
+abbrev pub IsFilled : List ℕ → Type 0
 IsFilled [] = ⊥
 IsFilled (word ∷ words) = Unit {0}
 
@@ -160,7 +160,7 @@ reverse-filled words h =
     length-filled (reverse words) (subst (λ (n : ℕ). 0 < n) (sym (length-reverse words)) (filled-length words h))
 
 -- any word is possible, or those of a list that has a word
-abbrev PossibleFilled : Possible → Type 0
+abbrev pub PossibleFilled : Possible → Type 0
 PossibleFilled Any = Unit {0}
 PossibleFilled (Words words) = IsFilled words.items
 
@@ -170,12 +170,12 @@ from-filled None h = tt
 from-filled (Some listed) h = once-filled (reverse listed) (reverse-filled listed h)
 
 -- whatever the marks are, some word is possible for each cell
-of-filled : (ms : List Mark) (cell : Cell) → PossibleFilled (possible_of ms cell)
+pub of-filled : (ms : List Mark) (cell : Cell) → PossibleFilled (possible_of ms cell)
 unfolding possible_of
 of-filled ms cell = from-filled (words_since ms cell) (since-filled ms cell)
 
 -- the farthest of listed words is one of them
-listed-is : (side : Side) (value : ℕ → Ratio) (words : List ℕ) → IsFilled words → is_listed (farthest_of side value words) words ≡ true
+pub listed-is : (side : Side) (value : ℕ → Ratio) (words : List ℕ) → IsFilled words → is_listed (farthest_of side value words) words ≡ true
 listed-is side value [] h = absurd h
 listed-is side value (word ∷ words) h = farthest_of-is side value word words
 

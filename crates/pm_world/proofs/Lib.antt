@@ -55,6 +55,8 @@ mod ShortWitness
 mod SinceRestart
 mod Standings
 mod Starts
+mod SurveyLives
+mod SurveyReads
 mod Sweeps
 mod TakenWhole
 mod Tellings

@@ -68,8 +68,10 @@ pub record Later (config : Config) (passes output : ℕ) (wants : Wants) (later 
 one-order : (q r : Reg) (w v : ℕ) →
     ◌≡◌ {A = Option PlanOrder} (Some (record { register = q; word = w })) (Some (record { register = r; word = v })) →
     (q ≡ r) × (w ≡ v)
-one-order q r w v e = (ap (λ (o : Option PlanOrder). option_map_or (λ x. x.register) o q) e,
-    ap (λ (o : Option PlanOrder). option_map_or (λ x. x.word) o w) e)
+one-order q r w v e = (
+  ap (λ (o : Option PlanOrder). option_map_or (λ x. x.register) o q) e,
+  ap (λ (o : Option PlanOrder). option_map_or (λ x. x.word) o w) e,
+)
 
 -- numbers that test as one are one, and each tests as itself
 one-number : (x y : ℕ) → (x == y) ≡ true → x ≡ y
@@ -84,7 +86,6 @@ module _ (laws : Below) (plans : Plans) (config : Config) (passes output : ℕ) 
     (steady : restarts_converter event ≡ false)
     (may : MayAsk config passes output wants later before (asked (now config passes (later ++ before)) event))
     (was : Later config passes output wants later before) where
-
   stands : Stands config passes output wants (later ++ before)
   stands = record { ready = λ q word p. was.last q word (was.opened q word p); free = was.free }
 
@@ -107,7 +108,7 @@ module _ (laws : Below) (plans : Plans) (config : Config) (passes output : ℕ) 
         last_order config passes output (event ∷ later) before ≡ Some (record { register = q; word = word })
     go (Some job) a =
         let is = pending-order job (Out output q) word
-            (sym (open-asked laws config passes (later ++ before) event job lived a) ∙ p) in
+        (sym (open-asked laws config passes (later ++ before) event job lived a) ∙ p) in
         newest-is (Some job) a
         ∙ ap (λ (j : host.Job). newest_order output (Some j) (last_order config passes output later before)) is
         ∙ itself-newest q word (last_order config passes output later before)
@@ -122,15 +123,15 @@ module _ (laws : Below) (plans : Plans) (config : Config) (passes output : ℕ) 
   kept-ready q word l = elim went [
     | inl stays ↦ subst (λ (h : Held). IsReady (value_for config output) wants h q word) (sym stays) (was.last q word l)
     | inr took ↦
-      let both = sym (was.opened took.q (goal_of (held_at config passes (later ++ before) output) wants took.q) took.opened) ∙ l in
-      let one = one-order took.q q (goal_of (held_at config passes (later ++ before) output) wants took.q) word both in
-      let same_register' = one.0 in
-      let same_word = one.1 in
-      inl (ap (λ (h : Held). h q) took.is
-      ∙ subst (λ (x : Reg). put (held_at config passes (later ++ before) output) took.q
-      (goal_of (held_at config passes (later ++ before) output) wants took.q) x ≡ word) same_register'
-      (put-itself (held_at config passes (later ++ before) output) took.q
-      (goal_of (held_at config passes (later ++ before) output) wants took.q) ∙ same_word))
+        let both = sym (was.opened took.q (goal_of (held_at config passes (later ++ before) output) wants took.q) took.opened) ∙ l in
+        let one = one-order took.q q (goal_of (held_at config passes (later ++ before) output) wants took.q) word both in
+        let same_register' = one.0 in
+        let same_word = one.1 in
+        inl (ap (λ (h : Held). h q) took.is
+        ∙ subst (λ (x : Reg). put (held_at config passes (later ++ before) output) took.q
+        (goal_of (held_at config passes (later ++ before) output) wants took.q) x ≡ word) same_register'
+        (put-itself (held_at config passes (later ++ before) output) took.q
+        (goal_of (held_at config passes (later ++ before) output) wants took.q) ∙ same_word))
   ]
 
   -- one that is given now
@@ -162,6 +163,7 @@ module _ (laws : Below) (plans : Plans) (config : Config) (passes output : ℕ) 
         (subst (λ (x : ℕ). IsReady (value_for config output) wants (held_at config passes (event ∷ later ++ before) output) r x)
         (ap (λ (o : PlanOrder). o.word) one) (new-ready (host.Order (Out other r) w) a r w (m (one-number other output e))))
     order other r w a m false e is = kept-ready q word is
+
     go : (job : Option host.Job) → asked (now config passes (later ++ before)) event ≡ job →
         MayAsk config passes output wants later before job →
         IsReady (value_for config output) wants (held_at config passes (event ∷ later ++ before) output) q word
@@ -209,22 +211,21 @@ module _ (laws : Below) (plans : Plans) (config : Config) (passes output : ℕ) 
 module _ (laws : Below) (plans : Plans) (config : Config) (passes output : ℕ) (wants : Wants) (before : List Event)
     (spelled : IsSpelled config) (here : output < config.count) (none : wants Operation ≡ None)
     (idle : is_busy (now config passes before).host ≡ false) (since : IsReadSince config passes output wants before) where
-
   start-later : Later config passes output wants [] before
   start-later = record {
-        opened = λ q word p. let bad = sym (idle-none config passes before idle) ∙ p in cc;
-        last = λ q word l. cc;
-        free = λ p. let bad = sym (idle-none config passes before idle) ∙ p in cc;
-        goal = refl;
-      }
+    opened = λ q word p. let bad = sym (idle-none config passes before idle) ∙ p in cc;
+    last = λ q word l. cc;
+    free = λ p. let bad = sym (idle-none config passes before idle) ∙ p in cc;
+    goal = refl;
+  }
 
   -- what is needed stays what it was, and so does what was read
   since-all : (later : List Event) → Follows config passes output wants later before → Later config passes output wants later before →
       IsReadSince config passes output wants (later ++ before)
   since-all later follows was register needed =
       let operation : held_at config passes (later ++ before) output Operation ≡ held_at config passes before output Operation
-          = sym (goal-operation (held_at config passes (later ++ before) output) wants none)
-          ∙ ap (λ (h : Held). h Operation) was.goal ∙ goal-operation (held_at config passes before output) wants none in
+      = sym (goal-operation (held_at config passes (later ++ before) output) wants none)
+      ∙ ap (λ (h : Held). h Operation) was.goal ∙ goal-operation (held_at config passes before output) wants none in
       since-later config passes output wants register later before
       (since register (sym (needed-same (held_at config passes (later ++ before) output) (held_at config passes before output) wants
       operation register) ∙ needed))

@@ -195,7 +195,6 @@ pub record Took (config : Config) (passes output : ℕ) (wants : Wants) (before 
 module _ (laws : Below) (config : Config) (passes output : ℕ) (wants : Wants) (before : List Event) (event : Event)
     (here : output < config.count) (lived : IsLived config passes (event ∷ before))
     (steady : restarts_converter event ≡ false) (stands : Stands config passes output wants before) where
-
   abbrev was : Held
   was = held_at config passes before output
 
@@ -234,16 +233,16 @@ module _ (laws : Below) (config : Config) (passes output : ℕ) (wants : Wants) 
         let same_output : other ≡ output = cc in
         let same_word : word ≡ is q = cc in
         let there : open_pending config passes before ≡ Some (pending.Order (Out output q) word)
-            = open' ∙ ap (λ (o : ℕ). Some (pending.Order (Out o q) word)) same_output in
+        = open' ∙ ap (λ (o : ℕ). Some (pending.Order (Out o q) word)) same_output in
         elim (stands.ready q word there) [
           | inl had ↦ inl (all (sym same_word ∙ sym had))
           | inr plan ↦ inr (record {
-              q = q;
-              next = plan.0;
-              uncut = plan.2;
-              is = taken (sym same_word ∙ sym plan.1);
-              opened = there ∙ ap (λ (w : ℕ). Some (pending.Order (Out output q) w)) (sym plan.1);
-            })
+            q = q;
+            next = plan.0;
+            uncut = plan.2;
+            is = taken (sym same_word ∙ sym plan.1);
+            opened = there ∙ ap (λ (w : ℕ). Some (pending.Order (Out output q) w)) (sym plan.1);
+          })
         ]
   ]
     where

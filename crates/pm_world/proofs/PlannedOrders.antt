@@ -59,7 +59,6 @@ module _ (laws : Below) (plans : Plans) {config : Config} {passes : ℕ} {events
     (wants : Wants) (order : Option PlanOrder) (lived : IsLived config passes events) (spelled : IsSpelled config)
     (here : output < config.count) (none : wants Operation ≡ None) (since : IsReadSince config passes output wants events)
     (is : plan_of (now config passes events).host limits output wants ≡ Ok order) where
-
   abbrev s : Summary
   s = (now config passes events).host
 
@@ -117,6 +116,8 @@ module _ (laws : Below) (plans : Plans) {config : Config} {passes : ℕ} {events
   come-true register word over wanted =
       let needed = wanted-needed known wants register (ap (λ (o : Option ℕ). is_some o) wanted) in
       let is' : plan_of s limits output wants ≡ Ok None = is ∙ ap (λ (o : Option PlanOrder). Ok o) over in
-      let has = plans.answers.done s limits output wants held register word none may is' wanted in
-      (known-is (known_at s (Out output register)) (some register needed)
-      ∙ ap (λ (w : ℕ). Some w) (known-held s (Out output register) (held register) (may register needed) (some register needed) ∙ has), has)
+      let has = plans.answers.done s limits output wants held register word none may is' wanted in (
+        known-is (known_at s (Out output register)) (some register needed)
+            ∙ ap (λ (w : ℕ). Some w) (known-held s (Out output register) (held register) (may register needed) (some register needed) ∙ has),
+        has,
+      )

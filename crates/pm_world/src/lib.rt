@@ -61,8 +61,8 @@ pub use legal::{
     is_legal_return,
 };
 pub use openness::run_open;
-pub use rail_laws::plans_hold_in_lives;
 pub use pm_setup::SetupFault;
+pub use rail_laws::{plans_hold_in_lives, surveys_hold_in_lives};
 pub use short::words_are_short;
 pub use stop::Stop;
 pub use way::{Way, run_way};

@@ -1,9 +1,10 @@
 //! The laws of rails over a whole life: each is the contract of a function that does nothing when it runs.
 
 ghost use Rattle.pm_world.specs.Plans.{PlansHoldInLives};
+ghost use Rattle.pm_world.specs.Surveys.{SurveysHoldInLives};
 
-use crate::laws::lower_laws;
-use pm_rail::{plans_are_of_what_is_held, plans_are_without_glitch};
+use crate::laws::{bands_are_held, lower_laws};
+use pm_rail::{plans_are_of_what_is_held, plans_are_without_glitch, surveys_end_known};
 
 /// However frames are delivered, lost, cut, damaged, repeated or falsely acknowledged, however orders end and whatever
 /// else is asked for: from a moment on at which the host is idle and what it has read of what a plan needs was read since
@@ -19,4 +20,18 @@ pub fn plans_hold_in_lives()
     lower_laws();
     plans_are_without_glitch();
     plans_are_of_what_is_held();
+}
+
+/// However frames are delivered, lost, cut, damaged, repeated or falsely acknowledged. Each cell that a survey counts as
+/// read had a good answer since it began, as long as it is told how each job ended that it asked for (`follows`). Unless the
+/// converter restarted since the first of these reads, what the output commands lies in the band, where the registers that
+/// decide and that the survey hasn't read were read since the converter's last restart; and where the survey has ended by its
+/// own rule, the band has one value, which is what the output commands, each register that is needed holds the word that
+/// is known, and a plan may begin (`keeps`).
+pub fn surveys_hold_in_lives()
+    ensures { SurveysHoldInLives }
+{
+    lower_laws();
+    bands_are_held();
+    surveys_end_known();
 }
