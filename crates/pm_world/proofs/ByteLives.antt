@@ -229,6 +229,18 @@ pub record IsOfBytes (config : Config) : Type 0 where
   pub spelled : IsSpelled config
   pub short : StartsShort config
 
+-- each word that the converter holds has two bytes
+pub held-short : Below → (config : Config) (passes : ℕ) (events : List Event) → IsOfBytes config → IsLived config passes events →
+    CarryBytes events → (cell : Cell) → IsCell config.count cell → word_at (now config passes events).device.words cell < 2 ^ 16
+unfolding now state_of device_now
+held-short laws config passes events numbers lived carry (Out output register) there =
+    elim (life-own laws config passes events (Out output register) lived there) [
+      | inl start ↦ subst (λ n. n < 2 ^ 16) (sym start) (numbers.short output register there)
+      | inr was ↦ own-short config passes events (Out output register) _ carry was
+    ]
+held-short laws config passes events numbers lived carry Protect there =
+    protection-short _ (laws.words_have_an_origin.accepted config (life config passes events).past Protect lived.sound tt)
+
 -- the converter holds numbers of a program
 holds : Below → (config : Config) (passes : ℕ) (events : List Event) → IsOfBytes config → IsLived config passes events → CarryBytes events →
     HoldsBytes (now config passes events).device
@@ -237,19 +249,11 @@ holds laws config passes events numbers lived carry = record {
   sound = lived.sound;
   spelled = numbers.spelled;
   page = laws.pasts_are_followed.page config (life config passes events).past lived.sound.some;
-  words = words;
+  words = held-short laws config passes events numbers lived carry;
   readings = λ output code.
       reading-short (readings_in config (life config passes events).past) output code
       (past-short config (life config passes events).past (life-measured config passes events carry));
 }
-  where
-    words : (cell : Cell) → IsCell config.count cell → word_at (now config passes events).device.words cell < 2 ^ 16
-    words (Out output register) there = elim (life-own laws config passes events (Out output register) lived there) [
-      | inl start ↦ subst (λ n. n < 2 ^ 16) (sym start) (numbers.short output register there)
-      | inr was ↦ own-short config passes events (Out output register) _ carry was
-    ]
-    words Protect there =
-        protection-short _ (laws.words_have_an_origin.accepted config (life config passes events).past Protect lived.sound tt)
 
 -- what the host is told
 abbrev TellsBytes : Option host.Entry → Type 0

@@ -24,6 +24,8 @@ mod GoodTurns
 mod GoodWrites
 mod HeldWords
 mod HonestOrders
+mod InsideLimits
+mod InsideMarks
 mod JobSpans
 mod KeptFormats
 mod Learned
@@ -65,4 +67,5 @@ mod Undisturbed
 mod Unread
 mod WayForms
 mod WholeFrames
+mod WithinLives
 mod Witness

@@ -116,7 +116,7 @@ commands-own laws {config = config} {passes = passes} {events = events} output l
     }
 
 -- a voltage's register
-selected-voltage : (byte : ℕ) → is_voltage (selected_register byte) ≡ true
+pub selected-voltage : (byte : ℕ) → is_voltage (selected_register byte) ≡ true
 selected-voltage byte = each-selected (λ r. is_voltage r ≡ true) refl refl refl byte
 
 -- the value and the limits of what an output commands
@@ -134,7 +134,7 @@ cut-of config output sound here selected least most =
     }
 
 -- what is cut is at most what the selected value and VOUT_MIN's are at most
-cut-upper : (c : Cut) (z : Ratio) → AtMost c.selected z → AtMost c.least z → AtMost (limited c.selected c.least c.greatest) z
+pub cut-upper : (c : Cut) (z : Ratio) → AtMost c.selected z → AtMost c.least z → AtMost (limited c.selected c.least c.greatest) z
 cut-upper c z s l =
     go (is_above c.selected c.greatest) (is_above c.least c.selected) (is_above c.least c.greatest) refl refl
   where
@@ -146,7 +146,7 @@ cut-upper c z s l =
     go false false crossed o x = s
 
 -- what is cut is at least what the selected value and VOUT_MAX's are at least
-cut-lower : (c : Cut) (z : Ratio) → AtMost z c.selected → AtMost z c.greatest → AtMost z (limited c.selected c.least c.greatest)
+pub cut-lower : (c : Cut) (z : Ratio) → AtMost z c.selected → AtMost z c.greatest → AtMost z (limited c.selected c.least c.greatest)
 cut-lower c z s g =
     go (is_above c.selected c.greatest) (is_above c.least c.selected) (is_above c.least c.greatest) refl
   where
@@ -326,7 +326,7 @@ guarded-at config passes part limits [] event before all = all.0
 guarded-at config passes part limits (newer ∷ later) event before all = guarded-at config passes part limits later event before all.1
 
 -- a word that a guard lets be ordered lies within its limits, in the format that the host knows
-ordered-within : (g : Guarded) (asked : Option Job) (output : ℕ) (register : Reg) (word : ℕ) (bounds : Bounds) →
+pub ordered-within : (g : Guarded) (asked : Option Job) (output : ℕ) (register : Reg) (word : ℕ) (bounds : Bounds) →
     option_and_then (guard_fault g) asked ≡ None →
     option_and_then (accepted_job g.host) asked ≡ Some (host.Order (Out output register) word) →
     is_voltage register ≡ true → slice_index_or g.limits output None ≡ Some bounds →
@@ -336,7 +336,7 @@ ordered-within g (Some job) output register word bounds free is voltage limits =
     guarded-voltage g job output register word bounds free is voltage limits
 
 -- a word within limits in the format that a host knows lies within them in the converter's own, which is the same
-in-format : (known : Option Shape) (own : Shape) (word : ℕ) (bounds : Bounds) →
+pub in-format : (known : Option Shape) (own : Shape) (word : ℕ) (bounds : Bounds) →
     ((shape : Shape) → known ≡ Some shape → shape ≡ own) →
     IsSomeAnd known (λ shape. IsWithin bounds (shape_value shape word)) → IsWithin bounds (shape_value own word)
 in-format None own word bounds agree within = absurd within

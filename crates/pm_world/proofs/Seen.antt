@@ -44,7 +44,7 @@ got_bytes (host.Got bytes) = bytes
 got_bytes _ = []
 
 -- what came back is true of the cell that is read, whichever event brought it
-got-true : Below → {s : State} {setup : host.Setup} {entries : List host.Entry} (event : Event) (bytes : List ℕ) → Knows s setup entries →
+pub got-true : Below → {s : State} {setup : host.Setup} {entries : List host.Entry} (event : Event) (bytes : List ℕ) → Knows s setup entries →
     event_cause s event ≡ None → (share_of s event).told ≡ Some (host.Got bytes) → ReadsTrue setup entries bytes s.device.words
 got-true laws {s = s} {setup = setup} {entries = entries} event bytes knows free told = by (share-is s event) free told where
   by : {event : Event} {share : Share} → IsShare s event share → event_cause s event ≡ None → share.told ≡ Some (host.Got bytes) →
@@ -94,7 +94,7 @@ told-surprise laws {setup = setup} {entries = entries} event cell (Some (host.Go
 told-surprise laws event cell told knows free is h = absurd (false≢true h)
 
 -- a cell of the converter is one of its configuration
-count-is : (config : Config) (passes : ℕ) (events : List Event) (cell : Cell) →
+pub count-is : (config : Config) (passes : ℕ) (events : List Event) (cell : Cell) →
     IsCell (now config passes events).device.config.count cell → IsCell config.count cell
 count-is config passes events cell there = subst (λ (k : Config). IsCell k.count cell) (now-config config passes events) there
 

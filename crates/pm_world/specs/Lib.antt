@@ -20,6 +20,7 @@ pub mod Bands
 pub mod LimitLaws
 pub mod Plans
 pub mod Surveys
+pub mod StaysWithin
 pub mod FaultWords
 pub mod Moves
 pub mod GoodBus

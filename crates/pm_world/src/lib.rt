@@ -62,7 +62,7 @@ pub use legal::{
 };
 pub use openness::run_open;
 pub use pm_setup::SetupFault;
-pub use rail_laws::{plans_hold_in_lives, surveys_hold_in_lives};
+pub use rail_laws::{plans_hold_in_lives, surveys_hold_in_lives, within_stays_within};
 pub use short::words_are_short;
 pub use stop::Stop;
 pub use way::{Way, run_way};

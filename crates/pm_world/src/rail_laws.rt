@@ -1,9 +1,11 @@
 //! The laws of rails over a whole life: each is the contract of a function that does nothing when it runs.
 
 ghost use Rattle.pm_world.specs.Plans.{PlansHoldInLives};
+ghost use Rattle.pm_world.specs.StaysWithin.{WithinStaysWithin};
 ghost use Rattle.pm_world.specs.Surveys.{SurveysHoldInLives};
 
 use crate::laws::{bands_are_held, lower_laws};
+use pm_limits::guarded_orders_are_within;
 use pm_rail::{plans_are_of_what_is_held, plans_are_without_glitch, surveys_end_known};
 
 /// However frames are delivered, lost, cut, damaged, repeated or falsely acknowledged, however orders end and whatever
@@ -34,4 +36,14 @@ pub fn surveys_hold_in_lives()
     lower_laws();
     bands_are_held();
     surveys_end_known();
+}
+
+/// However frames are delivered, lost, cut, damaged, repeated or falsely acknowledged: where an idle host says that an
+/// output's band lies within limits, it goes on to say so, while each job goes through a guard with these limits, neither
+/// end restarts, no restore is asked for, and the output isn't turned off by a byte with which it may lie outside.
+pub fn within_stays_within()
+    ensures { WithinStaysWithin }
+{
+    lower_laws();
+    guarded_orders_are_within();
 }

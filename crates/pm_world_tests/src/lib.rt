@@ -18,6 +18,8 @@ mod fixtures;
 pub mod full;
 mod look;
 #[cfg(test)]
+mod plans;
+#[cfg(test)]
 mod refusals;
 #[cfg(test)]
 mod runs;
