@@ -20,6 +20,8 @@ use Rattle.pm_host.specs.Ended.{StepTells, job_in}
 use Rattle.pm_host.specs.Refusals.{is_busy}
 use Rattle.pm_host.specs.Summary.{Summary}
 use Rattle.pm_host.specs.Transcript as host
+use Rattle.pm_limits.specs.declared.part_registers.PartRegisters.{PartRegisters}
+use Rattle.pm_limits.specs.Part.{has_register}
 use Rattle.pm_rail.specs.Plan.{goal_of, is_cut_by, next_register, put}
 use Rattle.pm_rail.specs.Registers.{Held, Wants}
 use Rattle.pm_world.specs.Below.{Below}
@@ -146,7 +148,7 @@ by-asked job (ordered arrival takes) is = cc
 by-asked job (restored arrival takes out e) is = cc
 
 -- registers that test as one are one, and each tests as itself
-one-register : (q r : Reg) → same_register q r ≡ true → q ≡ r
+pub one-register : (q r : Reg) → same_register q r ≡ true → q ≡ r
 one-register Operation Operation h = refl
 one-register VoutCommand VoutCommand h = refl
 one-register VoutMax VoutMax h = refl
@@ -167,14 +169,14 @@ pub put-itself : (held : Held) (q : Reg) (word : ℕ) → put held q word q ≡ 
 put-itself held q word = ap (λ (b : Bool). cond b word (held q)) (itself q)
 
 -- an order that the plan gives: it has taken, or is the next one
-abbrev pub IsReady : Scale → Wants → Held → Reg → ℕ → Type 0
-IsReady value wants held q word = (held q ≡ word) ⊎ ((next_register value held wants ≡ Some q)
-    × (goal_of held wants q ≡ word) × (is_cut_by value (goal_of held wants) ≡ false))
+abbrev pub IsReady : PartRegisters → Scale → Wants → Held → Reg → ℕ → Type 0
+IsReady part value wants held q word = (held q ≡ word) ⊎ ((next_register value held wants ≡ Some q)
+    × (goal_of held wants q ≡ word) × (is_cut_by value (goal_of held wants) ≡ false) × (has_register part q ≡ true))
 
 -- at a moment an open order of the output is such a one, and no restore is open
-pub record Stands (config : Config) (passes output : ℕ) (wants : Wants) (events : List Event) : Type 0 where
+pub record Stands (config : Config) (passes : ℕ) (part : PartRegisters) (output : ℕ) (wants : Wants) (events : List Event) : Type 0 where
   pub ready : (q : Reg) (word : ℕ) → open_pending config passes events ≡ Some (pending.Order (Out output q) word) →
-      IsReady (value_for config output) wants (held_at config passes events output) q word
+      IsReady part (value_for config output) wants (held_at config passes events output) q word
   pub free : open_pending config passes events ≡ Some pending.Restore → ⊥
 
 -- an event leaves the output's words
@@ -183,18 +185,20 @@ Stays config passes output before event =
     held_at config passes (event ∷ before) output ≡ held_at config passes before output
 
 -- or the plan's next order took
-pub record Took (config : Config) (passes output : ℕ) (wants : Wants) (before : List Event) (event : Event) : Type 0 where
+pub record Took (config : Config) (passes : ℕ) (part : PartRegisters) (output : ℕ) (wants : Wants) (before : List Event) (event : Event) : Type 0 where
   pub q : Reg
   pub next : next_register (value_for config output) (held_at config passes before output) wants ≡ Some q
   pub uncut : is_cut_by (value_for config output) (goal_of (held_at config passes before output) wants) ≡ false
+  pub has : has_register part q ≡ true
   pub is : held_at config passes (event ∷ before) output
       ≡ put (held_at config passes before output) q (goal_of (held_at config passes before output) wants q)
   pub opened : open_pending config passes before
       ≡ Some (pending.Order (Out output q) (goal_of (held_at config passes before output) wants q))
 
-module _ (laws : Below) (config : Config) (passes output : ℕ) (wants : Wants) (before : List Event) (event : Event)
+module _ (laws : Below) (config : Config) (passes : ℕ) (part : PartRegisters) (output : ℕ) (wants : Wants) (before : List Event)
+    (event : Event)
     (here : output < config.count) (lived : IsLived config passes (event ∷ before))
-    (steady : restarts_converter event ≡ false) (stands : Stands config passes output wants before) where
+    (steady : restarts_converter event ≡ false) (stands : Stands config passes part output wants before) where
   abbrev was : Held
   was = held_at config passes before output
 
@@ -226,7 +230,7 @@ module _ (laws : Below) (config : Config) (passes output : ℕ) (wants : Wants) 
 
   -- this order is open
   order-goes : (other : ℕ) (q : Reg) (word : ℕ) → open_pending config passes before ≡ Some (pending.Order (Out other q) word) →
-      Stays config passes output before event ⊎ Took config passes output wants before event
+      Stays config passes output before event ⊎ Took config passes part output wants before event
   order-goes other q word open' = elim (opened q) [
     | inl e ↦ inl (all e)
     | inr p ↦
@@ -240,6 +244,7 @@ module _ (laws : Below) (config : Config) (passes output : ℕ) (wants : Wants) 
             q = q;
             next = plan.0;
             uncut = plan.2;
+            has = plan.3;
             is = taken (sym same_word ∙ sym plan.1);
             opened = there ∙ ap (λ (w : ℕ). Some (pending.Order (Out output q) w)) (sym plan.1);
           })
@@ -269,10 +274,10 @@ module _ (laws : Below) (config : Config) (passes output : ℕ) (wants : Wants) 
         | inl e' ↦ place e r e' (same_register q r) refl
       ])
 
-  pub goes : Stays config passes output before event ⊎ Took config passes output wants before event
+  pub goes : Stays config passes output before event ⊎ Took config passes part output wants before event
   goes = go (open_pending config passes before) refl where
     go : (o : Option PendingJob) → open_pending config passes before ≡ o →
-        Stays config passes output before event ⊎ Took config passes output wants before event
+        Stays config passes output before event ⊎ Took config passes part output wants before event
     go (Some (pending.Order (Out other q) word)) e = order-goes other q word e
     go (Some (pending.Order Protect word)) e = inl (other-stays (λ r w p. cc))
     go (Some pending.Store) e = inl (other-stays (λ r w p. cc))
