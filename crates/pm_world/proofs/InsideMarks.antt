@@ -8,7 +8,7 @@ use Rattle.pm_num.specs.Ratio.{AtMost, micros}
 use Rattle.pm_table.specs.declared.cell.Cell.{Cell}
 use Rattle.pm_table.specs.declared.cell.Cell.TheVariants.{Out, Protect}
 use Rattle.pm_table.specs.declared.reg.Reg.{Reg}
-use Rattle.pm_table.specs.declared.reg.Reg.TheVariants.{Operation, VoutCommand, VoutMax, MarginHigh, MarginLow, VoutMin}
+use Rattle.pm_table.specs.declared.reg.Reg.TheVariants.{Operation}
 use Rattle.pm_table.specs.Cell.{cell_accepts, is_operation, is_voltage, same_cell, same_register}
 use Rattle.pm_table.specs.Operation.{selected_register}
 use Rattle.pm_model.specs.declared.pending_job.PendingJob.{PendingJob}
@@ -25,6 +25,7 @@ use Rattle.pm_limits.specs.Lemmas.Selected.{each-selected}
 use Rattle.pm_limits.specs.Part.{missing_word}
 use Rattle.pm_world.specs.Below.{Below}
 use Rattle.pm_world.proofs.InsideLimits.{AreKept, AreSelected, Ge, IsInside, Le, SelectNoMore, SelectOneMore, fewer-inside, ge-possible, kept-inside, le-possible, more-inside}
+use Rattle.pm_world.proofs.PlanSteps.{one-register}
 
 -- the words that are listed; where any is possible, these
 abbrev pub listing : List ℕ → Possible → List ℕ
@@ -201,9 +202,9 @@ good-other ms read cell word other is = ap (λ (b : Bool). possible_from (cond b
 
 -- of an order: a word of a voltage lies within the limits; a byte is one that OPERATION takes, with which the output is
 -- inside
-abbrev pub Lets : Shape → Bounds → Known → Reg → ℕ → Type 0
-Lets shape bounds known Operation word = (is_operation word ≡ true) × IsInside shape bounds known (word ∷ [])
-Lets shape bounds known register word = IsWithin bounds (shape_value shape word)
+pub record Lets (shape : Shape) (bounds : Bounds) (known : Known) (register : Reg) (word : ℕ) : Type 0 where
+  pub voltage : is_voltage register ≡ true → IsWithin bounds (shape_value shape word)
+  pub byte : is_voltage register ≡ false → (is_operation word ≡ true) × IsInside shape bounds known (word ∷ [])
 
 -- the output is inside, by registers of its own, and so it is with the word of an order that is open
 pub record Stays (part : PartRegisters) (shape : Shape) (bounds : Bounds) (output : ℕ) (ms : List Mark) (open' : Option PendingJob) : Type 0 where
@@ -215,12 +216,10 @@ pub record Stays (part : PartRegisters) (shape : Shape) (bounds : Bounds) (outpu
 -- an order lets as much where voltages stay on their sides
 kept-lets : (shape : Shape) (bounds : Bounds) (known later : Known) (register : Reg) (word : ℕ) → AreKept shape bounds known later →
     Lets shape bounds known register word → Lets shape bounds later register word
-kept-lets shape bounds known later Operation word kept lets = (lets.0, kept-inside kept lets.1)
-kept-lets shape bounds known later VoutCommand word kept lets = lets
-kept-lets shape bounds known later VoutMax word kept lets = lets
-kept-lets shape bounds known later MarginHigh word kept lets = lets
-kept-lets shape bounds known later MarginLow word kept lets = lets
-kept-lets shape bounds known later VoutMin word kept lets = lets
+kept-lets shape bounds known later register word kept lets = record {
+  voltage = lets.voltage;
+  byte = λ other. ((lets.byte other).0, kept-inside kept (lets.byte other).1);
+}
 
 -- a possible word stays on the same side of both limits
 abbrev Sides : Shape → Bounds → Possible → Possible → Type 0
@@ -269,6 +268,11 @@ same-select possible later same holds all = subst (λ (p : Possible). AreSelecte
 
 same-here : (possible later : Possible) → later ≡ possible → may_select_avsbus possible ≡ false → may_select_avsbus later ≡ false
 same-here possible later same none = ap (λ (p : Possible). may_select_avsbus p) same ∙ none
+
+-- a register that is no voltage is OPERATION
+pub no-voltage : (register : Reg) → is_voltage register ≡ false → register ≡ Operation
+no-voltage Operation byte = refl
+no-voltage register byte = cc
 
 -- a list of one word has that word alone
 only-one : (x w : ℕ) → is_listed x (w ∷ []) ≡ true → w ≡ x
@@ -382,15 +386,18 @@ module _ (laws : Below) (part : PartRegisters) (shape : Shape) (bounds : Bounds)
       (same-select (raw_by ms output Operation) _ (put-other ms (Out output put) (Out output Operation) word other))
       (same-here (raw_by ms output Operation) _ (put-other ms (Out output put) (Out output Operation) word other))
 
-  -- a byte is ordered for OPERATION
+  -- a byte is ordered for OPERATION, which is no voltage
+  apart : (register : Reg) → is_voltage register ≡ true → same_register Operation register ≡ false
+  apart register voltage = go (same_register Operation register) refl where
+    go : (b : Bool) → same_register Operation register ≡ b → same_register Operation register ≡ false
+    go false e = e
+    go true e = absurd (let bad : false ≡ true = subst (λ (r : Reg). is_voltage r ≡ true) (sym (one-register laws Operation register e)) voltage
+        in cc)
+
   operation-other : (word : ℕ) (register : Reg) → is_voltage register ≡ true →
       raw_by (Put (Out output Operation) word ∷ ms) output register ≡ raw_by ms output register
-  operation-other word Operation voltage = cc
-  operation-other word VoutCommand voltage = put-other ms (Out output Operation) (Out output VoutCommand) word (none-both (output == output))
-  operation-other word VoutMax voltage = put-other ms (Out output Operation) (Out output VoutMax) word (none-both (output == output))
-  operation-other word MarginHigh voltage = put-other ms (Out output Operation) (Out output MarginHigh) word (none-both (output == output))
-  operation-other word MarginLow voltage = put-other ms (Out output Operation) (Out output MarginLow) word (none-both (output == output))
-  operation-other word VoutMin voltage = put-other ms (Out output Operation) (Out output VoutMin) word (none-both (output == output))
+  operation-other word register voltage = put-other ms (Out output Operation) (Out output register) word
+      (ap (λ (b : Bool). output == output && b) (apart register voltage) ∙ none-both (output == output))
 
   operation-stays : (byte : ℕ) (open' : Option PendingJob) → is_operation byte ≡ true →
       IsInside shape bounds (known_by part shape ms output) (byte ∷ []) →
@@ -405,24 +412,30 @@ module _ (laws : Below) (part : PartRegisters) (shape : Shape) (bounds : Bounds)
             (known_by part shape (Put (Out output Operation) byte ∷ ms) output) register w kept (stays.lets register w is);
       }
 
+  other-way : (register : Reg) → is_voltage register ≡ true → same_register register Operation ≡ false
+  other-way register voltage = go (same_register register Operation) refl where
+    go : (b : Bool) → same_register register Operation ≡ b → same_register register Operation ≡ false
+    go false e = e
+    go true e = absurd (let bad : false ≡ true = subst (λ (r : Reg). is_voltage r ≡ true) (one-register laws register Operation e) voltage in cc)
+
   -- the open order is sent
   pub put-stays : (put : Cell) (word : ℕ) → Stays part shape bounds output ms (Some (pending.Order put word)) →
       Stays part shape bounds output (Put put word ∷ ms) (Some (pending.Order put word))
   put-stays Protect word stays = other-stays Protect word (Some (pending.Order Protect word)) (λ register. refl) stays
   put-stays (Out other q) word stays = go (other == output) refl where
-    voltage : (r : Reg) → same_cell (Out output r) (Out output Operation) ≡ false → IsWithin bounds (shape_value shape word) →
-        Stays part shape bounds output ms (Some (pending.Order (Out output r) word)) →
-        Stays part shape bounds output (Put (Out output r) word ∷ ms) (Some (pending.Order (Out output r) word))
-    voltage r apart within = voltage-stays r word (Some (pending.Order (Out output r) word)) within apart
-
     here : (r : Reg) → Stays part shape bounds output ms (Some (pending.Order (Out output r) word)) →
         Stays part shape bounds output (Put (Out output r) word ∷ ms) (Some (pending.Order (Out output r) word))
-    here Operation s = operation-stays word _ (s.lets Operation word refl).0 (s.lets Operation word refl).1 s
-    here VoutCommand s = voltage VoutCommand (none-both (output == output)) (s.lets VoutCommand word refl) s
-    here VoutMax s = voltage VoutMax (none-both (output == output)) (s.lets VoutMax word refl) s
-    here MarginHigh s = voltage MarginHigh (none-both (output == output)) (s.lets MarginHigh word refl) s
-    here MarginLow s = voltage MarginLow (none-both (output == output)) (s.lets MarginLow word refl) s
-    here VoutMin s = voltage VoutMin (none-both (output == output)) (s.lets VoutMin word refl) s
+    here r s = by (is_voltage r) refl where
+      by : (b : Bool) → is_voltage r ≡ b →
+          Stays part shape bounds output (Put (Out output r) word ∷ ms) (Some (pending.Order (Out output r) word))
+      by true voltage = voltage-stays r word (Some (pending.Order (Out output r) word)) ((s.lets r word refl).voltage voltage)
+          (ap (λ (b : Bool). output == output && b) (other-way r voltage) ∙ none-both (output == output)) s
+      by false byte =
+          let same = no-voltage r byte in
+          let lets = (s.lets r word refl).byte byte in
+          subst (λ (x : Reg). Stays part shape bounds output (Put (Out output x) word ∷ ms) (Some (pending.Order (Out output x) word)))
+          (sym same) (operation-stays word (Some (pending.Order (Out output Operation) word)) lets.0 lets.1
+          (subst (λ (x : Reg). Stays part shape bounds output ms (Some (pending.Order (Out output x) word))) same s))
 
     go : (b : Bool) → (other == output) ≡ b →
         Stays part shape bounds output (Put (Out other q) word ∷ ms) (Some (pending.Order (Out other q) word))

@@ -1,11 +1,11 @@
 -- A plan, at each moment of a life.
-use Rattle.std.proofs.Common.{◌≡◌, ◌⊎◌, inl, inr, ℕ, ◌<◌, ◌==◌, Bool, true, false, cond, ◌||◌, List, [], ◌∷◌, ◌++◌, Option, Some, None, refl, sym, ◌∙◌, ap, subst, arith}
+use Rattle.std.proofs.Common.{◌≡◌, ◌⊎◌, inl, inr, ℕ, ◌<◌, ◌==◌, Bool, true, false, cond, not, ◌||◌, List, [], ◌∷◌, ◌++◌, Option, Some, None, refl, sym, ◌∙◌, ap, subst, arith}
 use Rattle.std.specs.Option.{option_map_or}
 use Rattle.std.proofs.lemmas.Bool.Decides.{nat_tests}
 use Rattle.std.proofs.Math.Path.{fun_ext}
 use Rattle.pm_table.specs.declared.cell.Cell.TheVariants.{Out}
 use Rattle.pm_table.specs.declared.reg.Reg.{Reg}
-use Rattle.pm_table.specs.declared.reg.Reg.TheVariants.{Operation, VoutCommand, VoutMax, MarginHigh, MarginLow, VoutMin}
+use Rattle.pm_table.specs.declared.reg.Reg.TheVariants.{Operation}
 use Rattle.pm_table.specs.Cell.{same_register}
 use Rattle.pm_model.specs.declared.pending_job.PendingJob.TheVariants as pending
 use Rattle.pm_model.specs.Commanded.{commanded, selected}
@@ -15,9 +15,12 @@ use Rattle.pm_device.specs.Held.{shape_for, value_for}
 use Rattle.pm_host.specs.Refusals.{is_busy}
 use Rattle.pm_host.specs.Transcript as host
 use Rattle.pm_limits.specs.declared.part_registers.PartRegisters.{PartRegisters}
+use Rattle.pm_limits.specs.declared.fault.LimitFault.TheVariants.{MissingRegister}
+use Rattle.pm_limits.specs.Laws.{WholePartsMissNothing}
 use Rattle.pm_limits.specs.Part.{all_registers, has_register}
 use Rattle.pm_rail.specs.declared.orders.PlanOrder.{PlanOrder}
 use Rattle.pm_rail.specs.Laws.{IsStep}
+use Rattle.pm_rail.specs.Lemmas.Known.{unruled}
 use Rattle.pm_rail.specs.Lemmas.Steps.{chain, goal-operation, goal-put}
 use Rattle.pm_rail.specs.Plan.{commands_by, goal_of, put}
 use Rattle.pm_rail.specs.Registers.{Held, Wants}
@@ -136,7 +139,7 @@ module _ (laws : Below) (plans : Plans) (config : Config) (passes : ℕ) (part :
         inl (ap (λ (h : Held). h q) took.is
         ∙ subst (λ (x : Reg). put (held_at config passes (later ++ before) output) took.q
         (goal_of (held_at config passes (later ++ before) output) wants took.q) x ≡ word) same_register'
-        (put-itself (held_at config passes (later ++ before) output) took.q
+        (put-itself laws (held_at config passes (later ++ before) output) took.q
         (goal_of (held_at config passes (later ++ before) output) wants took.q) ∙ same_word))
   ]
 
@@ -207,7 +210,7 @@ module _ (laws : Below) (plans : Plans) (config : Config) (passes : ℕ) (part :
     where
       apart : (q : Reg) → has_register part q ≡ true → (b : Bool) → same_register q register ≡ b → same_register q register ≡ false
       apart q has false e = e
-      apart q has true e = absurd (let bad = sym has ∙ ap (λ (r : Reg). has_register part r) (one-register q register e)
+      apart q has true e = absurd (let bad = sym has ∙ ap (λ (r : Reg). has_register part r) (one-register laws q register e)
           ∙ is-lacking part (shape_for config output) register word lacks in cc)
 
   pub later-next : Later config passes part output wants (event ∷ later) before
@@ -306,14 +309,11 @@ keeps-plans laws plans config passes events lived spelled = record {
 }
 
 -- of a part with every register nothing is missing
-pub none-missing : (config : Config) (words : Words) (output : ℕ) → HoldsMissing all_registers config words output
-none-missing config words output register word lacks =
-    absurd (let bad = sym (has-none all_registers (shape_for config output) register (all-there register)) ∙ lacks in cc)
+pub none-missing : WholePartsMissNothing → (config : Config) (words : Words) (output : ℕ) → HoldsMissing all_registers config words output
+none-missing whole config words output register word lacks =
+    absurd (let bad = sym (has-none all_registers (shape_for config output) register (not-lacking (has_register all_registers register)
+    (unruled (not (has_register all_registers register)) MissingRegister (whole.checked (Out output register))))) ∙ lacks in cc)
   where
-    all-there : (r : Reg) → has_register all_registers r ≡ true
-    all-there Operation = refl
-    all-there VoutCommand = refl
-    all-there VoutMax = refl
-    all-there MarginHigh = refl
-    all-there MarginLow = refl
-    all-there VoutMin = refl
+    not-lacking : (b : Bool) → not b ≡ false → b ≡ true
+    not-lacking true h = refl
+    not-lacking false h = cc

@@ -5,7 +5,6 @@ use Rattle.std.proofs.Math.Path.{fun_ext}
 use Rattle.pm_table.specs.declared.cell.Cell.{Cell}
 use Rattle.pm_table.specs.declared.cell.Cell.TheVariants.{Out, Protect}
 use Rattle.pm_table.specs.declared.reg.Reg.{Reg}
-use Rattle.pm_table.specs.declared.reg.Reg.TheVariants.{Operation, VoutCommand, VoutMax, MarginHigh, MarginLow, VoutMin}
 use Rattle.pm_table.specs.Cell.{same_register}
 use Rattle.pm_model.specs.declared.pending_job.PendingJob.{PendingJob}
 use Rattle.pm_model.specs.declared.pending_job.PendingJob.TheVariants as pending
@@ -148,25 +147,19 @@ by-asked job (ordered arrival takes) is = cc
 by-asked job (restored arrival takes out e) is = cc
 
 -- registers that test as one are one, and each tests as itself
-pub one-register : (q r : Reg) → same_register q r ≡ true → q ≡ r
-one-register Operation Operation h = refl
-one-register VoutCommand VoutCommand h = refl
-one-register VoutMax VoutMax h = refl
-one-register MarginHigh MarginHigh h = refl
-one-register MarginLow MarginLow h = refl
-one-register VoutMin VoutMin h = refl
-one-register q r h = cc
+register_in : Reg → Cell → Reg
+register_in other (Out output register) = register
+register_in other Protect = other
 
-itself : (q : Reg) → same_register q q ≡ true
-itself Operation = refl
-itself VoutCommand = refl
-itself VoutMax = refl
-itself MarginHigh = refl
-itself MarginLow = refl
-itself VoutMin = refl
+pub one-register : Below → (q r : Reg) → same_register q r ≡ true → q ≡ r
+unfolding register_in
+one-register laws q r same = ap (λ (c : Cell). register_in q c) ((laws.cells_are_told_apart (Out 0 q) (Out 0 r)).0 same)
 
-pub put-itself : (held : Held) (q : Reg) (word : ℕ) → put held q word q ≡ word
-put-itself held q word = ap (λ (b : Bool). cond b word (held q)) (itself q)
+pub register-itself : Below → (q : Reg) → same_register q q ≡ true
+register-itself laws q = (laws.cells_are_told_apart (Out 0 q) (Out 0 q)).1 refl
+
+pub put-itself : Below → (held : Held) (q : Reg) (word : ℕ) → put held q word q ≡ word
+put-itself laws held q word = ap (λ (b : Bool). cond b word (held q)) (register-itself laws q)
 
 -- an order that the plan gives: it has taken, or is the next one
 abbrev pub IsReady : PartRegisters → Scale → Wants → Held → Reg → ℕ → Type 0
@@ -263,14 +256,14 @@ module _ (laws : Below) (config : Config) (passes : ℕ) (part : PartRegisters) 
 
       place : is q ≡ goal_of was wants q → (r : Reg) → is r ≡ was r → (b : Bool) → same_register q r ≡ b →
           is r ≡ put was q (goal_of was wants q) r
-      place e r e' true s = subst (λ (x : Reg). is x ≡ put was q (goal_of was wants q) x) (one-register q r s)
-          (e ∙ sym (put-itself was q (goal_of was wants q)))
+      place e r e' true s = subst (λ (x : Reg). is x ≡ put was q (goal_of was wants q) x) (one-register laws q r s)
+          (e ∙ sym (put-itself laws was q (goal_of was wants q)))
       place e r e' false s = e' ∙ sym (ap (λ (b : Bool). cond b (goal_of was wants q) (was r)) s)
 
       taken : is q ≡ goal_of was wants q → is ≡ put was q (goal_of was wants q)
       taken e = fun_ext (λ (r : Reg). elim (opened r) [
         | inr p ↦ subst (λ (x : Reg). is x ≡ put was q (goal_of was wants q) x) (beside r p)
-            (e ∙ sym (put-itself was q (goal_of was wants q)))
+            (e ∙ sym (put-itself laws was q (goal_of was wants q)))
         | inl e' ↦ place e r e' (same_register q r) refl
       ])
 

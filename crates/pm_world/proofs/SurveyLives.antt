@@ -8,8 +8,8 @@ use Rattle.pm_num.specs.Ratio.{Ratio}
 use Rattle.pm_table.specs.declared.cell.Cell.{Cell}
 use Rattle.pm_table.specs.declared.cell.Cell.TheVariants.{Out}
 use Rattle.pm_table.specs.declared.reg.Reg.{Reg}
-use Rattle.pm_table.specs.declared.reg.Reg.TheVariants.{Operation, VoutCommand, VoutMax, MarginHigh, MarginLow, VoutMin}
-use Rattle.pm_table.specs.Cell.{cell_accepts, is_operation, same_register}
+use Rattle.pm_table.specs.declared.reg.Reg.TheVariants.{Operation, VoutMax, VoutMin}
+use Rattle.pm_table.specs.Cell.{cell_accepts, is_operation}
 use Rattle.pm_table.specs.Operation.{selected_register}
 use Rattle.pm_table.specs.Rules.{rule}
 use Rattle.pm_model.specs.Commanded.{commanded, limited, selected}
@@ -28,12 +28,11 @@ use Rattle.pm_limits.specs.Band.{InBand, Known, band_at, decides, each_selection
 use Rattle.pm_limits.specs.Part.{has_register, missing_word}
 use Rattle.pm_limits.specs.declared.part_registers.PartRegisters.{PartRegisters}
 use Rattle.pm_limits.specs.Ends.{end_of}
-use Rattle.pm_limits.specs.Lemmas.Selected.{each-selected}
 use Rattle.pm_rail.specs.declared.survey.Survey.{Survey}
 use Rattle.pm_rail.specs.Known.{Cells, known_at, known_of, known_word, sole, sole_of}
 use Rattle.pm_rail.specs.Laws.{SurveysEndKnown}
 use Rattle.pm_rail.specs.Lemmas.Known.{known-held}
-use Rattle.pm_rail.specs.Orders.{is_needed}
+use Rattle.pm_rail.specs.Orders.{is_meant, is_needed}
 use Rattle.pm_rail.specs.Registers.{Held, Wants, wants_of}
 use Rattle.pm_rail.specs.Survey as survey
 use Rattle.pm_rail.specs.Survey.{is_surveyed, wanted_in}
@@ -50,6 +49,7 @@ use Rattle.pm_world.specs.Surveys.{AreKnownSince, AreRead, IsOneValue, KeepsSurv
 use Rattle.pm_world.proofs.BandLives.{alone, band-of}
 use Rattle.pm_world.proofs.LearnedLives.{formats-agree}
 use Rattle.pm_world.proofs.Lives.{IsLived}
+use Rattle.pm_world.proofs.PlanSteps.{register-itself}
 use Rattle.pm_world.proofs.PlannedOrders.{has-none, needed-same}
 use Rattle.pm_world.proofs.Seen.{possible-held}
 use Rattle.pm_world.proofs.SurveyReads.{read-since}
@@ -116,12 +116,16 @@ one-end side shape known words output taken operation select max min =
     word : ℕ
     word = word_at words (Out output (selected_register (word_at words (Out output Operation))))
 
--- the register that OPERATION selects is needed
-selected-needed : (held : Held) (wants : Wants) → is_needed held wants (selected_register (held Operation)) ≡ true
-selected-needed held wants = each-selected (λ r. r ≡ selected_register (held Operation) → is_needed held wants r ≡ true)
-    (λ e. ap (λ (q : Reg). same_register VoutCommand q || is_some (wants VoutCommand)) (sym e))
-    (λ e. ap (λ (q : Reg). same_register MarginHigh q || is_some (wants MarginHigh)) (sym e))
-    (λ e. ap (λ (q : Reg). same_register MarginLow q || is_some (wants MarginLow)) (sym e)) (held Operation) refl
+-- a register that is meant is needed, as the one is that OPERATION selects
+meant-needed : (held : Held) (wants : Wants) (register : Reg) → is_meant held wants register ≡ true → is_needed held wants register ≡ true
+meant-needed held wants Operation meant = refl
+meant-needed held wants VoutMax meant = refl
+meant-needed held wants VoutMin meant = refl
+meant-needed held wants register meant = meant
+
+selected-needed : Below → (held : Held) (wants : Wants) → is_needed held wants (selected_register (held Operation)) ≡ true
+selected-needed laws held wants = meant-needed held wants (selected_register (held Operation))
+    (ap (λ (b : Bool). b || is_some (wants (selected_register (held Operation)))) (register-itself laws (selected_register (held Operation))))
 
 module _ (laws : Below) {config : Config} {passes : ℕ} {events : List Event} (part : PartRegisters) (output : ℕ) (wants : Wants)
     (lived : IsLived config passes events) (here : output < config.count)
@@ -156,7 +160,7 @@ module _ (laws : Below) {config : Config} {passes : ℕ} {events : List Event} (
       ≡ only (held_at config passes events output (selected_register (held_at config passes events output Operation)))
   chosen = one-word (selected_register (held_at config passes events output Operation))
       (subst (λ (byte : ℕ). is_needed (known_of cells output) wants (selected_register byte) ≡ true)
-      (known-held-at Operation refl) (selected-needed (known_of cells output) wants))
+      (known-held-at Operation refl) (selected-needed laws (known_of cells output) wants))
 
   ends : (side : Side) → end_with side (shape_for config output)
       (limits.known_of part (shape_for config output) (now config passes events).host output)

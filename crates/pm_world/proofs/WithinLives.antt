@@ -11,8 +11,8 @@ use Rattle.pm_num.specs.AnyFormat.{Shape, InLinear11, InUlinear16, InDirect, sha
 use Rattle.pm_table.specs.declared.cell.Cell.{Cell}
 use Rattle.pm_table.specs.declared.cell.Cell.TheVariants.{Out}
 use Rattle.pm_table.specs.declared.reg.Reg.{Reg}
-use Rattle.pm_table.specs.declared.reg.Reg.TheVariants.{Operation, VoutCommand, VoutMax, MarginHigh, MarginLow, VoutMin}
-use Rattle.pm_table.specs.Cell.{cell_accepts, is_voltage}
+use Rattle.pm_table.specs.declared.reg.Reg.TheVariants.{Operation}
+use Rattle.pm_table.specs.Cell.{cell_accepts, is_operation, is_voltage}
 use Rattle.pm_table.specs.Operation.{has_on}
 use Rattle.pm_model.specs.declared.pending_job.PendingJob.{PendingJob}
 use Rattle.pm_model.specs.declared.pending_job.PendingJob.TheVariants as pending
@@ -64,7 +64,7 @@ use Rattle.pm_world.proofs.ByteLives.{IsOfBytes, held-short}
 use Rattle.pm_world.proofs.Causes.{job-free}
 use Rattle.pm_world.proofs.HeldWords.{knows}
 use Rattle.pm_world.proofs.InsideLimits.{IsInside, inside-is, is-inside}
-use Rattle.pm_world.proofs.InsideMarks.{Lets, Stays, good-stays, known_by, put-stays, raw_by}
+use Rattle.pm_world.proofs.InsideMarks.{Lets, Stays, good-stays, known_by, no-voltage, put-stays, raw_by}
 use Rattle.pm_world.proofs.JobSpans.{TellsFrame, beside-frame}
 use Rattle.pm_world.proofs.KeptFormats.{format-stays}
 use Rattle.pm_world.proofs.LearnedLives.{formats-agree}
@@ -316,9 +316,10 @@ module _ (laws : Below) (guards : GuardedOrdersAreWithin) (config : Config) (pas
   operation-within (Some (job.Learn other)) byte free is on = cc
   operation-within (Some (job.Send command)) byte free is on = cc
 
-  order-lets : (q : Reg) (word : ℕ) → asked (now config passes before) event ≡ Some (host.Order (Out output q) word) →
-      Lets (shape_for config output) bounds (known_by part (shape_for config output) (marks_at config passes before) output) q word
-  order-lets Operation byte is = (
+  byte-lets : (byte : ℕ) → asked (now config passes before) event ≡ Some (host.Order (Out output Operation) byte) →
+      (is_operation byte ≡ true)
+      × IsInside (shape_for config output) bounds (known_by part (shape_for config output) (marks_at config passes before) output) (byte ∷ [])
+  byte-lets byte is = (
     (order-free (now config passes before).host (Out output Operation) byte
         (job-free (now config passes before) event (host.Order (Out output Operation) byte) is (newest lived))).fits,
     on-lets byte (go (has_on byte) refl),
@@ -327,11 +328,13 @@ module _ (laws : Below) (guards : GuardedOrdersAreWithin) (config : Config) (pas
       go : (b : Bool) → has_on byte ≡ b → is_within_on config passes part before output bounds byte ≡ true
       go true on = operation-within (asked_by event) byte guarded is on
       go false off = subst (λ (j : Option host.Job). MayTurn config passes part before output bounds j) is turns refl off
-  order-lets VoutCommand word is = voltage-lets VoutCommand word refl is
-  order-lets VoutMax word is = voltage-lets VoutMax word refl is
-  order-lets MarginHigh word is = voltage-lets MarginHigh word refl is
-  order-lets MarginLow word is = voltage-lets MarginLow word refl is
-  order-lets VoutMin word is = voltage-lets VoutMin word refl is
+
+  order-lets : (q : Reg) (word : ℕ) → asked (now config passes before) event ≡ Some (host.Order (Out output q) word) →
+      Lets (shape_for config output) bounds (known_by part (shape_for config output) (marks_at config passes before) output) q word
+  order-lets q word is = record {
+    voltage = λ voltage. voltage-lets q word voltage is;
+    byte = λ byte. byte-lets word (is ∙ ap (λ (r : Reg). Some (host.Order (Out output r) word)) (no-voltage q byte));
+  }
 
   abbrev after : Option PendingJob
   after = open_pending config passes (event ∷ before)

@@ -5,7 +5,7 @@ ghost use Rattle.pm_world.specs.StaysWithin.{WithinStaysWithin};
 ghost use Rattle.pm_world.specs.Surveys.{SurveysHoldInLives};
 
 use crate::laws::{bands_are_held, lower_laws};
-use pm_limits::guarded_orders_are_within;
+use pm_limits::{guarded_orders_are_within, whole_parts_miss_nothing};
 use pm_rail::{plans_are_of_what_is_held, plans_are_without_glitch, plans_end, surveys_end_known};
 
 /// However frames are delivered, lost, cut, damaged, repeated or falsely acknowledged, however orders end and whatever
@@ -24,6 +24,7 @@ pub fn plans_hold_in_lives()
     plans_are_without_glitch();
     plans_are_of_what_is_held();
     plans_end();
+    whole_parts_miss_nothing();
 }
 
 /// However frames are delivered, lost, cut, damaged, repeated or falsely acknowledged. Each cell that a survey counts as

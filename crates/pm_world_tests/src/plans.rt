@@ -4,7 +4,8 @@
 use crate::checks::{equal, is_true};
 use crate::look::Look;
 use pm_device::{Config, OutputStart};
-use pm_host::{Job, JobEnd};
+use pm_host::Job;
+use pm_limits::PartRegisters;
 use pm_num::Frac;
 use pm_rail::{PlanFault, PlanOrder, Survey, Wanted, next_order_in};
 use pm_table::{Cell, Coefficients, Reg};
@@ -326,20 +327,20 @@ impl Walk {
 // What a survey asks for next.
 fn asks_next(survey: &mut Survey, world: &World) -> Option<Job> {
     if survey.output < 8 {
-        survey.next_in(world.host().state())
+        survey.next_in(world.host().state(), PartRegisters::all())
     } else {
         None
     }
 }
 
 fn is_done(survey: &Survey, world: &World) -> bool {
-    survey.output < 8 && survey.is_done_in(world.host().state())
+    survey.output < 8 && survey.is_done_in(world.host().state(), PartRegisters::all())
 }
 
 // The next order of an output's plan, without limits.
 fn plans(world: &World, output: u8, wanted: &Wanted) -> Result<Option<PlanOrder>, PlanFault> {
     let host = world.host();
-    next_order_in(host.state(), host.stage(), &None, output % 2, wanted)
+    next_order_in(host.state(), host.stage(), PartRegisters::all(), &None, output % 2, wanted)
 }
 
 // One life.
@@ -401,11 +402,11 @@ fn rails_command_their_old_or_their_new_voltage(rt: HostRuntime) -> Result<(), S
         surveyed: 0,
         lost: 0,
     };
-    for seed in 0..300 {
+    for seed in 0..200 {
         lives(&rt, seed, &mut tally)?;
     }
-    is_true(&rt, tally.done >= 50, &tally);
-    is_true(&rt, tally.refused >= 50, &tally);
+    is_true(&rt, tally.done >= 40, &tally);
+    is_true(&rt, tally.refused >= 40, &tally);
     is_true(&rt, tally.changes >= 20, &tally);
     is_true(&rt, tally.going + tally.lost <= 3, &tally);
     Ok(())

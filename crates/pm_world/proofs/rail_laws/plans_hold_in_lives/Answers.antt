@@ -10,5 +10,5 @@ returns c =
     } in
     record {
       keeps = λ config passes events spelled lived. keeps-plans c.lower_laws.ensures plans config passes events lived spelled;
-      whole = none-missing;
+      whole = none-missing c.whole_parts_miss_nothing.ensures;
     }
