@@ -132,14 +132,16 @@ module _ (shape : Shape) (bounds : Bounds) (known : Known) (bytes : List ℕ) (d
   -- where an end isn't below the least limit no word is
   ge-of : (register : Reg) → AtMost (micros bounds.least) (shape_value shape (word_end Lowest shape known register)) →
       Ge shape bounds (known register)
-  ge-of register end x listed = through (micros bounds.least) (shape_value shape (word_end Lowest shape known register)) (shape_value shape x)
+  ge-of register end x listed = through (micros bounds.least) (shape_value shape (word_end Lowest shape known register))
+      (shape_value shape x)
       (dens (word_end Lowest shape known register)) end
       (farthest_of-listed Lowest (shape_value shape) (candidates shape (known register)) x
       (all-dens (shape_value shape) dens (candidates shape (known register))) listed)
 
   le-of : (register : Reg) → AtMost (shape_value shape (word_end Highest shape known register)) (micros bounds.most) →
       Le shape bounds (known register)
-  le-of register end x listed = through (shape_value shape x) (shape_value shape (word_end Highest shape known register)) (micros bounds.most)
+  le-of register end x listed = through (shape_value shape x) (shape_value shape (word_end Highest shape known register))
+      (micros bounds.most)
       (dens (word_end Highest shape known register))
       (farthest_of-listed Highest (shape_value shape) (candidates shape (known register)) x
       (all-dens (shape_value shape) dens (candidates shape (known register))) listed) end

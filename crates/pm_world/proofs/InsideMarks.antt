@@ -84,7 +84,8 @@ put-listing laws ms cell word any x listed =
 put-other : (ms : List Mark) (put cell : Cell) (word : ℕ) → same_cell put cell ≡ false →
     possible_of (Put put word ∷ ms) cell ≡ possible_of ms cell
 unfolding possible_of
-put-other ms put cell word other = ap (λ (b : Bool). possible_from (cond b (option_map (λ words. word ∷ words) (words_since ms cell)) (words_since ms cell))) other
+put-other ms put cell word other = ap (λ (b : Bool). possible_from (cond b (option_map (λ words. word ∷ words) (words_since ms cell))
+    (words_since ms cell))) other
 
 or-second : (a b : Bool) → b ≡ true → (a || b) ≡ true
 or-second true b h = refl
@@ -146,7 +147,8 @@ operations-more words later byte taken before holds all one = go (list_any is_un
     | inl old ↦ each x old
     | inr is ↦ subst (λ (b : ℕ). holds (selected_register b)) (sym is) one
   ]
-  go false true e f each = absurd (let bad = sym (none-more is_untaken words later byte (ap (λ (b : Bool). not b) taken) before e) ∙ f in cc)
+  go false true e f each = absurd (let bad = sym (none-more is_untaken words later byte (ap (λ (b : Bool). not b) taken) before e)
+      ∙ f in cc)
 
 put-select : Below → (ms : List Mark) (cell : Cell) (byte : ℕ) → is_operation byte ≡ true →
     SelectOneMore byte (operations (possible_of ms cell)) (operations (possible_of (Put cell byte ∷ ms) cell))
@@ -185,7 +187,8 @@ put-here laws ms cell byte taken none = go (words_since ms cell) (same_cell cell
 -- ---- A good answer that is no surprise ----
 
 -- its cell may hold its word alone
-good-same : Below → (ms : List Mark) (cell : Cell) (word : ℕ) → possible_of (Good cell word ∷ ms) cell ≡ Words (record { items = word ∷ [] })
+good-same : Below → (ms : List Mark) (cell : Cell) (word : ℕ) → possible_of (Good cell word ∷ ms) cell ≡ Words
+    (record { items = word ∷ [] })
 unfolding possible_of
 good-same laws ms cell word = ap (λ (b : Bool). possible_from (cond b (Some (word ∷ []))
     (cond (is_possible word (possible_from (words_since ms cell))) (words_since ms cell) None))) (same-self laws cell)
@@ -207,7 +210,8 @@ pub record Lets (shape : Shape) (bounds : Bounds) (known : Known) (register : Re
   pub byte : is_voltage register ≡ false → (is_operation word ≡ true) × IsInside shape bounds known (word ∷ [])
 
 -- the output is inside, by registers of its own, and so it is with the word of an order that is open
-pub record Stays (part : PartRegisters) (shape : Shape) (bounds : Bounds) (output : ℕ) (ms : List Mark) (open' : Option PendingJob) : Type 0 where
+pub record Stays (part : PartRegisters) (shape : Shape) (bounds : Bounds) (output : ℕ) (ms : List Mark)
+    (open' : Option PendingJob) : Type 0 where
   pub inside : IsInside shape bounds (known_by part shape ms output) (operations (raw_by ms output Operation))
   pub here : may_select_avsbus (raw_by ms output Operation) ≡ false
   pub lets : (register : Reg) (word : ℕ) → open' ≡ Some (pending.Order (Out output register) word) →
@@ -374,7 +378,8 @@ module _ (laws : Below) (part : PartRegisters) (shape : Shape) (bounds : Bounds)
       ((register : Reg) → same_cell put (Out output register) ≡ false) →
       Stays part shape bounds output ms open' → Stays part shape bounds output (Put put word ∷ ms) open'
   other-stays put word open' other = stays-by part shape bounds output ms (Put put word ∷ ms) open'
-      (λ register voltage. same-sides shape bounds (raw_by ms output register) _ (put-other ms put (Out output register) word (other register)))
+      (λ register voltage. same-sides shape bounds (raw_by ms output register) _ (put-other ms put (Out output register) word
+      (other register)))
       (same-select (raw_by ms output Operation) _ (put-other ms put (Out output Operation) word (other Operation)))
       (same-here (raw_by ms output Operation) _ (put-other ms put (Out output Operation) word (other Operation)))
 
@@ -391,7 +396,8 @@ module _ (laws : Below) (part : PartRegisters) (shape : Shape) (bounds : Bounds)
   apart register voltage = go (same_register Operation register) refl where
     go : (b : Bool) → same_register Operation register ≡ b → same_register Operation register ≡ false
     go false e = e
-    go true e = absurd (let bad : false ≡ true = subst (λ (r : Reg). is_voltage r ≡ true) (sym (one-register laws Operation register e)) voltage
+    go true e = absurd (let bad : false ≡ true = subst (λ (r : Reg). is_voltage r ≡ true) (sym
+        (one-register laws Operation register e)) voltage
         in cc)
 
   operation-other : (word : ℕ) (register : Reg) → is_voltage register ≡ true →
@@ -406,7 +412,8 @@ module _ (laws : Below) (part : PartRegisters) (shape : Shape) (bounds : Bounds)
       let kept = sides-kept part shape bounds output ms (Put (Out output Operation) byte ∷ ms)
       (λ register voltage. same-sides shape bounds (raw_by ms output register) _ (operation-other byte register voltage)) in
       record {
-        inside = more-inside byte (put-select laws ms (Out output Operation) byte taken) (kept-inside kept stays.inside) (kept-inside kept one);
+        inside = more-inside byte (put-select laws ms (Out output Operation) byte taken) (kept-inside kept stays.inside)
+            (kept-inside kept one);
         here = put-here laws ms (Out output Operation) byte taken stays.here;
         lets = λ register w is. kept-lets shape bounds (known_by part shape ms output)
             (known_by part shape (Put (Out output Operation) byte ∷ ms) output) register w kept (stays.lets register w is);
@@ -416,7 +423,8 @@ module _ (laws : Below) (part : PartRegisters) (shape : Shape) (bounds : Bounds)
   other-way register voltage = go (same_register register Operation) refl where
     go : (b : Bool) → same_register register Operation ≡ b → same_register register Operation ≡ false
     go false e = e
-    go true e = absurd (let bad : false ≡ true = subst (λ (r : Reg). is_voltage r ≡ true) (one-register laws register Operation e) voltage in cc)
+    go true e = absurd (let bad : false ≡ true = subst (λ (r : Reg). is_voltage r ≡ true)
+        (one-register laws register Operation e) voltage in cc)
 
   -- the open order is sent
   pub put-stays : (put : Cell) (word : ℕ) → Stays part shape bounds output ms (Some (pending.Order put word)) →

@@ -42,7 +42,8 @@ pub use Rattle.pm_world.proofs.PlannedOrders.{Plans}
 use Rattle.pm_world.proofs.PlanSteps.{IsReady, Stands, Stays, Took, asked-stays, goes, idle-none, open-asked, one-register, open-beside, pending-order, pending-restore, put-itself}
 
 -- a register that was read since the converter's last restart still is after events at which it doesn't restart
-since-later : (config : Config) (passes : ℕ) (part : PartRegisters) (output : ℕ) (wants : Wants) (register : Reg) (later before : List Event) →
+since-later : (config : Config) (passes : ℕ) (part : PartRegisters) (output : ℕ) (wants : Wants) (register : Reg)
+    (later before : List Event) →
     (has_read config passes (Out output register) before ≡ true → restarted_since config passes (Out output register) before ≡ false) →
     Follows config passes part output wants later before →
     has_read config passes (Out output register) (later ++ before) ≡ true →
@@ -64,7 +65,8 @@ since-later config passes part output wants register (event ∷ later) before si
 
 -- What holds at a later moment: an order of the output that is open is the last one, which the plan gives; no restore is
 -- open, what is wanted stays, and so do the words of registers that the part doesn't have.
-pub record Later (config : Config) (passes : ℕ) (part : PartRegisters) (output : ℕ) (wants : Wants) (later before : List Event) : Type 0 where
+pub record Later (config : Config) (passes : ℕ) (part : PartRegisters) (output : ℕ) (wants : Wants)
+    (later before : List Event) : Type 0 where
   pub opened : (q : Reg) (word : ℕ) → open_pending config passes (later ++ before) ≡ Some (pending.Order (Out output q) word) →
       last_order config passes output later before ≡ Some (record { register = q; word = word })
   pub last : (q : Reg) (word : ℕ) → last_order config passes output later before ≡ Some (record { register = q; word = word }) →
@@ -89,7 +91,8 @@ one-number x y h = grind (arith, nat_tests)
 same-number : (x : ℕ) → (x == x) ≡ true
 same-number x = grind (arith, nat_tests)
 
-module _ (laws : Below) (plans : Plans) (config : Config) (passes : ℕ) (part : PartRegisters) (output : ℕ) (wants : Wants) (event : Event) (later before : List Event)
+module _ (laws : Below) (plans : Plans) (config : Config) (passes : ℕ) (part : PartRegisters) (output : ℕ) (wants : Wants)
+    (event : Event) (later before : List Event)
     (here : output < config.count) (none : wants Operation ≡ None) (lived : IsLived config passes (event ∷ later ++ before))
     (spelled : IsSpelled config) (since : IsReadSince config passes output wants (later ++ before))
     (steady : restarts_converter event ≡ false)
@@ -224,14 +227,16 @@ module _ (laws : Below) (plans : Plans) (config : Config) (passes : ℕ) (part :
     | inr took ↦
         let value = value_for config output in
         let held = held_at config passes (later ++ before) output in
-        let is = took.is ∙ sym (ap (λ (o : Option Reg). option_map_or (λ register. put held register (goal_of held wants register)) o held) took.next) in
+        let is = took.is ∙ sym (ap (λ (o : Option Reg). option_map_or (λ register. put held register
+        (goal_of held wants register)) o held) took.next) in
         subst (λ (g : Held). IsStep (commands_by value g) (commands_by value held)
         (commands_by value (held_at config passes (event ∷ later ++ before) output))) was.goal
         (subst (λ (h : Held). IsStep (commands_by value (goal_of held wants)) (commands_by value held) (commands_by value h)) (sym is)
         (plans.glitch.one value held wants (sound-dens config output lived.sound here) none took.uncut))
   ]
 
-module _ (laws : Below) (plans : Plans) (config : Config) (passes : ℕ) (part : PartRegisters) (output : ℕ) (wants : Wants) (before : List Event)
+module _ (laws : Below) (plans : Plans) (config : Config) (passes : ℕ) (part : PartRegisters) (output : ℕ) (wants : Wants)
+    (before : List Event)
     (spelled : IsSpelled config) (here : output < config.count) (none : wants Operation ≡ None)
     (idle : is_busy (now config passes before).host ≡ false) (since : IsReadSince config passes output wants before)
     (missing : HoldsMissing part config (now config passes before).device.words output) where
@@ -245,7 +250,8 @@ module _ (laws : Below) (plans : Plans) (config : Config) (passes : ℕ) (part :
   }
 
   -- what is needed stays what it was, and so does what was read
-  since-all : (later : List Event) → Follows config passes part output wants later before → Later config passes part output wants later before →
+  since-all : (later : List Event) → Follows config passes part output wants later before →
+      Later config passes part output wants later before →
       IsReadSince config passes output wants (later ++ before)
   since-all later follows was register needed =
       let operation : held_at config passes (later ++ before) output Operation ≡ held_at config passes before output Operation

@@ -178,7 +178,8 @@ Stays config passes output before event =
     held_at config passes (event ∷ before) output ≡ held_at config passes before output
 
 -- or the plan's next order took
-pub record Took (config : Config) (passes : ℕ) (part : PartRegisters) (output : ℕ) (wants : Wants) (before : List Event) (event : Event) : Type 0 where
+pub record Took (config : Config) (passes : ℕ) (part : PartRegisters) (output : ℕ) (wants : Wants) (before : List Event)
+    (event : Event) : Type 0 where
   pub q : Reg
   pub next : next_register (value_for config output) (held_at config passes before output) wants ≡ Some q
   pub uncut : is_cut_by (value_for config output) (goal_of (held_at config passes before output) wants) ≡ false

@@ -187,6 +187,7 @@ module _ (laws : Below) (plans : Plans) {config : Config} {passes : ℕ} {events
       (has-none part (shape_for config output) register (wanted-has part wants planned.there register wants-some)) in (
         ap (λ (p : Possible). known_word (Out output register) p) (sym there)
             ∙ known-is (known_at cells (Out output register)) (some register needed)
-            ∙ ap (λ (w : ℕ). Some w) (known-held cells (Out output register) (held register) (may-own register needed) (some register needed) ∙ has),
+            ∙ ap (λ (w : ℕ). Some w) (known-held cells (Out output register) (held register) (may-own register needed)
+            (some register needed) ∙ has),
         has,
       )

@@ -125,7 +125,8 @@ meant-needed held wants register meant = meant
 
 selected-needed : Below → (held : Held) (wants : Wants) → is_needed held wants (selected_register (held Operation)) ≡ true
 selected-needed laws held wants = meant-needed held wants (selected_register (held Operation))
-    (ap (λ (b : Bool). b || is_some (wants (selected_register (held Operation)))) (register-itself laws (selected_register (held Operation))))
+    (ap (λ (b : Bool). b || is_some (wants (selected_register (held Operation)))) (register-itself laws (selected_register
+    (held Operation))))
 
 module _ (laws : Below) {config : Config} {passes : ℕ} {events : List Event} (part : PartRegisters) (output : ℕ) (wants : Wants)
     (lived : IsLived config passes events) (here : output < config.count)
@@ -202,7 +203,8 @@ known-since : Below → SurveysEndKnown → {config : Config} {passes : ℕ} {ev
 known-since laws ended {config = config} {passes = passes} {events = events} part v later before lived spelled here is unread are steady
     surveyed register needed =
     by (format_at (now config passes events).host v.output) refl
-    ((formats-agree laws config passes events lived spelled).held v.output) ((ended.format part v (now config passes events).host surveyed).1)
+    ((formats-agree laws config passes events lived spelled).held v.output) ((ended.format part v
+    (now config passes events).host surveyed).1)
   where
     since : has_register part register ≡ true → survey.has_read v.read register ≡ true →
         restarted_since config passes (Out v.output register) events ≡ false
@@ -216,7 +218,8 @@ known-since laws ended {config = config} {passes = passes} {events = events} par
     fresh true has read known none = since has (read has)
     fresh false lacks read known none = absurd (not-known (possible_at (now config passes events).host (Out v.output register)) refl
         (ap (λ (p : Possible). is_none (known_word (Out v.output register) p))
-        (sym (ap (λ (o : Option ℕ). option_map_or only o (possible_at (now config passes events).host (Out v.output register))) none)) ∙ known))
+        (sym (ap (λ (o : Option ℕ). option_map_or only o (possible_at (now config passes events).host
+        (Out v.output register))) none)) ∙ known))
       where
         listed-was-read : possible_at (now config passes events).host (Out v.output register) ≢ Any → ⊥
         listed-was-read listed =

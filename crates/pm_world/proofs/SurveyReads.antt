@@ -160,7 +160,8 @@ check-done laws config passes (newest ∷ newer) before event cell lived asks al
         (e ∙ ap (λ (x : host.Entry). Some x) answer.1)
         ∙ check-reads laws (setup_of config passes) (life config passes (newer ++ event ∷ before)).entries cell answer.0 answer.2
         (open-life laws config passes (newer ++ event ∷ before) (host.Check cell) open')
-        (subst (λ (s : host.Setup). good_word s.addr cell answer.0 ≡ Some answer.2) (now-setup config passes (newer ++ event ∷ before)) answer.3)
+        (subst (λ (s : host.Setup). good_word s.addr cell answer.0 ≡ Some answer.2) (now-setup config passes
+        (newer ++ event ∷ before)) answer.3)
 
     told : (entry : Option host.Entry) → (share_of (now config passes (newer ++ event ∷ before)) newest).told ≡ entry → TellsFrame entry →
         ((now config passes (newer ++ event ∷ before)).end ≡ Some Done → was_read config passes cell newer (event ∷ before) ≡ true) →
@@ -298,7 +299,8 @@ asks-check : (s : _) (event : Event) (cell : Cell) → asked_by event ≡ Some (
 asks-check s event cell is = ap (λ (o : Option Job). option_and_then (accepted_job s.host) o) is
 
 -- a job of the survey ended
-ended-read : Below → (config : Config) (passes : ℕ) (part : PartRegisters) (v : Survey) (newer later before : List Event) (event : Event) (job : Job)
+ended-read : Below → (config : Config) (passes : ℕ) (part : PartRegisters) (v : Survey) (newer later before : List Event)
+    (event : Event) (job : Job)
     (end : JobEnd) → IsLived config passes (newer ++ event ∷ (later ++ before)) →
     AreRead config passes v later before → next_job part v (now config passes (later ++ before)).host ≡ Some job →
     asked_by event ≡ Some job → list_any begins_other newer ≡ false →
@@ -309,7 +311,8 @@ ended-read laws config passes part v newer later before event (job.Check cell) D
     (λ other register same. own-output part v (now config passes (later ++ before)).host other register
     (next ∙ ap (λ (c : Cell). Some (job.Check c)) same))
     (read-newer config passes cell newer (event ∷ later) before
-    (check-done laws config passes newer (later ++ before) event cell lived (asks-check (now config passes (later ++ before)) event cell asks)
+    (check-done laws config passes newer (later ++ before) event cell lived (asks-check (now config passes
+    (later ++ before)) event cell asks)
     alone done))
     (more-read config passes v newer (event ∷ later) before (more-read config passes v (event ∷ []) later before are))
 ended-read laws config passes part v newer later before event (job.Learn output) Learned lived are next asks alone done =

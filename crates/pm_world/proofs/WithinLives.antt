@@ -103,7 +103,8 @@ is-put setup entries = go (host.open_job setup entries) refl where
   go (Some job) is = no_put
 
 -- what is open still lets an output stay inside where it is the same, or none
-goes-stays : {part : PartRegisters} {shape : Shape} {bounds : Bounds} {output : ℕ} {ms : List Mark} (open' after : Option PendingJob) → Goes open' after →
+goes-stays : {part : PartRegisters} {shape : Shape} {bounds : Bounds} {output : ℕ} {ms : List Mark}
+    (open' after : Option PendingJob) → Goes open' after →
     Stays part shape bounds output ms open' → Stays part shape bounds output ms after
 goes-stays {part = part} {shape = shape} {bounds = bounds} {output = output} {ms = ms} open' after (inl same) stays =
     subst (λ (o : Option PendingJob). Stays part shape bounds output ms o) (sym same) stays
@@ -118,7 +119,8 @@ puts-stay : Below → {part : PartRegisters} {shape : Shape} {bounds : Bounds} {
     open' ≡ option_and_then pending_of (host.open_job setup entries) → (open' ≡ Some pending.Restore → ⊥) →
     Stays part shape bounds output ms open' → Stays part shape bounds output (new ++ ms) open'
 puts-stay laws setup entries open' dens no_put is free stays = stays
-puts-stay laws {part = part} {shape = shape} {bounds = bounds} {output = output} {ms = ms} setup entries open' dens (order_put cell word opened) is free stays =
+puts-stay laws {part = part} {shape = shape} {bounds = bounds} {output = output} {ms = ms} setup entries open' dens
+    (order_put cell word opened) is free stays =
     let same : open' ≡ Some (pending.Order cell word) = is ∙ ap (λ (j : Option host.Job). option_and_then pending_of j) opened in
     subst (λ (o : Option PendingJob). Stays part shape bounds output (Put cell word ∷ ms) o) (sym same)
     (put-stays laws part shape bounds output ms dens cell word
@@ -156,8 +158,10 @@ unsurprising laws config passes before event bytes read word lived fresh told go
   surprising : is_possible word (possible_of (marks (setup_of config passes) (life config passes before).entries) read) ≡ false →
       surprises_by config passes read before event ≡ true
   surprising e = ap (λ (t : Option host.Entry). surprises (setup_of config passes) (life config passes before).entries read t) told
-      ∙ ap (λ (new : List Mark). list_any (is_surprise_for read (marks (setup_of config passes) (life config passes before).entries)) new) good
-      ∙ ap (λ (b : Bool). (b && not (is_possible word (possible_of (marks (setup_of config passes) (life config passes before).entries) read))) || false)
+      ∙ ap (λ (new : List Mark). list_any (is_surprise_for read (marks (setup_of config passes)
+      (life config passes before).entries)) new) good
+      ∙ ap (λ (b : Bool). (b && not (is_possible word (possible_of (marks (setup_of config passes)
+      (life config passes before).entries) read))) || false)
       ((laws.cells_are_told_apart read read).1 refl)
       ∙ ap (λ (b : Bool). not b || false) e
 
@@ -168,13 +172,16 @@ unsurprising laws config passes before event bytes read word lived fresh told go
       let since = (seen-true laws config passes (event ∷ before) lived).surprises [] before event read refl (surprising e) in
       absurd (let bad = sym (fresh read since.0) ∙ since.1 in cc)
 
-goods-stay : Below → {part : PartRegisters} {shape : Shape} {bounds : Bounds} {output : ℕ} {ms new : List Mark} {bytes : List ℕ} (setup : host.Setup)
+goods-stay : Below → {part : PartRegisters} {shape : Shape} {bounds : Bounds} {output : ℕ} {ms new : List Mark} {bytes : List ℕ}
+    (setup : host.Setup)
     (entries : List host.Entry) (open' : Option PendingJob) → HasDens shape → AreGoods setup entries bytes new →
     ((read : Cell) (word : ℕ) → new ≡ Good read word ∷ [] → read_by (host.open_job setup entries) (host.told_since entries) ≡ Some read →
-    good_word setup.addr read bytes ≡ Some word → (is_possible word (possible_of ms read) ≡ true) × (word < 2 ^ 16) × (cell_accepts read word ≡ true)) →
+    good_word setup.addr read bytes ≡ Some word → (is_possible word (possible_of ms read) ≡ true) × (word < 2 ^ 16) ×
+    (cell_accepts read word ≡ true)) →
     Stays part shape bounds output ms open' → Stays part shape bounds output (new ++ ms) open'
 goods-stay laws setup entries open' dens no_good true-of stays = stays
-goods-stay laws {part = part} {shape = shape} {bounds = bounds} {output = output} {ms = ms} setup entries open' dens (one_good read word asks good) true-of stays =
+goods-stay laws {part = part} {shape = shape} {bounds = bounds} {output = output} {ms = ms} setup entries open' dens
+    (one_good read word asks good) true-of stays =
     let is = true-of read word refl asks good in
     good-stays laws part shape bounds output ms dens read word open' is.1 is.2 is.0 stays
 
@@ -262,7 +269,8 @@ module _ (laws : Below) (guards : GuardedOrdersAreWithin) (config : Config) (pas
     (lived : IsLived config passes (event ∷ before)) (carry : CarryBytes before) (here : output < config.count)
     (are : slice_index_or limits' output None ≡ Some bounds)
     (steady : (restarts_host event || restarts_converter event) ≡ false) (fresh : IsFresh config passes before)
-    (guarded : option_and_then (guard_fault (record { host = (now config passes before).host; limits = limits'; registers = part })) (asked_by event) ≡ None)
+    (guarded : option_and_then (guard_fault (record { host = (now config passes before).host; limits = limits'; registers = part }))
+    (asked_by event) ≡ None)
     (turns : MayTurn config passes part before output bounds (asked (now config passes before) event))
     (was : Moment config passes part output bounds before) where
   abbrev shape : Shape
@@ -279,7 +287,8 @@ module _ (laws : Below) (guards : GuardedOrdersAreWithin) (config : Config) (pas
       option_and_then (accepted_job (now config passes before).host) (asked_by event) ≡ Some (host.Order (Out output q) word) →
       IsWithin bounds (shape_value (shape_for config output) word)
   voltage-lets q word voltage is = in-format (format_at (now config passes before).host output) (shape_for config output) word bounds agree
-      (ordered-within (record { host = (now config passes before).host; limits = limits'; registers = part }) (asked_by event) output q word bounds guarded is
+      (ordered-within (record { host = (now config passes before).host; limits = limits'; registers = part })
+      (asked_by event) output q word bounds guarded is
       voltage are)
 
   on-lets : (byte : ℕ) → is_within_on config passes part before output bounds byte ≡ true →
@@ -297,15 +306,26 @@ module _ (laws : Below) (guards : GuardedOrdersAreWithin) (config : Config) (pas
   operation-within (Some (job.Order cell word)) byte free is on =
       let same_cell' : cell ≡ Out output Operation = cc in
       let same_word : word ≡ byte = cc in
-      let free' = subst (λ (c : Cell). guard_fault (record { host = (now config passes before).host; limits = limits'; registers = part }) (job.Order c byte) ≡ None)
-      same_cell' (subst (λ (w : ℕ). guard_fault (record { host = (now config passes before).host; limits = limits'; registers = part }) (job.Order cell w) ≡ None)
+      let free' = subst (λ (c : Cell). guard_fault (record {
+        host =
+            (now config passes before).host;
+        limits = limits';
+        registers = part;
+      }) (job.Order c byte) ≡ None)
+      same_cell' (subst (λ (w : ℕ). guard_fault (record {
+        host = (now config passes before).host;
+        limits = limits';
+        registers = part;
+      }) (job.Order cell w) ≡ None)
       same_word free) in
-      ap (λ (w : Within). is_yes w) (ap (λ (o : Option Bounds). within_of o (band_on part (now config passes before).host output byte)) (sym are)
+      ap (λ (w : Within). is_yes w) (ap (λ (o : Option Bounds). within_of o (band_on part
+      (now config passes before).host output byte)) (sym are)
       ∙ guards.on (record { host = (now config passes before).host; limits = limits'; registers = part }) output byte free' on)
   operation-within (Some (job.OrderMicro cell x)) byte free is on =
       let same_cell' = micro-cell (micro_word (now config passes before).host cell x) is in
       absurd (not-micro (record { host = (now config passes before).host; limits = limits'; registers = part }) output x
-      (subst (λ (c : Cell). guard_fault (record { host = (now config passes before).host; limits = limits'; registers = part }) (job.OrderMicro c x) ≡ None)
+      (subst (λ (c : Cell). guard_fault (record { host = (now config passes before).host; limits = limits'; registers = part })
+      (job.OrderMicro c x) ≡ None)
       same_cell' free))
     where
       micro-cell : (o : Option ℕ) → option_map (λ w. host.Order cell w) o ≡ Some (host.Order (Out output Operation) byte) →
@@ -318,7 +338,8 @@ module _ (laws : Below) (guards : GuardedOrdersAreWithin) (config : Config) (pas
 
   byte-lets : (byte : ℕ) → asked (now config passes before) event ≡ Some (host.Order (Out output Operation) byte) →
       (is_operation byte ≡ true)
-      × IsInside (shape_for config output) bounds (known_by part (shape_for config output) (marks_at config passes before) output) (byte ∷ [])
+      × IsInside (shape_for config output) bounds (known_by part (shape_for config output) (marks_at config passes before) output)
+      (byte ∷ [])
   byte-lets byte is = (
     (order-free (now config passes before).host (Out output Operation) byte
         (job-free (now config passes before) event (host.Order (Out output Operation) byte) is (newest lived))).fits,
@@ -355,7 +376,8 @@ module _ (laws : Below) (guards : GuardedOrdersAreWithin) (config : Config) (pas
       ≡ option_and_then pending_of (host.open_job (setup_of config passes) (entry ∷ (life config passes before).entries))
   opened entry told = opened-by config passes (event ∷ before)
       ∙ ap (λ (es : List host.Entry). option_and_then pending_of (host.open_job (setup_of config passes) es))
-      (entries-more config passes before event ∙ ap (λ (t : Option host.Entry). option_to_list t ++ (life config passes before).entries) told)
+      (entries-more config passes before event ∙ ap (λ (t : Option host.Entry). option_to_list t ++
+      (life config passes before).entries) told)
 
   -- by what the host was told
   by-sent : (entry : host.Entry) (told : (share_of (now config passes before) event).told ≡ Some entry) (ms : List Mark) →
@@ -366,7 +388,8 @@ module _ (laws : Below) (guards : GuardedOrdersAreWithin) (config : Config) (pas
       (open_pending config passes (event ∷ before))
   by-sent entry told ms are' stays = subst (λ (new : List Mark). Stays part (shape_for config output) bounds output new
       (open_pending config passes (event ∷ before))) (sym are')
-      (puts-stay laws (setup_of config passes) (entry ∷ (life config passes before).entries) (open_pending config passes (event ∷ before)) dens
+      (puts-stay laws (setup_of config passes) (entry ∷ (life config passes before).entries) (open_pending config passes
+      (event ∷ before)) dens
       (is-put (setup_of config passes) (entry ∷ (life config passes before).entries)) (opened entry told) free-next stays)
 
   by-told : (told : Option host.Entry) → (share_of (now config passes before) event).told ≡ told → TellsFrame told →
@@ -390,7 +413,8 @@ module _ (laws : Below) (guards : GuardedOrdersAreWithin) (config : Config) (pas
             (count-is config passes before read ((knows laws config passes before (earlier lived)).asks read asks).1)),
         subst (λ (n : ℕ). cell_accepts read n ≡ true)
             (got-true laws event bytes (knows laws config passes before (earlier lived)) (newest lived) told read word asks good)
-            ((knows laws config passes before (earlier lived)).accepted read ((knows laws config passes before (earlier lived)).asks read asks).1),
+            ((knows laws config passes before (earlier lived)).accepted read ((knows laws config passes before
+            (earlier lived)).asks read asks).1),
       )) stays)
 
   stays-next : Stays part (shape_for config output) bounds output (marks_at config passes (event ∷ before))
@@ -408,7 +432,8 @@ module _ (laws : Below) (guards : GuardedOrdersAreWithin) (config : Config) (pas
           (goes-stays (open_pending config passes before) _ (open-beside laws config passes before event lived a) was.stays)
       go (Some job) a =
           let told : (share_of (now config passes before) event).told ≡ Some (host.Accepted job) =
-          ap (λ (o : Option host.Job). (option_map_or (λ j. tells (host.Accepted j)) o (share_beside (now config passes before) event)).told) a in
+          ap (λ (o : Option host.Job). (option_map_or (λ j. tells (host.Accepted j)) o (share_beside
+          (now config passes before) event)).told) a in
           subst (λ (t : Option host.Entry). Stays part (shape_for config output) bounds output (marks (setup_of config passes)
           (option_to_list t ++ (life config passes before).entries)) (open_pending config passes (event ∷ before))) (sym told)
           (by-sent (host.Accepted job) told (marks_at config passes before) refl (record {
@@ -430,7 +455,8 @@ module _ (laws : Below) (guards : GuardedOrdersAreWithin) (config : Config) (pas
     (fresh : IsFresh config passes before) (said : is_within config passes part before output bounds ≡ true) where
   own-said : (may_select_avsbus (possible_at (now config passes before).host (Out output Operation)) ≡ false)
       × (is_yes (within_of (Some bounds) (option_map (λ s. band_with s (limits.known_of part s (now config passes before).host output)
-      (operations (possible_at (now config passes before).host (Out output Operation)))) (format_at (now config passes before).host output)))
+      (operations (possible_at (now config passes before).host (Out output Operation)))) (format_at
+      (now config passes before).host output)))
       ≡ true)
   own-said = here-parts bounds (may_select_avsbus (possible_at (now config passes before).host (Out output Operation))) _ said
 
@@ -505,6 +531,7 @@ module _ (laws : Below) (guards : GuardedOrdersAreWithin) (config : Config) (pas
           (sym ((possible-held laws config passes (later ++ before) lived).possible (Out output register) here))
           (of-filled (marks_at config passes (later ++ before)) (Out output register))
 
-      missing-filled : (missing : Option ℕ) (possible : Possible) → PossibleFilled possible → PossibleFilled (option_map_or only missing possible)
+      missing-filled : (missing : Option ℕ) (possible : Possible) → PossibleFilled possible → PossibleFilled
+          (option_map_or only missing possible)
       missing-filled None possible full = full
       missing-filled (Some word) possible full = tt
