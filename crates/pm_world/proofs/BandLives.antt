@@ -63,7 +63,7 @@ band-of false (Some shape) known bytes own band agree is =
     ap (λ (s : Shape). band_with s (known s) bytes) (sym (agree shape refl)) ∙ same
 
 -- a word is possible where it is the only one
-alone : (word only_word : ℕ) → word ≡ only_word → is_possible word (only only_word) ≡ true
+pub alone : (word only_word : ℕ) → word ≡ only_word → is_possible word (only only_word) ≡ true
 alone word only_word is = grind (arith, nat_tests)
 
 -- a word that decides is possible

@@ -1,5 +1,5 @@
 -- A band that lies within limits, by the words that each register may hold.
-use Rattle.std.proofs.Common.{◌≡◌, ◌⊎◌, inl, inr, ℕ, ◌<◌, ◌^◌, pos, negsuc, Bool, true, false, cond, not, ◌&&◌, ◌||◌, List, [], ◌∷◌, refl, sym, ◌∙◌, ap, subst, arith}
+use Rattle.std.proofs.Common.{◌≡◌, ◌⊎◌, inl, inr, ℕ, ◌<◌, ◌^◌, pos, negsuc, Bool, true, false, cond, not, ◌&&◌, ◌||◌, List, [], ◌∷◌, refl, ◌∙◌, ap, arith}
 use Rattle.std.proofs.lemmas.Bool.Decides.{nat_tests}
 use Rattle.pm_num.specs.AnyFormat.{Shape, InLinear11, InUlinear16, InDirect, shape_value}
 use Rattle.pm_num.specs.Lemmas.Slope.{direct-within}
@@ -132,14 +132,16 @@ module _ (shape : Shape) (bounds : Bounds) (known : Known) (bytes : List ℕ) (d
   -- where an end isn't below the least limit no word is
   ge-of : (register : Reg) → AtMost (micros bounds.least) (shape_value shape (word_end Lowest shape known register)) →
       Ge shape bounds (known register)
-  ge-of register end x listed = through (micros bounds.least) (shape_value shape (word_end Lowest shape known register)) (shape_value shape x)
+  ge-of register end x listed = through (micros bounds.least) (shape_value shape (word_end Lowest shape known register))
+      (shape_value shape x)
       (dens (word_end Lowest shape known register)) end
       (farthest_of-listed Lowest (shape_value shape) (candidates shape (known register)) x
       (all-dens (shape_value shape) dens (candidates shape (known register))) listed)
 
   le-of : (register : Reg) → AtMost (shape_value shape (word_end Highest shape known register)) (micros bounds.most) →
       Le shape bounds (known register)
-  le-of register end x listed = through (shape_value shape x) (shape_value shape (word_end Highest shape known register)) (micros bounds.most)
+  le-of register end x listed = through (shape_value shape x) (shape_value shape (word_end Highest shape known register))
+      (micros bounds.most)
       (dens (word_end Highest shape known register))
       (farthest_of-listed Highest (shape_value shape) (candidates shape (known register)) x
       (all-dens (shape_value shape) dens (candidates shape (known register))) listed) end
@@ -246,36 +248,29 @@ fewer-inside {shape = shape} {bounds = bounds} {known = known} fewer is = record
   ];
 }
 
--- with one more byte
-abbrev pub IsOneMore : ℕ → List ℕ → List ℕ → Type 0
-IsOneMore byte bytes later = (x : ℕ) → is_listed x later ≡ true → (is_listed x bytes ≡ true) ⊎ (x ≡ byte)
+-- what holds of all registers that bytes select, and of the one that a further byte does, holds of those that others do
+abbrev pub SelectOneMore : ℕ → List ℕ → List ℕ → Type 1
+SelectOneMore byte bytes later = (holds : Reg → Type 0) → AreSelected bytes holds → holds (selected_register byte) → AreSelected later holds
 
 itself : (byte : ℕ) → is_listed byte (byte ∷ []) ≡ true
 itself byte = grind (arith, nat_tests)
 
-both-select : (holds : Reg → Type 0) (byte : ℕ) (bytes later : List ℕ) → IsOneMore byte bytes later → AreSelected bytes holds →
-    AreSelected (byte ∷ []) holds → AreSelected later holds
-both-select holds byte bytes later more all one x listed = elim (more x listed) [
-  | inl old ↦ all x old
-  | inr is ↦ subst (λ (b : ℕ). holds (selected_register b)) (sym is) (one byte (itself byte))
-]
-
-pub more-inside : {shape : Shape} {bounds : Bounds} {known : Known} {bytes later : List ℕ} (byte : ℕ) → IsOneMore byte bytes later →
+pub more-inside : {shape : Shape} {bounds : Bounds} {known : Known} {bytes later : List ℕ} (byte : ℕ) → SelectOneMore byte bytes later →
     IsInside shape bounds known bytes → IsInside shape bounds known (byte ∷ []) → IsInside shape bounds known later
-more-inside {shape = shape} {bounds = bounds} {known = known} {bytes = bytes} {later = later} byte more is one = record {
+more-inside {shape = shape} {bounds = bounds} {known = known} byte more is one = record {
   max = is.max;
   lower = elim is.lower [
     | inr l ↦ inr l
     | inl s ↦ elim one.lower [
       | inr l ↦ inr l
-      | inl t ↦ inl (both-select (λ register. Ge shape bounds (known register)) byte bytes later more s t)
+      | inl t ↦ inl (more (λ register. Ge shape bounds (known register)) s (t byte (itself byte)))
     ]
   ];
   upper = elim is.upper [
     | inl g ↦ inl g
     | inr both ↦ elim one.upper [
       | inl g ↦ inl g
-      | inr two ↦ inr (both-select (λ register. Le shape bounds (known register)) byte bytes later more both.0 two.0, both.1)
+      | inr two ↦ inr (more (λ register. Le shape bounds (known register)) both.0 (two.0 byte (itself byte)), both.1)
     ]
   ];
 }

@@ -5,7 +5,6 @@ use Rattle.std.proofs.Math.Path.{fun_ext}
 use Rattle.pm_table.specs.declared.cell.Cell.{Cell}
 use Rattle.pm_table.specs.declared.cell.Cell.TheVariants.{Out, Protect}
 use Rattle.pm_table.specs.declared.reg.Reg.{Reg}
-use Rattle.pm_table.specs.declared.reg.Reg.TheVariants.{Operation, VoutCommand, VoutMax, MarginHigh, MarginLow, VoutMin}
 use Rattle.pm_table.specs.Cell.{same_register}
 use Rattle.pm_model.specs.declared.pending_job.PendingJob.{PendingJob}
 use Rattle.pm_model.specs.declared.pending_job.PendingJob.TheVariants as pending
@@ -20,6 +19,8 @@ use Rattle.pm_host.specs.Ended.{StepTells, job_in}
 use Rattle.pm_host.specs.Refusals.{is_busy}
 use Rattle.pm_host.specs.Summary.{Summary}
 use Rattle.pm_host.specs.Transcript as host
+use Rattle.pm_limits.specs.declared.part_registers.PartRegisters.{PartRegisters}
+use Rattle.pm_limits.specs.Part.{has_register}
 use Rattle.pm_rail.specs.Plan.{goal_of, is_cut_by, next_register, put}
 use Rattle.pm_rail.specs.Registers.{Held, Wants}
 use Rattle.pm_world.specs.Below.{Below}
@@ -146,35 +147,29 @@ by-asked job (ordered arrival takes) is = cc
 by-asked job (restored arrival takes out e) is = cc
 
 -- registers that test as one are one, and each tests as itself
-one-register : (q r : Reg) → same_register q r ≡ true → q ≡ r
-one-register Operation Operation h = refl
-one-register VoutCommand VoutCommand h = refl
-one-register VoutMax VoutMax h = refl
-one-register MarginHigh MarginHigh h = refl
-one-register MarginLow MarginLow h = refl
-one-register VoutMin VoutMin h = refl
-one-register q r h = cc
+register_in : Reg → Cell → Reg
+register_in other (Out output register) = register
+register_in other Protect = other
 
-itself : (q : Reg) → same_register q q ≡ true
-itself Operation = refl
-itself VoutCommand = refl
-itself VoutMax = refl
-itself MarginHigh = refl
-itself MarginLow = refl
-itself VoutMin = refl
+pub one-register : Below → (q r : Reg) → same_register q r ≡ true → q ≡ r
+unfolding register_in
+one-register laws q r same = ap (λ (c : Cell). register_in q c) ((laws.cells_are_told_apart (Out 0 q) (Out 0 r)).0 same)
 
-pub put-itself : (held : Held) (q : Reg) (word : ℕ) → put held q word q ≡ word
-put-itself held q word = ap (λ (b : Bool). cond b word (held q)) (itself q)
+pub register-itself : Below → (q : Reg) → same_register q q ≡ true
+register-itself laws q = (laws.cells_are_told_apart (Out 0 q) (Out 0 q)).1 refl
+
+pub put-itself : Below → (held : Held) (q : Reg) (word : ℕ) → put held q word q ≡ word
+put-itself laws held q word = ap (λ (b : Bool). cond b word (held q)) (register-itself laws q)
 
 -- an order that the plan gives: it has taken, or is the next one
-abbrev pub IsReady : Scale → Wants → Held → Reg → ℕ → Type 0
-IsReady value wants held q word = (held q ≡ word) ⊎ ((next_register value held wants ≡ Some q)
-    × (goal_of held wants q ≡ word) × (is_cut_by value (goal_of held wants) ≡ false))
+abbrev pub IsReady : PartRegisters → Scale → Wants → Held → Reg → ℕ → Type 0
+IsReady part value wants held q word = (held q ≡ word) ⊎ ((next_register value held wants ≡ Some q)
+    × (goal_of held wants q ≡ word) × (is_cut_by value (goal_of held wants) ≡ false) × (has_register part q ≡ true))
 
 -- at a moment an open order of the output is such a one, and no restore is open
-pub record Stands (config : Config) (passes output : ℕ) (wants : Wants) (events : List Event) : Type 0 where
+pub record Stands (config : Config) (passes : ℕ) (part : PartRegisters) (output : ℕ) (wants : Wants) (events : List Event) : Type 0 where
   pub ready : (q : Reg) (word : ℕ) → open_pending config passes events ≡ Some (pending.Order (Out output q) word) →
-      IsReady (value_for config output) wants (held_at config passes events output) q word
+      IsReady part (value_for config output) wants (held_at config passes events output) q word
   pub free : open_pending config passes events ≡ Some pending.Restore → ⊥
 
 -- an event leaves the output's words
@@ -183,18 +178,21 @@ Stays config passes output before event =
     held_at config passes (event ∷ before) output ≡ held_at config passes before output
 
 -- or the plan's next order took
-pub record Took (config : Config) (passes output : ℕ) (wants : Wants) (before : List Event) (event : Event) : Type 0 where
+pub record Took (config : Config) (passes : ℕ) (part : PartRegisters) (output : ℕ) (wants : Wants) (before : List Event)
+    (event : Event) : Type 0 where
   pub q : Reg
   pub next : next_register (value_for config output) (held_at config passes before output) wants ≡ Some q
   pub uncut : is_cut_by (value_for config output) (goal_of (held_at config passes before output) wants) ≡ false
+  pub has : has_register part q ≡ true
   pub is : held_at config passes (event ∷ before) output
       ≡ put (held_at config passes before output) q (goal_of (held_at config passes before output) wants q)
   pub opened : open_pending config passes before
       ≡ Some (pending.Order (Out output q) (goal_of (held_at config passes before output) wants q))
 
-module _ (laws : Below) (config : Config) (passes output : ℕ) (wants : Wants) (before : List Event) (event : Event)
+module _ (laws : Below) (config : Config) (passes : ℕ) (part : PartRegisters) (output : ℕ) (wants : Wants) (before : List Event)
+    (event : Event)
     (here : output < config.count) (lived : IsLived config passes (event ∷ before))
-    (steady : restarts_converter event ≡ false) (stands : Stands config passes output wants before) where
+    (steady : restarts_converter event ≡ false) (stands : Stands config passes part output wants before) where
   abbrev was : Held
   was = held_at config passes before output
 
@@ -226,7 +224,7 @@ module _ (laws : Below) (config : Config) (passes output : ℕ) (wants : Wants) 
 
   -- this order is open
   order-goes : (other : ℕ) (q : Reg) (word : ℕ) → open_pending config passes before ≡ Some (pending.Order (Out other q) word) →
-      Stays config passes output before event ⊎ Took config passes output wants before event
+      Stays config passes output before event ⊎ Took config passes part output wants before event
   order-goes other q word open' = elim (opened q) [
     | inl e ↦ inl (all e)
     | inr p ↦
@@ -240,6 +238,7 @@ module _ (laws : Below) (config : Config) (passes output : ℕ) (wants : Wants) 
             q = q;
             next = plan.0;
             uncut = plan.2;
+            has = plan.3;
             is = taken (sym same_word ∙ sym plan.1);
             opened = there ∙ ap (λ (w : ℕ). Some (pending.Order (Out output q) w)) (sym plan.1);
           })
@@ -258,21 +257,21 @@ module _ (laws : Below) (config : Config) (passes output : ℕ) (wants : Wants) 
 
       place : is q ≡ goal_of was wants q → (r : Reg) → is r ≡ was r → (b : Bool) → same_register q r ≡ b →
           is r ≡ put was q (goal_of was wants q) r
-      place e r e' true s = subst (λ (x : Reg). is x ≡ put was q (goal_of was wants q) x) (one-register q r s)
-          (e ∙ sym (put-itself was q (goal_of was wants q)))
+      place e r e' true s = subst (λ (x : Reg). is x ≡ put was q (goal_of was wants q) x) (one-register laws q r s)
+          (e ∙ sym (put-itself laws was q (goal_of was wants q)))
       place e r e' false s = e' ∙ sym (ap (λ (b : Bool). cond b (goal_of was wants q) (was r)) s)
 
       taken : is q ≡ goal_of was wants q → is ≡ put was q (goal_of was wants q)
       taken e = fun_ext (λ (r : Reg). elim (opened r) [
         | inr p ↦ subst (λ (x : Reg). is x ≡ put was q (goal_of was wants q) x) (beside r p)
-            (e ∙ sym (put-itself was q (goal_of was wants q)))
+            (e ∙ sym (put-itself laws was q (goal_of was wants q)))
         | inl e' ↦ place e r e' (same_register q r) refl
       ])
 
-  pub goes : Stays config passes output before event ⊎ Took config passes output wants before event
+  pub goes : Stays config passes output before event ⊎ Took config passes part output wants before event
   goes = go (open_pending config passes before) refl where
     go : (o : Option PendingJob) → open_pending config passes before ≡ o →
-        Stays config passes output before event ⊎ Took config passes output wants before event
+        Stays config passes output before event ⊎ Took config passes part output wants before event
     go (Some (pending.Order (Out other q) word)) e = order-goes other q word e
     go (Some (pending.Order Protect word)) e = inl (other-stays (λ r w p. cc))
     go (Some pending.Store) e = inl (other-stays (λ r w p. cc))

@@ -3,6 +3,7 @@ use Rattle.std.proofs.Common.{◌≡◌, ◌⊎◌, inl, inr, ℕ, ◌==◌, Boo
 use Rattle.std.specs.Prelude.{IsSome, IsSomeAnd, is_none, is_some, option_and_then, option_map, option_to_list, find}
 use Rattle.std.specs.List.{list_any}
 use Rattle.std.proofs.lemmas.Bool.{or_parts}
+use Rattle.pm_num.specs.AnyFormat.{Shape}
 use Rattle.pm_table.specs.declared.cell.Cell.{Cell}
 use Rattle.pm_table.specs.declared.cell.Cell.TheVariants.{Out, Protect}
 use Rattle.pm_table.specs.declared.reg.Reg.{Reg}
@@ -20,13 +21,13 @@ use Rattle.pm_host.specs.Jobs.{accepted_job}
 use Rattle.pm_host.specs.Marks.{Good, goods, read_by}
 use Rattle.pm_host.specs.Summary.{Summary, format_at, step_by}
 use Rattle.pm_host.specs.Transcript as host
+use Rattle.pm_limits.specs.declared.part_registers.PartRegisters.{PartRegisters}
 use Rattle.pm_rail.specs.declared.survey.Reads.{Reads}
 use Rattle.pm_rail.specs.declared.survey.Survey.{Survey}
-use Rattle.pm_rail.specs.Known.{known_at, known_of}
-use Rattle.pm_rail.specs.Orders.{is_missing}
+use Rattle.pm_rail.specs.Known.{cells_of, known_at, known_of}
 use Rattle.pm_rail.specs.Registers.{wants_of}
 use Rattle.pm_rail.specs.Survey as survey
-use Rattle.pm_rail.specs.Survey.{and_read, asking, due_job, ended, next_job, nothing_read}
+use Rattle.pm_rail.specs.Survey.{and_read, asking, due_by, due_job, ended, next_job, nothing_read}
 use Rattle.pm_world.specs.Below.{Below}
 use Rattle.pm_world.specs.declared.event.Event.{Event}
 use Rattle.pm_world.specs.Confirmed.{is_good_for, reads, reads_cell, restarted_since, restarts_converter}
@@ -159,7 +160,8 @@ check-done laws config passes (newest ∷ newer) before event cell lived asks al
         (e ∙ ap (λ (x : host.Entry). Some x) answer.1)
         ∙ check-reads laws (setup_of config passes) (life config passes (newer ++ event ∷ before)).entries cell answer.0 answer.2
         (open-life laws config passes (newer ++ event ∷ before) (host.Check cell) open')
-        (subst (λ (s : host.Setup). good_word s.addr cell answer.0 ≡ Some answer.2) (now-setup config passes (newer ++ event ∷ before)) answer.3)
+        (subst (λ (s : host.Setup). good_word s.addr cell answer.0 ≡ Some answer.2) (now-setup config passes
+        (newer ++ event ∷ before)) answer.3)
 
     told : (entry : Option host.Entry) → (share_of (now config passes (newer ++ event ∷ before)) newest).told ≡ entry → TellsFrame entry →
         ((now config passes (newer ++ event ∷ before)).end ≡ Some Done → was_read config passes cell newer (event ∷ before) ≡ true) →
@@ -191,20 +193,27 @@ own-first output other register false None false (Some r) again is =
 own-first output other register false None false None true is = cc
 own-first output other register false None false None false is = cc
 
-own-due : (v : Survey) (s : Summary) (other : ℕ) (register : Reg) → due_job v s ≡ Some (job.Check (Out other register)) →
-    other ≡ v.output
-own-due v s other register due = own-first v.output other register (not v.learned || is_none (format_at s v.output))
-    (find (survey.is_unread v.read (known_of s v.output) (wants_of (survey.wanted_in v.plan))) registers)
-    (is_some v.plan && not v.read.protect)
-    (find (is_missing s v.output (known_of s v.output) (wants_of (survey.wanted_in v.plan))) registers)
-    (is_some v.plan && is_none (known_at s Protect)) due
+own-due : (part : PartRegisters) (v : Survey) (s : Summary) (other : ℕ) (register : Reg) →
+    due_job part v s ≡ Some (job.Check (Out other register)) → other ≡ v.output
+own-due part v s other register due = go (format_at s v.output) due where
+  go : (format : Option Shape) → due_by part v s format ≡ Some (job.Check (Out other register)) → other ≡ v.output
+  go None is = cc
+  go (Some shape) is =
+      let cells = cells_of part shape s in
+      let known = known_of cells v.output in
+      let wants = wants_of (survey.wanted_in v.plan) in
+      own-first v.output other register (not v.learned)
+      (find (survey.is_unread part v.read known wants) registers)
+      (is_some v.plan && not v.read.protect)
+      (find (survey.is_unsure part cells v.output known wants) registers)
+      (is_some v.plan && is_none (known_at cells Protect)) is
 
-pub own-output : (v : Survey) (s : Summary) (other : ℕ) (register : Reg) → next_job v s ≡ Some (job.Check (Out other register)) →
-    other ≡ v.output
-own-output v s other register next = go (v.left == 0) next where
-  go : (b : Bool) → cond b None (due_job v s) ≡ Some (job.Check (Out other register)) → other ≡ v.output
+pub own-output : (part : PartRegisters) (v : Survey) (s : Summary) (other : ℕ) (register : Reg) →
+    next_job part v s ≡ Some (job.Check (Out other register)) → other ≡ v.output
+own-output part v s other register next = go (v.left == 0) next where
+  go : (b : Bool) → cond b None (due_job part v s) ≡ Some (job.Check (Out other register)) → other ≡ v.output
   go true h = cc
-  go false h = own-due v s other register h
+  go false h = own-due part v s other register h
 
 -- ---- What counts as read ----
 
@@ -290,24 +299,26 @@ asks-check : (s : _) (event : Event) (cell : Cell) → asked_by event ≡ Some (
 asks-check s event cell is = ap (λ (o : Option Job). option_and_then (accepted_job s.host) o) is
 
 -- a job of the survey ended
-ended-read : Below → (config : Config) (passes : ℕ) (v : Survey) (newer later before : List Event) (event : Event) (job : Job)
+ended-read : Below → (config : Config) (passes : ℕ) (part : PartRegisters) (v : Survey) (newer later before : List Event)
+    (event : Event) (job : Job)
     (end : JobEnd) → IsLived config passes (newer ++ event ∷ (later ++ before)) →
-    AreRead config passes v later before → next_job v (now config passes (later ++ before)).host ≡ Some job →
+    AreRead config passes v later before → next_job part v (now config passes (later ++ before)).host ≡ Some job →
     asked_by event ≡ Some job → list_any begins_other newer ≡ false →
     (now config passes (newer ++ event ∷ (later ++ before))).end ≡ Some end →
     AreRead config passes (ended (asking v (Some job)) (Some job) end) (newer ++ event ∷ later) before
-ended-read laws config passes v newer later before event (job.Check cell) Done lived are next asks alone done =
+ended-read laws config passes part v newer later before event (job.Check cell) Done lived are next asks alone done =
     cell-read config passes v (newer ++ event ∷ later) before cell
-    (λ other register same. own-output v (now config passes (later ++ before)).host other register
+    (λ other register same. own-output part v (now config passes (later ++ before)).host other register
     (next ∙ ap (λ (c : Cell). Some (job.Check c)) same))
     (read-newer config passes cell newer (event ∷ later) before
-    (check-done laws config passes newer (later ++ before) event cell lived (asks-check (now config passes (later ++ before)) event cell asks)
+    (check-done laws config passes newer (later ++ before) event cell lived (asks-check (now config passes
+    (later ++ before)) event cell asks)
     alone done))
     (more-read config passes v newer (event ∷ later) before (more-read config passes v (event ∷ []) later before are))
-ended-read laws config passes v newer later before event (job.Learn output) Learned lived are next asks alone done =
+ended-read laws config passes part v newer later before event (job.Learn output) Learned lived are next asks alone done =
     same-read config passes v _ (newer ++ event ∷ later) before refl refl
     (more-read config passes v newer (event ∷ later) before (more-read config passes v (event ∷ []) later before are))
-ended-read laws config passes v newer later before event j end lived are next asks alone done =
+ended-read laws config passes part v newer later before event j end lived are next asks alone done =
     same-read config passes v _ (newer ++ event ∷ later) before refl refl
     (more-read config passes v newer (event ∷ later) before (more-read config passes v (event ∷ []) later before are))
 
@@ -317,8 +328,8 @@ pub follows-surveys : Below → (config : Config) (passes : ℕ) (events : List 
 follows-surveys laws config passes events lived = record {
   begins = λ v nothing. none-read config passes v events nothing;
   more = λ v newer later before is are. more-read config passes v newer later before are;
-  told = λ v newer later before event job end is here are next asks alone done.
+  told = λ part v newer later before event job end is here are next asks alone done.
       let same = is ∙ append_assoc newer (event ∷ later) before in
-      ended-read laws config passes v newer later before event job end (subst (IsLived config passes) same lived) are next asks alone
+      ended-read laws config passes part v newer later before event job end (subst (IsLived config passes) same lived) are next asks alone
       (ap (λ (es : List Event). (now config passes es).end) (sym same) ∙ done);
 }

@@ -11,8 +11,8 @@ use Rattle.pm_num.specs.AnyFormat.{Shape, InLinear11, InUlinear16, InDirect, sha
 use Rattle.pm_table.specs.declared.cell.Cell.{Cell}
 use Rattle.pm_table.specs.declared.cell.Cell.TheVariants.{Out}
 use Rattle.pm_table.specs.declared.reg.Reg.{Reg}
-use Rattle.pm_table.specs.declared.reg.Reg.TheVariants.{Operation, VoutCommand, VoutMax, MarginHigh, MarginLow, VoutMin}
-use Rattle.pm_table.specs.Cell.{is_voltage}
+use Rattle.pm_table.specs.declared.reg.Reg.TheVariants.{Operation}
+use Rattle.pm_table.specs.Cell.{cell_accepts, is_operation, is_voltage}
 use Rattle.pm_table.specs.Operation.{has_on}
 use Rattle.pm_model.specs.declared.pending_job.PendingJob.{PendingJob}
 use Rattle.pm_model.specs.declared.pending_job.PendingJob.TheVariants as pending
@@ -27,7 +27,7 @@ use Rattle.pm_host.specs.declared.possible.Possible.TheVariants.{Any, Words}
 use Rattle.pm_host.specs.Answers.{good_word}
 use Rattle.pm_host.specs.Jobs.{accepted_job}
 use Rattle.pm_host.specs.Marks.{Good, Mark, Put, Restored, goods, marks, put_by, puts, read_by, send_marks}
-use Rattle.pm_host.specs.Possible.{is_possible, possible_of}
+use Rattle.pm_host.specs.Possible.{is_possible, only, possible_of}
 use Rattle.pm_host.specs.Refusals.{cell_fault, is_busy, micro_word}
 use Rattle.pm_host.specs.Summary.{format_at, possible_at}
 use Rattle.pm_host.specs.Transcript as host
@@ -37,7 +37,10 @@ use Rattle.pm_limits.specs.declared.fault.LimitFault.TheVariants.{Host}
 use Rattle.pm_limits.specs.declared.side.Side.{Side}
 use Rattle.pm_limits.specs.declared.within.Within.{Within}
 use Rattle.pm_limits.specs.Band as limits
-use Rattle.pm_limits.specs.Band.{HasDens, Known, band_on, band_with, band_within, is_yes, operation_end, operations, within_of, word_end}
+use Rattle.pm_limits.specs.Band.{HasDens, Known, band_on, band_with, band_within, each_selection, is_untaken, is_yes, may_select_avsbus, operation_end, operations, within_of, word_end}
+use Rattle.pm_limits.specs.Part.{missing_word}
+use Rattle.pm_limits.specs.declared.part_registers.PartRegisters.{PartRegisters}
+use Rattle.pm_limits.specs.declared.band.Band.{Band}
 use Rattle.pm_limits.specs.Bounds.{Bounds, IsWithin}
 use Rattle.pm_limits.specs.Ends.{candidates, farthest_of}
 use Rattle.pm_limits.specs.Guard.{Guarded, guard_fault, of_host}
@@ -58,15 +61,17 @@ use Rattle.pm_world.specs.StaysWithin.{IsFresh, MayTurn, StaysGuarded, is_within
 use Rattle.pm_world.specs.Uncertainty.{AreSteady}
 use Rattle.pm_world.proofs.BandLives.{PossibleFilled, listed-is, of-filled}
 use Rattle.pm_world.proofs.ByteLives.{IsOfBytes, held-short}
+use Rattle.pm_world.proofs.Causes.{job-free}
 use Rattle.pm_world.proofs.HeldWords.{knows}
 use Rattle.pm_world.proofs.InsideLimits.{IsInside, inside-is, is-inside}
-use Rattle.pm_world.proofs.InsideMarks.{Lets, Stays, good-stays, known_by, put-stays}
+use Rattle.pm_world.proofs.InsideMarks.{Lets, Stays, good-stays, known_by, no-voltage, put-stays, raw_by}
 use Rattle.pm_world.proofs.JobSpans.{TellsFrame, beside-frame}
 use Rattle.pm_world.proofs.KeptFormats.{format-stays}
 use Rattle.pm_world.proofs.LearnedLives.{formats-agree}
 use Rattle.pm_world.proofs.LimitedLives.{in-format, ordered-within, sound-dens}
 use Rattle.pm_world.proofs.Lives.{IsLived, earlier, entries-more, newest}
 use Rattle.pm_world.proofs.OpenOrders.{Goes}
+use Rattle.pm_world.proofs.OrderEvents.{order-free}
 use Rattle.pm_world.proofs.PlanSteps.{idle-none, open-asked, open-beside, pending-order, pending-restore}
 use Rattle.pm_world.proofs.Seen.{count-is, got-true, possible-held, seen-true}
 use Rattle.pm_world.proofs.Standings.{AreGoods, are-goods, no_good, one_good}
@@ -98,25 +103,28 @@ is-put setup entries = go (host.open_job setup entries) refl where
   go (Some job) is = no_put
 
 -- what is open still lets an output stay inside where it is the same, or none
-goes-stays : {shape : Shape} {bounds : Bounds} {output : ℕ} {ms : List Mark} (open' after : Option PendingJob) → Goes open' after →
-    Stays shape bounds output ms open' → Stays shape bounds output ms after
-goes-stays {shape = shape} {bounds = bounds} {output = output} {ms = ms} open' after (inl same) stays =
-    subst (λ (o : Option PendingJob). Stays shape bounds output ms o) (sym same) stays
+goes-stays : {part : PartRegisters} {shape : Shape} {bounds : Bounds} {output : ℕ} {ms : List Mark}
+    (open' after : Option PendingJob) → Goes open' after →
+    Stays part shape bounds output ms open' → Stays part shape bounds output ms after
+goes-stays {part = part} {shape = shape} {bounds = bounds} {output = output} {ms = ms} open' after (inl same) stays =
+    subst (λ (o : Option PendingJob). Stays part shape bounds output ms o) (sym same) stays
 goes-stays open' after (inr none) stays = record {
   inside = stays.inside;
+  here = stays.here;
   lets = λ register word is. let bad = sym none ∙ is in cc;
 }
 
-puts-stay : Below → {shape : Shape} {bounds : Bounds} {output : ℕ} {ms new : List Mark} (setup : host.Setup)
+puts-stay : Below → {part : PartRegisters} {shape : Shape} {bounds : Bounds} {output : ℕ} {ms new : List Mark} (setup : host.Setup)
     (entries : List host.Entry) (open' : Option PendingJob) → HasDens shape → IsPut setup entries new →
     open' ≡ option_and_then pending_of (host.open_job setup entries) → (open' ≡ Some pending.Restore → ⊥) →
-    Stays shape bounds output ms open' → Stays shape bounds output (new ++ ms) open'
+    Stays part shape bounds output ms open' → Stays part shape bounds output (new ++ ms) open'
 puts-stay laws setup entries open' dens no_put is free stays = stays
-puts-stay laws {shape = shape} {bounds = bounds} {output = output} {ms = ms} setup entries open' dens (order_put cell word opened) is free stays =
+puts-stay laws {part = part} {shape = shape} {bounds = bounds} {output = output} {ms = ms} setup entries open' dens
+    (order_put cell word opened) is free stays =
     let same : open' ≡ Some (pending.Order cell word) = is ∙ ap (λ (j : Option host.Job). option_and_then pending_of j) opened in
-    subst (λ (o : Option PendingJob). Stays shape bounds output (Put cell word ∷ ms) o) (sym same)
-    (put-stays laws shape bounds output ms dens cell word
-    (subst (λ (o : Option PendingJob). Stays shape bounds output ms o) same stays))
+    subst (λ (o : Option PendingJob). Stays part shape bounds output (Put cell word ∷ ms) o) (sym same)
+    (put-stays laws part shape bounds output ms dens cell word
+    (subst (λ (o : Option PendingJob). Stays part shape bounds output ms o) same stays))
 puts-stay laws setup entries open' dens (restore_put opened) is free stays =
     absurd (free (is ∙ ap (λ (j : Option host.Job). option_and_then pending_of j) opened))
 
@@ -150,8 +158,10 @@ unsurprising laws config passes before event bytes read word lived fresh told go
   surprising : is_possible word (possible_of (marks (setup_of config passes) (life config passes before).entries) read) ≡ false →
       surprises_by config passes read before event ≡ true
   surprising e = ap (λ (t : Option host.Entry). surprises (setup_of config passes) (life config passes before).entries read t) told
-      ∙ ap (λ (new : List Mark). list_any (is_surprise_for read (marks (setup_of config passes) (life config passes before).entries)) new) good
-      ∙ ap (λ (b : Bool). (b && not (is_possible word (possible_of (marks (setup_of config passes) (life config passes before).entries) read))) || false)
+      ∙ ap (λ (new : List Mark). list_any (is_surprise_for read (marks (setup_of config passes)
+      (life config passes before).entries)) new) good
+      ∙ ap (λ (b : Bool). (b && not (is_possible word (possible_of (marks (setup_of config passes)
+      (life config passes before).entries) read))) || false)
       ((laws.cells_are_told_apart read read).1 refl)
       ∙ ap (λ (b : Bool). not b || false) e
 
@@ -162,15 +172,18 @@ unsurprising laws config passes before event bytes read word lived fresh told go
       let since = (seen-true laws config passes (event ∷ before) lived).surprises [] before event read refl (surprising e) in
       absurd (let bad = sym (fresh read since.0) ∙ since.1 in cc)
 
-goods-stay : Below → {shape : Shape} {bounds : Bounds} {output : ℕ} {ms new : List Mark} {bytes : List ℕ} (setup : host.Setup)
+goods-stay : Below → {part : PartRegisters} {shape : Shape} {bounds : Bounds} {output : ℕ} {ms new : List Mark} {bytes : List ℕ}
+    (setup : host.Setup)
     (entries : List host.Entry) (open' : Option PendingJob) → HasDens shape → AreGoods setup entries bytes new →
     ((read : Cell) (word : ℕ) → new ≡ Good read word ∷ [] → read_by (host.open_job setup entries) (host.told_since entries) ≡ Some read →
-    good_word setup.addr read bytes ≡ Some word → (is_possible word (possible_of ms read) ≡ true) × (word < 2 ^ 16)) →
-    Stays shape bounds output ms open' → Stays shape bounds output (new ++ ms) open'
+    good_word setup.addr read bytes ≡ Some word → (is_possible word (possible_of ms read) ≡ true) × (word < 2 ^ 16) ×
+    (cell_accepts read word ≡ true)) →
+    Stays part shape bounds output ms open' → Stays part shape bounds output (new ++ ms) open'
 goods-stay laws setup entries open' dens no_good true-of stays = stays
-goods-stay laws {shape = shape} {bounds = bounds} {output = output} {ms = ms} setup entries open' dens (one_good read word asks good) true-of stays =
+goods-stay laws {part = part} {shape = shape} {bounds = bounds} {output = output} {ms = ms} setup entries open' dens
+    (one_good read word asks good) true-of stays =
     let is = true-of read word refl asks good in
-    good-stays laws shape bounds output ms dens read word open' is.1 is.0 stays
+    good-stays laws part shape bounds output ms dens read word open' is.1 is.2 is.0 stays
 
 -- ---- A moment, and the next ----
 
@@ -179,8 +192,8 @@ abbrev pub marks_at : Config → ℕ → List Event → List Mark
 marks_at config passes events = marks (setup_of config passes) (life config passes events).entries
 
 -- the output is inside, and no restore is open
-pub record Moment (config : Config) (passes output : ℕ) (bounds : Bounds) (events : List Event) : Type 0 where
-  pub stays : Stays (shape_for config output) bounds output (marks_at config passes events) (open_pending config passes events)
+pub record Moment (config : Config) (passes : ℕ) (part : PartRegisters) (output : ℕ) (bounds : Bounds) (events : List Event) : Type 0 where
+  pub stays : Stays part (shape_for config output) bounds output (marks_at config passes events) (open_pending config passes events)
   pub free : open_pending config passes events ≡ Some pending.Restore → ⊥
 
 opened-by : (config : Config) (passes : ℕ) (events : List Event) → open_pending config passes events
@@ -189,32 +202,43 @@ unfolding open_pending
 opened-by config passes events = refl
 
 -- what a host knows of an output is what its marks say
-known-marks : Below → (config : Config) (passes : ℕ) (events : List Event) (output : ℕ) → IsLived config passes events →
-    output < config.count → limits.known_of (now config passes events).host output ≡ known_by (marks_at config passes events) output
-known-marks laws config passes events output lived here = fun_ext (λ (register : Reg).
-    (possible-held laws config passes events lived).possible (Out output register) here)
+known-marks : Below → (config : Config) (passes : ℕ) (part : PartRegisters) (events : List Event) (output : ℕ) →
+    IsLived config passes events → output < config.count →
+    limits.known_of part (shape_for config output) (now config passes events).host output
+    ≡ known_by part (shape_for config output) (marks_at config passes events) output
+known-marks laws config passes part events output lived here = fun_ext (λ (register : Reg).
+    ap (λ (p : Possible). option_map_or only (missing_word part (shape_for config output) register) p)
+    ((possible-held laws config passes events lived).possible (Out output register) here))
 
 -- within limits with a byte, and with those that OPERATION may be
-yes-with : (shape : Shape) (bounds : Bounds) (known : Known) (bytes : List ℕ) (format : Option Shape) → HasDens shape →
+yes-with : (shape : Shape) (bounds : Bounds) (known : Shape → Known) (bytes : List ℕ) (format : Option Shape) → HasDens shape →
     ((found : Shape) → format ≡ Some found → found ≡ shape) →
-    is_yes (within_of (Some bounds) (option_map (λ s. band_with s known bytes) format)) ≡ true → IsInside shape bounds known bytes
+    is_yes (within_of (Some bounds) (option_map (λ s. band_with s (known s) bytes) format)) ≡ true →
+    IsInside shape bounds (known shape) bytes
 yes-with shape bounds known bytes None dens agree said = cc
 yes-with shape bounds known bytes (Some found) dens agree said =
-    is-inside shape bounds known bytes dens
-    (subst (λ (s : Shape). is_yes (band_within bounds (band_with s known bytes)) ≡ true) (agree found refl) said)
+    is-inside shape bounds (known shape) bytes dens
+    (subst (λ (s : Shape). is_yes (band_within bounds (band_with s (known s) bytes)) ≡ true) (agree found refl) said)
 
-with-yes : (shape : Shape) (bounds : Bounds) (known : Known) (bytes : List ℕ) (format : Option Shape) → IsSome format →
+with-yes : (shape : Shape) (bounds : Bounds) (known : Shape → Known) (bytes : List ℕ) (format : Option Shape) → IsSome format →
     ((found : Shape) → format ≡ Some found → found ≡ shape) →
-    is_yes (band_within bounds (band_with shape known bytes)) ≡ true →
-    is_yes (within_of (Some bounds) (option_map (λ s. band_with s known bytes) format)) ≡ true
+    is_yes (band_within bounds (band_with shape (known shape) bytes)) ≡ true →
+    is_yes (within_of (Some bounds) (option_map (λ s. band_with s (known s) bytes) format)) ≡ true
 with-yes shape bounds known bytes None some agree said = let bad : false ≡ true = some in cc
 with-yes shape bounds known bytes (Some found) some agree said =
-    subst (λ (s : Shape). is_yes (band_within bounds (band_with s known bytes)) ≡ true) (sym (agree found refl)) said
+    subst (λ (s : Shape). is_yes (band_within bounds (band_with s (known s) bytes)) ≡ true) (sym (agree found refl)) said
 
-format-there : (bounds : Bounds) (known : Known) (bytes : List ℕ) (format : Option Shape) →
-    is_yes (within_of (Some bounds) (option_map (λ s. band_with s known bytes) format)) ≡ true → IsSome format
+format-there : (bounds : Bounds) (known : Shape → Known) (bytes : List ℕ) (format : Option Shape) →
+    is_yes (within_of (Some bounds) (option_map (λ s. band_with s (known s) bytes) format)) ≡ true → IsSome format
 format-there bounds known bytes None said = cc
 format-there bounds known bytes (Some found) said = refl
+
+-- a band that is given is one of the output's own registers
+here-parts : (bounds : Bounds) (elsewhere : Bool) (band : Option Band) →
+    is_yes (within_of (Some bounds) (cond elsewhere None band)) ≡ true →
+    (elsewhere ≡ false) × (is_yes (within_of (Some bounds) band) ≡ true)
+here-parts bounds true band said = cc
+here-parts bounds false band said = (refl, said)
 
 -- the ends of what a register may hold are words that it may, and so is the byte that reaches farthest
 ends-there : (side : Side) (shape : Shape) (possible : Possible) → PossibleFilled possible →
@@ -226,7 +250,10 @@ ends-there side (InDirect m b r) Any full = farthest_of-is side (shape_value (In
 
 ops-there : (side : Side) (value : ℕ → Ratio) (possible : Possible) → PossibleFilled possible →
     is_listed (farthest_of side value (operations possible)) (operations possible) ≡ true
-ops-there side value (Words words) full = listed-is side value words.items full
+ops-there side value (Words words) full = go (list_any is_untaken words.items) where
+  go : (b : Bool) → is_listed (farthest_of side value (cond b each_selection words.items)) (cond b each_selection words.items) ≡ true
+  go true = farthest_of-is side value 0x80 (0xA8 ∷ 0x94 ∷ [])
+  go false = listed-is side value words.items full
 ops-there side value Any full = farthest_of-is side value 0x80 (0xA8 ∷ 0x94 ∷ [])
 
 -- no order in microvolts is one of OPERATION
@@ -237,14 +264,15 @@ some-fault (Some first) fault h = cc
 not-micro : (g : Guarded) (output : ℕ) (x : ℤ) → guard_fault g (job.OrderMicro (Out output Operation) x) ≡ None → ⊥
 not-micro g output x free = some-fault (of_host (cell_fault g.host (Out output Operation))) (Host BadWord) free
 
-module _ (laws : Below) (guards : GuardedOrdersAreWithin) (config : Config) (passes output : ℕ) (bounds : Bounds)
-    (limits' : List (Option Bounds)) (before : List Event) (event : Event) (numbers : IsOfBytes config)
+module _ (laws : Below) (guards : GuardedOrdersAreWithin) (config : Config) (passes : ℕ) (part : PartRegisters) (output : ℕ)
+    (bounds : Bounds) (limits' : List (Option Bounds)) (before : List Event) (event : Event) (numbers : IsOfBytes config)
     (lived : IsLived config passes (event ∷ before)) (carry : CarryBytes before) (here : output < config.count)
     (are : slice_index_or limits' output None ≡ Some bounds)
     (steady : (restarts_host event || restarts_converter event) ≡ false) (fresh : IsFresh config passes before)
-    (guarded : option_and_then (guard_fault (record { host = (now config passes before).host; limits = limits' })) (asked_by event) ≡ None)
-    (turns : MayTurn config passes before output bounds (asked (now config passes before) event))
-    (was : Moment config passes output bounds before) where
+    (guarded : option_and_then (guard_fault (record { host = (now config passes before).host; limits = limits'; registers = part }))
+    (asked_by event) ≡ None)
+    (turns : MayTurn config passes part before output bounds (asked (now config passes before) event))
+    (was : Moment config passes part output bounds before) where
   abbrev shape : Shape
   shape = shape_for config output
 
@@ -259,33 +287,45 @@ module _ (laws : Below) (guards : GuardedOrdersAreWithin) (config : Config) (pas
       option_and_then (accepted_job (now config passes before).host) (asked_by event) ≡ Some (host.Order (Out output q) word) →
       IsWithin bounds (shape_value (shape_for config output) word)
   voltage-lets q word voltage is = in-format (format_at (now config passes before).host output) (shape_for config output) word bounds agree
-      (ordered-within (record { host = (now config passes before).host; limits = limits' }) (asked_by event) output q word bounds guarded is
+      (ordered-within (record { host = (now config passes before).host; limits = limits'; registers = part })
+      (asked_by event) output q word bounds guarded is
       voltage are)
 
-  on-lets : (byte : ℕ) → is_within_on config passes before output bounds byte ≡ true →
-      IsInside (shape_for config output) bounds (known_by (marks_at config passes before) output) (byte ∷ [])
+  on-lets : (byte : ℕ) → is_within_on config passes part before output bounds byte ≡ true →
+      IsInside (shape_for config output) bounds (known_by part (shape_for config output) (marks_at config passes before) output) (byte ∷ [])
   on-lets byte said = subst (λ (k : Known). IsInside (shape_for config output) bounds k (byte ∷ []))
-      (known-marks laws config passes before output (earlier lived) here)
-      (yes-with (shape_for config output) bounds (limits.known_of (now config passes before).host output) (byte ∷ [])
+      (known-marks laws config passes part before output (earlier lived) here)
+      (yes-with (shape_for config output) bounds (λ f. limits.known_of part f (now config passes before).host output) (byte ∷ [])
       (format_at (now config passes before).host output) dens agree said)
 
   operation-within : (asks : Option Job) (byte : ℕ) →
-      option_and_then (guard_fault (record { host = (now config passes before).host; limits = limits' })) asks ≡ None →
+      option_and_then (guard_fault (record { host = (now config passes before).host; limits = limits'; registers = part })) asks ≡ None →
       option_and_then (accepted_job (now config passes before).host) asks ≡ Some (host.Order (Out output Operation) byte) →
-      has_on byte ≡ true → is_within_on config passes before output bounds byte ≡ true
+      has_on byte ≡ true → is_within_on config passes part before output bounds byte ≡ true
   operation-within None byte free is on = cc
   operation-within (Some (job.Order cell word)) byte free is on =
       let same_cell' : cell ≡ Out output Operation = cc in
       let same_word : word ≡ byte = cc in
-      let free' = subst (λ (c : Cell). guard_fault (record { host = (now config passes before).host; limits = limits' }) (job.Order c byte) ≡ None)
-      same_cell' (subst (λ (w : ℕ). guard_fault (record { host = (now config passes before).host; limits = limits' }) (job.Order cell w) ≡ None)
+      let free' = subst (λ (c : Cell). guard_fault (record {
+        host =
+            (now config passes before).host;
+        limits = limits';
+        registers = part;
+      }) (job.Order c byte) ≡ None)
+      same_cell' (subst (λ (w : ℕ). guard_fault (record {
+        host = (now config passes before).host;
+        limits = limits';
+        registers = part;
+      }) (job.Order cell w) ≡ None)
       same_word free) in
-      ap (λ (w : Within). is_yes w) (ap (λ (o : Option Bounds). within_of o (band_on (now config passes before).host output byte)) (sym are)
-      ∙ guards.on (record { host = (now config passes before).host; limits = limits' }) output byte free' on)
+      ap (λ (w : Within). is_yes w) (ap (λ (o : Option Bounds). within_of o (band_on part
+      (now config passes before).host output byte)) (sym are)
+      ∙ guards.on (record { host = (now config passes before).host; limits = limits'; registers = part }) output byte free' on)
   operation-within (Some (job.OrderMicro cell x)) byte free is on =
       let same_cell' = micro-cell (micro_word (now config passes before).host cell x) is in
-      absurd (not-micro (record { host = (now config passes before).host; limits = limits' }) output x
-      (subst (λ (c : Cell). guard_fault (record { host = (now config passes before).host; limits = limits' }) (job.OrderMicro c x) ≡ None)
+      absurd (not-micro (record { host = (now config passes before).host; limits = limits'; registers = part }) output x
+      (subst (λ (c : Cell). guard_fault (record { host = (now config passes before).host; limits = limits'; registers = part })
+      (job.OrderMicro c x) ≡ None)
       same_cell' free))
     where
       micro-cell : (o : Option ℕ) → option_map (λ w. host.Order cell w) o ≡ Some (host.Order (Out output Operation) byte) →
@@ -296,17 +336,26 @@ module _ (laws : Below) (guards : GuardedOrdersAreWithin) (config : Config) (pas
   operation-within (Some (job.Learn other)) byte free is on = cc
   operation-within (Some (job.Send command)) byte free is on = cc
 
+  byte-lets : (byte : ℕ) → asked (now config passes before) event ≡ Some (host.Order (Out output Operation) byte) →
+      (is_operation byte ≡ true)
+      × IsInside (shape_for config output) bounds (known_by part (shape_for config output) (marks_at config passes before) output)
+      (byte ∷ [])
+  byte-lets byte is = (
+    (order-free (now config passes before).host (Out output Operation) byte
+        (job-free (now config passes before) event (host.Order (Out output Operation) byte) is (newest lived))).fits,
+    on-lets byte (go (has_on byte) refl),
+  )
+    where
+      go : (b : Bool) → has_on byte ≡ b → is_within_on config passes part before output bounds byte ≡ true
+      go true on = operation-within (asked_by event) byte guarded is on
+      go false off = subst (λ (j : Option host.Job). MayTurn config passes part before output bounds j) is turns refl off
+
   order-lets : (q : Reg) (word : ℕ) → asked (now config passes before) event ≡ Some (host.Order (Out output q) word) →
-      Lets (shape_for config output) bounds (known_by (marks_at config passes before) output) q word
-  order-lets Operation byte is = on-lets byte (go (has_on byte) refl) where
-    go : (b : Bool) → has_on byte ≡ b → is_within_on config passes before output bounds byte ≡ true
-    go true on = operation-within (asked_by event) byte guarded is on
-    go false off = subst (λ (j : Option host.Job). MayTurn config passes before output bounds j) is turns refl off
-  order-lets VoutCommand word is = voltage-lets VoutCommand word refl is
-  order-lets VoutMax word is = voltage-lets VoutMax word refl is
-  order-lets MarginHigh word is = voltage-lets MarginHigh word refl is
-  order-lets MarginLow word is = voltage-lets MarginLow word refl is
-  order-lets VoutMin word is = voltage-lets VoutMin word refl is
+      Lets (shape_for config output) bounds (known_by part (shape_for config output) (marks_at config passes before) output) q word
+  order-lets q word is = record {
+    voltage = λ voltage. voltage-lets q word voltage is;
+    byte = λ byte. byte-lets word (is ∙ ap (λ (r : Reg). Some (host.Order (Out output r) word)) (no-voltage q byte));
+  }
 
   abbrev after : Option PendingJob
   after = open_pending config passes (event ∷ before)
@@ -314,8 +363,8 @@ module _ (laws : Below) (guards : GuardedOrdersAreWithin) (config : Config) (pas
   -- no restore is open then
   free-next : open_pending config passes (event ∷ before) ≡ Some pending.Restore → ⊥
   free-next p = go (asked (now config passes before) event) refl turns where
-    go : (job : Option host.Job) → asked (now config passes before) event ≡ job → MayTurn config passes before output bounds job → ⊥
-    go (Some job) a m = subst (λ (j : host.Job). MayTurn config passes before output bounds (Some j))
+    go : (job : Option host.Job) → asked (now config passes before) event ≡ job → MayTurn config passes part before output bounds job → ⊥
+    go (Some job) a m = subst (λ (j : host.Job). MayTurn config passes part before output bounds (Some j))
         (pending-restore job (sym (open-asked laws config passes before event job lived a) ∙ p)) m
     go None a m = elim (open-beside laws config passes before event lived a) [
       | inr o ↦ let bad = sym o ∙ p in cc
@@ -327,23 +376,25 @@ module _ (laws : Below) (guards : GuardedOrdersAreWithin) (config : Config) (pas
       ≡ option_and_then pending_of (host.open_job (setup_of config passes) (entry ∷ (life config passes before).entries))
   opened entry told = opened-by config passes (event ∷ before)
       ∙ ap (λ (es : List host.Entry). option_and_then pending_of (host.open_job (setup_of config passes) es))
-      (entries-more config passes before event ∙ ap (λ (t : Option host.Entry). option_to_list t ++ (life config passes before).entries) told)
+      (entries-more config passes before event ∙ ap (λ (t : Option host.Entry). option_to_list t ++
+      (life config passes before).entries) told)
 
   -- by what the host was told
   by-sent : (entry : host.Entry) (told : (share_of (now config passes before) event).told ≡ Some entry) (ms : List Mark) →
       marks (setup_of config passes) (entry ∷ (life config passes before).entries)
       ≡ puts (setup_of config passes) (entry ∷ (life config passes before).entries) ++ ms →
-      Stays (shape_for config output) bounds output ms (open_pending config passes (event ∷ before)) →
-      Stays (shape_for config output) bounds output (marks (setup_of config passes) (entry ∷ (life config passes before).entries))
+      Stays part (shape_for config output) bounds output ms (open_pending config passes (event ∷ before)) →
+      Stays part (shape_for config output) bounds output (marks (setup_of config passes) (entry ∷ (life config passes before).entries))
       (open_pending config passes (event ∷ before))
-  by-sent entry told ms are' stays = subst (λ (new : List Mark). Stays (shape_for config output) bounds output new
+  by-sent entry told ms are' stays = subst (λ (new : List Mark). Stays part (shape_for config output) bounds output new
       (open_pending config passes (event ∷ before))) (sym are')
-      (puts-stay laws (setup_of config passes) (entry ∷ (life config passes before).entries) (open_pending config passes (event ∷ before)) dens
+      (puts-stay laws (setup_of config passes) (entry ∷ (life config passes before).entries) (open_pending config passes
+      (event ∷ before)) dens
       (is-put (setup_of config passes) (entry ∷ (life config passes before).entries)) (opened entry told) free-next stays)
 
   by-told : (told : Option host.Entry) → (share_of (now config passes before) event).told ≡ told → TellsFrame told →
-      Stays (shape_for config output) bounds output (marks_at config passes before) (open_pending config passes (event ∷ before)) →
-      Stays (shape_for config output) bounds output (marks (setup_of config passes)
+      Stays part (shape_for config output) bounds output (marks_at config passes before) (open_pending config passes (event ∷ before)) →
+      Stays part (shape_for config output) bounds output (marks (setup_of config passes)
       (option_to_list told ++ (life config passes before).entries)) (open_pending config passes (event ∷ before))
   by-told None told frame stays = stays
   by-told (Some host.Restarted) told frame stays = absurd (let bad : false ≡ true = frame in cc)
@@ -360,16 +411,20 @@ module _ (laws : Below) (guards : GuardedOrdersAreWithin) (config : Config) (pas
             (got-true laws event bytes (knows laws config passes before (earlier lived)) (newest lived) told read word asks good)
             (held-short laws config passes before numbers (earlier lived) carry read
             (count-is config passes before read ((knows laws config passes before (earlier lived)).asks read asks).1)),
+        subst (λ (n : ℕ). cell_accepts read n ≡ true)
+            (got-true laws event bytes (knows laws config passes before (earlier lived)) (newest lived) told read word asks good)
+            ((knows laws config passes before (earlier lived)).accepted read ((knows laws config passes before
+            (earlier lived)).asks read asks).1),
       )) stays)
 
-  stays-next : Stays (shape_for config output) bounds output (marks_at config passes (event ∷ before))
+  stays-next : Stays part (shape_for config output) bounds output (marks_at config passes (event ∷ before))
       (open_pending config passes (event ∷ before))
-  stays-next = subst (λ (es : List host.Entry). Stays (shape_for config output) bounds output (marks (setup_of config passes) es)
+  stays-next = subst (λ (es : List host.Entry). Stays part (shape_for config output) bounds output (marks (setup_of config passes) es)
       (open_pending config passes (event ∷ before))) (sym (entries-more config passes before event))
       (go (asked (now config passes before) event) refl)
     where
       go : (job : Option host.Job) → asked (now config passes before) event ≡ job →
-          Stays (shape_for config output) bounds output (marks (setup_of config passes)
+          Stays part (shape_for config output) bounds output (marks (setup_of config passes)
           (option_to_list (share_of (now config passes before) event).told ++ (life config passes before).entries))
           (open_pending config passes (event ∷ before))
       go None a = by-told _ refl (beside-frame (now config passes before) event a
@@ -377,47 +432,63 @@ module _ (laws : Below) (guards : GuardedOrdersAreWithin) (config : Config) (pas
           (goes-stays (open_pending config passes before) _ (open-beside laws config passes before event lived a) was.stays)
       go (Some job) a =
           let told : (share_of (now config passes before) event).told ≡ Some (host.Accepted job) =
-          ap (λ (o : Option host.Job). (option_map_or (λ j. tells (host.Accepted j)) o (share_beside (now config passes before) event)).told) a in
-          subst (λ (t : Option host.Entry). Stays (shape_for config output) bounds output (marks (setup_of config passes)
+          ap (λ (o : Option host.Job). (option_map_or (λ j. tells (host.Accepted j)) o (share_beside
+          (now config passes before) event)).told) a in
+          subst (λ (t : Option host.Entry). Stays part (shape_for config output) bounds output (marks (setup_of config passes)
           (option_to_list t ++ (life config passes before).entries)) (open_pending config passes (event ∷ before))) (sym told)
           (by-sent (host.Accepted job) told (marks_at config passes before) refl (record {
             inside = was.stays.inside;
+            here = was.stays.here;
             lets = λ q word is. order-lets q word (a ∙ ap (λ (j : host.Job). Some j)
                 (pending-order job (Out output q) word (sym (open-asked laws config passes before event job lived a) ∙ is)));
           }))
 
-  pub moment-next : Moment config passes output bounds (event ∷ before)
+  pub moment-next : Moment config passes part output bounds (event ∷ before)
   moment-next = record { stays = stays-next; free = free-next }
 
 -- ---- A life ----
 
-module _ (laws : Below) (guards : GuardedOrdersAreWithin) (config : Config) (passes output : ℕ) (bounds : Bounds)
-    (limits' : List (Option Bounds)) (before : List Event) (numbers : IsOfBytes config) (here : output < config.count)
-    (are : slice_index_or limits' output None ≡ Some bounds) (idle : is_busy (now config passes before).host ≡ false)
-    (fresh : IsFresh config passes before) (said : is_within config passes before output bounds ≡ true) where
-  start : IsLived config passes before → Moment config passes output bounds before
-  start lived = record {
-    stays = record {
-      inside = subst (λ (k : Known). IsInside (shape_for config output) bounds k (operations (k Operation)))
-          (known-marks laws config passes before output lived here)
-          (yes-with (shape_for config output) bounds (limits.known_of (now config passes before).host output)
-          (operations (possible_at (now config passes before).host (Out output Operation))) (format_at (now config passes before).host output)
-          (sound-dens config output lived.sound here)
-          ((formats-agree laws config passes before lived numbers.spelled).held output) said);
-      lets = λ q word is. let bad = sym (idle-none config passes before idle) ∙ is in cc;
-    };
-    free = λ p. let bad = sym (idle-none config passes before idle) ∙ p in cc;
-  }
+module _ (laws : Below) (guards : GuardedOrdersAreWithin) (config : Config) (passes : ℕ) (part : PartRegisters) (output : ℕ)
+    (bounds : Bounds) (limits' : List (Option Bounds)) (before : List Event) (numbers : IsOfBytes config)
+    (here : output < config.count) (are : slice_index_or limits' output None ≡ Some bounds)
+    (idle : is_busy (now config passes before).host ≡ false)
+    (fresh : IsFresh config passes before) (said : is_within config passes part before output bounds ≡ true) where
+  own-said : (may_select_avsbus (possible_at (now config passes before).host (Out output Operation)) ≡ false)
+      × (is_yes (within_of (Some bounds) (option_map (λ s. band_with s (limits.known_of part s (now config passes before).host output)
+      (operations (possible_at (now config passes before).host (Out output Operation)))) (format_at
+      (now config passes before).host output)))
+      ≡ true)
+  own-said = here-parts bounds (may_select_avsbus (possible_at (now config passes before).host (Out output Operation))) _ said
+
+  start : IsLived config passes before → Moment config passes part output bounds before
+  start lived =
+      let s = (now config passes before).host in
+      let operation = (possible-held laws config passes before lived).possible (Out output Operation) here in
+      record {
+        stays = record {
+          inside = subst (λ (k : Known). IsInside (shape_for config output) bounds k
+              (operations (raw_by (marks_at config passes before) output Operation)))
+              (known-marks laws config passes part before output lived here)
+              (subst (λ (p : Possible). IsInside (shape_for config output) bounds (limits.known_of part (shape_for config output) s output)
+              (operations p)) operation
+              (yes-with (shape_for config output) bounds (λ f. limits.known_of part f s output)
+              (operations (possible_at s (Out output Operation))) (format_at s output) (sound-dens config output lived.sound here)
+              ((formats-agree laws config passes before lived numbers.spelled).held output) own-said.1));
+          here = ap (λ (p : Possible). may_select_avsbus p) (sym operation) ∙ own-said.0;
+          lets = λ q word is. let bad = sym (idle-none config passes before idle) ∙ is in cc;
+        };
+        free = λ p. let bad = sym (idle-none config passes before idle) ∙ p in cc;
+      }
 
   fresh-later : (later : List Event) → AreSteady later → IsFresh config passes (later ++ before)
   fresh-later [] steady = fresh
   fresh-later (event ∷ later) steady = fresh-next config passes (later ++ before) event steady.0 (fresh-later later steady.1)
 
   moments : (later : List Event) → IsLived config passes (later ++ before) → CarryBytes (later ++ before) → AreSteady later →
-      StaysGuarded config passes limits' output bounds later before → Moment config passes output bounds (later ++ before)
+      StaysGuarded config passes part limits' output bounds later before → Moment config passes part output bounds (later ++ before)
   moments [] lived carry steady guarded = start lived
   moments (event ∷ later) lived carry steady guarded =
-      moment-next laws guards config passes output bounds limits' (later ++ before) event numbers lived carry.1 here are steady.0
+      moment-next laws guards config passes part output bounds limits' (later ++ before) event numbers lived carry.1 here are steady.0
       (fresh-later later steady.1) guarded.0 guarded.1 (moments later (earlier lived) carry.1 steady.1 guarded.2)
 
   quiet : (later : List Event) → AreSteady later → list_any restarts_host later ≡ false
@@ -427,26 +498,40 @@ module _ (laws : Below) (guards : GuardedOrdersAreWithin) (config : Config) (pas
       ∙ quiet later steady.1
 
   pub stays-within : (later : List Event) → IsLived config passes (later ++ before) → CarryBytes (later ++ before) → AreSteady later →
-      StaysGuarded config passes limits' output bounds later before → is_within config passes (later ++ before) output bounds ≡ true
+      StaysGuarded config passes part limits' output bounds later before →
+      is_within config passes part (later ++ before) output bounds ≡ true
   stays-within later lived carry steady guarded =
       let s = (now config passes (later ++ before)).host in
-      let inside = subst (λ (k : Known). IsInside (shape_for config output) bounds k (operations (k Operation)))
-      (sym (known-marks laws config passes (later ++ before) output lived here))
-      (moments later lived carry steady guarded).stays.inside in
-      with-yes (shape_for config output) bounds (limits.known_of s output) (operations (possible_at s (Out output Operation)))
-      (format_at s output)
+      let possible = possible_at s (Out output Operation) in
+      let operation = (possible-held laws config passes (later ++ before) lived).possible (Out output Operation) here in
+      let stays = (moments later lived carry steady guarded).stays in
+      let known = limits.known_of part (shape_for config output) s output in
+      let inside : IsInside (shape_for config output) bounds known (operations possible) =
+      subst (λ (p : Possible). IsInside (shape_for config output) bounds known (operations p)) (sym operation)
+      (subst (λ (k : Known). IsInside (shape_for config output) bounds k
+      (operations (raw_by (marks_at config passes (later ++ before)) output Operation)))
+      (sym (known-marks laws config passes part (later ++ before) output lived here)) stays.inside) in
+      let here' : may_select_avsbus possible ≡ false = ap (λ (p : Possible). may_select_avsbus p) operation ∙ stays.here in
+      ap (λ (b : Bool). is_yes (within_of (Some bounds) (cond b None
+      (option_map (λ f. band_with f (limits.known_of part f s output) (operations possible)) (format_at s output))))) here'
+      ∙ with-yes (shape_for config output) bounds (λ f. limits.known_of part f s output) (operations possible) (format_at s output)
       (format-stays laws config passes later before output lived (quiet later steady)
-      (format-there bounds (limits.known_of (now config passes before).host output)
-      (operations (possible_at (now config passes before).host (Out output Operation))) (format_at (now config passes before).host output) said))
+      (format-there bounds (λ f. limits.known_of part f (now config passes before).host output)
+      (operations (possible_at (now config passes before).host (Out output Operation)))
+      (format_at (now config passes before).host output) own-said.1))
       ((formats-agree laws config passes (later ++ before) lived numbers.spelled).held output)
-      (inside-is (shape_for config output) bounds (limits.known_of s output) (operations (possible_at s (Out output Operation)))
-      (sound-dens config output lived.sound here)
-      (λ side register voltage. ends-there side (shape_for config output) (possible_at s (Out output register)) (filled register))
-      (λ side. ops-there side (limits.reach side (shape_for config output) (limits.known_of s output))
-      (possible_at s (Out output Operation)) (filled Operation))
+      (inside-is (shape_for config output) bounds known (operations possible) (sound-dens config output lived.sound here)
+      (λ side register voltage. ends-there side (shape_for config output) (known register)
+      (missing-filled (missing_word part (shape_for config output) register) (possible_at s (Out output register)) (filled register)))
+      (λ side. ops-there side (limits.reach side (shape_for config output) known) possible (filled Operation))
       inside)
     where
       filled : (register : Reg) → PossibleFilled (possible_at (now config passes (later ++ before)).host (Out output register))
       filled register = subst PossibleFilled
           (sym ((possible-held laws config passes (later ++ before) lived).possible (Out output register) here))
           (of-filled (marks_at config passes (later ++ before)) (Out output register))
+
+      missing-filled : (missing : Option ℕ) (possible : Possible) → PossibleFilled possible → PossibleFilled
+          (option_map_or only missing possible)
+      missing-filled None possible full = full
+      missing-filled (Some word) possible full = tt

@@ -8,6 +8,7 @@ use Rattle.pm_device.specs.declared.config.Config.{Config}
 use Rattle.pm_host.specs.declared.command.Command.TheVariants.{RestoreUserAll}
 use Rattle.pm_host.specs.Refusals.{is_busy}
 use Rattle.pm_host.specs.Transcript as host
+use Rattle.pm_limits.specs.declared.part_registers.PartRegisters.{PartRegisters}
 use Rattle.pm_limits.specs.Band.{band_at, band_on, is_yes, within_of}
 use Rattle.pm_limits.specs.Bounds.{Bounds}
 use Rattle.pm_limits.specs.Guard.{guard_fault}
@@ -23,29 +24,32 @@ use Rattle.pm_world.specs.State.{asked}
 use Rattle.pm_world.specs.Uncertainty.{AreSteady}
 
 -- the host's band of an output lies within limits, and so it would with this byte in OPERATION
-abbrev pub is_within : Config → ℕ → List Event → ℕ → Bounds → Bool
-is_within config passes events output bounds =
-    is_yes (within_of (Some bounds) (band_at (now config passes events).host output))
+abbrev pub is_within : Config → ℕ → PartRegisters → List Event → ℕ → Bounds → Bool
+is_within config passes part events output bounds =
+    is_yes (within_of (Some bounds) (band_at part (now config passes events).host output))
 
-abbrev pub is_within_on : Config → ℕ → List Event → ℕ → Bounds → ℕ → Bool
-is_within_on config passes events output bounds byte =
-    is_yes (within_of (Some bounds) (band_on (now config passes events).host output byte))
+abbrev pub is_within_on : Config → ℕ → PartRegisters → List Event → ℕ → Bounds → ℕ → Bool
+is_within_on config passes part events output bounds byte =
+    is_yes (within_of (Some bounds) (band_on part (now config passes events).host output byte))
 
 -- no restore is asked for, and the output isn't turned off by a byte with which it isn't known to lie within the limits
-abbrev pub MayTurn : Config → ℕ → List Event → ℕ → Bounds → Option host.Job → Type 0
-MayTurn config passes before output bounds (Some (host.Order (Out other Operation) byte)) = other ≡ output →
-    has_on byte ≡ false → is_within_on config passes before output bounds byte ≡ true
-MayTurn config passes before output bounds (Some (host.Send RestoreUserAll)) = ⊥
-MayTurn config passes before output bounds job = Unit {0}
+abbrev pub MayTurn : Config → ℕ → PartRegisters → List Event → ℕ → Bounds → Option host.Job → Type 0
+MayTurn config passes part before output bounds (Some (host.Order (Out other Operation) byte)) = other ≡ output →
+    has_on byte ≡ false → is_within_on config passes part before output bounds byte ≡ true
+MayTurn config passes part before output bounds (Some (host.Send RestoreUserAll)) = ⊥
+MayTurn config passes part before output bounds job = Unit {0}
 
 -- so it is at each of the later events, whose job is one that a guard with these limits lets through
-abbrev pub StaysGuarded : Config → ℕ → List (Option Bounds) → ℕ → Bounds → List Event → List Event → Type 0
-StaysGuarded config passes limits output bounds [] before = Unit {0}
-StaysGuarded config passes limits output bounds (event ∷ later) before =
-    (option_and_then (guard_fault (record { host = (now config passes (later ++ before)).host; limits = limits })) (asked_by event)
-    ≡ None)
-    × MayTurn config passes (later ++ before) output bounds (asked (now config passes (later ++ before)) event)
-    × StaysGuarded config passes limits output bounds later before
+abbrev pub StaysGuarded : Config → ℕ → PartRegisters → List (Option Bounds) → ℕ → Bounds → List Event → List Event → Type 0
+StaysGuarded config passes part limits output bounds [] before = Unit {0}
+StaysGuarded config passes part limits output bounds (event ∷ later) before =
+    (option_and_then (guard_fault (record {
+      host = (now config passes (later ++ before)).host;
+      limits = limits;
+      registers = part;
+    })) (asked_by event) ≡ None)
+    × MayTurn config passes part (later ++ before) output bounds (asked (now config passes (later ++ before)) event)
+    × StaysGuarded config passes part limits output bounds later before
 
 -- the converter didn't restart since the host last read a cell, where it did since the host's start
 abbrev pub IsFresh : Config → ℕ → List Event → Type 0
@@ -57,10 +61,10 @@ IsFresh config passes events = (cell : Cell) → has_read config passes cell eve
 -- restarts, no restore is asked for, and the output isn't turned off by a byte with which it may lie outside. The
 -- converter's words are those of a program, and it didn't restart since the answers that the host rests on.
 abbrev pub WithinStaysWithin : Type 0
-WithinStaysWithin = (config : Config) (passes : ℕ) (output : ℕ) (bounds : Bounds) (limits : List (Option Bounds))
+WithinStaysWithin = (config : Config) (passes : ℕ) (part : PartRegisters) (output : ℕ) (bounds : Bounds) (limits : List (Option Bounds))
     (later before : List Event) →
     IsSpelled config → StartsShort config → IsLived config passes (later ++ before) → CarryBytes (later ++ before) →
     output < config.count → slice_index_or limits output None ≡ Some bounds →
     is_busy (now config passes before).host ≡ false → IsFresh config passes before →
-    AreSteady later → StaysGuarded config passes limits output bounds later before →
-    is_within config passes before output bounds ≡ true → is_within config passes (later ++ before) output bounds ≡ true
+    AreSteady later → StaysGuarded config passes part limits output bounds later before →
+    is_within config passes part before output bounds ≡ true → is_within config passes part (later ++ before) output bounds ≡ true

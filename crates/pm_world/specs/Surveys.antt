@@ -1,25 +1,27 @@
 -- A survey over a life: this project's own choice. Lists are newest first.
-use Rattle.std.specs.Prelude.{◌≡◌, ◌≢◌, ◌<◌, ℕ, Bool, true, false, ◌||◌, List, [], ◌∷◌, ◌++◌, Some, is_none}
+use Rattle.std.specs.Prelude.{◌≡◌, ◌≢◌, ◌<◌, ℕ, Bool, true, false, ◌||◌, List, [], ◌∷◌, ◌++◌, Some, None, is_none}
 use Rattle.std.specs.List.{list_any}
 use Rattle.pm_table.specs.declared.cell.Cell.{Cell}
 use Rattle.pm_table.specs.declared.cell.Cell.TheVariants.{Out, Protect}
 use Rattle.pm_table.specs.declared.reg.Reg.{Reg}
 use Rattle.pm_device.specs.declared.config.Config.{Config}
+use Rattle.pm_device.specs.Held.{shape_for}
 use Rattle.pm_host.specs.declared.job.Job.{Job}
 use Rattle.pm_host.specs.declared.job_end.JobEnd.{JobEnd}
 use Rattle.pm_host.specs.declared.possible.Possible.TheVariants.{Any}
 use Rattle.pm_host.specs.Summary.{possible_at}
 use Rattle.pm_limits.specs.declared.band.Band.{Band}
-use Rattle.pm_limits.specs.Band as limits
+use Rattle.pm_limits.specs.declared.part_registers.PartRegisters.{PartRegisters}
 use Rattle.pm_limits.specs.Band.{InBand, band_at, decides}
+use Rattle.pm_limits.specs.Part.{has_register, missing_word}
 use Rattle.pm_rail.specs.declared.survey.Survey.{Survey}
-use Rattle.pm_rail.specs.Known.{known_at, known_of}
+use Rattle.pm_rail.specs.Known.{Cells, cells_of, known_at, known_of}
 use Rattle.pm_rail.specs.Orders.{is_needed}
 use Rattle.pm_rail.specs.Registers.{Wants, wants_of}
 use Rattle.pm_rail.specs.Survey as survey
 use Rattle.pm_rail.specs.Survey.{asking, ended, is_surveyed, next_job, nothing_read, wanted_in}
 use Rattle.pm_world.specs.declared.event.Event.{Event}
-use Rattle.pm_world.specs.Bands.{AreShort}
+use Rattle.pm_world.specs.Bands.{AreShort, HoldsMissing}
 use Rattle.pm_world.specs.Confirmed.{reads_cell, restarted_since, restarts_converter}
 use Rattle.pm_world.specs.Ended.{begins_other}
 use Rattle.pm_world.specs.Honest.{IsSpelled}
@@ -27,6 +29,7 @@ use Rattle.pm_world.specs.Job.{asked_by}
 use Rattle.pm_world.specs.Life.{now}
 use Rattle.pm_world.specs.Limited.{commands}
 use Rattle.pm_world.specs.Lived.{IsLived}
+use Rattle.pm_world.specs.Possible.{has_read}
 use Rattle.pm_world.specs.Plans.{IsReadSince, held_at}
 
 -- the host had a good answer for the cell at one of the later of these events
@@ -48,20 +51,31 @@ pub record FollowsSurveys (config : Config) (passes : ℕ) (events : List Event)
   pub begins : (v : Survey) → v.read ≡ nothing_read → AreRead config passes v [] events
   pub more : (v : Survey) (newer later before : List Event) → events ≡ (newer ++ later) ++ before →
       AreRead config passes v later before → AreRead config passes v (newer ++ later) before
-  pub told : (v : Survey) (newer later before : List Event) (event : Event) (job : Job) (end : JobEnd) →
+  pub told : (part : PartRegisters) (v : Survey) (newer later before : List Event) (event : Event) (job : Job) (end : JobEnd) →
       events ≡ (newer ++ event ∷ later) ++ before → v.output < config.count →
       AreRead config passes v later before →
-      next_job v (now config passes (later ++ before)).host ≡ Some job → asked_by event ≡ Some job →
+      next_job part v (now config passes (later ++ before)).host ≡ Some job → asked_by event ≡ Some job →
       list_any begins_other newer ≡ false → (now config passes events).end ≡ Some end →
       AreRead config passes (ended (asking v (Some job)) (Some job) end) (newer ++ event ∷ later) before
 
--- Each register of an output that is needed, by the word of OPERATION and by what is wanted, is known, and the converter
--- didn't restart since the host's last good answer for it.
-abbrev pub AreKnownSince : Config → ℕ → ℕ → Wants → List Event → Type 0
-AreKnownSince config passes output wants events = (register : Reg) →
-    is_needed (known_of (now config passes events).host output) wants register ≡ true →
-    (is_none (known_at (now config passes events).host (Out output register)) ≡ false)
-    × (restarted_since config passes (Out output register) events ≡ false)
+-- what the cells may hold by what the host knows after some events of a part with these registers, in an output's own
+-- format
+abbrev pub cells_at : Config → ℕ → PartRegisters → List Event → ℕ → Cells
+cells_at config passes part events output = cells_of part (shape_for config output) (now config passes events).host
+
+-- Each register of an output that is needed, by the word of OPERATION and by what is wanted, is known, and where the part
+-- has it the converter didn't restart since the host's last good answer for it.
+abbrev pub AreKnownSince : Config → ℕ → PartRegisters → ℕ → Wants → List Event → Type 0
+AreKnownSince config passes part output wants events = (register : Reg) →
+    is_needed (known_of (cells_at config passes part events output) output) wants register ≡ true →
+    (is_none (known_at (cells_at config passes part events output) (Out output register)) ≡ false)
+    × (missing_word part (shape_for config output) register ≡ None →
+    restarted_since config passes (Out output register) events ≡ false)
+
+-- the host had no good answer for a register that the part doesn't have, as under a guard of such a part
+abbrev pub MissingUnread : Config → ℕ → PartRegisters → ℕ → List Event → Type 0
+MissingUnread config passes part output events = (register : Reg) → has_register part register ≡ false →
+    has_read config passes (Out output register) events ≡ false
 
 -- A band has one value, and it is this one.
 pub record IsOneValue (band : Band) (config : Config) (passes : ℕ) (events : List Event) (output : ℕ) : Type 0 where
@@ -73,31 +87,37 @@ pub record IsOneValue (band : Band) (config : Config) (passes : ℕ) (events : L
 -- where a survey ends by its own rule, and the converter didn't restart since the first of its reads (`known`); then all
 -- that its plan needs is read, so that the plan may begin (`ready`). However it ended, what the output commands lies in
 -- the band, where the converter didn't restart since the answers for the registers that decide and that it hasn't read
--- (`band`).
+-- (`band`). Where the part doesn't have VOUT_MIN or VOUT_MAX, the converter's cell holds the word that never cuts.
 pub record KeepsSurveys (config : Config) (passes : ℕ) (events : List Event) : Type 0 where
-  pub words : (output : ℕ) (wants : Wants) (register : Reg) → output < config.count →
-      AreKnownSince config passes output wants events →
-      is_needed (known_of (now config passes events).host output) wants register ≡ true →
-      held_at config passes events output register ≡ known_of (now config passes events).host output register
-  pub one : (output : ℕ) (wants : Wants) (band : Band) → output < config.count →
-      AreKnownSince config passes output wants events →
-      band_at (now config passes events).host output ≡ Some band → IsOneValue band config passes events output
-  pub known : (v : Survey) (later before : List Event) → events ≡ later ++ before → v.output < config.count →
+  pub words : (part : PartRegisters) (output : ℕ) (wants : Wants) (register : Reg) → output < config.count →
+      HoldsMissing part config (now config passes events).device.words output →
+      AreKnownSince config passes part output wants events →
+      is_needed (known_of (cells_at config passes part events output) output) wants register ≡ true →
+      held_at config passes events output register ≡ known_of (cells_at config passes part events output) output register
+  pub one : (part : PartRegisters) (output : ℕ) (wants : Wants) (band : Band) → output < config.count →
+      HoldsMissing part config (now config passes events).device.words output →
+      AreKnownSince config passes part output wants events →
+      band_at part (now config passes events).host output ≡ Some band → IsOneValue band config passes events output
+  pub known : (part : PartRegisters) (v : Survey) (later before : List Event) → events ≡ later ++ before →
+      v.output < config.count → MissingUnread config passes part v.output events →
       AreRead config passes v later before → list_any restarts_converter later ≡ false →
-      is_surveyed v (now config passes events).host ≡ true →
-      AreKnownSince config passes v.output (wants_of (wanted_in v.plan)) events
-  pub ready : (v : Survey) (later before : List Event) → events ≡ later ++ before → v.output < config.count →
+      is_surveyed part v (now config passes events).host ≡ true →
+      AreKnownSince config passes part v.output (wants_of (wanted_in v.plan)) events
+  pub ready : (part : PartRegisters) (v : Survey) (later before : List Event) → events ≡ later ++ before →
+      v.output < config.count → MissingUnread config passes part v.output events →
+      HoldsMissing part config (now config passes events).device.words v.output →
       AreRead config passes v later before → list_any restarts_converter later ≡ false →
-      is_surveyed v (now config passes events).host ≡ true →
+      is_surveyed part v (now config passes events).host ≡ true →
       IsReadSince config passes v.output (wants_of (wanted_in v.plan)) events
-  pub band : (v : Survey) (later before : List Event) (band : Band) → events ≡ later ++ before →
+  pub band : (part : PartRegisters) (v : Survey) (later before : List Event) (band : Band) → events ≡ later ++ before →
       v.output < config.count → AreShort (now config passes events).device.words v.output →
+      HoldsMissing part config (now config passes events).device.words v.output →
       AreRead config passes v later before → list_any restarts_converter later ≡ false →
-      ((register : Reg) → decides (limits.known_of (now config passes events).host v.output) register ≡ true →
+      ((register : Reg) → decides (λ r. possible_at (now config passes events).host (Out v.output r)) register ≡ true →
       possible_at (now config passes events).host (Out v.output register) ≢ Any →
       survey.has_read v.read register ≡ false →
       restarted_since config passes (Out v.output register) events ≡ false) →
-      band_at (now config passes events).host v.output ≡ Some band →
+      band_at part (now config passes events).host v.output ≡ Some band →
       InBand band (commands config passes events v.output)
 
 -- in each life

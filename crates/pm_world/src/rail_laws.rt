@@ -5,8 +5,8 @@ ghost use Rattle.pm_world.specs.StaysWithin.{WithinStaysWithin};
 ghost use Rattle.pm_world.specs.Surveys.{SurveysHoldInLives};
 
 use crate::laws::{bands_are_held, lower_laws};
-use pm_limits::guarded_orders_are_within;
-use pm_rail::{plans_are_of_what_is_held, plans_are_without_glitch, surveys_end_known};
+use pm_limits::{guarded_orders_are_within, whole_parts_miss_nothing};
+use pm_rail::{plans_are_of_what_is_held, plans_are_without_glitch, plans_end, surveys_end_known};
 
 /// However frames are delivered, lost, cut, damaged, repeated or falsely acknowledged, however orders end and whatever
 /// else is asked for: from a moment on at which the host is idle and what it has read of what a plan needs was read since
@@ -14,14 +14,17 @@ use pm_rail::{plans_are_of_what_is_held, plans_are_without_glitch, surveys_end_k
 /// is the plan's next one or the last one again, the output commands at the later of any two moments what it commands at the
 /// earlier one, or what is wanted (`held`), so that it changes once at most. What has been read by then was read since the
 /// converter's last restart (`read`); where that is so and the plan has no further order, each wanted word is the only one
-/// possible, and the one that is held (`come_true`). The law speaks of one output, whatever is ordered of others; so of a
-/// list of rails it holds of each.
+/// possible, and the one that is held (`come_true`). A part without VOUT_MIN or VOUT_MAX holds there the word that never
+/// cuts (`missing`); of a part with every register this asks nothing (`whole`). The law speaks of one output, whatever is
+/// ordered of others; so of a list of rails it holds of each.
 pub fn plans_hold_in_lives()
     ensures { PlansHoldInLives }
 {
     lower_laws();
     plans_are_without_glitch();
     plans_are_of_what_is_held();
+    plans_end();
+    whole_parts_miss_nothing();
 }
 
 /// However frames are delivered, lost, cut, damaged, repeated or falsely acknowledged. Each cell that a survey counts as

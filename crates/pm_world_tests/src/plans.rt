@@ -4,7 +4,8 @@
 use crate::checks::{equal, is_true};
 use crate::look::Look;
 use pm_device::{Config, OutputStart};
-use pm_host::{Job, JobEnd};
+use pm_host::Job;
+use pm_limits::PartRegisters;
 use pm_num::Frac;
 use pm_rail::{PlanFault, PlanOrder, Survey, Wanted, next_order_in};
 use pm_table::{Cell, Coefficients, Reg};
@@ -74,7 +75,11 @@ fn roll(state: &mut u64, sides: u64) -> u64 {
     *state = state
         .wrapping_mul(6_364_136_223_846_793_005)
         .wrapping_add(1_442_695_040_888_963_407);
-    if sides == 0 { 0 } else { (*state >> 33) % sides }
+    if sides == 0 {
+        0
+    } else {
+        (*state >> 33) % sides
+    }
 }
 
 fn any_word(state: &mut u64) -> u16 {
@@ -82,7 +87,11 @@ fn any_word(state: &mut u64) -> u16 {
 }
 
 fn maybe_word(state: &mut u64) -> Option<u16> {
-    if roll(state, 3) == 0 { None } else { Some(any_word(state)) }
+    if roll(state, 3) == 0 {
+        None
+    } else {
+        Some(any_word(state))
+    }
 }
 
 fn any_wanted(state: &mut u64) -> Wanted {
@@ -144,7 +153,12 @@ fn is_one(one: Option<Frac>, other: Option<Frac>) -> bool {
 
 // What an output commands by the words that it holds, with the wanted ones in their places: by a converter that starts
 // with these.
-fn goal(config: &Config, world: &World, output: u8, wanted: &Wanted) -> Result<Option<Frac>, SetupFault> {
+fn goal(
+    config: &Config,
+    world: &World,
+    output: u8,
+    wanted: &Wanted,
+) -> Result<Option<Frac>, SetupFault> {
     let word = |register| match wanted.word(register) {
         Some(word) => word,
         None => world.word(Cell::Out(output, register)),
@@ -180,7 +194,11 @@ impl Walk {
         let now = commands(&self.world, output);
         let course = &mut self.courses[usize::from(output % 2)];
         let moved = !is_one(now, course.last);
-        is_true(rt, !moved || is_one(now, course.new), &(output, now, *course));
+        is_true(
+            rt,
+            !moved || is_one(now, course.new),
+            &(output, now, *course),
+        );
         course.last = now;
         if moved {
             course.changes = course.changes.wrapping_add(1);
@@ -205,7 +223,11 @@ impl Walk {
             }
             if self.world.host().sending_reads() {
                 let arrival = self.arrival();
-                let back = if roll(&mut self.state, 6) == 0 { Back::Cut(1) } else { Back::Whole };
+                let back = if roll(&mut self.state, 6) == 0 {
+                    Back::Cut(1)
+                } else {
+                    Back::Whole
+                };
                 self.happens(rt, &Event::Exchange(arrival, back));
             } else {
                 for _ in 0..roll(&mut self.state, 3) {
@@ -273,7 +295,11 @@ impl Walk {
 
     // One order of an output's plan, or what it waits for.
     fn steps(&mut self, rt: &impl Abort, output: u8) {
-        match plans(&self.world, output, &self.courses[usize::from(output % 2)].wanted) {
+        match plans(
+            &self.world,
+            output,
+            &self.courses[usize::from(output % 2)].wanted,
+        ) {
             Ok(None) => self.ends(output, End::Done),
             Ok(Some(order)) => {
                 self.orders = self.orders.wrapping_add(1);
@@ -326,20 +352,27 @@ impl Walk {
 // What a survey asks for next.
 fn asks_next(survey: &mut Survey, world: &World) -> Option<Job> {
     if survey.output < 8 {
-        survey.next_in(world.host().state())
+        survey.next_in(world.host().state(), PartRegisters::all())
     } else {
         None
     }
 }
 
 fn is_done(survey: &Survey, world: &World) -> bool {
-    survey.output < 8 && survey.is_done_in(world.host().state())
+    survey.output < 8 && survey.is_done_in(world.host().state(), PartRegisters::all())
 }
 
 // The next order of an output's plan, without limits.
 fn plans(world: &World, output: u8, wanted: &Wanted) -> Result<Option<PlanOrder>, PlanFault> {
     let host = world.host();
-    next_order_in(host.state(), host.stage(), &None, output % 2, wanted)
+    next_order_in(
+        host.state(),
+        host.stage(),
+        PartRegisters::all(),
+        &None,
+        output % 2,
+        wanted,
+    )
 }
 
 // One life.
@@ -401,11 +434,11 @@ fn rails_command_their_old_or_their_new_voltage(rt: HostRuntime) -> Result<(), S
         surveyed: 0,
         lost: 0,
     };
-    for seed in 0..300 {
+    for seed in 0..200 {
         lives(&rt, seed, &mut tally)?;
     }
-    is_true(&rt, tally.done >= 50, &tally);
-    is_true(&rt, tally.refused >= 50, &tally);
+    is_true(&rt, tally.done >= 40, &tally);
+    is_true(&rt, tally.refused >= 40, &tally);
     is_true(&rt, tally.changes >= 20, &tally);
     is_true(&rt, tally.going + tally.lost <= 3, &tally);
     Ok(())
