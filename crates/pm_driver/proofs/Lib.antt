@@ -9,6 +9,8 @@ mod NoRestarts
 mod UndisturbedOrders
 mod WithinLimits
 mod Heard
+mod Idle
+mod Surveyed
 mod Parts
 mod Patience
 mod Plan

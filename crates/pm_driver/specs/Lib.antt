@@ -18,3 +18,5 @@ pub mod Plan
 pub mod Patience
 pub mod NeverRestarts
 pub mod PlanEnds
+-- Rails.
+pub mod Rails

@@ -29,13 +29,16 @@
 #![tactic(auto)]
 
 mod adapter;
+mod apply_end;
 mod bus;
 mod buses;
 mod driver;
 mod frames;
 mod laws;
+mod rails;
 
 pub use adapter::{Adapter, ReadEnd, WriteEnd};
+pub use apply_end::{ApplyEnd, StopCause};
 pub use bus::Bus;
 pub use buses::{
     DeadBus, Fault, Patient, Retrying, SimulatedBus, driver_over, never_restarts_stays,
