@@ -11,6 +11,9 @@ mod WithinLimits
 mod Heard
 mod Idle
 mod Surveyed
+mod Followed
+mod Chains
+mod RailLives
 mod Parts
 mod Patience
 mod Plan

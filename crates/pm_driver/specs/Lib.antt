@@ -20,3 +20,4 @@ pub mod NeverRestarts
 pub mod PlanEnds
 -- Rails.
 pub mod Rails
+pub mod RailLaws

@@ -1,6 +1,6 @@
 -- A rail over a bus: what a driver does for a survey, and for a plan that it carries out, job by job. This project's own
 -- choice.
-use Rattle.std.specs.Prelude.{◌≡◌, ◌⊎◌, ◌<◌, ◌+◌, ◌-◌, ◌*◌, cond, ℕ, Bool, true, false, Option, Some, None, Result, Ok, Err}
+use Rattle.std.specs.Prelude.{◌≡◌, ◌⊎◌, ◌<◌, ◌+◌, ◌-◌, ◌*◌, cond, ℕ, Bool, true, false, List, [], ◌∷◌, ◌++◌, Option, Some, None, IsSomeAnd, Result, Ok, Err}
 use Rattle.std.specs.Option.{option_map_or}
 use Rattle.pm_table.specs.declared.cell.Cell.TheVariants.{Out}
 use Rattle.pm_table.specs.declared.reg.Reg.{Reg}
@@ -13,7 +13,9 @@ use Rattle.pm_host.specs.declared.job.Job.{Job}
 use Rattle.pm_host.specs.declared.job.Job.TheVariants.{Order}
 use Rattle.pm_host.specs.declared.job_end.JobEnd.{JobEnd}
 use Rattle.pm_host.specs.declared.job_end.JobEnd.TheVariants.{Differs}
+use Rattle.pm_host.specs.Jobs.{accepted_job}
 use Rattle.pm_host.specs.Refusals.{is_busy}
+use Rattle.pm_host.specs.Transcript as accepted
 use Rattle.pm_limits.specs.Guard.{Guarded, limits_at}
 use Rattle.pm_rail.specs.declared.fault.PlanFault.{PlanFault}
 use Rattle.pm_rail.specs.declared.orders.PlanOrder.{PlanOrder}
@@ -27,8 +29,10 @@ use Rattle.pm_driver.specs.declared.apply_end.ApplyEnd.TheVariants.{Reached, Sto
 use Rattle.pm_driver.specs.declared.apply_end.StopCause.TheVariants as why
 use Rattle.pm_driver.specs.declared.rails.Course.{Course}
 use Rattle.pm_driver.specs.declared.rails.Differing.{Differing}
-use Rattle.pm_driver.specs.Acts.{Call}
-use Rattle.pm_driver.specs.Driven.{Driving, Runs}
+use Rattle.pm_world.specs.declared.event.Event.{Event}
+use Rattle.pm_driver.specs.Acts.{Began, Call}
+use Rattle.pm_driver.specs.Driven.{Driving, Runs, driven}
+use Rattle.pm_driver.specs.Lives.{Leads}
 
 -- the survey once the job that it asked for was carried out and ended so
 abbrev pub surveyed_by : Survey → Job → JobEnd → Survey
@@ -112,6 +116,24 @@ pub data Applied {B : Type 0} (gives : B → Call → B → Type 0) (held : B �
       Applied gives held restarts output wanted begun first course middle →
       Steps gives held restarts output wanted course middle after last →
       Applied gives held restarts output wanted begun first after last
+
+-- the events of the lives that such steps lead through, newest first
+abbrev pub events_in : {B : Type 0} (gives : B → Call → B → Type 0) (held : B → Held) (restarts : B → ℕ) (end : JobEnd) (old new : Driving B) (job : Option accepted.Job) →
+    IsSomeAnd job (λ begun. Leads gives held restarts (Began begun ∷ []) (Some end) (driven old) (driven new)) → List Event
+events_in gives held restarts end old new None leads = []
+events_in gives held restarts end old new (Some begun) leads = leads.events
+
+abbrev pub events_by_step : {B : Type 0} {gives : B → Call → B → Type 0} {held : B → Held} {restarts : B → ℕ} {output : ℕ} {wanted : Wanted} {course : Course} {old : Driving B} {after : Course} {new : Driving B} →
+    Steps gives held restarts output wanted course old after new → List Event
+events_by_step {gives = gives} {held = held} {restarts = restarts} {old = old} (read job end new once asks runs) =
+    events_in gives held restarts end old new (accepted_job old.guard.host job) runs.leads
+events_by_step (wrote order end new once surveyed left plan runs) = runs.leads.events
+events_by_step (again once surveyed ordered plan) = []
+
+abbrev pub events_of : {B : Type 0} {gives : B → Call → B → Type 0} {held : B → Held} {restarts : B → ℕ} {output : ℕ} {wanted : Wanted} {begun : Course} {first : Driving B} {last : Course} {new : Driving B} →
+    Applied gives held restarts output wanted begun first last new → List Event
+events_of nothing = []
+events_of (more course after middle last before step) = events_by_step step ++ events_of before
 
 -- What the end of a plan that was carried out says. Reached: nothing was ordered since the survey began that has ended by
 -- its own rule, and the plan has no further order. A refusal is that of the plan by what is known now; unless a job was
