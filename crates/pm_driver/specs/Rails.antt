@@ -23,7 +23,7 @@ use Rattle.pm_rail.specs.declared.survey.Survey.{Survey}
 use Rattle.pm_rail.specs.declared.wanted.Wanted.{Wanted}
 use Rattle.pm_rail.specs.Orders.{plan_of}
 use Rattle.pm_rail.specs.Registers.{wants_of}
-use Rattle.pm_rail.specs.Survey.{asking, ended, is_surveyed, next_job, survey_of}
+use Rattle.pm_rail.specs.Survey.{asking, due_job, ended, is_surveyed, next_job, survey_of}
 use Rattle.pm_driver.specs.declared.apply_end.ApplyEnd.{ApplyEnd}
 use Rattle.pm_driver.specs.declared.apply_end.ApplyEnd.TheVariants.{Reached, Stopped}
 use Rattle.pm_driver.specs.declared.apply_end.StopCause.TheVariants as why
@@ -34,6 +34,13 @@ use Rattle.pm_driver.specs.Acts.{Began, Call}
 use Rattle.pm_driver.specs.Driven.{Driving, Runs, driven}
 use Rattle.pm_driver.specs.Lives.{Leads}
 
+-- what a survey asks a guard for next, and whether it has ended by its own rule
+abbrev pub asks_in : Survey → Guarded → Option Job
+asks_in v guard = next_job guard.registers v guard.host
+
+abbrev pub is_surveyed_in : Survey → Guarded → Bool
+is_surveyed_in v guard = is_surveyed guard.registers v guard.host
+
 -- the survey once the job that it asked for was carried out and ended so
 abbrev pub surveyed_by : Survey → Job → JobEnd → Survey
 surveyed_by v job end = ended (asking v (Some job)) (Some job) end
@@ -42,7 +49,7 @@ surveyed_by v job end = ended (asking v (Some job)) (Some job) end
 pub data Surveys {B : Type 0} (gives : B → Call → B → Type 0) (held : B → Held) (restarts : B → ℕ) (begun : Survey) (first : Driving B) : Survey → Driving B → Type 0 where
   nothing : Surveys gives held restarts begun first begun first
   more : (v : Survey) (job : Job) (end : JobEnd) (middle last : Driving B) →
-      Surveys gives held restarts begun first v middle → next_job v middle.guard.host ≡ Some job →
+      Surveys gives held restarts begun first v middle → asks_in v middle.guard ≡ Some job →
       Runs gives held restarts job middle (Ok end) last →
       Surveys gives held restarts begun first (surveyed_by v job end) last
 
@@ -53,7 +60,7 @@ SurveysTo gives held restarts begun old (Err fault) v new =
     (fault ≡ Busy) × (is_busy old.guard.host ≡ true) × (v ≡ begun) × (new ≡ old)
 SurveysTo gives held restarts begun old (Ok done) v new =
     (is_busy old.guard.host ≡ false) × Surveys gives held restarts begun old v new
-    × (next_job v new.guard.host ≡ None) × (done ≡ is_surveyed v new.guard.host)
+    × (asks_in v new.guard ≡ None) × (done ≡ is_surveyed_in v new.guard)
 
 -- a plan begins to be carried out: with a new survey of its output for it, and this many tries
 abbrev pub course_of : ℕ → Wanted → ℕ → Course
@@ -91,21 +98,21 @@ once_more output wanted course = record course {
 
 -- the next order of a plan, by what is known and within the output's limits
 abbrev pub plan_in : ℕ → Wanted → Guarded → Result (Option PlanOrder) PlanFault
-plan_in output wanted guard = plan_of guard.host (limits_at guard output) output (wants_of wanted)
+plan_in output wanted guard = plan_of guard.registers guard.host (limits_at guard output) output (wants_of wanted)
 
 -- One step of a plan that is carried out, while no order differed a second time: a job that the survey asks for (`read`);
 -- where it has ended by its own rule, the plan's next order, which takes a try (`wrote`); and where none is left and
 -- something was ordered since the survey began, a new survey (`again`).
 pub data Steps {B : Type 0} (gives : B → Call → B → Type 0) (held : B → Held) (restarts : B → ℕ) (output : ℕ) (wanted : Wanted) (course : Course) (old : Driving B) : Course → Driving B → Type 0 where
   read : (job : Job) (end : JobEnd) (new : Driving B) → course.twice ≡ None →
-      next_job course.survey old.guard.host ≡ Some job → Runs gives held restarts job old (Ok end) new →
+      asks_in course.survey old.guard ≡ Some job → Runs gives held restarts job old (Ok end) new →
       Steps gives held restarts output wanted course old (record course { survey = surveyed_by course.survey job end }) new
   wrote : (order : PlanOrder) (end : JobEnd) (new : Driving B) → course.twice ≡ None →
-      is_surveyed course.survey old.guard.host ≡ true → 0 < course.survey.left →
+      is_surveyed_in course.survey old.guard ≡ true → 0 < course.survey.left →
       plan_in output wanted old.guard ≡ Ok (Some order) →
       Runs gives held restarts (Order (Out output order.register) order.word) old (Ok end) new →
       Steps gives held restarts output wanted course old (ordered_by course order.register end) new
-  again : course.twice ≡ None → is_surveyed course.survey old.guard.host ≡ true → course.ordered ≡ true →
+  again : course.twice ≡ None → is_surveyed_in course.survey old.guard ≡ true → course.ordered ≡ true →
       plan_in output wanted old.guard ≡ Ok None →
       Steps gives held restarts output wanted course old (once_more output wanted course) old
 
@@ -137,17 +144,17 @@ events_of (more course after middle last before step) = events_by_step step ++ e
 
 -- What the end of a plan that was carried out says. Reached: nothing was ordered since the survey began that has ended by
 -- its own rule, and the plan has no further order. A refusal is that of the plan by what is known now; unless a job was
--- open, a survey has ended by its own rule before. Differs: the order of the
+-- open, the survey has nothing left to ask for. Differs: the order of the
 -- register differed a second time, and the word is the one that was read. Spent: no try is left, and a survey or an order is.
 abbrev pub EndsAs : ℕ → Wanted → Course → Guarded → ApplyEnd → Type 0
 EndsAs output wanted course guard Reached = (course.twice ≡ None) × (course.ordered ≡ false)
-    × (is_surveyed course.survey guard.host ≡ true) × (plan_in output wanted guard ≡ Ok None)
+    × (is_surveyed_in course.survey guard ≡ true) × (plan_in output wanted guard ≡ Ok None)
 EndsAs output wanted course guard (Stopped (why.Refused fault)) = (plan_in output wanted guard ≡ Err fault)
-    × (is_busy guard.host ≡ false → is_surveyed course.survey guard.host ≡ true)
+    × (is_busy guard.host ≡ false → due_job guard.registers course.survey guard.host ≡ None)
 EndsAs output wanted course guard (Stopped (why.Differs register word)) =
     course.twice ≡ Some (record { register = register; word = word })
 EndsAs output wanted course guard (Stopped why.Spent) = (course.survey.left ≡ 0)
-    × ((is_surveyed course.survey guard.host ≡ false)
+    × ((is_surveyed_in course.survey guard ≡ false)
     ⊎ ((order : PlanOrder) × (plan_in output wanted guard ≡ Ok (Some order))))
 
 -- how many steps there may still be: a job takes a try, and a new survey comes behind an order

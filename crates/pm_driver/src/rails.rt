@@ -1,20 +1,21 @@
 //! A rail over a bus: surveys, and plans that are carried out.
 
-ghost use Rattle.std.specs.Prelude.{◌≡◌, ◌<◌, true, false, Ok, Some, None};
+ghost use Rattle.std.specs.Prelude.{◌≡◌, ◌<◌, true, false, Ok, Err, Some, None};
 ghost use Rattle.pm_table.specs.Cell.{IsCell, same_register as spec_same_register};
 ghost use Rattle.pm_host.specs.Frames.{frames_left};
 ghost use Rattle.pm_host.specs.Refusals.{is_busy as spec_is_busy};
-ghost use Rattle.pm_rail.specs.Known.{known_at as spec_known_at};
-ghost use Rattle.pm_rail.specs.Survey.{is_surveyed, next_job};
+ghost use Rattle.pm_host.specs.Summary.{possible_at};
+ghost use Rattle.pm_rail.specs.Known.{known_word};
+ghost use Rattle.pm_rail.specs.Survey.{is_stuck};
 ghost use Rattle.pm_driver.specs.Driven.{Runs};
-ghost use Rattle.pm_driver.specs.Rails.{Applies, GoesOn, SurveysTo, course_of, measure, once_more as spec_once_more, ordered_by, plan_in};
+ghost use Rattle.pm_driver.specs.Rails.{Applies, GoesOn, asks_in, is_surveyed_in, SurveysTo, course_of, measure, once_more as spec_once_more, ordered_by, plan_in};
 
 use crate::apply_end::{ApplyEnd, StopCause};
 use crate::bus::Bus;
 use crate::driver::Driver;
 use pm_host::{HostFault, Job, JobEnd};
 use pm_rail::{
-    PlanFault, PlanOrder, Survey, Wanted, known_at, next_order, plans_are_accepted,
+    PlanFault, PlanOrder, Survey, Wanted, next_order, plans_are_accepted,
 };
 use pm_table::{Cell, Reg};
 
@@ -97,6 +98,7 @@ impl<B: Bus> Driver<B> {
         requires { survey.old.output < self.old.guard.host.setup.outputs }
         ensures surveys { SurveysTo B.gives B.held B.restarts survey.old self.old result survey.new self.new }
         ensures limits { self.new.guard.limits ≡ self.old.guard.limits }
+        ensures registers { self.new.guard.registers ≡ self.old.guard.registers }
         ensures kept { self.new.guard.host.setup ≡ self.old.guard.host.setup }
     {
         if self.is_busy() {
@@ -104,8 +106,8 @@ impl<B: Bus> Driver<B> {
         }
         'jobs: loop {
             let mut asked = *survey;
-            match asked.next(self.host()) {
-                None => return Ok(survey.is_done(self.host())),
+            match asked.next(self.guard()) {
+                None => return Ok(survey.is_done(self.guard())),
                 Some(job) => {
                     let end = self.read(survey, job);
                     asked.told(end);
@@ -132,6 +134,7 @@ impl<B: Bus> Driver<B> {
         ensures applies { Applies B.gives B.held B.restarts output wanted.now tries self.old result self.new }
         ensures busy { spec_is_busy self.old.guard.host ≡ true → self.new ≡ self.old }
         ensures limits { self.new.guard.limits ≡ self.old.guard.limits }
+        ensures registers { self.new.guard.registers ≡ self.old.guard.registers }
         ensures kept { self.new.guard.host.setup ≡ self.old.guard.host.setup }
     {
         if self.is_busy() {
@@ -151,9 +154,12 @@ impl<B: Bus> Driver<B> {
     /// isn't known. Check it then. The cell is there.
     pub fn known(&self, cell: Cell) -> Option<u16>
         requires { IsCell self.now.guard.host.setup.outputs cell }
-        ensures { result ≡ spec_known_at self.now.guard.host cell }
+        ensures { result ≡ known_word cell (possible_at self.now.guard.host cell) }
     {
-        known_at(self.host().state(), cell)
+        match self.host().listed(cell) {
+            Some([word]) if cell.accepts(*word) => Some(*word),
+            _ => None,
+        }
     }
 
     // One step of a plan; or how it ends.
@@ -161,11 +167,14 @@ impl<B: Bus> Driver<B> {
         requires idle { spec_is_busy self.old.guard.host ≡ false }
         requires there { output < self.old.guard.host.setup.outputs }
         requires own { course.old.survey.output ≡ output }
+        requires plan { course.old.survey.plan ≡ Some wanted.now }
         ensures goes { GoesOn B.gives B.held B.restarts output wanted.now course.old self.old result course.new self.new }
         ensures own { course.new.survey.output ≡ output }
+        ensures plan { course.new.survey.plan ≡ Some wanted.now }
         ensures less { result ≡ None → measure course.new < measure course.old }
         ensures idle { spec_is_busy self.new.guard.host ≡ false }
         ensures limits { self.new.guard.limits ≡ self.old.guard.limits }
+        ensures registers { self.new.guard.registers ≡ self.old.guard.registers }
         ensures kept { self.new.guard.host.setup ≡ self.old.guard.host.setup }
     {
         if let Some(differs) = course.twice {
@@ -173,17 +182,35 @@ impl<B: Bus> Driver<B> {
             return Some(ApplyEnd::Stopped { why });
         }
         let mut asked = course.survey;
-        if let Some(job) = asked.next(self.host()) {
+        if let Some(job) = asked.next(self.guard()) {
             let end = self.read(&course.survey, job);
             asked.told(end);
             course.survey = asked;
             return None;
         }
-        if !course.survey.is_done(self.host()) {
-            let why = StopCause::Spent;
+        if !course.survey.is_done(self.guard()) {
+            let why = if course.survey.left == 0 {
+                StopCause::Spent
+            } else {
+                StopCause::Refused(self.refusal(&course.survey, output, wanted))
+            };
             return Some(ApplyEnd::Stopped { why });
         }
         self.go_on_ordering(course, output, wanted)
+    }
+
+    // Why the plan is refused where a register is needed that the part doesn't have, and that isn't known.
+    fn refusal(&self, survey: &Survey, output: u8, wanted: &Wanted) -> PlanFault
+        requires there { output < self.now.guard.host.setup.outputs }
+        requires own { survey.now.output ≡ output }
+        requires plan { survey.now.plan ≡ Some wanted.now }
+        requires stuck { is_stuck self.now.guard.registers survey.now self.now.guard.host ≡ true }
+        ensures { plan_in output wanted.now self.now.guard ≡ Err result }
+    {
+        match self.next_in(output, wanted) {
+            Err(fault) => fault,
+            Ok(_) => unreachable!(),
+        }
     }
 
     // The same where the survey has ended by its own rule.
@@ -196,13 +223,16 @@ impl<B: Bus> Driver<B> {
         requires idle { spec_is_busy self.old.guard.host ≡ false }
         requires there { output < self.old.guard.host.setup.outputs }
         requires own { course.old.survey.output ≡ output }
+        requires plan { course.old.survey.plan ≡ Some wanted.now }
         requires once { course.old.twice ≡ None }
-        requires surveyed { is_surveyed course.old.survey self.old.guard.host ≡ true }
+        requires surveyed { is_surveyed_in course.old.survey self.old.guard ≡ true }
         ensures goes { GoesOn B.gives B.held B.restarts output wanted.now course.old self.old result course.new self.new }
         ensures own { course.new.survey.output ≡ output }
+        ensures plan { course.new.survey.plan ≡ Some wanted.now }
         ensures less { result ≡ None → measure course.new < measure course.old }
         ensures idle { spec_is_busy self.new.guard.host ≡ false }
         ensures limits { self.new.guard.limits ≡ self.old.guard.limits }
+        ensures registers { self.new.guard.registers ≡ self.old.guard.registers }
         ensures kept { self.new.guard.host.setup ≡ self.old.guard.host.setup }
     {
         match self.next_in(output, wanted) {
@@ -241,7 +271,7 @@ impl<B: Bus> Driver<B> {
     fn read(&mut self, survey: &Survey, job: Job) -> JobEnd
         requires idle { spec_is_busy self.old.guard.host ≡ false }
         requires there { survey.now.output < self.old.guard.host.setup.outputs }
-        requires asked { next_job survey.now self.old.guard.host ≡ Some job }
+        requires asked { asks_in survey.now self.old.guard ≡ Some job }
         ensures runs { Runs B.gives B.held B.restarts job self.old (Ok result) self.new }
         ensures idle { spec_is_busy self.new.guard.host ≡ false }
     {

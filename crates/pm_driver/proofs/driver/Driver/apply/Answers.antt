@@ -23,9 +23,11 @@ steps-init g c =
       runs = subst (λ (x : Course). Applied g.B.Bus.gives g.B.Bus.held g.B.Bus.restarts c.args.output c.args.wanted.now
           (course_of c.args.output c.args.wanted.now c.args.tries) c.args.self.now x c.args.self.now) (sym c.new-course.ensures) nothing;
       own = ap (λ (x : Course). x.survey.output) c.new-course.ensures;
+      plan = ap (λ (x : Course). x.survey.plan) c.new-course.ensures;
       idle = idle;
       was = idle;
       limits = refl;
+      registers = refl;
       kept = refl;
     }
 
@@ -37,8 +39,10 @@ steps-preserved g c =
     record {
       runs = more c.steps.course c.go_on.new.course c.steps.self c.go_on.new.self c.steps.invariant.runs goes;
       own = c.go_on.ensures.own;
+      plan = c.go_on.ensures.plan;
       idle = c.go_on.ensures.idle;
       was = c.steps.invariant.was;
       limits = c.go_on.ensures.limits ∙ c.steps.invariant.limits;
+      registers = c.go_on.ensures.registers ∙ c.steps.invariant.registers;
       kept = c.go_on.ensures.kept ∙ c.steps.invariant.kept;
     }

@@ -10,6 +10,7 @@ invariant-jobs g l = record {
   idle : is_busy l.self.guard.host ≡ false;
   was : is_busy l.fn.self.guard.host ≡ false;
   limits : l.self.guard.limits ≡ l.fn.self.guard.limits;
+  registers : l.self.guard.registers ≡ l.fn.self.guard.registers;
   kept : l.self.guard.host.setup ≡ l.fn.self.guard.host.setup;
 }
 
