@@ -9,6 +9,11 @@ mod NoRestarts
 mod UndisturbedOrders
 mod WithinLimits
 mod Heard
+mod Idle
+mod Surveyed
+mod Followed
+mod Chains
+mod RailLives
 mod Parts
 mod Patience
 mod Plan

@@ -18,3 +18,6 @@ pub mod Plan
 pub mod Patience
 pub mod NeverRestarts
 pub mod PlanEnds
+-- Rails.
+pub mod Rails
+pub mod RailLaws

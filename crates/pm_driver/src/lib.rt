@@ -29,13 +29,17 @@
 #![tactic(auto)]
 
 mod adapter;
+mod apply_end;
 mod bus;
 mod buses;
 mod driver;
 mod frames;
 mod laws;
+mod rail_laws;
+mod rails;
 
 pub use adapter::{Adapter, ReadEnd, WriteEnd};
+pub use apply_end::{ApplyEnd, StopCause};
 pub use bus::Bus;
 pub use buses::{
     DeadBus, Fault, Patient, Retrying, SimulatedBus, driver_over, never_restarts_stays,
@@ -45,6 +49,7 @@ pub use buses::{
 };
 pub use driver::Driver;
 pub use frames::carry_out;
+pub use rail_laws::{applied_plans_come_true, applied_plans_keep_rails};
 pub use laws::{
     ends_are_true, jobs_restart_nothing, leads_compose, new_converters_are_within,
     new_converters_have_no_restart, new_converters_may_begin, restarts_are_counted,

@@ -1,6 +1,7 @@
 //! Jobs over buses with faults: how they end, what the host says, and what the converter holds.
 
 mod example;
+mod rails;
 
 use crate::checks::equal;
 use pm_device::Converter;

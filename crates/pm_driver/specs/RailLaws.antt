@@ -1,0 +1,51 @@
+-- What a plan that a driver carries out is worth: this project's own choice. Lists of events are newest first.
+use Rattle.std.specs.Prelude.{◌≡◌, ◌<◌, ℕ, List, ◌++◌, Some}
+use Rattle.pm_table.specs.declared.cell.Cell.TheVariants.{Out}
+use Rattle.pm_table.specs.declared.reg.Reg.{Reg}
+use Rattle.pm_model.specs.Settings.{word_at}
+use Rattle.pm_device.specs.declared.config.Config.{Config}
+use Rattle.pm_device.specs.Held.{Held, value_for}
+use Rattle.pm_num.specs.Ratio.{Ratio}
+use Rattle.pm_rail.specs.declared.wanted.Wanted.{Wanted}
+use Rattle.pm_rail.specs.Laws.{IsStep}
+use Rattle.pm_rail.specs.Plan.{commands_by, goal_of}
+use Rattle.pm_rail.specs.Registers.{wants_of}
+use Rattle.pm_world.specs.declared.event.Event.{Event}
+use Rattle.pm_world.specs.Honest.{IsSpelled}
+use Rattle.pm_world.specs.Limited.{commands}
+use Rattle.pm_world.specs.Plans.{held_at}
+use Rattle.pm_driver.specs.declared.apply_end.ApplyEnd.TheVariants.{Reached}
+use Rattle.pm_driver.specs.declared.rails.Course.{Course}
+use Rattle.pm_driver.specs.Acts.{Call}
+use Rattle.pm_driver.specs.Driven.{Driving}
+use Rattle.pm_driver.specs.Lives.{IsLife}
+use Rattle.pm_driver.specs.Rails.{Applied, EndsAs, course_of, events_of}
+
+-- what an output commands where each of its registers has the word that is wanted of it, and otherwise the one that it
+-- held after these events
+abbrev pub goal_at : Config → ℕ → ℕ → Wanted → List Event → Ratio
+goal_at config passes output wanted events = commands_by (value_for config output)
+    (goal_of (held_at config passes events output) (wants_of wanted))
+
+-- Of every life that led to the host and the converter before a plan was carried out: where the bus counted no restart
+-- since, and so none since the first of its reads, then, of any two moments, the output commands at the later one what it
+-- commands at the earlier one, or what is wanted. So it does also where the plan stopped, and it changes once at most.
+abbrev pub AppliedPlansKeepRails : {B : Type 0} → (B → Call → B → Type 0) → (B → Held) → (B → ℕ) → Type 0
+AppliedPlansKeepRails {B = B} gives held restarts = (output : ℕ) (wanted : Wanted) (tries : ℕ) (old new : Driving B) (course : Course) →
+    (runs : Applied gives held restarts output wanted (course_of output wanted tries) old course new) →
+    restarts new.bus ≡ restarts old.bus →
+    (config : Config) (passes : ℕ) (before rest newer later : List Event) → IsSpelled config → output < config.count →
+    IsLife config passes before old.guard.host (held old.bus) → events_of runs ≡ rest ++ (newer ++ later) →
+    IsStep (goal_at config passes output wanted before)
+    (commands config passes (later ++ before) output) (commands config passes ((newer ++ later) ++ before) output)
+
+-- Where the end is that all is reached, the converter holds each wanted word.
+abbrev pub AppliedPlansComeTrue : {B : Type 0} → (B → Call → B → Type 0) → (B → Held) → (B → ℕ) → Type 0
+AppliedPlansComeTrue {B = B} gives held restarts = (output : ℕ) (wanted : Wanted) (tries : ℕ) (old new : Driving B) (course : Course) →
+    Applied gives held restarts output wanted (course_of output wanted tries) old course new →
+    EndsAs output wanted course new.guard Reached →
+    restarts new.bus ≡ restarts old.bus →
+    (config : Config) (passes : ℕ) (before : List Event) → IsSpelled config → output < config.count →
+    IsLife config passes before old.guard.host (held old.bus) →
+    (register : Reg) (word : ℕ) → wants_of wanted register ≡ Some word →
+    word_at (held new.bus).words (Out output register) ≡ word

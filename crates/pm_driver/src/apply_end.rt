@@ -1,0 +1,28 @@
+use pm_rail::PlanFault;
+use pm_table::Reg;
+
+/// How [`Driver::apply`](crate::Driver::apply) ended.
+#[derive(Clone, Copy, Debug, PartialEq, Eq)]
+pub enum ApplyEnd {
+    /// Each register of which a word is wanted has it, by answers that all came after the last order.
+    Reached,
+    /// It stopped before that. The output commands what it did or what is wanted, unless the converter restarted; which
+    /// registers aren't known says [`Driver::known`](crate::Driver::known).
+    Stopped {
+        /// Why.
+        why: StopCause,
+    },
+}
+
+/// Why [`Driver::apply`](crate::Driver::apply) stopped.
+#[derive(Clone, Copy, Debug, PartialEq, Eq)]
+pub enum StopCause {
+    /// The plan is refused: H3, after which nothing was done, or P2, P3, P5, P6 or P7. Mend what is wanted, or what holds
+    /// it up, and apply again.
+    Refused(PlanFault),
+    /// An order of this register was given twice, and each time the register was read with another word, at last with
+    /// this one: the converter ignores the order, or something else sets the register.
+    Differs(Reg, u16),
+    /// No try is left. Apply again, with more of them, once the bus is better.
+    Spent,
+}

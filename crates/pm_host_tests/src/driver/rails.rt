@@ -1,0 +1,400 @@
+//! Surveys, and plans that are carried out, over a bus with faults: how they end, how many frames they sent, and what the
+//! converter holds.
+
+use super::whole;
+use crate::checks::{equal, is_true};
+use pm_device::{Config, Converter, OutputStart};
+use pm_device_tests::{BASE, OUTPUT};
+use pm_driver::{ApplyEnd, Bus, Driver, Fault, StopCause, driver_over};
+use pm_rail::{PlanFault, Survey, Wanted};
+use pm_table::{Cell, Coefficients, Reg};
+use pm_world::Back;
+use std::process::Abort;
+
+// What goes wrong with a frame: a write is lost, and falsely acknowledged; an answer is cut; the converter restarts before
+// it.
+#[derive(Clone, Copy, Debug)]
+enum Wrong {
+    Lost,
+    Cut,
+    Restarted,
+}
+
+use Wrong::{Cut, Lost, Restarted};
+
+fn fault(wrong: Wrong) -> Fault {
+    match wrong {
+        Lost => Fault {
+            heard: None,
+            ..whole()
+        },
+        Cut => Fault {
+            back: Back::Cut(2),
+            ..whole()
+        },
+        Restarted => Fault {
+            restarts: true,
+            ..whole()
+        },
+    }
+}
+
+// The fault at this place of a plan.
+fn fault_at(wrong: &[(usize, Wrong)], number: usize) -> Fault {
+    for (place, wrong) in wrong {
+        if *place == number {
+            return fault(*wrong);
+        }
+    }
+    whole()
+}
+
+// The plan of 24 faults in which these go wrong, each at its place.
+fn plan(wrong: &[(usize, Wrong)]) -> [Fault; 24] {
+    [
+        fault_at(wrong, 0),
+        fault_at(wrong, 1),
+        fault_at(wrong, 2),
+        fault_at(wrong, 3),
+        fault_at(wrong, 4),
+        fault_at(wrong, 5),
+        fault_at(wrong, 6),
+        fault_at(wrong, 7),
+        fault_at(wrong, 8),
+        fault_at(wrong, 9),
+        fault_at(wrong, 10),
+        fault_at(wrong, 11),
+        fault_at(wrong, 12),
+        fault_at(wrong, 13),
+        fault_at(wrong, 14),
+        fault_at(wrong, 15),
+        fault_at(wrong, 16),
+        fault_at(wrong, 17),
+        fault_at(wrong, 18),
+        fault_at(wrong, 19),
+        fault_at(wrong, 20),
+        fault_at(wrong, 21),
+        fault_at(wrong, 22),
+        fault_at(wrong, 23),
+    ]
+}
+
+// The words that are wanted: VOUT_COMMAND and VOUT_MAX.
+fn wanted(command: Option<u16>, max: Option<u16>) -> Wanted {
+    Wanted {
+        command,
+        max,
+        margin_high: None,
+        margin_low: None,
+        min: None,
+    }
+}
+
+// The word of a register of the first output that the converter holds.
+fn held(device: &Converter, register: Reg) -> u16 {
+    if device.count() == 0 {
+        return 0;
+    }
+    device.word(Cell::Out(0, register))
+}
+
+// Carries a plan for the first output out.
+fn applied<B: Bus>(
+    rt: &impl Abort,
+    driver: &mut Driver<B>,
+    wanted: &Wanted,
+    tries: u16,
+) -> ApplyEnd {
+    is_true(rt, 0 < driver.host().outputs(), &tries);
+    driver.apply(0, wanted, tries)
+}
+
+// What a register of the first output is known to hold.
+fn known<B: Bus>(rt: &impl Abort, driver: &Driver<B>, register: Reg) -> Option<u16> {
+    is_true(rt, 0 < driver.host().outputs(), &register);
+    driver.known(Cell::Out(0, register))
+}
+
+// Carries a survey out; whether it has ended by its own rule.
+fn surveyed<B: Bus>(rt: &impl Abort, driver: &mut Driver<B>, survey: &mut Survey) -> Option<bool> {
+    is_true(rt, survey.output < driver.host().outputs(), &survey.output);
+    driver.survey(survey).ok()
+}
+
+fn stopped(why: StopCause) -> ApplyEnd {
+    ApplyEnd::Stopped { why }
+}
+
+// What goes wrong, with orders of one pass, and the tries; how it ends that VOUT_COMMAND is to be 3.3 V and VOUT_MAX 3.465 V,
+// from 1 V and 4 V, after how many frames, and the words that are held then.
+static ENDS: [(&[(usize, Wrong)], u16, ApplyEnd, usize, [u16; 2]); 12] = [
+    // A learn and five checks, two orders, and all of these once more.
+    (&[], 60, ApplyEnd::Reached, 16, [0x34CD, 0x3770]),
+    // The tries are just enough, or one fewer; or enough for one order.
+    (&[], 14, ApplyEnd::Reached, 16, [0x34CD, 0x3770]),
+    (
+        &[],
+        13,
+        ApplyEnd::Stopped {
+            why: StopCause::Spent,
+        },
+        15,
+        [0x34CD, 0x3770],
+    ),
+    (
+        &[],
+        7,
+        ApplyEnd::Stopped {
+            why: StopCause::Spent,
+        },
+        8,
+        [0x34CD, 0x4000],
+    ),
+    (
+        &[],
+        6,
+        ApplyEnd::Stopped {
+            why: StopCause::Spent,
+        },
+        6,
+        [0x1000, 0x4000],
+    ),
+    (
+        &[],
+        0,
+        ApplyEnd::Stopped {
+            why: StopCause::Spent,
+        },
+        0,
+        [0x1000, 0x4000],
+    ),
+    // An order that differs is given once more.
+    (
+        &[(6, Lost)],
+        60,
+        ApplyEnd::Reached,
+        18,
+        [0x34CD, 0x3770],
+    ),
+    // Where it differs again, that is the end.
+    (
+        &[(6, Lost), (8, Lost)],
+        60,
+        ApplyEnd::Stopped {
+            why: StopCause::Differs(Reg::VoutCommand, 0x1000),
+        },
+        10,
+        [0x1000, 0x4000],
+    ),
+    // Each of two registers may differ once.
+    (
+        &[(6, Lost), (10, Lost)],
+        60,
+        ApplyEnd::Reached,
+        20,
+        [0x34CD, 0x3770],
+    ),
+    // An order that ended unknown is checked before the next; so it is where it never took.
+    (&[(7, Cut)], 60, ApplyEnd::Reached, 17, [0x34CD, 0x3770]),
+    (
+        &[(6, Lost), (7, Cut)],
+        60,
+        ApplyEnd::Reached,
+        19,
+        [0x34CD, 0x3770],
+    ),
+    // An answer that doesn't come is asked for again.
+    (
+        &[(0, Cut), (3, Cut)],
+        60,
+        ApplyEnd::Reached,
+        18,
+        [0x34CD, 0x3770],
+    ),
+];
+
+#[test]
+fn a_plan_is_carried_out(rt: HostRuntime) {
+    let wanted = wanted(Some(0x34CD), Some(0x3770));
+    for (wrong, tries, end, frames, words) in &ENDS {
+        let plan = plan(wrong);
+        match driver_over(BASE, 1, &plan) {
+            Some(mut driver) => {
+                let at = (*wrong, *tries);
+                equal(&rt, &applied(&rt, &mut driver, &wanted, *tries), end, &at);
+                equal(&rt, &driver.bus().next, frames, &at);
+                let device = &driver.bus().device;
+                let found = [held(device, Reg::VoutCommand), held(device, Reg::VoutMax)];
+                equal(&rt, &found, words, &at);
+            }
+            None => panic!(rt; "refused"),
+        }
+    }
+}
+
+// The converter restarts before any one of the frames: all is brought about again, unless what is read behind the restart
+// is what was held before it too, VOUT_MIN and WRITE_PROTECT.
+#[test]
+fn a_restart_is_made_good(rt: HostRuntime) {
+    let wanted = wanted(Some(0x34CD), Some(0x3770));
+    for place in 0..16 {
+        let plan = plan(&[(place, Restarted)]);
+        match driver_over(BASE, 1, &plan) {
+            Some(mut driver) => {
+                let end = applied(&rt, &mut driver, &wanted, 60);
+                equal(&rt, &end, &ApplyEnd::Reached, &place);
+                let device = &driver.bus().device;
+                let is_seen = place < 14;
+                let command = if is_seen { 0x34CD } else { 0x1000 };
+                let max = if is_seen { 0x3770 } else { 0x4000 };
+                equal(&rt, &held(device, Reg::VoutCommand), &command, &place);
+                equal(&rt, &held(device, Reg::VoutMax), &max, &place);
+            }
+            None => panic!(rt; "refused"),
+        }
+    }
+}
+
+// What is wanted, what WRITE_PROTECT holds, and why the plan is refused, after its six reads and before it writes.
+static REFUSED: [(Option<u16>, Option<u16>, u16, PlanFault); 5] = [
+    (
+        Some(0x5000),
+        None,
+        0x00,
+        PlanFault::AboveMax(Reg::VoutCommand),
+    ),
+    (
+        None,
+        Some(0x0800),
+        0x00,
+        PlanFault::AboveMax(Reg::VoutCommand),
+    ),
+    (
+        Some(0x34CD),
+        Some(0x3770),
+        0x20,
+        PlanFault::Protected(Reg::VoutMax),
+    ),
+    (
+        Some(0x7000),
+        Some(0x7000),
+        0x00,
+        PlanFault::AboveLimit(Reg::VoutCommand),
+    ),
+    (
+        None,
+        Some(0x0100),
+        0x00,
+        PlanFault::BelowLimit(Reg::VoutMax),
+    ),
+];
+
+#[test]
+fn a_plan_is_refused_before_it_writes(rt: HostRuntime) {
+    for (command, max, protect, fault) in &REFUSED {
+        let plan = plan(&[]);
+        let config = Config {
+            protect: *protect,
+            ..BASE
+        };
+        match driver_over(config, 2, &plan) {
+            Some(mut driver) => {
+                let at = (*command, *max);
+                equal(&rt, &driver.narrow(0, 100_000, 6_000_000).err(), &None, &at);
+                let end = applied(&rt, &mut driver, &wanted(*command, *max), 60);
+                equal(&rt, &end, &stopped(StopCause::Refused(*fault)), &at);
+                equal(&rt, &driver.bus().next, &6, &at);
+            }
+            None => panic!(rt; "refused"),
+        }
+    }
+}
+
+#[test]
+fn a_rail_as_it_is_wanted_is_only_read(rt: HostRuntime) {
+    let plan = plan(&[]);
+    match driver_over(BASE, 2, &plan) {
+        Some(mut driver) => {
+            let wanted = wanted(Some(0x1000), None);
+            equal(
+                &rt,
+                &applied(&rt, &mut driver, &wanted, 60),
+                &ApplyEnd::Reached,
+                &1,
+            );
+            equal(&rt, &driver.bus().next, &6, &1);
+            equal(
+                &rt,
+                &applied(&rt, &mut driver, &wanted, 60),
+                &ApplyEnd::Reached,
+                &2,
+            );
+            equal(&rt, &driver.bus().next, &12, &2);
+        }
+        None => panic!(rt; "refused"),
+    }
+}
+
+// A survey sends one frame more than registers that it reads, two where the format is DIRECT.
+#[test]
+fn a_survey_sends_a_frame_for_each_register(rt: HostRuntime) {
+    for (mode, more) in &[(0x14, 1), (0x40, 2)] {
+        let config = Config {
+            starts: [OutputStart {
+                mode: *mode,
+                ..OUTPUT
+            }; 8],
+            coefficients: Coefficients { m: 1, b: 0, r: 3 },
+            ..BASE
+        };
+        for (wishes, registers) in &[
+            (None, 4),
+            (Some(wanted(None, None)), 5),
+            (Some(wanted(Some(0x1000), None)), 5),
+        ] {
+            let plan = plan(&[]);
+            match driver_over(config, 2, &plan) {
+                Some(mut driver) => {
+                    let mut survey = Survey::new(0, *wishes, 40);
+                    let done = surveyed(&rt, &mut driver, &mut survey);
+                    equal(&rt, &done, &Some(true), &(mode, registers));
+                    equal(&rt, &driver.bus().next, &(registers + more), &(mode, registers));
+                }
+                None => panic!(rt; "refused"),
+            }
+        }
+    }
+}
+
+// A survey goes on with the tries that it is given; a stop says what isn't known.
+#[test]
+fn what_is_not_known_is_told(rt: HostRuntime) {
+    let plan = plan(&[]);
+    match driver_over(BASE, 1, &plan) {
+        Some(mut driver) => {
+            let mut survey = Survey::new(0, None, 3);
+            equal(&rt, &surveyed(&rt, &mut driver, &mut survey), &Some(false), &1);
+            equal(&rt, &driver.bus().next, &3, &1);
+            equal(&rt, &known(&rt, &driver, Reg::Operation), &Some(0x80), &1);
+            equal(&rt, &known(&rt, &driver, Reg::VoutMax), &None, &1);
+            survey.left = 2;
+            equal(&rt, &surveyed(&rt, &mut driver, &mut survey), &Some(true), &2);
+            equal(&rt, &driver.bus().next, &5, &2);
+            equal(&rt, &known(&rt, &driver, Reg::VoutMax), &Some(0x4000), &2);
+            equal(&rt, &known(&rt, &driver, Reg::MarginLow), &None, &2);
+        }
+        None => panic!(rt; "refused"),
+    }
+    // The order of VOUT_COMMAND ends unknown, and no try is left to check it.
+    let plan = self::plan(&[(7, Cut)]);
+    match driver_over(BASE, 1, &plan) {
+        Some(mut driver) => {
+            let end = applied(&rt, &mut driver, &wanted(Some(0x34CD), None), 7);
+            equal(&rt, &end, &stopped(StopCause::Spent), &3);
+            equal(&rt, &known(&rt, &driver, Reg::VoutCommand), &None, &3);
+            equal(&rt, &known(&rt, &driver, Reg::VoutMax), &Some(0x4000), &3);
+            equal(&rt, &held(&driver.bus().device, Reg::VoutCommand), &0x34CD, &3);
+        }
+        None => panic!(rt; "refused"),
+    }
+}
