@@ -5,5 +5,6 @@ pub mod Options
 pub mod ReplyText
 pub mod Session
 pub mod Speaking
+pub mod Wishes
 -- How it is kept.
 pub mod Lemmas

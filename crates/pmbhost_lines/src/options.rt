@@ -37,6 +37,11 @@ const LINES: &str = "Each line of standard input gets one line at once. A line s
   band 0                         between which voltages an output may be, after learn
   limits 0                       the limits of an output, in microvolts
   narrow 0 3200000 3465000       give an output narrower limits, or its first ones
+  survey 0                       begin to read what decides an output's voltage, or go on with it
+  survey 0 VOUT_COMMAND=34CD     the same of what a plan of these words needs
+  rail 0                         what an output commands: if it is on, the band, if it is within limits
+  plan 0 VOUT_COMMAND=34CD       which order comes next, so that the output steps to these words at most once
+  next 0 VOUT_COMMAND=34CD       begin this order
   restart                        forget all but the limits
 An answer says:
   send B0 05 04 00 21 CD 34 5A   send this write, then say finished
@@ -49,7 +54,11 @@ An answer says:
   limits 3200000 3465000 | limits none
   narrowed
   restarted
+  survey done | survey spent     all that it reads is known | no tries left
+  rail on 3300048 3300049 yes | rail off .. no | rail any
+  plan VOUT_MAX 3770 | plan done
   refused H6 TooUncertain        nothing has changed: X1 to X3, S2, S3, H3 to H7, N3 to N5, L1 to L6
+  refused P4 NotKnown VOUT_MIN   the same: P1 to P7, with the register that it is about
 
   $ echo 'order 0 VOUT_COMMAND 34CD' | pmbhost --address=58 --outputs=2 --passes=2
   send B0 05 04 00 21 CD 34 5A";
