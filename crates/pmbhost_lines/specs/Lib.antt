@@ -1,6 +1,7 @@
 -- What the crate promises.
 pub mod AskLines
 pub mod Execution
+pub mod Missing
 pub mod Options
 pub mod ReplyText
 pub mod Session

@@ -60,7 +60,7 @@ stays s reply = record { reply = reply; after = s }
 abbrev pub refuses : Session → Refusal → Answered
 refuses s refusal = stays s (Refused refusal)
 
--- the same with another host: the limits stay
+-- the same with another host: the limits stay, and so does which registers the part has
 abbrev pub with_host : Guarded → Summary → Guarded
 with_host g host = record g { host = host }
 
@@ -153,8 +153,8 @@ narrows s output least most None = record {
 abbrev pub rail_at : Guarded → ℕ → Commanded
 rail_at g output = record {
   power = power_of (possible_at g.host (Out output Operation));
-  band = band_at g.host output;
-  within = within_of (limits_at g output) (band_at g.host output);
+  band = band_at g.registers g.host output;
+  within = within_of (limits_at g output) (band_at g.registers g.host output);
 }
 
 -- an answer that wants an output and no open job: H3, then H4
@@ -164,7 +164,7 @@ answers_idle s None answered = answered
 
 -- the plan of an output with the words that are wanted
 abbrev pub plan_at : Guarded → ℕ → Wanted → Result (Option PlanOrder) PlanFault
-plan_at g output wanted = plan_of g.host (limits_at g output) output (wants_of wanted)
+plan_at g output wanted = plan_of g.registers g.host (limits_at g output) output (wants_of wanted)
 
 -- which order comes next
 abbrev pub plans : Session → Result (Option PlanOrder) PlanFault → Answered
@@ -190,11 +190,11 @@ survey_for (Some v) output plan = if v.output == output then record v { plan = p
 
 -- the next job of a survey begins; where there is none the survey has ended, and is dropped
 abbrev pub surveys_by : Session → Reading → Option Job → Answered
-surveys_by s v None = record { reply = Survey (is_surveyed v s.guard.host); after = record s { survey = None } }
+surveys_by s v None = record { reply = Survey (is_surveyed s.guard.registers v s.guard.host); after = record s { survey = None } }
 surveys_by s v (Some job) = begins_with s job (Some (asking v (Some job))) (guard_fault s.guard job)
 
 abbrev pub surveys : Session → Reading → Answered
-surveys s v = surveys_by s v (next_job v s.guard.host)
+surveys s v = surveys_by s v (next_job s.guard.registers v s.guard.host)
 
 abbrev pub answers : Session → Ask → Answered
 answers s (ask.Job job) = begins s job
@@ -204,7 +204,7 @@ answers s ask.Sending = stays s (sending_reply s.guard.host)
 answers s ask.Restart = record { reply = Restarted; after = session_with s (next s.guard.host host.Restarted) None }
 answers s (ask.State cell) = knows s cell
 answers s ask.Seen = stays s (Seen s.guard.host.known.seen)
-answers s (ask.Band output) = says_of s output (Band (band_at s.guard.host output))
+answers s (ask.Band output) = says_of s output (Band (band_at s.guard.registers s.guard.host output))
 answers s (ask.Limits output) = says_of s output (Limits (limits_at s.guard output))
 answers s (ask.Narrow output least most) = narrows s output least most (narrow_fault s.guard output least most)
 answers s (ask.Rail output) = says_of s output (Rail (rail_at s.guard output))

@@ -366,11 +366,11 @@ fn surveys(session: &mut Session, survey: Survey) -> Reply
     ensures after { session.new ≡ (spec_surveys session.old survey).after }
 {
     let mut asked = survey;
-    match asked.next(session.guard.host()) {
+    match asked.next(&session.guard) {
         Some(job) => begin_with(session, job, Some(asked)),
         None => {
             session.survey = None;
-            Reply::Survey(survey.is_done(session.guard.host()))
+            Reply::Survey(survey.is_done(&session.guard))
         }
     }
 }

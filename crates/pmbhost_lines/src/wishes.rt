@@ -90,8 +90,8 @@ fn has_mark(word: &[u8]) -> bool
     word.iter().any(|byte| *byte == MARK)
 }
 
-// The register with this name that holds a voltage.
-fn voltage_named(name: &[u8]) -> Option<Reg>
+/// The register with this name that holds a voltage.
+pub(crate) fn voltage_named(name: &[u8]) -> Option<Reg>
     ensures { result ≡ spec_voltage_named name.now }
 {
     Reg::ALL.iter().copied().find(|register| register.is_voltage()

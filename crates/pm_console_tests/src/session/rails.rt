@@ -3,7 +3,7 @@ use super::lines::{expect, session};
 use crate::checks::is_true;
 use pm_console::AnswerText;
 use pm_host::HostFault;
-use pm_limits::Guard;
+use pm_limits::{Guard, PartRegisters};
 use pmbhost_lines::{Session, answer_line, text_of};
 use std::process::Abort;
 
@@ -262,6 +262,37 @@ static DROPPED: [(&[u8], &str); 39] = [
     (b"restart", "restarted\n"),
 ];
 
+// A part without VOUT_MIN and VOUT_MARGIN_LOW: they are read by no survey, and refused where they are named.
+static LACKING: [(&[u8], &str); 18] = [
+    (b"survey 0", "send B0 06 02 00 20 read 3\n"),
+    (b"got B1 01 14 4E", "ended learned\n"),
+    (b"survey 0", "send B0 06 02 00 01 read 3\n"),
+    (b"got B1 01 80 73", "ended done\n"),
+    (b"survey 0", "send B0 06 02 00 21 read 4\n"),
+    (b"got B1 02 CD 34 B9", "ended done\n"),
+    (b"survey 0", "send B0 06 02 00 24 read 4\n"),
+    (b"got B1 02 00 40 1B", "ended done\n"),
+    (b"survey 0", "survey done\n"),
+    (b"rail 0", "rail on 3300048 3300049 yes\n"),
+    (b"check 0 VOUT_MIN", "refused L7 MissingRegister\n"),
+    (
+        b"order 0 VOUT_MARGIN_LOW 34CD",
+        "refused L7 MissingRegister\n",
+    ),
+    (b"order 0 OPERATION 94", "refused L7 MissingRegister\n"),
+    (
+        b"plan 0 VOUT_COMMAND=3000 VOUT_MIN=1000",
+        "refused L7 MissingRegister VOUT_MIN\n",
+    ),
+    (
+        b"next 0 VOUT_MIN=1000 VOUT_MARGIN_LOW=3000",
+        "refused L7 MissingRegister VOUT_MARGIN_LOW\n",
+    ),
+    (b"check - WRITE_PROTECT", "send B0 10 read 2\n"),
+    (b"got B1 00 60", "ended done\n"),
+    (b"plan 0 VOUT_COMMAND=3000", "plan VOUT_COMMAND 3000\n"),
+];
+
 fn expect_all(rt: &impl Abort, session: &mut Session, lines: &[(&[u8], &str)]) {
     for &(line, wanted) in lines {
         expect(rt, session, line, wanted);
@@ -276,6 +307,19 @@ fn rails_are_surveyed_told_and_planned(rt: HostRuntime) {
     expect_all(&rt, &mut session, &PLAN);
     expect_all(&rt, &mut session, &OFF);
     expect_all(&rt, &mut session, &DROPPED);
+}
+
+#[test]
+fn a_part_that_lacks_registers_has_rails(rt: HostRuntime) {
+    let part = PartRegisters {
+        vout_min: false,
+        vout_margin_low: false,
+        ..PartRegisters::all()
+    };
+    match Guard::of_part(0x58, 1, 2, [None; 8], part) {
+        Ok(guard) => expect_all(&rt, &mut Session::new(guard), &LACKING),
+        Err(_) => panic!(rt; "a host"),
+    }
 }
 
 // A survey over a bus that answers nothing asks for sixteen jobs of two tries each; the next one begins anew.
