@@ -5,4 +5,5 @@ mod lines;
 mod log;
 mod ports;
 mod program;
+mod rails;
 mod runs;

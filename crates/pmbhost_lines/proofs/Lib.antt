@@ -1,3 +1,5 @@
 mod GotLemmas
 pub mod JobLemmas
 pub mod LimitTexts
+pub mod ShortNames
+pub mod SurveyLemmas

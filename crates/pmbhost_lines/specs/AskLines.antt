@@ -4,13 +4,15 @@ use Rattle.std.specs.Prelude.{ℕ, nat_le, nat_lt, if◌then◌else◌, List, []
 use Rattle.pm_lines.specs.Bytes.{bytes_before}
 use Rattle.pm_lines.specs.Digits.{signed_of, small_of}
 use Rattle.pm_lines.specs.Lines.{without_return}
+use Rattle.pm_rail.specs.declared.wanted.Wanted.{Wanted}
 use Rattle.pm_text.specs.EventLines.{cell, finish_rest, job_lines}
 use Rattle.pm_text.specs.Kinds.{frame_bytes, newest_form}
 use Rattle.pm_text.specs.Readers.{◌>>=◌, Field, field, gives, line_as, lines_into, made_into, one_of, or_fault}
 use Rattle.pm_text.specs.declared.scenario.fault.ScenarioFault.{ScenarioFault}
 use Rattle.pm_text.specs.declared.scenario.fault.ScenarioFault.TheVariants as fault
+use Rattle.pmbhost_lines.specs.Wishes.{wishes, wishes_if_any}
 use Rattle.pmbhost_lines.specs.declared.ask.Ask.{Ask}
-use Rattle.pmbhost_lines.specs.declared.ask.Ask.TheVariants.{Job, Finished, Got, Sending, Restart, State, Seen, Band, Limits, Narrow}
+use Rattle.pmbhost_lines.specs.declared.ask.Ask.TheVariants.{Job, Finished, Got, Sending, Restart, State, Seen, Band, Limits, Narrow, Rail, Plan, Next, Survey}
 use Rattle.pmbhost_lines.specs.declared.refusal.Refusal.{Refusal}
 use Rattle.pmbhost_lines.specs.declared.refusal.Refusal.TheVariants.{Syntax, BadHex, TooLong}
 
@@ -64,6 +66,31 @@ narrow_rest = do
   most ← field fault.Syntax (signed_of 64)
   gives (Narrow output least most)
 
+unfoldable pub rail_rest : Field Ask
+rail_rest = do
+  output ← field fault.Syntax small_of
+  gives (Rail output)
+
+-- `O NAME=HEX ..`: at least one word is wanted
+unfoldable pub plan_words : Field (ℕ × Wanted)
+plan_words = do
+  output ← field fault.Syntax small_of
+  wanted ← wishes
+  gives (output, wanted)
+
+unfoldable pub plan_rest : Field Ask
+plan_rest = made_into (λ plan. Plan plan.0 plan.1) plan_words
+
+unfoldable pub next_rest : Field Ask
+next_rest = made_into (λ plan. Next plan.0 plan.1) plan_words
+
+-- `O`, or `O NAME=HEX ..` for a plan of these words
+unfoldable pub survey_rest : Field Ask
+survey_rest = do
+  output ← field fault.Syntax small_of
+  plan ← wishes_if_any
+  gives (Survey output plan)
+
 -- a line: its first word, and the words that follow it
 unfoldable pub ask_line : Field Ask
 ask_line = one_of (
@@ -75,7 +102,11 @@ ask_line = one_of (
     (codes "seen", gives Seen) ∷
     (codes "band", band_rest) ∷
     (codes "limits", limits_rest) ∷
-    (codes "narrow", narrow_rest) ∷ jobs)
+    (codes "narrow", narrow_rest) ∷
+    (codes "rail", rail_rest) ∷
+    (codes "plan", plan_rest) ∷
+    (codes "next", next_rest) ∷
+    (codes "survey", survey_rest) ∷ jobs)
 
 -- the most bytes that a line may have before its line feed
 abbrev pub max_line : ℕ

@@ -7,6 +7,7 @@ use Rattle.clap.specs.declared.error.kind.ErrorKind.{ErrorKind}
 use Rattle.pm_limits.specs.Guard.{Guarded}
 use Rattle.pm_console.specs.Refusals.{no_words, no_words_status}
 use Rattle.pmbhost_lines.specs.Options.{HasTexts, pmbhost, start_fault_words, start_of, start_status}
+use Rattle.pmbhost_lines.specs.Session.{session_of}
 use Rattle.pmbhost_lines.specs.Speaking.{spoken}
 use Rattle.pmbhost_lines.specs.declared.options.Options.{Options}
 use Rattle.pmbhost_lines.specs.declared.options.start_fault.StartFault.{StartFault}
@@ -20,7 +21,7 @@ name = codes "pmbhost"
 module _ {P E : Type 0} (goes : P → List Happening → P → Type 0) (run : Run P E) where
   -- how a run ends whose options make this host, or none
   abbrev pub ServeEnds : ℕ → Result Guarded StartFault → Type 0
-  ServeEnds status (Ok s) = TalkEnds goes run name spoken status (record { guard = s })
+  ServeEnds status (Ok s) = TalkEnds goes run name spoken status (session_of s)
   ServeEnds status (Err fault) =
       (status ≡ start_status fault) × IsQuiet goes run × Refuses goes run name (start_fault_words fault)
 

@@ -8,12 +8,14 @@ use Rattle.pm_host.specs.declared.fault.HostFault.{HostFault}
 use Rattle.pm_limits.specs.FaultWords.{limit_fault_words}
 use Rattle.pm_limits.specs.Guard.{Guarded, limits_at, narrow_fault, narrowed}
 use Rattle.pm_limits.specs.declared.fault.LimitFault.{LimitFault}
+use Rattle.pm_limits.specs.declared.part_registers.PartRegisters.{PartRegisters}
 use Rattle.pm_lines.specs.Digits.{hex_of, signed_of, small_of}
 use Rattle.pm_console.specs.Options.{option_rule, repeated_rule}
+use Rattle.pmbhost_lines.specs.Missing.{part_of, parts_at}
 use Rattle.pmbhost_lines.specs.declared.options.limit_text.OutputLimits.{OutputLimits}
 use Rattle.pmbhost_lines.specs.declared.options.Options.{Options}
 use Rattle.pmbhost_lines.specs.declared.options.start_fault.StartFault.{StartFault}
-use Rattle.pmbhost_lines.specs.declared.options.start_fault.StartFault.TheVariants.{Address, Outputs, Passes, Host, Limit, Limits}
+use Rattle.pmbhost_lines.specs.declared.options.start_fault.StartFault.TheVariants.{Address, Outputs, Passes, Without, Host, Limit, Limits}
 
 -- there is a version
 abbrev pub with_version : App → App
@@ -21,15 +23,16 @@ with_version app = record app { top = record app.top { has_version = true } }
 
 -- the whole command line
 abbrev pub pmbhost : App
-pmbhost = with_rule (with_rule (with_rule (with_rule (with_version (new_app (codes "pmbhost")))
+pmbhost = with_rule (with_rule (with_rule (with_rule (with_rule (with_version (new_app (codes "pmbhost")))
     (option_rule (codes "address"))) (option_rule (codes "outputs"))) (option_rule (codes "passes")))
-    (repeated_rule (codes "limit"))
+    (option_rule (codes "without"))) (repeated_rule (codes "limit"))
 
 -- the texts of the options, empty for one that isn't used; those of the limits in their order
 pub record HasTexts (options : Options) (rows : List Row) : Type 0 where
   pub address : options.address.now ≡ unwrap_or (first_of (codes "address") rows) []
   pub outputs : options.outputs.now ≡ unwrap_or (first_of (codes "outputs") rows) []
   pub passes : options.passes.now ≡ unwrap_or (first_of (codes "passes") rows) []
+  pub without : options.without.now ≡ unwrap_or (first_of (codes "without") rows) []
   pub limits : map (λ text. text.now) options.limits.items ≡ unwrap_or (all_of (codes "limit") rows) []
 
 -- two hexadecimal digits, 08 to 77
@@ -43,9 +46,7 @@ address_of text = option_and_then as_address (hex_of 2 text)
 
 -- what stands before the first colon (58) of a text and what after it
 abbrev pub colon_parts : List ℕ → Option (List ℕ × List ℕ)
-colon_parts [] = None
-colon_parts (c ∷ cs) = if c == 58 then Some ([], cs)
-    else option_map (λ parts. (c ∷ parts.0, parts.1)) (colon_parts cs)
+colon_parts text = parts_at 58 text
 
 abbrev pub limits_by : Option ℕ → Option ℤ → Option ℤ → Option OutputLimits
 limits_by (Some output) (Some least) (Some most) = Some (record { output = output; least = least; most = most })
@@ -81,29 +82,32 @@ limited (text ∷ texts) made = limited texts (limited_more text made)
 
 -- ---- what the options make, from the first that is bad on
 
-abbrev pub started : ℕ → ℕ → ℕ → Option HostFault → Result Guarded StartFault
-started addr outputs passes None = Ok (record {
+abbrev pub started : ℕ → ℕ → ℕ → PartRegisters → Option HostFault → Result Guarded StartFault
+started addr outputs passes part None = Ok (record {
   host = start (record { addr = addr; outputs = outputs; passes = passes });
   limits = replicate 8 None;
+  registers = part;
 })
-started addr outputs passes (Some fault) = Err (Host fault)
+started addr outputs passes part (Some fault) = Err (Host fault)
 
-abbrev pub start_by : Option ℕ → Option ℕ → Option ℕ → List (List ℕ) → Result Guarded StartFault
-start_by None outputs passes limits = Err Address
-start_by (Some addr) None passes limits = Err Outputs
-start_by (Some addr) (Some outputs) None limits = Err Passes
-start_by (Some addr) (Some outputs) (Some passes) limits =
-    limited limits (started addr outputs passes (setup_fault outputs passes))
+abbrev pub start_by : Option ℕ → Option ℕ → Option ℕ → Option PartRegisters → List (List ℕ) → Result Guarded StartFault
+start_by None outputs passes part limits = Err Address
+start_by (Some addr) None passes part limits = Err Outputs
+start_by (Some addr) (Some outputs) None part limits = Err Passes
+start_by (Some addr) (Some outputs) (Some passes) None limits = Err Without
+start_by (Some addr) (Some outputs) (Some passes) (Some part) limits =
+    limited limits (started addr outputs passes part (setup_fault outputs passes))
 
 unfoldable pub start_of : Options → Result Guarded StartFault
 start_of options = start_by (address_of options.address.now) (small_of options.outputs.now)
-    (small_of options.passes.now) (map (λ text. text.now) options.limits.items)
+    (small_of options.passes.now) (part_of options.without.now) (map (λ text. text.now) options.limits.items)
 
 -- what is said of a fault of the options, and the status that goes with it
 abbrev pub start_fault_words : StartFault → List ℕ
 start_fault_words Address = codes "bad address"
 start_fault_words Outputs = codes "bad outputs"
 start_fault_words Passes = codes "bad passes"
+start_fault_words Without = codes "bad without"
 start_fault_words (Host fault) = host_fault_words fault
 start_fault_words Limit = codes "bad limit"
 start_fault_words (Limits fault) = limit_fault_words fault

@@ -1,5 +1,6 @@
 use pm_frame::Frame;
 use pm_host::Job;
+use pm_rail::Wanted;
 use pm_table::Cell;
 
 /// What a line asks of the host.
@@ -33,4 +34,12 @@ pub enum Ask {
         /// The most.
         most: i64,
     },
+    /// `rail O`: what an output commands by what is known.
+    Rail(u8),
+    /// `plan O NAME=HEX ..`: which order comes next on the way to these words.
+    Plan(u8, Wanted),
+    /// `next O NAME=HEX ..`: to begin this order.
+    Next(u8, Wanted),
+    /// `survey O`, or `survey O NAME=HEX ..` for a plan: to begin a survey of an output, or to go on with it.
+    Survey(u8, Option<Wanted>),
 }

@@ -1,12 +1,14 @@
 //! The lines that are said to a host.
 ghost use Rattle.std.specs.Prelude.{◌≡◌, ◌≤◌, length, option_map};
 ghost use Rattle.pm_text.specs.Readers.{Reads, line_as, one_of};
-ghost use Rattle.pmbhost_lines.specs.AskLines.{ask_line, ask_of, band_rest, finished_rest, got_rest, jobs, limits_rest, narrow_rest, state_rest};
+ghost use Rattle.pmbhost_lines.specs.AskLines.{ask_line, ask_of, band_rest, finished_rest, got_rest, jobs, limits_rest, narrow_rest, next_rest, plan_rest, plan_words as spec_plan_words, rail_rest, state_rest, survey_rest};
 
 use crate::ask::Ask;
 use crate::refusal::Refusal;
+use crate::wishes::{read_wishes, read_wishes_if_any};
 use pm_frame::Frame;
 use pm_lines::{Line, without_carriage_return};
+use pm_rail::Wanted;
 use pm_text::{Fields, Form, ScenarioFault, frame_of, read_cell, read_finish, read_job};
 
 // The most bytes that a line may have before its line feed.
@@ -65,6 +67,14 @@ fn read_words(fields: &mut Fields<'_>) -> Result<Ask, ScenarioFault>
         limits(fields)
     } else if fields.takes("narrow") {
         narrow(fields)
+    } else if fields.takes("rail") {
+        rail(fields)
+    } else if fields.takes("plan") {
+        plan(fields)
+    } else if fields.takes("next") {
+        next(fields)
+    } else if fields.takes("survey") {
+        survey(fields)
     } else {
         job(fields)
     }
@@ -128,6 +138,53 @@ fn narrow(fields: &mut Fields<'_>) -> Result<Ask, ScenarioFault>
         least,
         most,
     })
+}
+
+// `rail O`.
+#[tactic(auto, unfolding(crate::specs::AskLines::rail_rest))]
+fn rail(fields: &mut Fields<'_>) -> Result<Ask, ScenarioFault>
+    ensures { Reads result fields.new (rail_rest fields.old) }
+{
+    let output = fields.small_number()?;
+    Ok(Ask::Rail(output))
+}
+
+// `plan O NAME=HEX ..`.
+#[tactic(auto, unfolding(crate::specs::AskLines::plan_rest))]
+fn plan(fields: &mut Fields<'_>) -> Result<Ask, ScenarioFault>
+    ensures { Reads result fields.new (plan_rest fields.old) }
+{
+    let (output, wanted) = plan_words(fields)?;
+    Ok(Ask::Plan(output, wanted))
+}
+
+// `next O NAME=HEX ..`.
+#[tactic(auto, unfolding(crate::specs::AskLines::next_rest))]
+fn next(fields: &mut Fields<'_>) -> Result<Ask, ScenarioFault>
+    ensures { Reads result fields.new (next_rest fields.old) }
+{
+    let (output, wanted) = plan_words(fields)?;
+    Ok(Ask::Next(output, wanted))
+}
+
+// The output of a plan and the words that it wants, at least one.
+#[tactic(auto, unfolding(crate::specs::AskLines::plan_words))]
+fn plan_words(fields: &mut Fields<'_>) -> Result<(u8, Wanted), ScenarioFault>
+    ensures { Reads result fields.new (spec_plan_words fields.old) }
+{
+    let output = fields.small_number()?;
+    let wanted = read_wishes(fields)?;
+    Ok((output, wanted))
+}
+
+// `survey O`, or `survey O NAME=HEX ..`.
+#[tactic(auto, unfolding(crate::specs::AskLines::survey_rest))]
+fn survey(fields: &mut Fields<'_>) -> Result<Ask, ScenarioFault>
+    ensures { Reads result fields.new (survey_rest fields.old) }
+{
+    let output = fields.small_number()?;
+    let plan = read_wishes_if_any(fields)?;
+    Ok(Ask::Survey(output, plan))
 }
 
 // `got HEX ..`: the bytes of all words that are left.

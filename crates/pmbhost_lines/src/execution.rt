@@ -9,7 +9,7 @@ ghost use Rattle.pmbhost_lines.specs.Options.{start_of};
 ghost use Rattle.pm_console.specs.Serving.{over};
 
 use crate::options::Options;
-use crate::speaking::Session;
+use crate::session::Session;
 use pm_console::{
     Port, refuse_arguments, refuse_memory, say, serve, show_usage, texts_of, words_of,
 };
@@ -111,5 +111,5 @@ fn serve_host<P: Port, E: Write>(options: &Options<'_>, port: &mut P, errors: &m
             return fault.status();
         }
     };
-    serve(&mut Session { guard }, NAME, port, errors)
+    serve(&mut Session::new(guard), NAME, port, errors)
 }

@@ -8,11 +8,13 @@ ghost use Rattle.pm_table.specs.Address.{IsAddress};
 ghost use Rattle.pmbhost_lines.specs.Options.{HasTexts, address_of, limited, limited_more, limited_once, limits_of, pmbhost, start_of, with_version};
 
 mod limit_text;
+mod missing;
 mod start_fault;
 
 use clap::{Command, Error};
 pub use limit_text::OutputLimits;
 use limit_text::read_limits;
+use missing::read_part;
 use pm_console::{VERSION, all_texts_of, text_of, with_option, with_repeated};
 use pm_limits::Guard;
 use pm_lines::{read_byte, read_u8};
@@ -37,6 +39,11 @@ const LINES: &str = "Each line of standard input gets one line at once. A line s
   band 0                         between which voltages an output may be, after learn
   limits 0                       the limits of an output, in microvolts
   narrow 0 3200000 3465000       give an output narrower limits, or its first ones
+  survey 0                       begin to read what decides an output's voltage, or go on with it
+  survey 0 VOUT_COMMAND=34CD     the same of what a plan of these words needs
+  rail 0                         what an output commands: if it is on, the band, if it is within limits
+  plan 0 VOUT_COMMAND=34CD       which order comes next, so that the output steps to these words at most once
+  next 0 VOUT_COMMAND=34CD       begin this order
   restart                        forget all but the limits
 An answer says:
   send B0 05 04 00 21 CD 34 5A   send this write, then say finished
@@ -49,7 +56,11 @@ An answer says:
   limits 3200000 3465000 | limits none
   narrowed
   restarted
-  refused H6 TooUncertain        nothing has changed: X1 to X3, S2, S3, H3 to H7, N3 to N5, L1 to L6
+  survey done | survey spent     all that it reads is known | no tries left
+  rail on 3300048 3300049 yes | rail off .. no | rail any
+  plan VOUT_MAX 3770 | plan done
+  refused H6 TooUncertain        nothing has changed: X1 to X3, S2, S3, H3 to H7, N3 to N5, L1 to L7
+  refused P4 NotKnown VOUT_MIN   the same: L7 and P1 to P7 of a plan, with the register that it is about
 
   $ echo 'order 0 VOUT_COMMAND 34CD' | pmbhost --address=58 --outputs=2 --passes=2
   send B0 05 04 00 21 CD 34 5A";
@@ -63,6 +74,8 @@ pub struct Options<'a> {
     pub outputs: &'a str,
     /// `--passes`: how many passes a job has at most, 1 to 15.
     pub passes: &'a str,
+    /// `--without`: the registers that the part doesn't have, with a comma between each.
+    pub without: &'a str,
     /// Each `--limit`, in their order: `O:LEAST:MOST`, the limits of an output in microvolts.
     pub limits: Vec<&'a str>,
 }
@@ -87,6 +100,7 @@ impl<'a> Options<'a> {
             address: text_of(&matches, "address"),
             outputs: text_of(&matches, "outputs"),
             passes: text_of(&matches, "passes"),
+            without: text_of(&matches, "without"),
             limits: all_texts_of(alloc, &matches, "limit")?,
         })
     }
@@ -106,7 +120,10 @@ impl<'a> Options<'a> {
         let Some(passes) = read_u8(self.passes.as_bytes()) else {
             return Err(StartFault::Passes);
         };
-        match Guard::new(address, outputs, passes, [None; 8]) {
+        let Some(part) = read_part(self.without) else {
+            return Err(StartFault::Without);
+        };
+        match Guard::of_part(address, outputs, passes, [None; 8], part) {
             Ok(guard) => with_limits(guard, self.limits.as_slice()),
             Err(fault) => Err(StartFault::Host(fault)),
         }
@@ -183,8 +200,14 @@ fn host_command<'a>(alloc: Global) -> Result<Command<'a>, AllocError>
         ("passes", "N"),
         "How many passes or tries a job has at most, 1 to 15",
     )?;
-    with_repeated(
+    let lacking = with_option(
         bounded,
+        alloc,
+        ("without", "NAME,.."),
+        "The registers that the part lacks, of VOUT_MAX, VOUT_MARGIN_HIGH, VOUT_MARGIN_LOW, VOUT_MIN",
+    )?;
+    with_repeated(
+        lacking,
         alloc,
         ("limit", "O:LEAST:MOST"),
         "The limits of an output's voltage in microvolts, once an output at most",

@@ -2,6 +2,7 @@ use crate::refusal::Refusal;
 use pm_frame::Frame;
 use pm_host::{JobEnd, Possible, Standing};
 use pm_limits::{Band, Limits};
+use pm_rail::{PlanOrder, Rail};
 use pm_table::Cell;
 
 /// The answer to a line.
@@ -30,6 +31,14 @@ pub enum Reply {
     Limits(Option<Limits>),
     /// `narrowed`: an output has the limits that were given.
     Narrowed,
-    /// `refused H6 TooUncertain`: nothing has changed.
+    /// `rail on 3300048 3300049 yes`: whether an output is on, between which voltages it commands, in whole microvolts, the
+    /// least rounded down and the greatest up, and whether these lie within its limits; `rail any` where there is no band.
+    Rail(Rail),
+    /// `plan VOUT_MAX 3770`: the order of a plan that comes next; `plan done` where none is left.
+    Plan(Option<PlanOrder>),
+    /// `survey done`: the survey has ended, and all that it was to read is known by good answers that came since it began;
+    /// `survey spent`: it has ended without that, since it has no tries left.
+    Survey(bool),
+    /// `refused H6 TooUncertain`, `refused P4 NotKnown VOUT_MIN`: nothing has changed.
     Refused(Refusal),
 }

@@ -3,16 +3,19 @@ ghost use Rattle.std.specs.Prelude.{◌≡◌, ◌+◌, ◌*◌, ◌≤◌, ◌+
 ghost use Rattle.std.specs.Fmt.{signed_decimal};
 ghost use Rattle.arrayvec.specs.ArrayVec.{array_vec_len};
 ghost use Rattle.pm_text.specs.Report.{cell_text, end_text, possible_text, spaced_words, standing_text};
-ghost use Rattle.pmbhost_lines.specs.ReplyText.{band_text, ceil_micros, limits_text, refusal_words, reply_text as spec_reply_text, reply_words, seen_text, spaced_pair};
+ghost use Rattle.pm_table.specs.Cell.{register_code};
+ghost use Rattle.pm_table.specs.Commands.{name_of};
+ghost use Rattle.pmbhost_lines.specs.ReplyText.{band_text, ceil_micros, limits_text, plan_text, power_text as spec_power_text, rail_text, refusal_code, refusal_text, refusal_words, reply_text as spec_reply_text, reply_words, seen_text, spaced_name, spaced_pair, survey_text, voltages_text, within_text as spec_within_text};
 
 use crate::refusal::Refusal;
 use crate::reply::Reply;
 use pm_console::{AnswerText, push_signed, push_spaced_bytes, push_text, push_word};
 use pm_host::{JobEnd, Possible, Standing};
-use pm_limits::{Band, Limits};
+use pm_limits::{Band, Limits, Within};
 use pm_lines::hex_digits;
 use pm_num::Frac;
-use pm_table::Cell;
+use pm_rail::{PlanOrder, Power, Rail};
+use pm_table::{Cell, Code, Reg};
 use pm_text::microvolts;
 
 /// The line of an answer, with its line feed.
@@ -65,9 +68,21 @@ fn push_reply(text: &mut AnswerText, reply: &Reply)
             push_limits(text, *limits);
         }
         Reply::Narrowed => push_text(text, b"narrowed"),
+        Reply::Rail(rail) => {
+            push_text(text, b"rail ");
+            push_rail(text, rail);
+        }
+        Reply::Plan(order) => {
+            push_text(text, b"plan ");
+            push_plan(text, *order);
+        }
+        Reply::Survey(done) => {
+            push_text(text, b"survey ");
+            push_survey(text, *done);
+        }
         Reply::Refused(refusal) => {
             push_text(text, b"refused ");
-            push_text(text, short_words(*refusal).as_bytes());
+            push_refusal(text, *refusal);
         }
     }
 }
@@ -92,9 +107,18 @@ fn push_band(text: &mut AnswerText, band: Option<Band>)
     ensures room { array_vec_len text.new ≤ array_vec_len text.old + 82 }
 {
     match band {
-        Some(band) => push_pair(text, microvolts(band.least), microvolts_up(band.greatest)),
+        Some(band) => push_voltages(text, band),
         None => push_text(text, b" unknown"),
     }
+}
+
+// Appends the ends of a band.
+fn push_voltages(text: &mut AnswerText, band: Band)
+    requires { array_vec_len text.old + 82 ≤ 128 }
+    ensures words { text.new.items ≡ text.old.items ++ voltages_text band }
+    ensures room { array_vec_len text.new ≤ array_vec_len text.old + 82 }
+{
+    push_pair(text, microvolts(band.least), microvolts_up(band.greatest));
 }
 
 // Appends limits.
@@ -140,6 +164,110 @@ fn push_number(text: &mut AnswerText, number: i128)
 {
     push_text(text, b" ");
     push_signed(text, number);
+}
+
+// Appends what an output commands.
+#[tactic(auto, using(pm_lines::proofs::Joins::joins))]
+fn push_rail(text: &mut AnswerText, rail: &Rail)
+    requires { array_vec_len text.old + 90 ≤ 128 }
+    ensures words { text.new.items ≡ text.old.items ++ rail_text rail.now }
+    ensures room { array_vec_len text.new ≤ array_vec_len text.old + 90 }
+{
+    match rail.band {
+        Some(band) => {
+            push_text(text, power_text(rail.power).as_bytes());
+            push_voltages(text, band);
+            push_text(text, b" ");
+            push_text(text, within_text(rail.within).as_bytes());
+        }
+        None => push_text(text, b"any"),
+    }
+}
+
+// Whether an output is on.
+fn power_text(power: Power) -> &'static str
+    ensures text { result.now ≡ spec_power_text power }
+    ensures short { length result.now ≤ 3 }
+{
+    match power {
+        Power::On => "on",
+        Power::Off => "off",
+        Power::NotKnown => "any",
+    }
+}
+
+// Whether it is within its limits.
+fn within_text(within: Within) -> &'static str
+    ensures text { result.now ≡ spec_within_text within }
+    ensures short { length result.now ≤ 3 }
+{
+    match within {
+        Within::Yes => "yes",
+        Within::No => "no",
+        Within::NotKnown => "any",
+    }
+}
+
+// Appends the order of a plan.
+#[tactic(auto, using(pm_lines::proofs::Joins::joins))]
+fn push_plan(text: &mut AnswerText, order: Option<PlanOrder>)
+    requires { array_vec_len text.old + 37 ≤ 128 }
+    ensures words { text.new.items ≡ text.old.items ++ plan_text order }
+    ensures room { array_vec_len text.new ≤ array_vec_len text.old + 37 }
+{
+    match order {
+        Some(order) => {
+            push_text(text, register_name(order.register).as_bytes());
+            push_text(text, b" ");
+            push_word(text, order.word);
+        }
+        None => push_text(text, b"done"),
+    }
+}
+
+// The name of a register, which is short.
+#[tactic(auto, using(crate::proofs::ShortNames::short_names))]
+fn register_name(register: Reg) -> &'static str
+    ensures name { result.now ≡ name_of (register_code register) }
+    ensures short { length result.now ≤ 32 }
+{
+    register.code().name()
+}
+
+// Appends how a survey has ended.
+fn push_survey(text: &mut AnswerText, done: bool)
+    requires { array_vec_len text.old + 5 ≤ 128 }
+    ensures words { text.new.items ≡ text.old.items ++ survey_text done }
+    ensures room { array_vec_len text.new ≤ array_vec_len text.old + 5 }
+{
+    if done {
+        push_text(text, b"done");
+    } else {
+        push_text(text, b"spent");
+    }
+}
+
+// Appends a refusal, and the name of what it is about.
+#[tactic(auto, using(pm_lines::proofs::Joins::joins))]
+fn push_refusal(text: &mut AnswerText, refusal: Refusal)
+    requires { array_vec_len text.old + 65 ≤ 128 }
+    ensures words { text.new.items ≡ text.old.items ++ refusal_text refusal }
+    ensures room { array_vec_len text.new ≤ array_vec_len text.old + 65 }
+{
+    push_text(text, short_words(refusal).as_bytes());
+    if let Some(code) = refusal.code() {
+        push_text(text, b" ");
+        push_text(text, short_name(code).as_bytes());
+    }
+}
+
+// The name of a code, which is short.
+#[tactic(auto, using(crate::proofs::ShortNames::short_names))]
+fn short_name(code: Code) -> &'static str
+    ensures name { result.now ≡ name_of code.0 }
+    ensures short { length result.now ≤ 32 }
+{
+    code.name()
 }
 
 // The words of a refusal, which are short.

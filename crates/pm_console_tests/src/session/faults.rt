@@ -3,15 +3,18 @@
 use crate::checks::equal;
 use pm_host::{HostFault, Untold};
 use pm_limits::LimitFault;
+use pm_rail::PlanFault;
+use pm_table::{Cell, Reg};
 use pmbhost_lines::{Refusal, StartFault};
 use std::fmt::Display;
 use std::process::Abort;
 use std::test::Fail;
 
-static START: [(StartFault, &str); 6] = [
+static START: [(StartFault, &str); 7] = [
     (StartFault::Address, "bad address"),
     (StartFault::Outputs, "bad outputs"),
     (StartFault::Passes, "bad passes"),
+    (StartFault::Without, "bad without"),
     (StartFault::Host(HostFault::OutputCount), "H1 OutputCount"),
     (StartFault::Limit, "bad limit"),
     (
@@ -20,7 +23,7 @@ static START: [(StartFault, &str); 6] = [
     ),
 ];
 
-static REFUSALS: [(Refusal, &str); 7] = [
+static REFUSALS: [(Refusal, &str); 10] = [
     (Refusal::Syntax, "X1 Syntax"),
     (Refusal::BadHex, "X2 BadHex"),
     (Refusal::TooLong, "X3 TooLong"),
@@ -28,6 +31,15 @@ static REFUSALS: [(Refusal, &str); 7] = [
     (Refusal::Untold(Untold::WrongKind), "S3 WrongKind"),
     (Refusal::Guard(LimitFault::Host(HostFault::Busy)), "H3 Busy"),
     (Refusal::Guard(LimitFault::BelowLimit), "L3 BelowLimit"),
+    (Refusal::Plan(PlanFault::Busy), "H3 Busy"),
+    (
+        Refusal::Plan(PlanFault::MissingRegister(Reg::VoutMax)),
+        "L7 MissingRegister",
+    ),
+    (
+        Refusal::Plan(PlanFault::NotKnown(Cell::Out(0, Reg::VoutMin))),
+        "P4 NotKnown",
+    ),
 ];
 
 // Each fault of a table is told by its text.

@@ -1,11 +1,12 @@
 //! Lines and their answers, one after another at one host.
 use crate::checks::is_true;
 use pm_limits::Guard;
-use pmbhost_lines::{answer_line, text_of};
+use pmbhost_lines::{Session, answer_line, text_of};
 use std::process::Abort;
 
-fn expect(rt: &impl Abort, guard: &mut Guard, line: &[u8], wanted: &str) {
-    let reply = answer_line(guard, line);
+/// The line has this answer.
+pub(super) fn expect(rt: &impl Abort, session: &mut Session, line: &[u8], wanted: &str) {
+    let reply = answer_line(session, line);
     is_true(rt, text_of(&reply).as_slice() == wanted.as_bytes(), &wanted);
 }
 
@@ -200,21 +201,21 @@ static BAND: [(&[u8], &str); 14] = [
     (b"band 1", "band unknown\n"),
 ];
 
-// A host of two outputs without limits.
-fn guard(rt: &impl Abort) -> Guard {
+/// A session with a host of two outputs without limits.
+pub(super) fn session(rt: &impl Abort) -> Session {
     match Guard::new(0x58, 2, 2, [None; 8]) {
-        Ok(guard) => guard,
+        Ok(guard) => Session::new(guard),
         Err(_) => panic!(rt; "a host"),
     }
 }
 
 #[test]
 fn limits_refuse_and_bands_are_told(rt: HostRuntime) {
-    let mut limited = guard(&rt);
+    let mut limited = session(&rt);
     for &(line, wanted) in &LIMITS {
         expect(&rt, &mut limited, line, wanted);
     }
-    let mut free = guard(&rt);
+    let mut free = session(&rt);
     for &(line, wanted) in &BAND {
         expect(&rt, &mut free, line, wanted);
     }
@@ -222,22 +223,22 @@ fn limits_refuse_and_bands_are_told(rt: HostRuntime) {
 
 #[test]
 fn each_line_has_its_answer(rt: HostRuntime) {
-    let mut guard = guard(&rt);
+    let mut session = session(&rt);
     for &(line, wanted) in &ORDER {
-        expect(&rt, &mut guard, line, wanted);
+        expect(&rt, &mut session, line, wanted);
     }
     for &(line, wanted) in &VOLTS {
-        expect(&rt, &mut guard, line, wanted);
+        expect(&rt, &mut session, line, wanted);
     }
     for &(line, wanted) in &OTHERS {
-        expect(&rt, &mut guard, line, wanted);
+        expect(&rt, &mut session, line, wanted);
     }
     for &(line, wanted) in &STORED {
-        expect(&rt, &mut guard, line, wanted);
+        expect(&rt, &mut session, line, wanted);
     }
     for &(line, wanted) in &REFUSED {
-        expect(&rt, &mut guard, line, wanted);
+        expect(&rt, &mut session, line, wanted);
     }
-    expect(&rt, &mut guard, &[b' '; 256], "refused X1 Syntax\n");
-    expect(&rt, &mut guard, &[b' '; 257], "refused X3 TooLong\n");
+    expect(&rt, &mut session, &[b' '; 256], "refused X1 Syntax\n");
+    expect(&rt, &mut session, &[b' '; 257], "refused X3 TooLong\n");
 }

@@ -44,7 +44,7 @@ fn an_answer_is_flushed_before_another_byte_is_read(rt: HostRuntime) {
         kept: Vec::new(rt.alloc()),
         whole: true,
     };
-    let result = converse(&mut Session { guard: guard(&rt) }, &mut port);
+    let result = converse(&mut Session::new(guard(&rt)), &mut port);
     equal(&rt, &result, &Ok(()), &1);
     is_true(&rt, port.whole, &2);
     let wanted = "cccccwwwwwwwwfccccccce".chars().chain("wwwwwf".chars());
@@ -80,7 +80,7 @@ fn talked(
     write_fails: usize,
 ) -> (Result<(), TextFault>, Vec<u8>) {
     let mut streams = streams(alloc, LINES, (read_fails, write_fails));
-    let result = converse(&mut Session { guard: guard(rt) }, &mut streams);
+    let result = converse(&mut Session::new(guard(rt)), &mut streams);
     (result, streams.sink.into_inner().taken)
 }
 

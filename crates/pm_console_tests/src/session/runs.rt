@@ -191,6 +191,42 @@ fn each_output_has_its_limits_once(rt: HostRuntime) {
     }
 }
 
+// The registers that a part lacks, the status, and what is written of them and said.
+static LACKING: [(&str, u8, &str, &str); 8] = [
+    ("--without=VOUT_MIN", 0, "seen no\n", ""),
+    (
+        "--without=VOUT_MAX,VOUT_MARGIN_HIGH,VOUT_MARGIN_LOW,VOUT_MIN",
+        0,
+        "seen no\n",
+        "",
+    ),
+    ("--without=", 0, "seen no\n", ""),
+    ("--without=VOUT_COMMAND", 2, "", "pmbhost: bad without\n"),
+    ("--without=OPERATION", 2, "", "pmbhost: bad without\n"),
+    (
+        "--without=VOUT_MIN,vout_max",
+        2,
+        "",
+        "pmbhost: bad without\n",
+    ),
+    ("--without=VOUT_MIN,", 2, "", "pmbhost: bad without\n"),
+    ("--without=,", 2, "", "pmbhost: bad without\n"),
+];
+
+#[test]
+fn a_part_may_lack_registers(rt: HostRuntime) {
+    for &(lacking, status, written, said) in &LACKING {
+        let words = [
+            "pmbhost",
+            "--address=58",
+            "--outputs=2",
+            "--passes=2",
+            lacking,
+        ];
+        expect_run(&rt, ran(rt.alloc(), Ok(&words), 0), status, written, said);
+    }
+}
+
 const HELP: &str = "\
 A proved PMBus host that is spoken to in lines, for scripts that drive a bus
 
@@ -200,6 +236,7 @@ Options:
       --address <HH>          The device's address, two hexadecimal digits from 08 to 77
       --outputs <N>           How many outputs the device has, 1 to 8
       --passes <N>            How many passes or tries a job has at most, 1 to 15
+      --without <NAME,..>     The registers that the part lacks, of VOUT_MAX, VOUT_MARGIN_HIGH, VOUT_MARGIN_LOW, VOUT_MIN
       --limit <O:LEAST:MOST>  The limits of an output's voltage in microvolts, once an output at most
   -h, --help                  Print help
   -V, --version               Print version
@@ -220,6 +257,11 @@ Each line of standard input gets one line at once. A line says:
   band 0                         between which voltages an output may be, after learn
   limits 0                       the limits of an output, in microvolts
   narrow 0 3200000 3465000       give an output narrower limits, or its first ones
+  survey 0                       begin to read what decides an output's voltage, or go on with it
+  survey 0 VOUT_COMMAND=34CD     the same of what a plan of these words needs
+  rail 0                         what an output commands: if it is on, the band, if it is within limits
+  plan 0 VOUT_COMMAND=34CD       which order comes next, so that the output steps to these words at most once
+  next 0 VOUT_COMMAND=34CD       begin this order
   restart                        forget all but the limits
 An answer says:
   send B0 05 04 00 21 CD 34 5A   send this write, then say finished
@@ -232,7 +274,11 @@ An answer says:
   limits 3200000 3465000 | limits none
   narrowed
   restarted
-  refused H6 TooUncertain        nothing has changed: X1 to X3, S2, S3, H3 to H7, N3 to N5, L1 to L6
+  survey done | survey spent     all that it reads is known | no tries left
+  rail on 3300048 3300049 yes | rail off .. no | rail any
+  plan VOUT_MAX 3770 | plan done
+  refused H6 TooUncertain        nothing has changed: X1 to X3, S2, S3, H3 to H7, N3 to N5, L1 to L7
+  refused P4 NotKnown VOUT_MIN   the same: L7 and P1 to P7 of a plan, with the register that it is about
 
   $ echo 'order 0 VOUT_COMMAND 34CD' | pmbhost --address=58 --outputs=2 --passes=2
   send B0 05 04 00 21 CD 34 5A

@@ -12,6 +12,8 @@ pub enum StartFault {
     Outputs,
     /// `--passes` isn't a number of 0 to 255.
     Passes,
+    /// `--without` names something else than VOUT_MAX, VOUT_MARGIN_HIGH, VOUT_MARGIN_LOW and VOUT_MIN.
+    Without,
     /// H1 or H2: the host can't have this many.
     Host(HostFault),
     /// A `--limit` isn't `O:LEAST:MOST`, or is a second one of its output.
@@ -32,6 +34,7 @@ impl StartFault {
             StartFault::Address => "bad address",
             StartFault::Outputs => "bad outputs",
             StartFault::Passes => "bad passes",
+            StartFault::Without => "bad without",
             StartFault::Host(fault) => fault.words(),
             StartFault::Limit => "bad limit",
             StartFault::Limits(fault) => fault.words(),

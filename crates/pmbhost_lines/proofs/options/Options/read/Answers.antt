@@ -23,6 +23,7 @@ returns-clause-texts c =
       address = text_at (codes "address") c.text_of.ensures found;
       outputs = text_at (codes "outputs") c.text_of-2.ensures found;
       passes = text_at (codes "passes") c.text_of-3.ensures found;
+      without = text_at (codes "without") c.text_of-4.ensures found;
       limits = c.in_ok-all_texts_of.ensures ∙ ap (λ (r : List Row). unwrap_or (all_of (codes "limit") r) []) found;
     }
 
