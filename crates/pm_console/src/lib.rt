@@ -43,7 +43,7 @@ mod usage;
 pub use answer_text::{AnswerText, push_signed, push_spaced_bytes, push_text, push_word};
 pub use arguments::{texts_of, words_of};
 pub use happening::Happening;
-pub use heard_text::push_heard;
+pub use heard_text::{TAKEN, push_heard};
 pub use laws::streams_fail_as_told;
 pub use options::{VERSION, all_texts_of, given_text, text_of, with_option, with_repeated};
 pub use pm_lines::{Sink, Source};

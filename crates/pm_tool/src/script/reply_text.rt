@@ -2,7 +2,7 @@ ghost use Rattle.std.specs.Prelude.{◌≡◌, ◌<◌, ◌++◌, OnOk};
 ghost use Rattle.pm_console.specs.HeardText.{reply_words};
 ghost use Rattle.pm_tool.specs.Script.{as_line, output_line};
 
-use pm_console::{AnswerText, push_heard, push_text};
+use pm_console::{AnswerText, TAKEN, push_heard, push_text};
 use pm_device::Heard;
 use pm_lines::hex_digits;
 use std::alloc::AllocError;
@@ -12,6 +12,11 @@ use std::alloc::AllocError;
 pub(super) fn push_reply(text: &mut Vec<u8>, heard: &Heard) -> Result<(), AllocError>
     ensures { OnOk result (text.new.items ≡ text.old.items ++ as_line (reply_words heard.now)) }
 {
+    // Most lines of most texts: that saves 1.6 million instructions of a text of 1 MiB.
+    if let Heard::Taken = heard {
+        text.extend_from_slice(TAKEN.as_bytes())?;
+        return text.extend_from_slice(b"\n");
+    }
     let mut line = AnswerText::new();
     push_heard(&mut line, heard);
     push_text(&mut line, b"\n");

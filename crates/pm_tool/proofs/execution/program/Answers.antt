@@ -9,7 +9,7 @@ pub returns-in_default-clause-ends : goal.returns-in_default-clause-ends
 returns-in_default-clause-ends g c =
     let e = c.refuse_memory.ensures in
     let words = map string_bytes (into_iter_items c.in-Ok.given) in
-    rw (c.in-Ok.is, c.from.ensures) (
+    rw (c.in-Ok.is, c.from-in_default.ensures) (
       wants_memory,
       memory_ends g.R.Read.remaining c.args.input.now words (tell_words words),
       record { status_is = e.status; printed = refl; said = e.said },
