@@ -8,8 +8,9 @@
     margin_high = "925mV"
     min = "0.86V"
     max = "0.94V"
+    on = true
 
-A rail has an output, its volts and its limits; margins, min and max (VOUT_MIN, VOUT_MAX) only where they are to be set.
+A rail has an output, its volts and its limits; margins, min and max (VOUT_MIN, VOUT_MAX) only where they are to be set. It is on, unless `on = false` says that it is off.
 Voltages are texts with their unit, exactly as they are written, to a whole microvolt. A file without `outputs = N` means a
 part with as many outputs as the highest that it names.
 """
@@ -26,7 +27,7 @@ from . import voltages
 SETTINGS = {"volts": "VOUT_COMMAND", "margin_high": "VOUT_MARGIN_HIGH", "margin_low": "VOUT_MARGIN_LOW", "max": "VOUT_MAX",
             "min": "VOUT_MIN"}
 WORDS = ("volts", "margin_low", "margin_high")
-KEYS = ("output", "limits", *SETTINGS)
+KEYS = ("output", "limits", "on", *SETTINGS)
 NAME = re.compile(r"[A-Za-z0-9_.+-]{1,32}\Z")
 MOST_BYTES = 1 << 20
 LIMITS_EXAMPLE = '["0.85V", "0.95V"]'
@@ -38,12 +39,13 @@ class BadRails(Exception):
 
 @dataclass
 class Rail:
-    """A rail: its limits and its settings in whole microvolts, by their names."""
+    """A rail: its limits and its settings in whole microvolts, by their names, and whether it is on."""
 
     name: str
     output: int
     limits: tuple[int, int]
     settings: dict[str, int] = field(default_factory=dict)
+    is_on: bool = True
 
 
 @dataclass
@@ -116,8 +118,12 @@ def rail_of(name: str, table: object) -> Rail:
         raise BadRails(f"{at}.output: give a whole number from 0 to 7")
     if not isinstance(pair, list) or len(pair) != 2:
         raise BadRails(f"{at}.limits: give the least and the most, as {LIMITS_EXAMPLE}")
+    is_on = table.get("on", True)
+    if not isinstance(is_on, bool):
+        raise BadRails(f"{at}.on: give true or false")
     least, most = (microvolts(f"{at}.limits", each) for each in pair)
-    rail = Rail(name, output, (least, most), {key: microvolts(f"{at}.{key}", table[key]) for key in SETTINGS if key in table})
+    settings = {key: microvolts(f"{at}.{key}", table[key]) for key in SETTINGS if key in table}
+    rail = Rail(name, output, (least, most), settings, is_on)
     judge(at, rail)
     return rail
 
