@@ -174,12 +174,10 @@ class Board:
             step = self.part.carried_out()
             if step.kind == "differs":
                 self.differs(it, step.word, held[it.register], differed)
+            elif step.kind == "done":
+                self.after_order(it)
             else:
-                self.look()
-                if step.kind == "done":
-                    self.after_order(it)
-                else:
-                    self.survey_behind(it)
+                self.survey_behind(it)
         else:
             raise Stopped(f"{rail.name}: after {MOST_ORDERS} orders it isn't as wanted")
         if self.surveyed_at[rail.name] != self.orders:
