@@ -4,6 +4,7 @@ from __future__ import annotations
 from dataclasses import dataclass, field
 from functools import lru_cache
 
+from . import probe
 from .errors import SetupRefused
 from .part import Output, Part
 from .plans import Survey, Wanted
@@ -12,6 +13,8 @@ from .values import NAMES
 
 # A model output whose three registers hold different words, by which word it commands.
 SELECTED = {3: "VOUT_COMMAND", 4: "VOUT_MARGIN_HIGH", 2: "VOUT_MARGIN_LOW"}
+# What stands among the registers that are missed for a format that isn't spoken here.
+FORMAT = "format"
 # A survey reads at most seven registers, each once, and but for one once more where an answer surprises; and the format.
 TRIES = 2 * 7
 
@@ -83,8 +86,9 @@ def survey(part: Pmbus, output: int, wanted: Wanted | None = None) -> Commanded:
         step = part.carried_out()
         it.told(step)
         if step.kind == "unknown" and sending is not None:
-            # The code stands last in a request, that of a learn is VOUT_MODE's.
-            missing[NAMES.get(sending.frame[-1], "VOUT_MODE")] = part.transfers.why()
+            # A request ends with its code: that of a learn is VOUT_MODE, which is no cell. With good answers alone it is the format.
+            register, why = NAMES.get(sending.frame[-1], "VOUT_MODE"), part.transfers.why()
+            missing[register if why else FORMAT] = why or probe.why_not_learned(part, output)
     found = commanded(part, output)
     found.missing, found.is_spent = missing, state == "spent"
     return found

@@ -1,4 +1,5 @@
-"""The commands that carry one job out: learn, read, set, word, on, off, margin, clear, store, restore."""
+"""The commands of one job, with what it wants before and behind: learn, read, survey, set, word, on, off, margin, clear, store,
+restore."""
 from __future__ import annotations
 
 import argparse
@@ -9,11 +10,11 @@ from .. import probe, voltages
 from ..errors import Refused
 from ..pmbus import Pmbus
 from ..rounded import is_near
-from ..survey import read as read_register
+from ..survey import read as read_register, survey
 from .answer import Answer, in_digits
 from .call import Call, said
 from .completion import completed_by
-from .outcome import DEVICE, REGISTERS, VOLTAGES, answer_of, cell_words, ended_badly, refused, surveyed
+from .outcome import DEVICE, REGISTERS, VOLTAGES, answer_of, cell_words, ended_badly, rail_words, refused, surveyed, why_not
 from .parser import BadCall, bus_options, shown, whole
 
 MARGIN_HIGH, MARGIN_LOW = 0xA8, 0x94
@@ -90,6 +91,9 @@ def add(commands: Any) -> None:
     found.add_argument("output", **device)
     completed_by(found.add_argument("register", metavar="REG", nargs="?", type=register_of((*REGISTERS, DEVICE)),
                                     help="VOUT_COMMAND if left out"), (*REGISTERS, DEVICE))
+    bus_options(found)
+    found = command("survey", survey_output, "reads what decides what an output commands, and tells that")
+    found.add_argument("output", **output)
     bus_options(found)
     found = command("set", set_voltage, "orders a voltage, and says what the output then commands", judge_order)
     found.add_argument("output", **output)
@@ -214,6 +218,17 @@ def read(arguments: argparse.Namespace) -> int:
     found = answer_of(arguments, part, register, "done")
     assert found.word is not None
     found.text = f"{cell_words(arguments, part, register, found.word)} confirmed"
+    return call.say(found)
+
+
+def survey_output(arguments: argparse.Namespace) -> int:
+    """What an output commands. The status is 0 where that is known, and lies within its limits."""
+    call: Call = arguments.call
+    state = survey(call.part(), arguments.output)
+    found = answer_of(arguments, call.part(), None, "told", text=rail_words(state))
+    found.commanded = state
+    if not state.is_well:
+        found.status, found.end, found.why = 1, "unsure", why_not(state)
     return call.say(found)
 
 

@@ -8,7 +8,7 @@ from .. import voltages
 from ..errors import SAYINGS, Refused
 from ..host import Step
 from ..pmbus import Pmbus
-from ..survey import Commanded, commanded, selection, survey
+from ..survey import FORMAT, Commanded, commanded, selection, survey
 from ..values import CODES
 from .answer import Answer, between, in_digits
 from .call import said
@@ -84,7 +84,7 @@ def with_why(part: Pmbus) -> str:
 def commanded_words(found: Commanded, register: str, microvolts: int | None) -> str:
     """What the output commands, behind an order of a register whose word has this value."""
     if found.missing:
-        return "; ".join(f"{name} gave no good answer" for name in found.missing)
+        return "; ".join("its format isn't known" if name == FORMAT else f"{name} gave no good answer" for name in found.missing)
     if found.selected is None or found.least is None or found.greatest is None:
         return "what the output commands isn't known"
     band, wanted = between(found.least, found.greatest), wanted_of(found, register, microvolts)
@@ -99,6 +99,11 @@ def commanded_words(found: Commanded, register: str, microvolts: int | None) -> 
     else:
         words = f"CUT: the output commands {band}"
     return words + limit_words(found)
+
+
+def rail_words(found: Commanded) -> str:
+    """What a rail commands, whatever was ordered last."""
+    return commanded_words(found, "VOUT_COMMAND", found.value if found.selected == "VOUT_COMMAND" else None)
 
 
 def selects(found: Commanded, register: str) -> bool:
@@ -164,7 +169,7 @@ def surveyed(arguments: argparse.Namespace, part: Pmbus, register: str, is_accep
 def why_not(found: Commanded) -> str:
     """Why an order that was confirmed isn't success."""
     if found.missing:
-        return "; ".join(f"{name}: {why or 'no good answer'}" for name, why in found.missing.items())
+        return "; ".join(why if name == FORMAT else f"{name}: {why or 'no good answer'}" for name, why in found.missing.items())
     if found.limits is not None and found.within is not True:
         return "the output isn't known to command a voltage within its limits" if found.within is None else \
             "the output commands a voltage outside its limits"

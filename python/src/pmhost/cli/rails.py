@@ -6,12 +6,11 @@ from typing import Any
 
 from .. import rails
 from ..apply import Board, Setting, Stopped
-from ..rails import SETTINGS, Rail
 from .answer import Answer, in_digits, number
 from .call import Call, said
 from .completion import FILES, completed_by
 from .orders import ACCEPT, STORES
-from .outcome import commanded_words
+from .outcome import rail_words
 from .parser import BadCall, bus_options, file_of
 
 
@@ -86,7 +85,8 @@ def told(arguments: argparse.Namespace, board: Board, run: Any) -> int:
     found = Answer(said(arguments), "stopped" if why else "would order" if is_dry else "done", status=1 if why else 0, why=why,
                    rows=rows(board, is_dry))
     if not call.is_json and board.settings:
-        call.say_lines([*table(board, is_dry), *(line_of(board, rail) for rail in board.rails if rail.name in board.surveys)])
+        surveyed = [rail for rail in board.rails if rail.name in board.surveys]
+        call.say_lines([*table(board, is_dry), *(f"{rail.name}: {rail_words(board.state(rail))}" for rail in surveyed)])
     if board.wants_store and not found.status and not is_dry:
         store(call, board, found)
     found.restart_seen = board.part.restart_seen
@@ -132,10 +132,9 @@ def table(board: Board, is_dry: bool) -> list[str]:
     return ["  ".join([*(each.ljust(width) for each, width in zip(line, wide)), line[4]]).rstrip() for line in lines]
 
 
-def line_of(board: Board, rail: Rail) -> str:
-    """What a rail's output commands."""
-    found = board.state(rail)
-    return f"{rail.name}: {commanded_words(found, SETTINGS['volts'], found.value if found.selected == SETTINGS['volts'] else None)}"
+def volts(board: Board, it: Setting, word: int | None) -> float | None:
+    """A word's volts."""
+    return None if word is None else number(board.format(it.rail).microvolts(word))
 
 
 def rows(board: Board, is_dry: bool) -> list[dict[str, object]]:
@@ -149,8 +148,8 @@ def rows(board: Board, is_dry: bool) -> list[dict[str, object]]:
             "commands": None if known is None or known.least is None else [number(known.least), number(known.greatest)],
             "within": None if known is None else known.within,
             "settings": [{
-                "register": it.register, "wanted": in_digits(it.register, it.asked), "wanted_volts": number(board.format(rail).microvolts(it.asked)),
-                "word": in_digits(it.register, it.last), "volts": None if it.last is None else number(board.format(rail).microvolts(it.last)),
+                "register": it.register, "wanted": in_digits(it.register, it.asked), "wanted_volts": volts(board, it, it.asked),
+                "word": in_digits(it.register, it.last), "volts": volts(board, it, it.last),
                 "state": "would be ordered" if is_dry and it.state == "differs" else it.state, "ordered": it.is_ordered,
             } for it in board.of(rail)]})
     return found
