@@ -277,7 +277,7 @@ class Board:
     def state(self, rail: Rail) -> Commanded:
         """What a rail commands, by what is known now, and what its last survey missed."""
         found, last = commanded(self.part, rail.output), self.surveys.get(rail.name, Commanded())
-        found.missing, found.is_spent = last.missing, last.is_spent
+        found.missing, found.unended = last.missing, last.unended
         return found
 
     def take(self) -> None:

@@ -11,6 +11,7 @@
     on = true
 
 A rail has an output, its volts and its limits; margins, min and max (VOUT_MIN, VOUT_MAX) only where they are to be set. It is on, unless `on = false` says that it is off.
+`without = ["VOUT_MIN"]` above the first rail names registers that the part doesn't have.
 Voltages are texts with their unit, exactly as they are written, to a whole microvolt. A file without `outputs = N` means a
 part with as many outputs as the highest that it names.
 """
@@ -27,6 +28,8 @@ from . import voltages
 SETTINGS = {"volts": "VOUT_COMMAND", "margin_high": "VOUT_MARGIN_HIGH", "margin_low": "VOUT_MARGIN_LOW", "max": "VOUT_MAX",
             "min": "VOUT_MIN"}
 WORDS = ("volts", "margin_low", "margin_high")
+# The registers that a part may be without.
+MISSABLE = ("VOUT_MAX", "VOUT_MARGIN_HIGH", "VOUT_MARGIN_LOW", "VOUT_MIN")
 KEYS = ("output", "limits", "on", *SETTINGS)
 NAME = re.compile(r"[A-Za-z0-9_.+-]{1,32}\Z")
 MOST_BYTES = 1 << 20
@@ -50,10 +53,15 @@ class Rail:
 
 @dataclass
 class Rails:
-    """The rails of a file, and how many outputs the part has."""
+    """The rails of a file, how many outputs the part has, and which registers it doesn't."""
 
     outputs: int
     rails: list[Rail]
+    without: tuple[str, ...] = ()
+
+    def part(self) -> tuple[int, dict[int, tuple[int, int]], tuple[str, ...]]:
+        """What a host is made for: the outputs, their limits, and the registers that are missing."""
+        return self.outputs, {rail.output: rail.limits for rail in self.rails}, self.without
 
 
 def read(path: str) -> Rails:
@@ -80,8 +88,8 @@ def read(path: str) -> Rails:
 def judged(found: dict[str, object]) -> Rails:
     """The rails of a table."""
     for key in found:
-        if key not in ("outputs", "rails"):
-            raise BadRails(f"{key}: there are `outputs` and `[rails.NAME]`")
+        if key not in ("outputs", "without", "rails"):
+            raise BadRails(f"{key}: there are `outputs`, `without` and `[rails.NAME]`")
     tables = found.get("rails")
     if not isinstance(tables, dict) or not tables:
         raise BadRails("no rails: give a table for each, as [rails.core]")
@@ -94,7 +102,18 @@ def judged(found: dict[str, object]) -> Rails:
     outputs = found.get("outputs", max(owners) + 1)
     if not is_whole(outputs) or not max(owners) < outputs <= 8:  # type: ignore[operator]
         raise BadRails(f"outputs: give a whole number from {max(owners) + 1} to 8")
-    return Rails(outputs, rails)  # type: ignore[arg-type]
+    return Rails(outputs, rails, without_of(found.get("without", []), rails))  # type: ignore[arg-type]
+
+
+def without_of(names: object, rails: list[Rail]) -> tuple[str, ...]:
+    """The registers that the part doesn't have, of which no rail has a setting."""
+    if not isinstance(names, list) or any(name not in MISSABLE for name in names):
+        raise BadRails(f"without: give a list of {', '.join(MISSABLE)}")
+    for rail in rails:
+        for key in rail.settings:
+            if SETTINGS[key] in names:
+                raise BadRails(f"rails.{rail.name}.{key}: `without` says that the part has no {SETTINGS[key]}")
+    return tuple(names)
 
 
 def is_whole(number: object) -> bool:

@@ -1,11 +1,12 @@
 """What an output commands: a survey of the library reads what decides, and the library says the rest."""
 from __future__ import annotations
 
+import contextlib
 from dataclasses import dataclass, field
 from functools import lru_cache
 
 from . import probe
-from .errors import SetupRefused
+from .errors import LimitRefused, SetupRefused
 from .part import Output, Part
 from .plans import Survey, Wanted
 from .pmbus import Pmbus
@@ -33,8 +34,8 @@ def selection(operation: int) -> tuple[str, bool] | None:
 @dataclass
 class Commanded:
     """What an output commands, by what is known. Voltages are in microvolts; what isn't known is None. `value` is that of the
-    selected register. Behind a survey `missing` has the register that gave no good answer, and why, and `is_spent` says that
-    the survey found no end."""
+    selected register. Behind a survey `missing` has the register that gave no good answer, and why, and `unended` says why the
+    survey came to no end otherwise."""
 
     selected: str | None = None
     value: int | None = None
@@ -44,12 +45,13 @@ class Commanded:
     limits: tuple[int, int] | None = None
     within: bool | None = None
     missing: dict[str, str] = field(default_factory=dict)
-    is_spent: bool = False
+    unended: str = ""
 
     @property
     def is_well(self) -> bool:
         """A survey came to its end, and the output is known to lie within its limits, or has none."""
-        return not self.missing and not self.is_spent and self.selected is not None and (self.limits is None or self.within is True)
+        is_known = not self.missing and not self.unended and self.selected is not None
+        return is_known and (self.limits is None or self.within is True)
 
     def is_value(self, microvolts: int) -> bool:
         """Whether it commands just this value, which is rounded down."""
@@ -90,11 +92,14 @@ def survey(part: Pmbus, output: int, wanted: Wanted | None = None) -> Commanded:
             register, why = NAMES.get(sending.frame[-1], "VOUT_MODE"), part.transfers.why()
             missing[register if why else FORMAT] = why or probe.why_not_learned(part, output)
     found = commanded(part, output)
-    found.missing, found.is_spent = missing, state == "spent"
+    found.missing = missing
+    found.unended = {"spent": "the part restarts again and again",
+                     "stuck": f"OPERATION selects {found.selected}, which the part doesn't have"}.get(state, "")
     return found
 
 
 def read(part: Pmbus, output: int, register: str) -> None:
-    """Reads a register, whatever comes."""
-    part.host.check(output, register)
-    part.carried_out()
+    """Reads a register, whatever comes. One that the part doesn't have is left out (L7)."""
+    with contextlib.suppress(LimitRefused):
+        part.host.check(output, register)
+        part.carried_out()

@@ -209,7 +209,10 @@ def read(arguments: argparse.Namespace) -> int:
         learned(part, arguments.output)
     if why := doubt(call, part, register):
         return call.say(not_told(arguments, part, why))
-    part.host.check(arguments.output or 0, register)
+    try:
+        part.host.check(arguments.output or 0, register)
+    except Refused as fault:
+        return call.say(refused(arguments, part, register, fault))
     step = part.carried_out()
     if why := doubt(call, part, register):
         return call.say(not_told(arguments, part, why))
@@ -253,7 +256,10 @@ def carried_out(arguments: argparse.Namespace, register: str, begin: Callable[[]
     part, output = call.part(), arguments.output
     held = None
     if wanted is not None:
-        part.host.check(output, register)
+        try:
+            part.host.check(output, register)
+        except Refused as fault:
+            return call.say(refused(arguments, part, register, fault))
         step = part.carried_out()
         if step.kind != "done":
             found = ended_badly(arguments, part, register, step)

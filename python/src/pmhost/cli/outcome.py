@@ -170,11 +170,11 @@ def why_not(found: Commanded) -> str:
     """Why an order that was confirmed isn't success."""
     if found.missing:
         return "; ".join(why if name == FORMAT else f"{name}: {why or 'no good answer'}" for name, why in found.missing.items())
+    if found.selected is None:
+        return "OPERATION holds a word that selects no register"
+    if found.unended:
+        return found.unended
     if found.limits is not None and found.within is not True:
         return "the output isn't known to command a voltage within its limits" if found.within is None else \
             "the output commands a voltage outside its limits"
-    if found.selected is None:
-        return "OPERATION holds a word that selects no register"
-    if found.is_spent:
-        return "the part restarts again and again"
     return "the output doesn't command what was ordered: VOUT_MAX or VOUT_MIN cuts it"
