@@ -1,6 +1,7 @@
 """The frames that `apply` sends, and in which order; and that limits reach the host."""
 import tempfile
 import unittest
+from fractions import Fraction
 
 from . import kernel
 from .runs import called
@@ -18,6 +19,29 @@ volts = "3V"
 limits = ["0.5V", "5V"]
 max = "4.5V"
 """
+CUT = """
+[rails.core]
+output = 0
+volts = "3.35V"
+limits = ["3V", "3.6V"]
+max = "3.4V"
+"""
+
+
+class Seen(kernel.Part):
+    """It keeps each voltage that output 0 commands behind a frame, where it is another than before."""
+
+    def __init__(self):
+        super().__init__()
+        self.seen = []
+
+    def hear(self, frame, ending):
+        answer = super().hear(frame, ending)
+        found = Fraction(*self.converter.commanded(0))
+        self.seen += [found] if self.seen[-1:] != [found] else []
+        return answer
+
+
 # PAGE_PLUS_WRITE of a word: address, 05, count 04, page, code.
 WRITE = "B0 05 04 "
 
@@ -41,9 +65,27 @@ class Orders(unittest.TestCase):
         self.assertEqual((status, err), (0, ""))
         # Rail a: the voltage, then the bounds that narrow; rail b: its bound widens before its voltage.
         self.assertEqual(self.places(part.lines), ["00 21", "00 24", "00 2B", "01 24", "01 21"])
-        # Rail a is surveyed, by its OPERATION, before rail b is written to.
-        first = next(place for place, line in enumerate(part.lines) if line.startswith(WRITE + "01"))
-        self.assertIn("B0 06 02 00 01 /", part.lines[:first])
+        # Rail a is surveyed, by its OPERATION, before rail b is written to, and again behind that.
+        last = max(place for place, line in enumerate(part.lines) if line.startswith(WRITE + "00"))
+        first, *_, end = (place for place, line in enumerate(part.lines) if line.startswith(WRITE + "01"))
+        for lines in (part.lines[last:first], part.lines[end:]):
+            self.assertIn("B0 06 02 00 01 /", lines)
+
+    def test_a_rail_that_is_cut_never_commands_the_word_that_it_holds(self):
+        """From 3.55 V, cut at 3.3 V, to 3.35 V: the bound that cuts rises behind the word, and never before it."""
+        part, seen = Seen(), [Fraction(0x34CD, 4096), Fraction(0x359A, 4096)]
+        for code, word in ((0x21, 0x38CD), (0x24, 0x34CD)):
+            part.converter.set((0, code), word)
+        _, status, out, err = self.apply(CUT, part=part)
+        self.assertEqual((status, err, part.seen), (0, "", seen))
+        self.assertEqual(self.places(part.lines), ["00 21", "00 24"])
+        self.assertIn("core: the output commands 3.350097V, within 3V to 3.6V\n", out)
+
+    def test_a_survey_ends_at_the_first_register_without_an_answer(self):
+        part = kernel.Part()
+        words = ["-b", "7", "-a", "58", "--outputs", "2", "--no-limit", "set", "0", "3.3V"]
+        status, _, err = called(words, kernel.FakeKernel(part, ["ok"] * 8 + ["deaf"] * 3))
+        self.assertEqual((status, part.lines[-1]), (1, "B0 06 02 00 24 /"), err)
 
     def test_everything_is_read_before_the_first_write(self):
         part, *_ = self.apply(TWO)

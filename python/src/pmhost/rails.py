@@ -8,8 +8,10 @@
     margin_high = "925mV"
     min = "0.86V"
     max = "0.94V"
+    on = true
 
-A rail has an output, its volts and its limits; margins, min and max (VOUT_MIN, VOUT_MAX) only where they are to be set.
+A rail has an output, its volts and its limits; margins, min and max (VOUT_MIN, VOUT_MAX) only where they are to be set. It is on, unless `on = false` says that it is off.
+`without = ["VOUT_MIN"]` above the first rail names registers that the part doesn't have.
 Voltages are texts with their unit, exactly as they are written, to a whole microvolt. A file without `outputs = N` means a
 part with as many outputs as the highest that it names.
 """
@@ -26,7 +28,9 @@ from . import voltages
 SETTINGS = {"volts": "VOUT_COMMAND", "margin_high": "VOUT_MARGIN_HIGH", "margin_low": "VOUT_MARGIN_LOW", "max": "VOUT_MAX",
             "min": "VOUT_MIN"}
 WORDS = ("volts", "margin_low", "margin_high")
-KEYS = ("output", "limits", *SETTINGS)
+# The registers that a part may be without.
+MISSABLE = ("VOUT_MAX", "VOUT_MARGIN_HIGH", "VOUT_MARGIN_LOW", "VOUT_MIN")
+KEYS = ("output", "limits", "on", *SETTINGS)
 NAME = re.compile(r"[A-Za-z0-9_.+-]{1,32}\Z")
 MOST_BYTES = 1 << 20
 LIMITS_EXAMPLE = '["0.85V", "0.95V"]'
@@ -38,20 +42,26 @@ class BadRails(Exception):
 
 @dataclass
 class Rail:
-    """A rail: its limits and its settings in whole microvolts, by their names."""
+    """A rail: its limits and its settings in whole microvolts, by their names, and whether it is on."""
 
     name: str
     output: int
     limits: tuple[int, int]
     settings: dict[str, int] = field(default_factory=dict)
+    is_on: bool = True
 
 
 @dataclass
 class Rails:
-    """The rails of a file, and how many outputs the part has."""
+    """The rails of a file, how many outputs the part has, and which registers it doesn't."""
 
     outputs: int
     rails: list[Rail]
+    without: tuple[str, ...] = ()
+
+    def part(self) -> tuple[int, dict[int, tuple[int, int]], tuple[str, ...]]:
+        """What a host is made for: the outputs, their limits, and the registers that are missing."""
+        return self.outputs, {rail.output: rail.limits for rail in self.rails}, self.without
 
 
 def read(path: str) -> Rails:
@@ -78,8 +88,8 @@ def read(path: str) -> Rails:
 def judged(found: dict[str, object]) -> Rails:
     """The rails of a table."""
     for key in found:
-        if key not in ("outputs", "rails"):
-            raise BadRails(f"{key}: there are `outputs` and `[rails.NAME]`")
+        if key not in ("outputs", "without", "rails"):
+            raise BadRails(f"{key}: there are `outputs`, `without` and `[rails.NAME]`")
     tables = found.get("rails")
     if not isinstance(tables, dict) or not tables:
         raise BadRails("no rails: give a table for each, as [rails.core]")
@@ -92,7 +102,18 @@ def judged(found: dict[str, object]) -> Rails:
     outputs = found.get("outputs", max(owners) + 1)
     if not is_whole(outputs) or not max(owners) < outputs <= 8:  # type: ignore[operator]
         raise BadRails(f"outputs: give a whole number from {max(owners) + 1} to 8")
-    return Rails(outputs, rails)  # type: ignore[arg-type]
+    return Rails(outputs, rails, without_of(found.get("without", []), rails))  # type: ignore[arg-type]
+
+
+def without_of(names: object, rails: list[Rail]) -> tuple[str, ...]:
+    """The registers that the part doesn't have, of which no rail has a setting."""
+    if not isinstance(names, list) or any(name not in MISSABLE for name in names):
+        raise BadRails(f"without: give a list of {', '.join(MISSABLE)}")
+    for rail in rails:
+        for key in rail.settings:
+            if SETTINGS[key] in names:
+                raise BadRails(f"rails.{rail.name}.{key}: `without` says that the part has no {SETTINGS[key]}")
+    return tuple(names)
 
 
 def is_whole(number: object) -> bool:
@@ -116,8 +137,12 @@ def rail_of(name: str, table: object) -> Rail:
         raise BadRails(f"{at}.output: give a whole number from 0 to 7")
     if not isinstance(pair, list) or len(pair) != 2:
         raise BadRails(f"{at}.limits: give the least and the most, as {LIMITS_EXAMPLE}")
+    is_on = table.get("on", True)
+    if not isinstance(is_on, bool):
+        raise BadRails(f"{at}.on: give true or false")
     least, most = (microvolts(f"{at}.limits", each) for each in pair)
-    rail = Rail(name, output, (least, most), {key: microvolts(f"{at}.{key}", table[key]) for key in SETTINGS if key in table})
+    settings = {key: microvolts(f"{at}.{key}", table[key]) for key in SETTINGS if key in table}
+    rail = Rail(name, output, (least, most), settings, is_on)
     judge(at, rail)
     return rail
 

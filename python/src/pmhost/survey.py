@@ -1,16 +1,23 @@
-"""What an output commands: its registers are read, and the host's band says the rest."""
+"""What an output commands: a survey of the library reads what decides, and the library says the rest."""
 from __future__ import annotations
 
+import contextlib
 from dataclasses import dataclass, field
 from functools import lru_cache
 
-from .errors import Refused, SetupRefused
+from . import probe
+from .errors import LimitRefused, SetupRefused
 from .part import Output, Part
+from .plans import Survey, Wanted
 from .pmbus import Pmbus
+from .values import NAMES
 
 # A model output whose three registers hold different words, by which word it commands.
 SELECTED = {3: "VOUT_COMMAND", 4: "VOUT_MARGIN_HIGH", 2: "VOUT_MARGIN_LOW"}
-BOUNDS = ("VOUT_MAX", "VOUT_MIN")
+# What stands among the registers that are missed for a format that isn't spoken here.
+FORMAT = "format"
+# A survey reads at most seven registers, each once, and but for one once more where an answer surprises; and the format.
+TRIES = 2 * 7
 
 
 @lru_cache(maxsize=None)
@@ -26,8 +33,9 @@ def selection(operation: int) -> tuple[str, bool] | None:
 
 @dataclass
 class Commanded:
-    """What an output commands, by its registers as they were just read. Voltages are in microvolts; what isn't known is
-    None. `value` is that of the selected register, `missing` has each register that gave no good answer, and why."""
+    """What an output commands, by what is known. Voltages are in microvolts; what isn't known is None. `value` is that of the
+    selected register. Behind a survey `missing` has the register that gave no good answer, and why, and `unended` says why the
+    survey came to no end otherwise."""
 
     selected: str | None = None
     value: int | None = None
@@ -37,50 +45,61 @@ class Commanded:
     limits: tuple[int, int] | None = None
     within: bool | None = None
     missing: dict[str, str] = field(default_factory=dict)
+    unended: str = ""
 
     @property
     def is_well(self) -> bool:
-        """Every register answered, and the output is known to lie within its limits, or has none."""
-        return not self.missing and self.selected is not None and (self.limits is None or self.within is True)
+        """A survey came to its end, and the output is known to lie within its limits, or has none."""
+        is_known = not self.missing and not self.unended and self.selected is not None
+        return is_known and (self.limits is None or self.within is True)
 
     def is_value(self, microvolts: int) -> bool:
         """Whether it commands just this value, which is rounded down."""
         return self.least == microvolts and self.greatest in (microvolts, microvolts + 1)
 
 
-def survey(part: Pmbus, output: int) -> Commanded:
-    """Reads OPERATION, VOUT_MAX, VOUT_MIN and the register that OPERATION selects, of an output whose format was learned, and
-    OPERATION once more: a restart meanwhile shows in what was read last, or leaves the registers as they were read."""
-    found = Commanded()
-    operation = read(part, output, "OPERATION", found)
-    for register in BOUNDS:
-        read(part, output, register, found)
+def only_word(part: Pmbus, output: int, register: str) -> int | None:
+    """The word of a register where no other is possible. One that is called confirmed may be stale behind a restart."""
+    found = part.host.possible(output, register)
+    return found[0] if found is not None and len(found) == 1 else None
+
+
+def commanded(part: Pmbus, output: int) -> Commanded:
+    """What an output commands, by what is known now."""
+    state, limits, form = part.host.rail(output), part.host.limits(output), part.host.format(output)
+    operation = only_word(part, output, "OPERATION")
     chosen = None if operation is None else selection(operation)
+    found = Commanded(is_on=state.is_on, limits=None if limits is None else (limits.least, limits.most),
+                      within=None if limits is None else state.within)
+    if state.band is not None:
+        found.least, found.greatest = state.band.least, state.band.greatest
     if chosen is not None:
-        word, form = read(part, output, chosen[0], found), part.host.format(output)
-        if read(part, output, "OPERATION", found) == operation:
-            found.selected, found.is_on = chosen
-            found.value = None if word is None or form is None else form.microvolts(word)
-    return judged(part, output, found)
-
-
-def read(part: Pmbus, output: int, register: str, found: Commanded) -> int | None:
-    """A register's word; where it gives no good answer, `found` notes why."""
-    part.host.check(output, register)
-    if part.carried_out().kind != "done":
-        found.missing[register] = part.transfers.why()
-        return None
-    return part.host.standing(output, register)
-
-
-def judged(part: Pmbus, output: int, found: Commanded) -> Commanded:
-    """The band and the limits, as the host has them."""
-    limits = part.host.limits(output)
-    found.limits = None if limits is None else (limits.least, limits.most)
-    found.within = None if limits is None else part.host.within(output)
-    try:
-        band = part.host.band(output)
-    except Refused:
-        return found
-    found.least, found.greatest = band.least, band.greatest
+        found.selected, word = chosen[0], only_word(part, output, chosen[0])
+        found.value = None if word is None or form is None else form.microvolts(word)
     return found
+
+
+def survey(part: Pmbus, output: int, wanted: Wanted | None = None) -> Commanded:
+    """Surveys an output: its format, OPERATION, the register that this selects, VOUT_MAX and VOUT_MIN; for a plan each register
+    of which a word is wanted, and WRITE_PROTECT, too. It ends at the first one that gives no good answer."""
+    it, missing, state = Survey(output, wanted, TRIES), dict[str, str](), "begun"
+    while not missing and (state := part.host.survey(it)) == "begun":
+        sending = part.host.sending()
+        step = part.carried_out()
+        it.told(step)
+        if step.kind == "unknown" and sending is not None:
+            # A request ends with its code: that of a learn is VOUT_MODE, which is no cell. With good answers alone it is the format.
+            register, why = NAMES.get(sending.frame[-1], "VOUT_MODE"), part.transfers.why()
+            missing[register if why else FORMAT] = why or probe.why_not_learned(part, output)
+    found = commanded(part, output)
+    found.missing = missing
+    found.unended = {"spent": "the part restarts again and again",
+                     "stuck": f"OPERATION selects {found.selected}, which the part doesn't have"}.get(state, "")
+    return found
+
+
+def read(part: Pmbus, output: int, register: str) -> None:
+    """Reads a register, whatever comes. One that the part doesn't have is left out (L7)."""
+    with contextlib.suppress(LimitRefused):
+        part.host.check(output, register)
+        part.carried_out()

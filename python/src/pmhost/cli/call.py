@@ -74,7 +74,7 @@ class Call:
         self.commands, self.kernel = commands, kernel
         self._bus: DeskBus | LinuxBus | None = None
         self._part: Pmbus | None = None
-        self._rails: tuple[int, dict[int, tuple[int, int]]] | None = None
+        self._rails: Rails | None = None
         self.under_way = self.maybe = self.unsaid = ""
         self.settled = NOTHING
         self._has_answered = False
@@ -82,6 +82,7 @@ class Call:
         self.address: int | None = self._one("address")
         self.outputs: int | None = self._one("outputs")
         self.passes: int = self._one("passes") or PASSES
+        self.without: tuple[str, ...] = self._one("without") or ()
         self.trace_path: str | None = self._one("trace")
         self.settle: int = self._one("settle") or 0
         self.patience: int | None = self._one("patience")
@@ -133,14 +134,15 @@ class Call:
                 raise BadCall(f"{said(each)}: output {named}: give {counted}, with --outputs {self.outputs}")
 
     def take_rails(self, arguments: argparse.Namespace, found: Rails) -> None:
-        """The outputs and the limits of a file of rails are those of the call. BadCall."""
-        for name in ("outputs", "limit", "no_limit"):
+        """What the part has and the limits are, by a file of rails, is so of the whole call. BadCall."""
+        for name in ("outputs", "limit", "no_limit", "without"):
             if self._all(name):
-                raise BadCall(f"{OPTIONS[name][0][-1]}: outputs and limits stand in the file of {arguments.command}")
-        limits = {rail.output: rail.limits for rail in found.rails}
-        if self._rails is not None and (found.outputs, limits) != self._rails:
+                what = "it stands" if name == "without" else "outputs and limits stand"
+                raise BadCall(f"{OPTIONS[name][0][-1]}: {what} in the file of {arguments.command}")
+        if self._rails is not None and found.part() != self._rails.part():
             raise BadCall(f"{said(arguments)}: another file of this call has other outputs or limits")
-        self._rails = self.outputs, self.limits = found.outputs, limits
+        self._rails = found
+        self.outputs, self.limits, self.without = found.part()
 
     def judge_write(self, arguments: argparse.Namespace) -> None:
         """What is written goes to a part of a known number of outputs."""
@@ -195,7 +197,7 @@ class Call:
         """The part on the bus, through the one host of the call."""
         if self._part is None:
             bus = self.patient()
-            self._part = Pmbus(bus, self.address or DESK_ADDRESS, self.counted(), self.passes)
+            self._part = Pmbus(bus, self.address or DESK_ADDRESS, self.counted(), self.passes, without=self.without)
             for output, (least, most) in self.limits.items():
                 self._part.host.narrow(output, least, most)
         return self._part

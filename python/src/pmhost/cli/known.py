@@ -7,7 +7,7 @@ from typing import Any
 from .. import voltages
 from ..host import Known
 from ..pmbus import Pmbus
-from ..survey import Commanded, judged
+from ..survey import commanded
 from .answer import Answer, between, in_digits, number
 from .call import Call, said
 from .outcome import VOLTAGES, limit_words
@@ -68,7 +68,7 @@ def band(arguments: argparse.Namespace) -> int:
     """Between which voltages an output may be, by what is known."""
     call: Call = arguments.call
     part = call.part()
-    found = judged(part, arguments.output, Commanded())
+    found = commanded(part, arguments.output)
     words = "not known: its format wasn't learned"
     if found.least is not None and found.greatest is not None:
         words = f"commands {between(found.least, found.greatest)}{limit_words(found)}"

@@ -1,4 +1,5 @@
-"""The commands that carry one job out: learn, read, set, word, on, off, margin, clear, store, restore."""
+"""The commands of one job, with what it wants before and behind: learn, read, survey, set, word, on, off, margin, clear, store,
+restore."""
 from __future__ import annotations
 
 import argparse
@@ -8,11 +9,12 @@ from typing import Any, Callable
 from .. import probe, voltages
 from ..errors import Refused
 from ..pmbus import Pmbus
-from ..survey import Commanded, read as read_register
+from ..rounded import is_near
+from ..survey import read as read_register, survey
 from .answer import Answer, in_digits
 from .call import Call, said
 from .completion import completed_by
-from .outcome import DEVICE, REGISTERS, VOLTAGES, answer_of, cell_words, ended_badly, refused, surveyed
+from .outcome import DEVICE, REGISTERS, VOLTAGES, answer_of, cell_words, ended_badly, rail_words, refused, surveyed, why_not
 from .parser import BadCall, bus_options, shown, whole
 
 MARGIN_HIGH, MARGIN_LOW = 0xA8, 0x94
@@ -55,6 +57,11 @@ def accept_of(word: str) -> int:
     return found
 
 
+# The option of commands that take a rounded word.
+ACCEPT: dict[str, Any] = {"type": accept_of, "metavar": "VOLTAGE",
+                          "help": "takes a word that the part made of the ordered one and that is this near, as 20mV"}
+
+
 def output_of(word: str) -> int | None:
     """An output, or None for - , which stands for the device."""
     return None if word == "-" else OUTPUT(word)
@@ -85,20 +92,21 @@ def add(commands: Any) -> None:
     completed_by(found.add_argument("register", metavar="REG", nargs="?", type=register_of((*REGISTERS, DEVICE)),
                                     help="VOUT_COMMAND if left out"), (*REGISTERS, DEVICE))
     bus_options(found)
-    accept = {"type": accept_of, "metavar": "VOLTAGE",
-              "help": "takes a word that the part made of the ordered one and that is this near, as 20mV"}
+    found = command("survey", survey_output, "reads what decides what an output commands, and tells that")
+    found.add_argument("output", **output)
+    bus_options(found)
     found = command("set", set_voltage, "orders a voltage, and says what the output then commands", judge_order)
     found.add_argument("output", **output)
     found.add_argument("microvolts", type=voltage_of, metavar="VOLTAGE", help="as 3.3V, 3300mV or 3300000uV")
     completed_by(found.add_argument("register", metavar="REG", nargs="?", type=register_of(VOLTAGES), default="VOUT_COMMAND",
                                     help="VOUT_COMMAND if left out"), VOLTAGES)
     bus_options(found)
-    found.add_argument("--accept", **accept)
+    found.add_argument("--accept", **ACCEPT)
     found = command("word", word, "orders a register's word", judge_word)
     found.add_argument("output", **device)
     completed_by(found.add_argument("register", metavar="REG", type=register_of((*REGISTERS, DEVICE))), (*REGISTERS, DEVICE))
     found.add_argument("digits", metavar="WORD", type=digits_of, help="in hexadecimal digits, as 34CD")
-    found.add_argument("--accept", **accept)
+    found.add_argument("--accept", **ACCEPT)
     bus_options(found)
     found = command("on", operate, "turns an output on, by OPERATION 80", judge_order)
     found.add_argument("output", **output)
@@ -201,7 +209,10 @@ def read(arguments: argparse.Namespace) -> int:
         learned(part, arguments.output)
     if why := doubt(call, part, register):
         return call.say(not_told(arguments, part, why))
-    part.host.check(arguments.output or 0, register)
+    try:
+        part.host.check(arguments.output or 0, register)
+    except Refused as fault:
+        return call.say(refused(arguments, part, register, fault))
     step = part.carried_out()
     if why := doubt(call, part, register):
         return call.say(not_told(arguments, part, why))
@@ -210,6 +221,17 @@ def read(arguments: argparse.Namespace) -> int:
     found = answer_of(arguments, part, register, "done")
     assert found.word is not None
     found.text = f"{cell_words(arguments, part, register, found.word)} confirmed"
+    return call.say(found)
+
+
+def survey_output(arguments: argparse.Namespace) -> int:
+    """What an output commands. The status is 0 where that is known, and lies within its limits."""
+    call: Call = arguments.call
+    state = survey(call.part(), arguments.output)
+    found = answer_of(arguments, call.part(), None, "told", text=rail_words(state))
+    found.commanded = state
+    if not state.is_well:
+        found.status, found.end, found.why = 1, "unsure", why_not(state)
     return call.say(found)
 
 
@@ -227,21 +249,6 @@ def not_told(arguments: argparse.Namespace, part: Pmbus, why: str) -> Answer:
                          f"answer of {DEVICE} at 48: {why}")
 
 
-def is_accepted(arguments: argparse.Namespace, part: Pmbus, register: str, wanted: int | None, held: tuple[int, ...] | None,
-                word: int | None) -> bool:
-    """Whether the part made a word of the ordered one that is near enough: it wasn't possible before, and lies within the limits."""
-    if wanted is None or word is None or held is None or word in held:
-        return False
-    form = part.host.format(arguments.output)
-    if form is None:
-        return False
-    try:
-        part.host.copy().order(arguments.output, register, word)
-    except Refused:
-        return False
-    return abs(form.microvolts(word) - wanted) <= int(arguments.accept)
-
-
 def carried_out(arguments: argparse.Namespace, register: str, begin: Callable[[], object], wanted: int | None = None) -> int:
     """An order: what became of it, and what the output then commands. `wanted` has the microvolts of an order whose word may
     be another one that is near: the register is read before it."""
@@ -249,7 +256,10 @@ def carried_out(arguments: argparse.Namespace, register: str, begin: Callable[[]
     part, output = call.part(), arguments.output
     held = None
     if wanted is not None:
-        part.host.check(output, register)
+        try:
+            part.host.check(output, register)
+        except Refused as fault:
+            return call.say(refused(arguments, part, register, fault))
         step = part.carried_out()
         if step.kind != "done":
             found = ended_badly(arguments, part, register, step)
@@ -266,7 +276,8 @@ def carried_out(arguments: argparse.Namespace, register: str, begin: Callable[[]
     step = part.carried_out()
     if why := doubt(call, part, register):
         return call.say(not_told(arguments, part, why))
-    if step.kind == "differs" and is_accepted(arguments, part, register, wanted, held, step.word):
+    if (step.kind == "differs" and wanted is not None
+            and is_near(part, output, register, wanted, int(arguments.accept), held, step.word)):
         return call.say(surveyed(arguments, part, register, is_accepted=True))
     if step.kind != "done":
         return call.say(ended_badly(arguments, part, register, step))
@@ -302,7 +313,7 @@ def prepared(part: Pmbus, output: int, register: str) -> None:
     """Limits judge an order of OPERATION by the registers that it may select, and each word by the output's format."""
     if learned(part, output) and register == "OPERATION":
         for each in VOLTAGES:
-            read_register(part, output, each, Commanded())
+            read_register(part, output, each)
 
 
 def operate(arguments: argparse.Namespace) -> int:

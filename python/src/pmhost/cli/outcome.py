@@ -8,7 +8,7 @@ from .. import voltages
 from ..errors import SAYINGS, Refused
 from ..host import Step
 from ..pmbus import Pmbus
-from ..survey import Commanded, judged, selection, survey
+from ..survey import FORMAT, Commanded, commanded, selection, survey
 from ..values import CODES
 from .answer import Answer, between, in_digits
 from .call import said
@@ -39,7 +39,7 @@ def answer_of(arguments: argparse.Namespace, part: Pmbus, register: str | None, 
     found = Answer(said(arguments), end, output=arguments.output, register=register,
                    restart_seen=part.host.restart_seen, **named)
     if arguments.output is not None:
-        found.commanded = judged(part, arguments.output, Commanded())
+        found.commanded = commanded(part, arguments.output)
     if register is not None:
         cell = (arguments.output or 0, register)
         found.word, found.possible = part.host.standing(*cell), part.host.possible(*cell)
@@ -84,7 +84,7 @@ def with_why(part: Pmbus) -> str:
 def commanded_words(found: Commanded, register: str, microvolts: int | None) -> str:
     """What the output commands, behind an order of a register whose word has this value."""
     if found.missing:
-        return "; ".join(f"{name} gave no good answer" for name in found.missing)
+        return "; ".join("its format isn't known" if name == FORMAT else f"{name} gave no good answer" for name in found.missing)
     if found.selected is None or found.least is None or found.greatest is None:
         return "what the output commands isn't known"
     band, wanted = between(found.least, found.greatest), wanted_of(found, register, microvolts)
@@ -99,6 +99,11 @@ def commanded_words(found: Commanded, register: str, microvolts: int | None) -> 
     else:
         words = f"CUT: the output commands {band}"
     return words + limit_words(found)
+
+
+def rail_words(found: Commanded) -> str:
+    """What a rail commands, whatever was ordered last."""
+    return commanded_words(found, "VOUT_COMMAND", found.value if found.selected == "VOUT_COMMAND" else None)
 
 
 def selects(found: Commanded, register: str) -> bool:
@@ -128,8 +133,8 @@ def is_well(found: Commanded, register: str, microvolts: int | None) -> bool:
 
 
 def surveyed(arguments: argparse.Namespace, part: Pmbus, register: str, is_accepted: bool = False) -> Answer:
-    """The answer to an order that is confirmed, or whose word is taken because it is near enough: what the output then commands
-    is read."""
+    """The answer to an order that is confirmed, or whose word is taken because it is near enough: a survey says what the output then
+    commands."""
     output, end = arguments.output, "accepted" if is_accepted else "done"
     found = answer_of(arguments, part, register, end)
     assert found.word is not None
@@ -143,18 +148,19 @@ def surveyed(arguments: argparse.Namespace, part: Pmbus, register: str, is_accep
         found.text = f"{words}; what the output commands isn't known, since its format wasn't learned"
         return found
     ordered, micro = found.word, found.microvolts
-    commanded = survey(part, output)
+    surveyed = survey(part, output)
     found = answer_of(arguments, part, register, end)
-    found.commanded = commanded
+    found.commanded = surveyed
     if found.word is not None and found.word != ordered:
         found.status, found.end = 1, "differs"
-        found.text = f"{cell_words(arguments, part, register, found.word)} differs; {commanded_words(commanded, register, micro)}"
+        found.text = f"{cell_words(arguments, part, register, found.word)} differs; " \
+            f"{commanded_words(surveyed, register, found.microvolts)}"
         found.why = (f"{in_digits(register, ordered)} was read back, and then {in_digits(register, found.word)}: the part "
                      "restarted, or another master wrote")
     else:
-        found.text = f"{words}; {commanded_words(commanded, register, micro)}"
-        if not is_well(commanded, register, micro):
-            found.status, found.end, found.why = 1, "cut" if commanded.is_well else "unsure", why_not(commanded)
+        found.text = f"{words}; {commanded_words(surveyed, register, micro)}"
+        if not is_well(surveyed, register, micro):
+            found.status, found.end, found.why = 1, "cut" if surveyed.is_well else "unsure", why_not(surveyed)
     if found.restart_seen:
         found.text += "; restart seen, or the part rounds" if is_accepted else "; restart seen"
     return found
@@ -163,10 +169,12 @@ def surveyed(arguments: argparse.Namespace, part: Pmbus, register: str, is_accep
 def why_not(found: Commanded) -> str:
     """Why an order that was confirmed isn't success."""
     if found.missing:
-        return "; ".join(f"{name}: {why or 'no good answer'}" for name, why in found.missing.items())
+        return "; ".join(why if name == FORMAT else f"{name}: {why or 'no good answer'}" for name, why in found.missing.items())
+    if found.selected is None:
+        return "OPERATION holds a word that selects no register"
+    if found.unended:
+        return found.unended
     if found.limits is not None and found.within is not True:
         return "the output isn't known to command a voltage within its limits" if found.within is None else \
             "the output commands a voltage outside its limits"
-    if found.selected is None:
-        return "OPERATION holds a word that selects no register"
     return "the output doesn't command what was ordered: VOUT_MAX or VOUT_MIN cuts it"

@@ -8,6 +8,7 @@ import re
 from typing import Any, Callable, NoReturn
 
 from .. import voltages
+from ..rails import MISSABLE
 from .completion import FILES, completed_by
 
 ADDRESS = re.compile(r"(?:0[xX])?([0-9A-Fa-f]{2})[hH]?\Z")
@@ -125,11 +126,21 @@ def file_of(word: str) -> str:
     return word
 
 
+def without_of(word: str) -> tuple[str, ...]:
+    """The registers that a part doesn't have."""
+    found = tuple(word.split(","))
+    for each in found:
+        if each not in MISSABLE:
+            raise argparse.ArgumentTypeError(f"without {shown(each)}: give registers of {', '.join(MISSABLE)}")
+    return found
+
+
 # The options of a bus: what argparse adds them with. Each stands in a list, so that one that stands twice is seen.
 OPTIONS: dict[str, tuple[tuple[str, ...], dict[str, Any]]] = {
     "bus": (("-b", "--bus"), {"type": bus_of, "metavar": "BUS", "help": "the number of /dev/i2c-BUS, or desk for a model part"}),
     "address": (("-a", "--address"), {"type": address_of, "metavar": "ADDRESS", "help": "the part's address, as 58"}),
     "outputs": (("--outputs",), {"type": whole(1, 8, "outputs"), "metavar": "N", "help": "how many outputs the part has"}),
+    "without": (("--without",), {"type": without_of, "metavar": "REG,..", "help": "registers that the part doesn't have, as VOUT_MIN"}),
     "limit": (("--limit",), {"type": limit_of, "metavar": "O:LEAST:MOST",
                              "help": f"the limits of an output, as {LIMIT_EXAMPLE}: no order beyond them is sent"}),
     "no_limit": (("--no-limit",), {"const": True, "help": "orders without limits"}),

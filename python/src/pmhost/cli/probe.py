@@ -5,6 +5,7 @@ import argparse
 from typing import Any
 
 from ..probe import REGISTERS, UNFIT, Found, FoundOutput, Probe, spaced
+from ..rails import MISSABLE
 from ..reads import Read
 from .answer import Answer, in_digits
 from .call import DESK_ADDRESS, Call, complain, said
@@ -47,7 +48,9 @@ def give_of(call: Call, found: Found) -> str:
     """The command line for this part, but for its commands and the limits of its outputs."""
     place = [DESK] if call.bus == DESK else [str(call.bus), "-a", f"{call.address:02X}"]
     limits = (f"--limit {each.number}:LEAST:MOST" for each in found.outputs)
-    return " ".join(["pmhost", "-b", *place, *(["--force"] if call.is_forced else []), "--outputs", str(len(found.outputs)), *limits])
+    lacked = ",".join(name for name in MISSABLE if all(name in each.missing for each in found.outputs))
+    return " ".join(["pmhost", "-b", *place, *(["--force"] if call.is_forced else []), "--outputs", str(len(found.outputs)),
+                     *(["--without", lacked] if lacked else []), *limits])
 
 
 def lines_of(found: Found) -> list[str]:

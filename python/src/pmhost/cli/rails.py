@@ -6,11 +6,11 @@ from typing import Any
 
 from .. import rails
 from ..apply import Board, Setting, Stopped
-from ..rails import SETTINGS
 from .answer import Answer, in_digits, number
 from .call import Call, said
 from .completion import FILES, completed_by
-from .outcome import commanded_words
+from .orders import ACCEPT, STORES
+from .outcome import rail_words
 from .parser import BadCall, bus_options, file_of
 
 
@@ -23,6 +23,9 @@ def add(commands: Any) -> None:
         found.set_defaults(run=run, judge_file=judge_file, dry_run=False, is_order=name == "apply")
         if name == "apply":
             found.add_argument("--dry-run", action="store_true", help="reads, and says what would be ordered")
+            found.add_argument("--store", action="store_true", dest="wants_store",
+                               help="has the part store its settings, once all rails are as the file has them")
+            found.add_argument("--accept", **ACCEPT)
         bus_options(found)
 
 
@@ -39,6 +42,7 @@ def judge_file(arguments: argparse.Namespace) -> None:
 def apply(arguments: argparse.Namespace) -> int:
     """Applies a file, or says what would be ordered."""
     board = board_of(arguments)
+    board.accept, board.wants_store = arguments.accept, arguments.wants_store
     return told(arguments, board, board.prepare if arguments.dry_run else board.apply)
 
 
@@ -75,22 +79,39 @@ def told(arguments: argparse.Namespace, board: Board, run: Any) -> int:
     except Stopped as stopped:
         why = str(stopped)
     call.maybe, is_dry = "", arguments.dry_run
+    board.take()
     if why and arguments.command == "apply" and not is_dry:
         why += after_a_stop(board)
     found = Answer(said(arguments), "stopped" if why else "would order" if is_dry else "done", status=1 if why else 0, why=why,
-                   restart_seen=board.part.restart_seen, rows=rows(board, is_dry))
+                   rows=rows(board, is_dry))
     if not call.is_json and board.settings:
-        call.say_lines([*table(board, is_dry), *(line_of(board, name) for name in board.commanded)])
+        surveyed = [rail for rail in board.rails if rail.name in board.surveys]
+        call.say_lines([*table(board, is_dry), *(f"{rail.name}: {rail_words(board.state(rail))}" for rail in surveyed)])
+    if board.wants_store and not found.status and not is_dry:
+        store(call, board, found)
+    found.restart_seen = board.part.restart_seen
     return call.say(found)
 
 
+def store(call: Call, board: Board, found: Answer) -> None:
+    """Has the part store its settings: acknowledged, and no more than that."""
+    call.maybe = STORES
+    try:
+        board.store()
+        found.status, found.why = call.unsure_of_last(True)
+    except Stopped as stopped:
+        found.status, found.why = 1, str(stopped)
+    found.end = "unknown" if found.status else "acknowledged"
+    found.text = f"store {found.end}" + ("" if found.status else "; a restart loads what was stored, where no pin overrides it")
+
+
 def after_a_stop(board: Board) -> str:
-    """What stays changed, and of what nothing was ordered."""
+    """What stays changed, what isn't known, and of what nothing was ordered."""
+    unknown = [it.name for it in board.settings if it.state == "unknown"]
     words = ""
-    if board.changed():
-        words += f"; stays changed, or may be: {', '.join(board.changed())}"
-    if board.untouched():
-        words += f"; nothing was ordered of {', '.join(board.untouched())}"
+    for said_of, names in (("stays changed, or may be: ", board.changed()), ("isn't known: ", unknown),
+                           ("nothing was ordered of ", board.untouched())):
+        words += f"; {said_of}{', '.join(names)}" if names else ""
     return words
 
 
@@ -105,31 +126,30 @@ def state_of(board: Board, it: Setting, is_dry: bool) -> str:
 def table(board: Board, is_dry: bool) -> list[str]:
     """The lines: rail, setting, wanted, read back, and confirmed or what else."""
     lines = [("rail", "setting", "wanted", "read back", "")]
-    lines += [(it.rail.name, it.register, board.shown(it, it.wanted), board.shown(it, it.last), state_of(board, it, is_dry))
+    lines += [(it.rail.name, it.register, board.shown(it, it.asked), board.shown(it, it.last), state_of(board, it, is_dry))
               for it in board.settings]
     wide = [max(len(line[at]) for line in lines) for at in range(4)]
     return ["  ".join([*(each.ljust(width) for each, width in zip(line, wide)), line[4]]).rstrip() for line in lines]
 
 
-def line_of(board: Board, name: str) -> str:
-    """What a rail's output commands."""
-    found, register = board.commanded[name], SETTINGS["volts"]
-    return f"{name}: {commanded_words(found, register, found.value if found.selected == register else None)}"
+def volts(board: Board, it: Setting, word: int | None) -> float | None:
+    """A word's volts."""
+    return None if word is None else number(board.format(it.rail).microvolts(word))
 
 
 def rows(board: Board, is_dry: bool) -> list[dict[str, object]]:
     """The same by names and numbers."""
     found: list[dict[str, object]] = []
     for rail in board.rails:
-        known = board.commanded.get(rail.name)
+        known = board.state(rail) if rail.name in board.surveys else None
         found.append({
             "rail": rail.name, "output": rail.output, "limits": [number(each) for each in rail.limits],
             "selected": known and known.selected, "on": None if known is None else known.is_on,
             "commands": None if known is None or known.least is None else [number(known.least), number(known.greatest)],
             "within": None if known is None else known.within,
             "settings": [{
-                "register": it.register, "wanted": in_digits(it.register, it.wanted), "wanted_volts": number(board.value(rail, it.wanted)),
-                "word": in_digits(it.register, it.last), "volts": None if it.last is None else number(board.value(rail, it.last)),
+                "register": it.register, "wanted": in_digits(it.register, it.asked), "wanted_volts": volts(board, it, it.asked),
+                "word": in_digits(it.register, it.last), "volts": volts(board, it, it.last),
                 "state": "would be ordered" if is_dry and it.state == "differs" else it.state, "ordered": it.is_ordered,
             } for it in board.of(rail)]})
     return found
