@@ -110,22 +110,22 @@ last-is [] (Finished acked ∷ frames) (x ∷ part) rest job f h =
     let same : x ≡ Finished acked = cc in
     let below : part ≡ frames ++ Accepted job ∷ [] = cc in
     inr (ap (λ (e : Entry). last_job ((e ∷ part) ++ rest)) same ∙ (ap (λ (es : List Entry). last_job (es ++ rest)) below ∙ last-of frames f)) where
-  last-of : (fs : List Entry) → Frames fs → last_job ((fs ++ Accepted job ∷ []) ++ rest) ≡ Some job
-  last-of [] g = refl
-  last-of (Finished a ∷ fs) g = last-of fs g
-  last-of (Got bytes' ∷ fs) g = last-of fs g
-  last-of (Accepted k ∷ fs) g = absurd g
-  last-of (Restarted ∷ fs) g = absurd g
+      last-of : (fs : List Entry) → Frames fs → last_job ((fs ++ Accepted job ∷ []) ++ rest) ≡ Some job
+      last-of [] g = refl
+      last-of (Finished a ∷ fs) g = last-of fs g
+      last-of (Got bytes' ∷ fs) g = last-of fs g
+      last-of (Accepted k ∷ fs) g = absurd g
+      last-of (Restarted ∷ fs) g = absurd g
 last-is [] (Got bytes ∷ frames) (x ∷ part) rest job f h =
     let same : x ≡ Got bytes = cc in
     let below : part ≡ frames ++ Accepted job ∷ [] = cc in
     inr (ap (λ (e : Entry). last_job ((e ∷ part) ++ rest)) same ∙ (ap (λ (es : List Entry). last_job (es ++ rest)) below ∙ last-of frames f)) where
-  last-of : (fs : List Entry) → Frames fs → last_job ((fs ++ Accepted job ∷ []) ++ rest) ≡ Some job
-  last-of [] g = refl
-  last-of (Finished a ∷ fs) g = last-of fs g
-  last-of (Got bytes' ∷ fs) g = last-of fs g
-  last-of (Accepted k ∷ fs) g = absurd g
-  last-of (Restarted ∷ fs) g = absurd g
+      last-of : (fs : List Entry) → Frames fs → last_job ((fs ++ Accepted job ∷ []) ++ rest) ≡ Some job
+      last-of [] g = refl
+      last-of (Finished a ∷ fs) g = last-of fs g
+      last-of (Got bytes' ∷ fs) g = last-of fs g
+      last-of (Accepted k ∷ fs) g = absurd g
+      last-of (Restarted ∷ fs) g = absurd g
 last-is (y ∷ front) [] (x ∷ part) rest job f h =
     absurd (not-empty front x part (let e : front ++ x ∷ part ≡ [] = cc in e))
 last-is (y ∷ front) (Accepted k ∷ frames) (x ∷ part) rest job f h = absurd f
@@ -233,9 +233,9 @@ idle-none ends config passes events idle =
     ap (λ (j : Option Job). option_and_then pending_of j)
     (sym (ends.job (setup_of config passes) (life config passes events).entries)
     ∙ (ap job_in (sym (host-is config passes events)) ∙ go (now config passes events).host.stage idle)) where
-  go : (stage : Option Stage) → is_some stage ≡ false → option_map stage_job stage ≡ None
-  go None i = refl
-  go (Some stage) i = cc
+      go : (stage : Option Stage) → is_some stage ≡ false → option_map stage_job stage ≡ None
+      go None i = refl
+      go (Some stage) i = cc
 
 -- where one is open, the last job is that one
 pending-last : (setup : Setup) (entries : List Entry) (job : Job) (p : PendingJob) → last_job entries ≡ Some job →
@@ -243,9 +243,9 @@ pending-last : (setup : Setup) (entries : List Entry) (job : Job) (p : PendingJo
 unfolding open_job
 pending-last setup entries job p last open' = go (is_none (end_of setup entries))
     (ap (λ (j : Option Job). option_and_then pending_of (cond (is_none (end_of setup entries)) j None)) (sym last) ∙ open') where
-  go : (b : Bool) → option_and_then pending_of (cond b (Some job) None) ≡ Some p → pending_of job ≡ Some p
-  go true e = e
-  go false e = cc
+      go : (b : Bool) → option_and_then pending_of (cond b (Some job) None) ≡ Some p → pending_of job ≡ Some p
+      go true e = e
+      go false e = cc
 
 pub left : (a b : Bool) → (a || b) ≡ false → a ≡ false
 left true b e = cc
@@ -430,9 +430,9 @@ one-begun (Began j ∷ acts) job h =
     let none : asked_in acts ≡ [] = cc in
     ap (λ (x : Job). with_job (asked_by (job_event x)) (jobs_begun acts)) same
     ∙ ap (λ (js : List Asked). with_job (asked_by (job_event job)) js) (no-more acts none) where
-  no-more : (list : List Act) → asked_in list ≡ [] → jobs_begun list ≡ []
-  no-more [] n = refl
-  no-more (Called call ∷ list) n = no-more list n
-  no-more (Began k ∷ list) n = cc
-  no-more (Renewed ∷ list) n = cc
+      no-more : (list : List Act) → asked_in list ≡ [] → jobs_begun list ≡ []
+      no-more [] n = refl
+      no-more (Called call ∷ list) n = no-more list n
+      no-more (Began k ∷ list) n = cc
+      no-more (Renewed ∷ list) n = cc
 one-begun (Renewed ∷ acts) job h = cc

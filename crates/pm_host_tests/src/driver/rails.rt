@@ -169,13 +169,7 @@ static ENDS: [(&[(usize, Wrong)], u16, ApplyEnd, usize, [u16; 2]); 12] = [
         [0x1000, 0x4000],
     ),
     // An order that differs is given once more.
-    (
-        &[(6, Lost)],
-        60,
-        ApplyEnd::Reached,
-        18,
-        [0x34CD, 0x3770],
-    ),
+    (&[(6, Lost)], 60, ApplyEnd::Reached, 18, [0x34CD, 0x3770]),
     // Where it differs again, that is the end.
     (
         &[(6, Lost), (8, Lost)],
@@ -358,7 +352,12 @@ fn a_survey_sends_a_frame_for_each_register(rt: HostRuntime) {
                     let mut survey = Survey::new(0, *wishes, 40);
                     let done = surveyed(&rt, &mut driver, &mut survey);
                     equal(&rt, &done, &Some(true), &(mode, registers));
-                    equal(&rt, &driver.bus().next, &(registers + more), &(mode, registers));
+                    equal(
+                        &rt,
+                        &driver.bus().next,
+                        &(registers + more),
+                        &(mode, registers),
+                    );
                 }
                 None => panic!(rt; "refused"),
             }
@@ -373,12 +372,22 @@ fn what_is_not_known_is_told(rt: HostRuntime) {
     match driver_over(BASE, 1, &plan) {
         Some(mut driver) => {
             let mut survey = Survey::new(0, None, 3);
-            equal(&rt, &surveyed(&rt, &mut driver, &mut survey), &Some(false), &1);
+            equal(
+                &rt,
+                &surveyed(&rt, &mut driver, &mut survey),
+                &Some(false),
+                &1,
+            );
             equal(&rt, &driver.bus().next, &3, &1);
             equal(&rt, &known(&rt, &driver, Reg::Operation), &Some(0x80), &1);
             equal(&rt, &known(&rt, &driver, Reg::VoutMax), &None, &1);
             survey.left = 2;
-            equal(&rt, &surveyed(&rt, &mut driver, &mut survey), &Some(true), &2);
+            equal(
+                &rt,
+                &surveyed(&rt, &mut driver, &mut survey),
+                &Some(true),
+                &2,
+            );
             equal(&rt, &driver.bus().next, &5, &2);
             equal(&rt, &known(&rt, &driver, Reg::VoutMax), &Some(0x4000), &2);
             equal(&rt, &known(&rt, &driver, Reg::MarginLow), &None, &2);
@@ -393,7 +402,12 @@ fn what_is_not_known_is_told(rt: HostRuntime) {
             equal(&rt, &end, &stopped(StopCause::Spent), &3);
             equal(&rt, &known(&rt, &driver, Reg::VoutCommand), &None, &3);
             equal(&rt, &known(&rt, &driver, Reg::VoutMax), &Some(0x4000), &3);
-            equal(&rt, &held(&driver.bus().device, Reg::VoutCommand), &0x34CD, &3);
+            equal(
+                &rt,
+                &held(&driver.bus().device, Reg::VoutCommand),
+                &0x34CD,
+                &3,
+            );
         }
         None => panic!(rt; "refused"),
     }
