@@ -19,6 +19,7 @@ use Rattle.pm_host.specs.Refusals.{is_busy}
 use Rattle.pm_host.specs.Summary.{Summary, sending_in, stage_message}
 use Rattle.pm_host.specs.Transcript.{Job, Order, Check, Learn, Send, Entry, Accepted, Finished, Got, Restarted, Setup, end_of, last_job, open_job}
 use Rattle.pm_rail.specs.Orders.{plan_of}
+use Rattle.pm_rail.specs.Lemmas.Steps.{left, right}
 use Rattle.pm_rail.specs.Registers.{Wants}
 use Rattle.pm_limits.specs.Bounds.{Bounds}
 use Rattle.std.specs.Prelude.{Ok}
@@ -36,6 +37,8 @@ use Rattle.pm_world.specs.Retelling.{open_pending, pending_of}
 use Rattle.pm_world.specs.Setup.{setup_of}
 use Rattle.pm_world.specs.State.{State, asked, share_beside, share_of, tells}
 use Rattle.pm_world.specs.Uncertainty.{job_event}
+use Rattle.pm_driver.proofs.Grown.{entries-more}
+use Rattle.pm_driver.proofs.UndisturbedOrders.{not-idle}
 use Rattle.pm_driver.specs.Lives.{jobs_asked, jobs_begun, with_job}
 use Rattle.pm_frame.specs.declared.message.Message.{Message}
 use Rattle.pm_frame.specs.Layout.{IsRequest, IsWrite}
@@ -137,30 +140,12 @@ last-is (y ∷ front) (Got bytes ∷ frames) (x ∷ part) rest job f h =
 
 -- ---- Acts ----
 
--- an idle host sends nothing
-silent : (s : Summary) → is_busy s ≡ false → sending_in s ≡ None
-silent s idle = go s.stage idle where
-  go : (stage : Option Stage) → is_some stage ≡ false → option_map stage_message stage ≡ None
-  go None h = refl
-  go (Some stage) h = cc
-
--- so it does no call
-no-call : (s : Summary) (call : Call) → is_busy s ≡ false → MayDo s (Called call) → ⊥
-no-call s (Wrote frame acked) idle may = go (sending_in s) (silent s idle) may where
-  go : (m : Option Message) → m ≡ None → IsSomeAnd m (λ message. IsWrite s.setup.addr message frame) → ⊥
-  go None e h = h
-  go (Some message) e h = cc
-no-call s (Read request room came) idle may = go (sending_in s) (silent s idle) may.0 where
-  go : (m : Option Message) → m ≡ None → IsSomeAnd m (λ message. IsRequest s.setup.addr message request) → ⊥
-  go None e h = h
-  go (Some message) e h = cc
-
 -- acts that begin no job are none
 no-acts : (s : Summary) (acts : List Act) → is_busy s ≡ false → AreDone s acts → asked_in acts ≡ [] → acts ≡ []
 no-acts s [] idle done none = refl
 no-acts s (Called call ∷ rest) idle done none =
     let below = no-acts s rest idle done.1 none in
-    absurd (no-call s call idle (subst (λ (r : List Act). MayDo (host_by s r) (Called call)) below done.0))
+    absurd (not-idle s call idle (subst (λ (r : List Act). MayDo (host_by s r) (Called call)) below done.0))
 no-acts s (Began job ∷ rest) idle done none = cc
 no-acts s (Renewed ∷ rest) idle done none = cc
 
@@ -197,17 +182,11 @@ told_in config passes before [] = []
 told_in config passes before (event ∷ older) =
     option_to_list (share_of (now config passes (older ++ before)) event).told ++ told_in config passes before older
 
-entries-next : (config : Config) (passes : ℕ) (before : List Event) (event : Event) →
-    (life config passes (event ∷ before)).entries
-    ≡ option_to_list (share_of (now config passes before) event).told ++ (life config passes before).entries
-unfolding life now
-entries-next config passes before event = refl
-
 pub entries-are : (config : Config) (passes : ℕ) (before events : List Event) →
     (life config passes (events ++ before)).entries ≡ told_in config passes before events ++ (life config passes before).entries
 entries-are config passes before [] = refl
 entries-are config passes before (event ∷ older) =
-    entries-next config passes (older ++ before) event
+    entries-more config passes (older ++ before) event
     ∙ ap (λ (es : List Entry). option_to_list (share_of (now config passes (older ++ before)) event).told ++ es)
     (entries-are config passes before older)
     ∙ sym (append_assoc (option_to_list (share_of (now config passes (older ++ before)) event).told)
@@ -246,14 +225,6 @@ pending-last setup entries job p last open' = go (is_none (end_of setup entries)
       go : (b : Bool) → option_and_then pending_of (cond b (Some job) None) ≡ Some p → pending_of job ≡ Some p
       go true e = e
       go false e = cc
-
-pub left : (a b : Bool) → (a || b) ≡ false → a ≡ false
-left true b e = cc
-left false b e = refl
-
-pub right : (a b : Bool) → (a || b) ≡ false → b ≡ false
-right true b e = cc
-right false b e = e
 
 -- ---- One job ----
 

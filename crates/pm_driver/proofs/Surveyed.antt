@@ -19,6 +19,7 @@ use Rattle.pm_limits.specs.Guard.{Guarded, guard_fault, limits_at, of_host}
 use Rattle.pm_rail.specs.declared.fault.PlanFault.TheVariants as Fault
 use Rattle.pm_rail.specs.declared.survey.Survey.{Survey}
 use Rattle.pm_rail.specs.declared.wanted.Wanted.{Wanted}
+use Rattle.pm_rail.specs.Lemmas.Steps.{first-of}
 use Rattle.pm_rail.specs.Known.{Cells, cells_of, known_at, known_of}
 use Rattle.pm_rail.specs.Orders.{is_unknown, missing_fault, planned_in, unknown_fault, unless}
 use Rattle.pm_rail.specs.Lemmas.Known.{IsPlanned, all-off, is-planned, unmapped}
@@ -61,11 +62,7 @@ map-so P f test (r ∷ list) job p is = go (test r) refl is (λ e. map-so P f te
   go true t e more = let same : f r ≡ job = cc in subst P same (p r t)
   go false t e more = more e
 
-first-true : (a b : Bool) → (a && b) ≡ true → a ≡ true
-first-true true b e = refl
-first-true false b e = cc
-
--- So what holds of the jobs that a survey may ask for holds of the one that it asks for.
+-- What holds of the jobs that a survey may ask for holds of the one that it asks for.
 pub asks-so : (P : Job → Type 0) (part : PartRegisters) (v : Survey) (s : Summary) → P (Learn v.output) →
     ((r : Reg) → has_register part r ≡ true → P (Check (Out v.output r))) →
     P (Check Protect) → (job : Job) → next_job part v s ≡ Some job → P job
@@ -86,12 +83,12 @@ asks-so P part v s learn check protect job is = go (v.left == 0) is where
     (λ one named. rule-so P (not v.learned) (Learn v.output) one learn named),
     (
       (λ one named. map-so P (λ register. Check (Out v.output register)) (is_unread part v.read held wants) registers one
-          (λ r t. check r (first-true (has_register part r) _ t)) named),
+          (λ r t. check r (first-of (has_register part r) _ t)) named),
       (
         (λ one named. rule-so P (is_some v.plan && not v.read.protect) (Check Protect) one protect named),
         (
           (λ one named. map-so P (λ register. Check (Out v.output register)) (is_unsure part cells v.output held wants) registers one
-              (λ r t. check r (first-true (has_register part r) _ t)) named),
+              (λ r t. check r (first-of (has_register part r) _ t)) named),
           ((λ one named. rule-so P (is_some v.plan && is_none (known_at cells Protect)) (Check Protect) one protect named), tt),
         ),
       ),

@@ -203,7 +203,7 @@ through laws host held cell word has free allowed frame request room writes read
 -- ---- the acts of an order
 
 -- an idle host sends nothing
-not-idle : (host : Summary) (call : Call) → is_busy host ≡ false → MayDo host (Called call) → ⊥
+pub not-idle : (host : Summary) (call : Call) → is_busy host ≡ false → MayDo host (Called call) → ⊥
 not-idle host (Wrote frame acked) idle may =
     let busy = busy-host (λ message. IsWrite host.setup.addr message frame) host may in cc
 not-idle host (Read request room came) idle may =
