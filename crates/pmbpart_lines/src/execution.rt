@@ -40,17 +40,35 @@ pub fn program<S: Setups, P: Port, E: Write>(
         (λ error. RunEnds P.goes run (S.has setups.now) (exit_status result) (Err (error_kind error))) }
     ensures status { exit_status result ≤ 2 }
 {
+    ExitCode::from(run_given(alloc, arguments, setups, port, errors))
+}
+
+// Runs the program over the arguments, and answers the status.
+fn run_given<S: Setups, P: Port, E: Write>(
+    alloc: Global,
+    arguments: io::Result<Args>,
+    setups: &S,
+    port: &mut P,
+    errors: &mut Sink<E>,
+) -> u8
+    requires { IsFalse errors.old.failed }
+    ensures { let run = over E.contents port.old port.new errors.old errors.new in
+        MatchResult arguments
+        (λ given. RunEnds P.goes run (S.has setups.now) result
+        (Ok (map string_bytes (into_iter_items given))))
+        (λ error. RunEnds P.goes run (S.has setups.now) result (Err (error_kind error))) }
+{
     let given = match arguments {
         Ok(given) => given,
-        Err(error) => return ExitCode::from(refuse_arguments(errors, NAME, error.kind())),
+        Err(error) => return refuse_arguments(errors, NAME, error.kind()),
     };
     let Ok(given) = texts_of(alloc, given) else {
-        return ExitCode::from(refuse_memory(errors, NAME));
+        return refuse_memory(errors, NAME);
     };
     let Ok(words) = words_of(alloc, &given) else {
-        return ExitCode::from(refuse_memory(errors, NAME));
+        return refuse_memory(errors, NAME);
     };
-    ExitCode::from(run(alloc, Ok(words.as_slice()), setups, port, errors))
+    run(alloc, Ok(words.as_slice()), setups, port, errors)
 }
 
 /// Runs the program: makes the converter that the words of the command line ask for, answers the lines that
