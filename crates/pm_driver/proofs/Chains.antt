@@ -6,6 +6,7 @@ use Rattle.pm_table.specs.declared.cell.Cell.TheVariants.{Out, Protect}
 use Rattle.pm_device.specs.declared.config.Config.{Config}
 use Rattle.pm_host.specs.declared.command.Command.TheVariants.{RestoreUserAll}
 use Rattle.pm_host.specs.Transcript.{Job, Order, Check, Learn, Send}
+use Rattle.pm_limits.specs.declared.part_registers.PartRegisters.{PartRegisters}
 use Rattle.pm_rail.specs.declared.orders.PlanOrder.{PlanOrder}
 use Rattle.pm_rail.specs.Orders.{plan_of}
 use Rattle.pm_rail.specs.Registers.{Wants}
@@ -38,44 +39,44 @@ last-longer config passes output (event ∷ older) evs before order h =
     (ap (λ (es : List Event). newest_order output (asked (now config passes es) event) (last_order config passes output older (evs ++ before)))
     (append_assoc older evs before) ∙ h)
 
-order-longer : (config : Config) (passes output : ℕ) (wants : Wants) (older evs before : List Event) (order : PlanOrder) →
-    IsPlansOrder config passes output wants older (evs ++ before) order →
-    IsPlansOrder config passes output wants (older ++ evs) before order
-order-longer config passes output wants older evs before order (inl planned) =
-    inl (planned.0, ap (λ (es : List Event). plan_of (now config passes es).host planned.0 output wants) (append_assoc older evs before) ∙ planned.1)
-order-longer config passes output wants older evs before order (inr again) =
+order-longer : (config : Config) (passes : ℕ) (part : PartRegisters) (output : ℕ) (wants : Wants) (older evs before : List Event) (order : PlanOrder) →
+    IsPlansOrder config passes part output wants older (evs ++ before) order →
+    IsPlansOrder config passes part output wants (older ++ evs) before order
+order-longer config passes part output wants older evs before order (inl planned) =
+    inl (planned.0, ap (λ (es : List Event). plan_of part (now config passes es).host planned.0 output wants) (append_assoc older evs before) ∙ planned.1)
+order-longer config passes part output wants older evs before order (inr again) =
     inr (last-longer config passes output older evs before order again)
 
-ask-longer : (config : Config) (passes output : ℕ) (wants : Wants) (older evs before : List Event) (job : Option Job) →
-    MayAsk config passes output wants older (evs ++ before) job → MayAsk config passes output wants (older ++ evs) before job
-ask-longer config passes output wants older evs before (Some (Order (Out other register) word)) m =
-    λ same. order-longer config passes output wants older evs before (record { register = register; word = word }) (m same)
-ask-longer config passes output wants older evs before (Some (Send RestoreUserAll)) m = absurd m
-ask-longer config passes output wants older evs before (Some (Send command)) m = tt
-ask-longer config passes output wants older evs before (Some (Order Protect word)) m = tt
-ask-longer config passes output wants older evs before (Some (Check cell)) m = tt
-ask-longer config passes output wants older evs before (Some (Learn learned)) m = tt
-ask-longer config passes output wants older evs before None m = tt
+ask-longer : (config : Config) (passes : ℕ) (part : PartRegisters) (output : ℕ) (wants : Wants) (older evs before : List Event) (job : Option Job) →
+    MayAsk config passes part output wants older (evs ++ before) job → MayAsk config passes part output wants (older ++ evs) before job
+ask-longer config passes part output wants older evs before (Some (Order (Out other register) word)) m =
+    λ same. order-longer config passes part output wants older evs before (record { register = register; word = word }) (m same)
+ask-longer config passes part output wants older evs before (Some (Send RestoreUserAll)) m = absurd m
+ask-longer config passes part output wants older evs before (Some (Send command)) m = tt
+ask-longer config passes part output wants older evs before (Some (Order Protect word)) m = tt
+ask-longer config passes part output wants older evs before (Some (Check cell)) m = tt
+ask-longer config passes part output wants older evs before (Some (Learn learned)) m = tt
+ask-longer config passes part output wants older evs before None m = tt
 
-pub follow-on : (config : Config) (passes output : ℕ) (wants : Wants) (events evs before : List Event) →
-    Follows config passes output wants events (evs ++ before) → Follows config passes output wants evs before →
-    Follows config passes output wants (events ++ evs) before
-follow-on config passes output wants [] evs before new old = old
-follow-on config passes output wants (event ∷ older) evs before new old = (
+pub follow-on : (config : Config) (passes : ℕ) (part : PartRegisters) (output : ℕ) (wants : Wants) (events evs before : List Event) →
+    Follows config passes part output wants events (evs ++ before) → Follows config passes part output wants evs before →
+    Follows config passes part output wants (events ++ evs) before
+follow-on config passes part output wants [] evs before new old = old
+follow-on config passes part output wants (event ∷ older) evs before new old = (
   new.0,
-  ap-may (append_assoc older evs before) (ask-longer config passes output wants older evs before _ new.1),
-  follow-on config passes output wants older evs before new.2 old,
+  ap-may (append_assoc older evs before) (ask-longer config passes part output wants older evs before _ new.1),
+  follow-on config passes part output wants older evs before new.2 old,
 )
   where
     ap-may : (older ++ evs) ++ before ≡ older ++ (evs ++ before) →
-        MayAsk config passes output wants (older ++ evs) before (asked (now config passes (older ++ (evs ++ before))) event) →
-        MayAsk config passes output wants (older ++ evs) before (asked (now config passes ((older ++ evs) ++ before)) event)
-    ap-may e m = subst (λ (es : List Event). MayAsk config passes output wants (older ++ evs) before (asked (now config passes es) event)) (sym e) m
+        MayAsk config passes part output wants (older ++ evs) before (asked (now config passes (older ++ (evs ++ before))) event) →
+        MayAsk config passes part output wants (older ++ evs) before (asked (now config passes ((older ++ evs) ++ before)) event)
+    ap-may e m = subst (λ (es : List Event). MayAsk config passes part output wants (older ++ evs) before (asked (now config passes es) event)) (sym e) m
 
-pub follows-drop : (config : Config) (passes output : ℕ) (wants : Wants) (rest events before : List Event) →
-    Follows config passes output wants (rest ++ events) before → Follows config passes output wants events before
-follows-drop config passes output wants [] events before follows = follows
-follows-drop config passes output wants (event ∷ rest) events before follows = follows-drop config passes output wants rest events before follows.2
+pub follows-drop : (config : Config) (passes : ℕ) (part : PartRegisters) (output : ℕ) (wants : Wants) (rest events before : List Event) →
+    Follows config passes part output wants (rest ++ events) before → Follows config passes part output wants events before
+follows-drop config passes part output wants [] events before follows = follows
+follows-drop config passes part output wants (event ∷ rest) events before follows = follows-drop config passes part output wants rest events before follows.2
 
 -- ---- Restarts ----
 

@@ -5,7 +5,7 @@ use Rattle.std.specs.Option.{option_map_or}
 use Rattle.std.proofs.Common.{inl, inr, sym, ◌∙◌, ap, subst, append_assoc}
 use Rattle.pm_table.specs.declared.cell.Cell.{Cell}
 use Rattle.pm_table.specs.declared.cell.Cell.TheVariants.{Out, Protect}
-use Rattle.pm_table.specs.Cell.{IsCell}
+use Rattle.pm_table.specs.Cell.{IsCell, same_cell}
 use Rattle.pm_model.specs.declared.pending_job.PendingJob.{PendingJob}
 use Rattle.pm_model.specs.declared.pending_job.PendingJob.TheVariants as pending
 use Rattle.pm_model.specs.Settings.{word_at}
@@ -17,22 +17,25 @@ use Rattle.pm_host.specs.Laws.{EndsAreTold}
 use Rattle.pm_host.specs.Now.{now as host_now}
 use Rattle.pm_host.specs.Refusals.{is_busy}
 use Rattle.pm_host.specs.Summary.{Summary, sending_in, stage_message}
-use Rattle.pm_host.specs.Transcript.{Job, Order, Check, Learn, Send, Entry, Accepted, Finished, Got, Restarted, Setup, end_of, last_job, open_job}
+use Rattle.pm_host.specs.Transcript.{Job, Order, Check, Learn, Send, Entry, Accepted, Finished, Got, Restarted, Setup, end_of, last_job, open_job, told_since}
+use Rattle.pm_host.specs.Answers.{good_word}
+use Rattle.pm_host.specs.Marks.{Good, goods, read_by}
 use Rattle.pm_rail.specs.Orders.{plan_of}
 use Rattle.pm_rail.specs.Lemmas.Steps.{left, right}
 use Rattle.pm_rail.specs.Registers.{Wants}
 use Rattle.pm_limits.specs.Bounds.{Bounds}
+use Rattle.pm_limits.specs.declared.part_registers.PartRegisters.{PartRegisters}
 use Rattle.std.specs.Prelude.{Ok}
 use Rattle.pm_world.specs.declared.event.Event.{Event}
 use Rattle.pm_world.specs.declared.event.Event.TheVariants.{RestartHost}
-use Rattle.pm_world.specs.Confirmed.{restarts_converter}
+use Rattle.pm_world.specs.Confirmed.{is_good_for, reads, reads_cell, restarts_converter}
 use Rattle.pm_world.specs.Ended.{begins_other}
 use Rattle.pm_world.specs.Job.{asked_by}
 use Rattle.pm_world.specs.Life.{life, now, state_of}
 use Rattle.pm_world.specs.Lived.{IsLived}
 use Rattle.pm_world.specs.Moves.{MovesBy, SettingsMoveByTheOpenJob, came_back, ordered, restored}
 use Rattle.pm_world.specs.Plans.{Follows, MayAsk}
-use Rattle.pm_world.specs.Possible.{restarts_host}
+use Rattle.pm_world.specs.Possible.{has_read, restarts_host}
 use Rattle.pm_world.specs.Retelling.{open_pending, pending_of}
 use Rattle.pm_world.specs.Setup.{setup_of}
 use Rattle.pm_world.specs.State.{State, asked, share_beside, share_of, tells}
@@ -45,12 +48,12 @@ use Rattle.pm_frame.specs.Layout.{IsRequest, IsWrite}
 use Rattle.pm_driver.specs.Acts.{Act, AreDone, Began, Call, Called, MayDo, Read, Renewed, Wrote, asked_in, host_by, told_all}
 
 -- the jobs of a plan: its next order by what the host knows, and besides checks and learns
-abbrev pub MayRun : Summary → ℕ → Wants → Job → Type 0
-MayRun host output wants (Order (Out other register) word) =
-    (limits : Option Bounds) × (plan_of host limits output wants ≡ Ok (Some (record { register = register; word = word })))
-MayRun host output wants (Check cell) = Unit {0}
-MayRun host output wants (Learn learned) = Unit {0}
-MayRun host output wants job = ⊥
+abbrev pub MayRun : PartRegisters → Summary → ℕ → Wants → Job → Type 0
+MayRun part host output wants (Order (Out other register) word) =
+    (limits : Option Bounds) × (plan_of part host limits output wants ≡ Ok (Some (record { register = register; word = word })))
+MayRun part host output wants (Check cell) = Unit {0}
+MayRun part host output wants (Learn learned) = Unit {0}
+MayRun part host output wants job = ⊥
 
 -- ---- Lists ----
 
@@ -233,6 +236,10 @@ pub record LeavesAlone (job : Job) (cell : Cell) : Type 0 where
   pub orders : (word : ℕ) → pending_of job ≡ Some (pending.Order cell word) → ⊥
   pub restores : pending_of job ≡ Some pending.Restore → ⊥
 
+-- A job reads no answer for a cell.
+abbrev pub LeavesUnread : Job → Cell → Type 0
+LeavesUnread job cell = (told : List Entry) (c : Cell) → read_by (Some job) told ≡ Some c → same_cell c cell ≡ false
+
 module _ (config : Config) (passes : ℕ) (before : List Event) (host : Summary) (job : Job)
     (is_host : (now config passes before).host ≡ host) (idle : is_busy host ≡ false)
     (frames : List Entry) (are : Frames frames) where
@@ -251,11 +258,11 @@ module _ (config : Config) (passes : ℕ) (before : List Event) (host : Summary)
   host-there older none = host-same config passes (older ++ before) before
       (entries-are config passes before older ∙ ap (λ (t : List Entry). t ++ (life config passes before).entries) none) ∙ is_host
 
-  module _ (output : ℕ) (wants : Wants) (may : MayRun host output wants job) where
-    may-ask : (j : Job) (older : List Event) → MayRun host output wants j → (now config passes (older ++ before)).host ≡ host →
-        MayAsk config passes output wants older before (Some j)
+  module _ (part : PartRegisters) (output : ℕ) (wants : Wants) (may : MayRun part host output wants job) where
+    may-ask : (j : Job) (older : List Event) → MayRun part host output wants j → (now config passes (older ++ before)).host ≡ host →
+        MayAsk config passes part output wants older before (Some j)
     may-ask (Order (Out other register) word) older m e =
-        λ same. inl (m.0, ap (λ (s : Summary). plan_of s m.0 output wants) e ∙ m.1)
+        λ same. inl (m.0, ap (λ (s : Summary). plan_of part s m.0 output wants) e ∙ m.1)
     may-ask (Order Protect word) older m e = absurd m
     may-ask (Check cell) older m e = tt
     may-ask (Learn learned) older m e = tt
@@ -263,7 +270,7 @@ module _ (config : Config) (passes : ℕ) (before : List Event) (host : Summary)
 
     pub follows : (events : List Event) (front : List Entry) →
         front ++ told_in config passes before events ≡ frames ++ Accepted job ∷ [] →
-        list_any restarts_converter events ≡ false → Follows config passes output wants events before
+        list_any restarts_converter events ≡ false → Follows config passes part output wants events before
     follows [] front h steady = tt
     follows (event ∷ older) front h steady = (
       left (restarts_converter event) _ steady,
@@ -274,11 +281,11 @@ module _ (config : Config) (passes : ℕ) (before : List Event) (host : Summary)
     )
       where
         asks : (j : Option Job) → asked (now config passes (older ++ before)) event ≡ j →
-            MayAsk config passes output wants older before j
+            MayAsk config passes part output wants older before j
         asks None a = tt
         asks (Some j) a =
             let is = found front event older j h a in
-            subst (λ (x : Job). MayAsk config passes output wants older before (Some x)) (sym is.0)
+            subst (λ (x : Job). MayAsk config passes part output wants older before (Some x)) (sym is.0)
             (may-ask job older may (host-there older is.1))
 
   module _ (ends : EndsAreTold) (moves : SettingsMoveByTheOpenJob) (cell : Cell) (there : IsCell config.count cell) (alone : LeavesAlone job cell) where
@@ -301,7 +308,7 @@ module _ (config : Config) (passes : ℕ) (before : List Event) (host : Summary)
     unmoved older front event word h steady (ordered arrival takes) = alone.orders word (never older front _ h takes.opened)
     unmoved older front event word h steady (restored arrival takes out e) = alone.restores (never older front _ h takes.opened)
 
-    -- so its word stays
+    -- the word of a cell that the job leaves alone stays
     pub stays : (events : List Event) (front : List Entry) →
         front ++ told_in config passes before events ≡ frames ++ Accepted job ∷ [] →
         list_any restarts_converter events ≡ false → IsLived config passes (events ++ before) →
@@ -329,6 +336,71 @@ module _ (config : Config) (passes : ℕ) (before : List Event) (host : Summary)
         (append_assoc front told (told_in config passes before (rest ++ part)) ∙ h)
         (right (restarts_converter event) _ steady)
         (record { sound = lived.sound; made = lived.made; legal = lived.legal.1 })
+
+  module _ (ends : EndsAreTold) (cell : Cell) (unread : LeavesUnread job cell) where
+    -- what is told gives no good answer for the cell
+    reads-none : (setup : Setup) (entries : List Entry) (o : Option Job) → open_job setup entries ≡ o → (o ≡ None) ⊎ (o ≡ Some job) →
+        (told : Option Entry) → reads setup entries cell told ≡ false
+    unfolding goods
+    reads-none setup entries o is either (Some (Got bytes)) =
+        by (read_by (open_job setup entries) (told_since entries)) (λ c e. one c e) where
+      one : (c : Cell) → read_by (open_job setup entries) (told_since entries) ≡ Some c → same_cell c cell ≡ false
+      one c e = elim either [
+        | inl none ↦ absurd (let bad = sym (ap (λ (x : Option Job). read_by x (told_since entries)) (is ∙ none)) ∙ e in cc)
+        | inr this ↦ unread (told_since entries) c (sym (ap (λ (x : Option Job). read_by x (told_since entries)) (is ∙ this)) ∙ e)
+      ]
+
+      by : (r : Option Cell) → ((c : Cell) → r ≡ Some c → same_cell c cell ≡ false) →
+          list_any (is_good_for cell) (option_to_list (option_and_then
+          (λ c. option_map (λ word. Good c word) (good_word setup.addr c bytes)) r)) ≡ false
+      by None f = refl
+      by (Some c) f = word-by (good_word setup.addr c bytes) where
+        word-by : (w : Option ℕ) → list_any (is_good_for cell) (option_to_list (option_map (λ word. Good c word) w)) ≡ false
+        word-by None = refl
+        word-by (Some w) = ap (λ (b : Bool). b || false) (f c refl)
+    reads-none setup entries o is either None = refl
+    reads-none setup entries o is either (Some (Accepted j)) = refl
+    reads-none setup entries o is either (Some (Finished acked)) = refl
+    reads-none setup entries o is either (Some Restarted) = refl
+
+    open-is : (older : List Event) (front : List Entry) →
+        front ++ told_in config passes before older ≡ frames ++ Accepted job ∷ [] →
+        (o : Option Job) → open_job (setup_of config passes) (life config passes (older ++ before)).entries ≡ o → (o ≡ None) ⊎ (o ≡ Some job)
+    unfolding open_job
+    open-is older front h o is = elim (last-is front frames (told_in config passes before older) (life config passes before).entries job are h) [
+      | inl none ↦ inl (sym is ∙ (sym (ends.job (setup_of config passes) (life config passes (older ++ before)).entries)
+          ∙ (ap job_in (sym (host-is config passes (older ++ before)))
+          ∙ no-stage (now config passes (older ++ before)).host.stage (ap (λ (s : Summary). is_busy s) (host-there older none) ∙ idle))))
+      | inr last ↦ last-by (is_none (end_of (setup_of config passes) (life config passes (older ++ before)).entries))
+          (sym (ap (λ (j : Option Job). cond (is_none (end_of (setup_of config passes) (life config passes (older ++ before)).entries)) j None)
+          (ap (λ (es : List Entry). last_job es) (entries-are config passes before older) ∙ last)) ∙ is)
+    ]
+      where
+        no-stage : (stage : Option Stage) → is_some stage ≡ false → option_map stage_job stage ≡ None
+        no-stage None i = refl
+        no-stage (Some stage) i = cc
+
+        last-by : (b : Bool) → cond b (Some job) None ≡ o → (o ≡ None) ⊎ (o ≡ Some job)
+        last-by true e = inr (sym e)
+        last-by false e = inl (sym e)
+
+    -- a cell that the job leaves unread stays unread
+    pub stays-unread : (events : List Event) (front : List Entry) →
+        front ++ told_in config passes before events ≡ frames ++ Accepted job ∷ [] →
+        has_read config passes cell before ≡ false → has_read config passes cell (events ++ before) ≡ false
+    unfolding has_read
+    stays-unread [] front h was = was
+    stays-unread (event ∷ older) front h was =
+        let told = option_to_list (share_of (now config passes (older ++ before)) event).told in
+        let below = append_assoc front told (told_in config passes before older) ∙ h in
+        go (restarts_host event) (reads_cell config passes cell (older ++ before) event) (has_read config passes cell (older ++ before))
+        (reads-none (setup_of config passes) (life config passes (older ++ before)).entries _ refl (open-is older (front ++ told) below _ refl)
+        (share_of (now config passes (older ++ before)) event).told)
+        (stays-unread older (front ++ told) below was) where
+      go : (host' one rest : Bool) → one ≡ false → rest ≡ false → cond host' false (one || rest) ≡ false
+      go true one rest e f = refl
+      go false true rest e f = cc
+      go false false rest e f = f
 
   -- the earlier events of a list are told behind something
   pub told-drop : (newer rest : List Event) (front : List Entry) →

@@ -1,5 +1,5 @@
 -- What a survey asks for is refused by nothing where no job is open.
-use Rattle.std.specs.Prelude.{◌≡◌, ◌<◌, ◌==◌, ◌&&◌, ◌||◌, ℕ, Bool, true, false, not, nat_lt, if◌then◌else◌, refl, find, Option, Some, None, is_none, is_some, option_map, Ok, Err, List, [], ◌∷◌}
+use Rattle.std.specs.Prelude.{◌≡◌, ◌<◌, ◌==◌, ◌&&◌, ◌||◌, ℕ, Bool, true, false, not, nat_lt, if◌then◌else◌, refl, find, Option, Some, None, is_none, is_some, option_map, unwrap_or, Ok, Err, List, [], ◌∷◌}
 use Rattle.std.specs.Option.{option_or}
 use Rattle.std.proofs.Common.{arith, sym, ◌∙◌, ap, subst}
 use Rattle.std.proofs.lemmas.Bool.Decides.{nat_tests}
@@ -48,7 +48,7 @@ first-so P (one ∷ rest) all job is = go one all.0 (λ e. first-so P rest all.1
   go None f more e = more e
   go (Some j) f more e = f job e
 
--- and of one that a rule names, or that is named of a register which passes a test
+-- what holds of a job that a rule names, and of one that is named of a register which passes a test
 rule-so : (P : Job → Type 0) (b : Bool) (named job : Job) → P named → rule b named ≡ Some job → P job
 rule-so P true named job p is = let same : named ≡ job = cc in subst P same p
 rule-so P false named job p is = cc
@@ -166,7 +166,11 @@ pub busy-plan : (output : ℕ) (wanted : Wanted) (g : Guarded) → is_busy g.hos
 busy-plan output wanted g busy = ap (λ (b : Bool). if b then Err Fault.Busy else unless (missing_fault g.registers (wants_of wanted))
     (planned_in g.registers g.host (limits_at g output) output (wants_of wanted) (format_at g.host output))) busy
 
--- So it is where a survey for it is stuck at a register that the part doesn't have.
+-- formats of which each is there are one
+same-shape : (a b : Shape) → ◌≡◌ {A = Option Shape} (Some a) (Some b) → a ≡ b
+same-shape a b e = ap (λ (o : Option Shape). unwrap_or o a) e
+
+-- A plan is refused where a survey for it is stuck at a register that the part doesn't have.
 pub stuck-plan : (v : Survey) (output : ℕ) (wanted : Wanted) (g : Guarded) (order : Option PlanOrder) → v.output ≡ output → v.plan ≡ Some wanted →
     is_stuck g.registers v g.host ≡ true → plan_in output wanted g ≡ Ok order → ⊥
 stuck-plan v output wanted g order own plan stuck is = by (format_at g.host v.output) refl stuck where
@@ -193,7 +197,7 @@ stuck-plan v output wanted g order own plan stuck is = by (format_at g.host v.ou
     where
       known-of : (shape : Shape) → format_at g.host output ≡ Some shape →
           unknown_fault (cells_of g.registers shape g.host) output (known_of (cells_of g.registers shape g.host) output) (wants_of wanted) ≡ None
-      known-of shape e' = let one : planned.shape ≡ shape = cc in
+      known-of shape e' = let one = same-shape planned.shape shape (sym planned.format ∙ e') in
           subst (λ (x : Shape). unknown_fault (cells_of g.registers x g.host) output (known_of (cells_of g.registers x g.host) output) (wants_of wanted) ≡ None) one planned.known
 
 -- an order leaves the survey's output

@@ -11,9 +11,11 @@ use Rattle.pm_rail.specs.Laws.{IsStep}
 use Rattle.pm_rail.specs.Plan.{commands_by, goal_of}
 use Rattle.pm_rail.specs.Registers.{wants_of}
 use Rattle.pm_world.specs.declared.event.Event.{Event}
+use Rattle.pm_world.specs.Bands.{HoldsMissing}
 use Rattle.pm_world.specs.Honest.{IsSpelled}
 use Rattle.pm_world.specs.Limited.{commands}
 use Rattle.pm_world.specs.Plans.{held_at}
+use Rattle.pm_world.specs.Surveys.{MissingUnread}
 use Rattle.pm_driver.specs.declared.apply_end.ApplyEnd.TheVariants.{Reached}
 use Rattle.pm_driver.specs.declared.rails.Course.{Course}
 use Rattle.pm_driver.specs.Acts.{Call}
@@ -30,12 +32,16 @@ goal_at config passes output wanted events = commands_by (value_for config outpu
 -- Of every life that led to the host and the converter before a plan was carried out: where the bus counted no restart
 -- since, and so none since the first of its reads, then, of any two moments, the output commands at the later one what it
 -- commands at the earlier one, or what is wanted. So it does also where the plan stopped, and it changes once at most.
+-- Where the part doesn't have VOUT_MIN or VOUT_MAX, the converter's cell holds the word that never cuts, and the host was
+-- told nothing of a register that the part doesn't have; of a part with every register that says nothing.
 abbrev pub AppliedPlansKeepRails : {B : Type 0} → (B → Call → B → Type 0) → (B → Held) → (B → ℕ) → Type 0
 AppliedPlansKeepRails {B = B} gives held restarts = (output : ℕ) (wanted : Wanted) (tries : ℕ) (old new : Driving B) (course : Course) →
     (runs : Applied gives held restarts output wanted (course_of output wanted tries) old course new) →
     restarts new.bus ≡ restarts old.bus →
     (config : Config) (passes : ℕ) (before rest newer later : List Event) → IsSpelled config → output < config.count →
-    IsLife config passes before old.guard.host (held old.bus) → events_of runs ≡ rest ++ (newer ++ later) →
+    IsLife config passes before old.guard.host (held old.bus) →
+    HoldsMissing old.guard.registers config (held old.bus).words output →
+    MissingUnread config passes old.guard.registers output before → events_of runs ≡ rest ++ (newer ++ later) →
     IsStep (goal_at config passes output wanted before)
     (commands config passes (later ++ before) output) (commands config passes ((newer ++ later) ++ before) output)
 
@@ -47,5 +53,7 @@ AppliedPlansComeTrue {B = B} gives held restarts = (output : ℕ) (wanted : Want
     restarts new.bus ≡ restarts old.bus →
     (config : Config) (passes : ℕ) (before : List Event) → IsSpelled config → output < config.count →
     IsLife config passes before old.guard.host (held old.bus) →
+    HoldsMissing old.guard.registers config (held old.bus).words output →
+    MissingUnread config passes old.guard.registers output before →
     (register : Reg) (word : ℕ) → wants_of wanted register ≡ Some word →
     word_at (held new.bus).words (Out output register) ≡ word

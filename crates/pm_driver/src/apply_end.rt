@@ -17,8 +17,8 @@ pub enum ApplyEnd {
 /// Why [`Driver::apply`](crate::Driver::apply) stopped.
 #[derive(Clone, Copy, Debug, PartialEq, Eq)]
 pub enum StopCause {
-    /// The plan is refused: H3, after which nothing was done, or P2, P3, P5, P6 or P7. Mend what is wanted, or what holds
-    /// it up, and apply again.
+    /// The plan is refused: H3 where a job is open, then nothing was done; or L7, P2, P3, P5, P6 or P7, and P4 where OPERATION
+    /// selects a margin that the part doesn't have. Mend what is wanted, or what holds it up, and apply again.
     Refused(PlanFault),
     /// An order of this register was given twice, and each time the register was read with another word, at last with
     /// this one: the converter ignores the order, or something else sets the register.

@@ -14,6 +14,10 @@
 //! The bus counts the converter's restarts, and each call of a driver hands out how many there were: while there are
 //! none, what the host calls confirmed is held ([`restarts_are_counted`], [`Driver::laws`]).
 //!
+//! [`Driver::survey`] reads what decides what an output commands, and [`Driver::apply`] carries a plan out: while the bus
+//! counts no restart, the output commands at each moment what it commanded before or what is wanted
+//! ([`applied_plans_keep_rails`], [`applied_plans_come_true`]).
+//!
 //! It has no clock and no memory: a bus decides how long it waits, and whether it tries a write again. There is one host
 //! and one converter; a second master on the bus is no part of it. Of its own buses a
 //! [`SimulatedBus`] has the model converter at its other end and a plan of faults, to try a firmware's own code over, and a
@@ -24,6 +28,24 @@
 //! ```
 //! fn ordered<B: Bus>(driver: &mut Driver<B>) -> Result<JobEnd, LimitFault> {
 //!     driver.order(Cell::Out(0, Reg::VoutCommand), 0x34CD) // Done: the converter held 34CDh when it was read
+//! }
+//! ```
+//!
+//! A rail, from the words that its registers have to those that are wanted, each order as a plan gives it:
+//!
+//! ```
+//! fn applied<B: Bus>(driver: &mut Driver<B>) -> Option<ApplyEnd> {
+//!     if driver.host().outputs() == 0 {
+//!         return None;
+//!     }
+//!     let wanted = Wanted {
+//!         command: Some(0x34CD),
+//!         max: Some(0x3770),
+//!         margin_high: None,
+//!         margin_low: None,
+//!         min: None,
+//!     };
+//!     Some(driver.apply(0, &wanted, 60)) // Reached: the converter holds both words
 //! }
 //! ```
 #![tactic(auto)]

@@ -1,15 +1,30 @@
-//! The examples of the roots of `pm_driver` and `pm_driver`, word for word.
+//! The examples of the root of `pm_driver` and of its buses, word for word.
 
 use crate::checks::equal;
 use pm_device::Config;
 use pm_device_tests::BASE;
-use pm_driver::{Bus, Driver, Fault, driver_over};
+use pm_driver::{ApplyEnd, Bus, Driver, Fault, driver_over};
 use pm_host::JobEnd;
 use pm_limits::LimitFault;
+use pm_rail::Wanted;
 use pm_table::{Cell, Reg};
 
 fn ordered<B: Bus>(driver: &mut Driver<B>) -> Result<JobEnd, LimitFault> {
     driver.order(Cell::Out(0, Reg::VoutCommand), 0x34CD) // Done: the converter held 34CDh when it was read
+}
+
+fn applied<B: Bus>(driver: &mut Driver<B>) -> Option<ApplyEnd> {
+    if driver.host().outputs() == 0 {
+        return None;
+    }
+    let wanted = Wanted {
+        command: Some(0x34CD),
+        max: Some(0x3770),
+        margin_high: None,
+        margin_low: None,
+        min: None,
+    };
+    Some(driver.apply(0, &wanted, 60)) // Reached: the converter holds both words
 }
 
 fn tried(config: Config, plan: &[Fault]) -> Option<JobEnd> {
@@ -21,7 +36,10 @@ fn tried(config: Config, plan: &[Fault]) -> Option<JobEnd> {
 fn the_examples_of_the_roots_run(rt: HostRuntime) {
     equal(&rt, &tried(BASE, &[]), &Some(JobEnd::Done), &1);
     match driver_over(BASE, 1, &[]) {
-        Some(mut driver) => equal(&rt, &ordered(&mut driver), &Ok(JobEnd::Done), &2),
+        Some(mut driver) => {
+            equal(&rt, &applied(&mut driver), &Some(ApplyEnd::Reached), &2);
+            equal(&rt, &ordered(&mut driver), &Ok(JobEnd::Done), &3);
+        }
         None => panic!(rt; "refused"),
     }
 }
