@@ -344,20 +344,20 @@ module _ (config : Config) (passes : ℕ) (before : List Event) (host : Summary)
     unfolding goods
     reads-none setup entries o is either (Some (Got bytes)) =
         by (read_by (open_job setup entries) (told_since entries)) (λ c e. one c e) where
-      one : (c : Cell) → read_by (open_job setup entries) (told_since entries) ≡ Some c → same_cell c cell ≡ false
-      one c e = elim either [
-        | inl none ↦ absurd (let bad = sym (ap (λ (x : Option Job). read_by x (told_since entries)) (is ∙ none)) ∙ e in cc)
-        | inr this ↦ unread (told_since entries) c (sym (ap (λ (x : Option Job). read_by x (told_since entries)) (is ∙ this)) ∙ e)
-      ]
+          one : (c : Cell) → read_by (open_job setup entries) (told_since entries) ≡ Some c → same_cell c cell ≡ false
+          one c e = elim either [
+            | inl none ↦ absurd (let bad = sym (ap (λ (x : Option Job). read_by x (told_since entries)) (is ∙ none)) ∙ e in cc)
+            | inr this ↦ unread (told_since entries) c (sym (ap (λ (x : Option Job). read_by x (told_since entries)) (is ∙ this)) ∙ e)
+          ]
 
-      by : (r : Option Cell) → ((c : Cell) → r ≡ Some c → same_cell c cell ≡ false) →
-          list_any (is_good_for cell) (option_to_list (option_and_then
-          (λ c. option_map (λ word. Good c word) (good_word setup.addr c bytes)) r)) ≡ false
-      by None f = refl
-      by (Some c) f = word-by (good_word setup.addr c bytes) where
-        word-by : (w : Option ℕ) → list_any (is_good_for cell) (option_to_list (option_map (λ word. Good c word) w)) ≡ false
-        word-by None = refl
-        word-by (Some w) = ap (λ (b : Bool). b || false) (f c refl)
+          by : (r : Option Cell) → ((c : Cell) → r ≡ Some c → same_cell c cell ≡ false) →
+              list_any (is_good_for cell) (option_to_list (option_and_then
+              (λ c. option_map (λ word. Good c word) (good_word setup.addr c bytes)) r)) ≡ false
+          by None f = refl
+          by (Some c) f = word-by (good_word setup.addr c bytes) where
+            word-by : (w : Option ℕ) → list_any (is_good_for cell) (option_to_list (option_map (λ word. Good c word) w)) ≡ false
+            word-by None = refl
+            word-by (Some w) = ap (λ (b : Bool). b || false) (f c refl)
     reads-none setup entries o is either None = refl
     reads-none setup entries o is either (Some (Accepted j)) = refl
     reads-none setup entries o is either (Some (Finished acked)) = refl
@@ -397,10 +397,10 @@ module _ (config : Config) (passes : ℕ) (before : List Event) (host : Summary)
         (reads-none (setup_of config passes) (life config passes (older ++ before)).entries _ refl (open-is older (front ++ told) below _ refl)
         (share_of (now config passes (older ++ before)) event).told)
         (stays-unread older (front ++ told) below was) where
-      go : (host' one rest : Bool) → one ≡ false → rest ≡ false → cond host' false (one || rest) ≡ false
-      go true one rest e f = refl
-      go false true rest e f = cc
-      go false false rest e f = f
+          go : (host' one rest : Bool) → one ≡ false → rest ≡ false → cond host' false (one || rest) ≡ false
+          go true one rest e f = refl
+          go false true rest e f = cc
+          go false false rest e f = f
 
   -- the earlier events of a list are told behind something
   pub told-drop : (newer rest : List Event) (front : List Entry) →
