@@ -18,7 +18,6 @@
 //! - `good`: what frames that nothing disturbs make of an open job, and how it ends once all its frames come whole.
 //! - `whole`: a job that is open after a run ends by frames that come whole.
 //! - `moves`: what moves a setting or the store.
-//! - `plans`: what plans and surveys of rails are worth.
 //! - `own_loop`: events that a caller's own loop lets happen.
 //! - `drivers`: what a driver over a simulated bus, or over a patient one, makes of orders.
 #![tactic(auto)]
@@ -35,7 +34,6 @@ pub mod limits;
 pub mod moves;
 pub mod orders;
 pub mod own_loop;
-pub mod plans;
 pub mod whole;
 
 pub use laws::{laws_by_name, ones_are_no_answer, reads_that_share_their_code};
