@@ -1,1 +1,1 @@
-pub use Rattle.pm_lines.specs.Lemmas.Joins.{joins}
+pub use Rattle.pm_lines.specs.Lemmas.Joins.{digit_joins, joins, signed_joins}
