@@ -225,8 +225,6 @@ def page(src):
                         yield path, number, "page", "no type has %s %s" % refusal
 
 
-# A crate that isn't kept to it yet.
-NAMES_PROOFS = ("pmbhost_lines",)
 # Lemmas that stand twice yet, by their crates: each that goes leaves this list, and none comes to it.
 TWICE = {
     "pm_device": "less-true map-none still_set",
@@ -254,8 +252,7 @@ TWICE = {
 def foreign(crates):
     """Places where a crate names the proofs of another."""
     for path, number, name in house.lower_proofs(crates):
-        if path.split("/")[1] not in NAMES_PROOFS:
-            yield path, number, "proofs", "a lemma of %s belongs in its specs/Lemmas" % name
+        yield path, number, "proofs", "a lemma of %s belongs in its specs/Lemmas" % name
 
 
 def twins(crates):

@@ -1,4 +1,3 @@
 mod FailureLemmas
 mod TalkLemmas
-pub mod UsageLemmas
 mod SetupLemmas

@@ -1,7 +1,6 @@
 pub mod CutLemmas
 pub mod EngineLemmas
 pub mod FourPairs
-pub mod Joins
 pub mod LineLemmas
 pub mod ReadingLemmas
 pub mod WordLemmas

@@ -30,7 +30,7 @@ pub fn reply_text(reply: &Reply) -> AnswerText
 }
 
 // Appends the words of an answer to a text that is empty.
-#[tactic(auto, using(pm_lines::proofs::Joins::joins), unfolding(crate::specs::ReplyText::reply_words))]
+#[tactic(auto, using(pm_lines::specs::Lemmas::Joins::joins), unfolding(crate::specs::ReplyText::reply_words))]
 fn push_reply(text: &mut AnswerText, reply: &Reply)
     requires { array_vec_len text.old ≡ 0 }
     ensures words { text.new.items ≡ text.old.items ++ reply_words reply.now }
@@ -145,7 +145,7 @@ fn microvolts_up(value: Frac) -> i128
 }
 
 // Appends two numbers, with a space before each.
-#[tactic(auto, using(pm_lines::proofs::Joins::signed_joins))]
+#[tactic(auto, using(pm_lines::specs::Lemmas::Joins::signed_joins))]
 fn push_pair(text: &mut AnswerText, first: i128, second: i128)
     requires { array_vec_len text.old + 82 ≤ 128 }
     ensures words { text.new.items ≡ text.old.items ++ spaced_pair first second }
@@ -156,7 +156,7 @@ fn push_pair(text: &mut AnswerText, first: i128, second: i128)
 }
 
 // Appends a number, with a space before it.
-#[tactic(auto, using(pm_lines::proofs::Joins::signed_joins))]
+#[tactic(auto, using(pm_lines::specs::Lemmas::Joins::signed_joins))]
 fn push_number(text: &mut AnswerText, number: i128)
     requires { array_vec_len text.old + 41 ≤ 128 }
     ensures words { text.new.items ≡ text.old.items ++ (codes " " ++ signed_decimal number) }
@@ -167,7 +167,7 @@ fn push_number(text: &mut AnswerText, number: i128)
 }
 
 // Appends what an output commands.
-#[tactic(auto, using(pm_lines::proofs::Joins::joins))]
+#[tactic(auto, using(pm_lines::specs::Lemmas::Joins::joins))]
 fn push_rail(text: &mut AnswerText, rail: &Rail)
     requires { array_vec_len text.old + 90 ≤ 128 }
     ensures words { text.new.items ≡ text.old.items ++ rail_text rail.now }
@@ -209,7 +209,7 @@ fn within_text(within: Within) -> &'static str
 }
 
 // Appends the order of a plan.
-#[tactic(auto, using(pm_lines::proofs::Joins::joins))]
+#[tactic(auto, using(pm_lines::specs::Lemmas::Joins::joins))]
 fn push_plan(text: &mut AnswerText, order: Option<PlanOrder>)
     requires { array_vec_len text.old + 37 ≤ 128 }
     ensures words { text.new.items ≡ text.old.items ++ plan_text order }
@@ -248,7 +248,7 @@ fn push_survey(text: &mut AnswerText, done: bool)
 }
 
 // Appends a refusal, and the name of what it is about.
-#[tactic(auto, using(pm_lines::proofs::Joins::joins))]
+#[tactic(auto, using(pm_lines::specs::Lemmas::Joins::joins))]
 fn push_refusal(text: &mut AnswerText, refusal: Refusal)
     requires { array_vec_len text.old + 65 ≤ 128 }
     ensures words { text.new.items ≡ text.old.items ++ refusal_text refusal }
@@ -279,7 +279,7 @@ fn short_words(refusal: Refusal) -> &'static str
 }
 
 // Appends how a job ended.
-#[tactic(auto, using(pm_lines::proofs::Joins::joins))]
+#[tactic(auto, using(pm_lines::specs::Lemmas::Joins::joins))]
 fn push_end(text: &mut AnswerText, end: JobEnd)
     requires { array_vec_len text.old + 12 ≤ 128 }
     ensures words { text.new.items ≡ text.old.items ++ end_text end }
@@ -297,7 +297,7 @@ fn push_end(text: &mut AnswerText, end: JobEnd)
 }
 
 // Appends what is known of a cell.
-#[tactic(auto, using(pm_lines::proofs::Joins::joins))]
+#[tactic(auto, using(pm_lines::specs::Lemmas::Joins::joins))]
 fn push_state(text: &mut AnswerText, cell: Cell, standing: Standing, possible: &Possible)
     requires { array_vec_len text.old ≡ 0 }
     ensures words { text.new.items ≡ text.old.items ++ (codes "state "
@@ -314,7 +314,7 @@ fn push_state(text: &mut AnswerText, cell: Cell, standing: Standing, possible: &
 }
 
 // Appends what the host says of a cell.
-#[tactic(auto, using(pm_lines::proofs::Joins::joins))]
+#[tactic(auto, using(pm_lines::specs::Lemmas::Joins::joins))]
 fn push_standing(text: &mut AnswerText, cell: Cell, standing: Standing)
     requires { array_vec_len text.old + 14 ≤ 128 }
     ensures words { text.new.items ≡ text.old.items ++ standing_text cell standing }

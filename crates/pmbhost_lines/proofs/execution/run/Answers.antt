@@ -1,5 +1,5 @@
 use Rattle.std.proofs.Common.{inl, inr}
-use Rattle.pm_console.proofs.UsageLemmas.{memory_ends}
+use Rattle.pm_console.specs.Lemmas.Usage.{memory_ends}
 use Rattle.pmbhost_lines.proofs.execution.run.Goals as goal
 
 pub returns-in-Ok-read : goal.returns-in-Ok-read

@@ -1,1 +1,0 @@
-pub use Rattle.pm_console.specs.Lemmas.Usage.{memory_ends}

@@ -1,1 +1,0 @@
-pub use Rattle.pm_lines.specs.Lemmas.Joins.{digit_joins, joins, signed_joins}
