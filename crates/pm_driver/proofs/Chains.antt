@@ -126,9 +126,9 @@ split-at (r ∷ rest) middle (n ∷ newer) later e =
     elim (split-at rest middle newer later below) [
       | inl within ↦ inl within
       | inr beyond ↦ inr (record {
-          part = beyond.part;
-          rest = n ∷ beyond.rest;
-          newer_is = ap (λ (es : List Event). n ∷ es) beyond.newer_is;
-          middle_is = beyond.middle_is;
-        })
+        part = beyond.part;
+        rest = n ∷ beyond.rest;
+        newer_is = ap (λ (es : List Event). n ∷ es) beyond.newer_is;
+        middle_is = beyond.middle_is;
+      })
     ]

@@ -113,22 +113,22 @@ last-is [] (Finished acked ∷ frames) (x ∷ part) rest job f h =
     let same : x ≡ Finished acked = cc in
     let below : part ≡ frames ++ Accepted job ∷ [] = cc in
     inr (ap (λ (e : Entry). last_job ((e ∷ part) ++ rest)) same ∙ (ap (λ (es : List Entry). last_job (es ++ rest)) below ∙ last-of frames f)) where
-  last-of : (fs : List Entry) → Frames fs → last_job ((fs ++ Accepted job ∷ []) ++ rest) ≡ Some job
-  last-of [] g = refl
-  last-of (Finished a ∷ fs) g = last-of fs g
-  last-of (Got bytes' ∷ fs) g = last-of fs g
-  last-of (Accepted k ∷ fs) g = absurd g
-  last-of (Restarted ∷ fs) g = absurd g
+      last-of : (fs : List Entry) → Frames fs → last_job ((fs ++ Accepted job ∷ []) ++ rest) ≡ Some job
+      last-of [] g = refl
+      last-of (Finished a ∷ fs) g = last-of fs g
+      last-of (Got bytes' ∷ fs) g = last-of fs g
+      last-of (Accepted k ∷ fs) g = absurd g
+      last-of (Restarted ∷ fs) g = absurd g
 last-is [] (Got bytes ∷ frames) (x ∷ part) rest job f h =
     let same : x ≡ Got bytes = cc in
     let below : part ≡ frames ++ Accepted job ∷ [] = cc in
     inr (ap (λ (e : Entry). last_job ((e ∷ part) ++ rest)) same ∙ (ap (λ (es : List Entry). last_job (es ++ rest)) below ∙ last-of frames f)) where
-  last-of : (fs : List Entry) → Frames fs → last_job ((fs ++ Accepted job ∷ []) ++ rest) ≡ Some job
-  last-of [] g = refl
-  last-of (Finished a ∷ fs) g = last-of fs g
-  last-of (Got bytes' ∷ fs) g = last-of fs g
-  last-of (Accepted k ∷ fs) g = absurd g
-  last-of (Restarted ∷ fs) g = absurd g
+      last-of : (fs : List Entry) → Frames fs → last_job ((fs ++ Accepted job ∷ []) ++ rest) ≡ Some job
+      last-of [] g = refl
+      last-of (Finished a ∷ fs) g = last-of fs g
+      last-of (Got bytes' ∷ fs) g = last-of fs g
+      last-of (Accepted k ∷ fs) g = absurd g
+      last-of (Restarted ∷ fs) g = absurd g
 last-is (y ∷ front) [] (x ∷ part) rest job f h =
     absurd (not-empty front x part (let e : front ++ x ∷ part ≡ [] = cc in e))
 last-is (y ∷ front) (Accepted k ∷ frames) (x ∷ part) rest job f h = absurd f
@@ -236,9 +236,9 @@ idle-none ends config passes events idle =
     ap (λ (j : Option Job). option_and_then pending_of j)
     (sym (ends.job (setup_of config passes) (life config passes events).entries)
     ∙ (ap job_in (sym (host-is config passes events)) ∙ go (now config passes events).host.stage idle)) where
-  go : (stage : Option Stage) → is_some stage ≡ false → option_map stage_job stage ≡ None
-  go None i = refl
-  go (Some stage) i = cc
+      go : (stage : Option Stage) → is_some stage ≡ false → option_map stage_job stage ≡ None
+      go None i = refl
+      go (Some stage) i = cc
 
 -- where one is open, the last job is that one
 pending-last : (setup : Setup) (entries : List Entry) (job : Job) (p : PendingJob) → last_job entries ≡ Some job →
@@ -246,9 +246,9 @@ pending-last : (setup : Setup) (entries : List Entry) (job : Job) (p : PendingJo
 unfolding open_job
 pending-last setup entries job p last open' = go (is_none (end_of setup entries))
     (ap (λ (j : Option Job). option_and_then pending_of (cond (is_none (end_of setup entries)) j None)) (sym last) ∙ open') where
-  go : (b : Bool) → option_and_then pending_of (cond b (Some job) None) ≡ Some p → pending_of job ≡ Some p
-  go true e = e
-  go false e = cc
+      go : (b : Bool) → option_and_then pending_of (cond b (Some job) None) ≡ Some p → pending_of job ≡ Some p
+      go true e = e
+      go false e = cc
 
 pub left : (a b : Bool) → (a || b) ≡ false → a ≡ false
 left true b e = cc
@@ -373,20 +373,20 @@ module _ (config : Config) (passes : ℕ) (before : List Event) (host : Summary)
     unfolding goods
     reads-none setup entries o is either (Some (Got bytes)) =
         by (read_by (open_job setup entries) (told_since entries)) (λ c e. one c e) where
-      one : (c : Cell) → read_by (open_job setup entries) (told_since entries) ≡ Some c → same_cell c cell ≡ false
-      one c e = elim either [
-        | inl none ↦ absurd (let bad = sym (ap (λ (x : Option Job). read_by x (told_since entries)) (is ∙ none)) ∙ e in cc)
-        | inr this ↦ unread (told_since entries) c (sym (ap (λ (x : Option Job). read_by x (told_since entries)) (is ∙ this)) ∙ e)
-      ]
+          one : (c : Cell) → read_by (open_job setup entries) (told_since entries) ≡ Some c → same_cell c cell ≡ false
+          one c e = elim either [
+            | inl none ↦ absurd (let bad = sym (ap (λ (x : Option Job). read_by x (told_since entries)) (is ∙ none)) ∙ e in cc)
+            | inr this ↦ unread (told_since entries) c (sym (ap (λ (x : Option Job). read_by x (told_since entries)) (is ∙ this)) ∙ e)
+          ]
 
-      by : (r : Option Cell) → ((c : Cell) → r ≡ Some c → same_cell c cell ≡ false) →
-          list_any (is_good_for cell) (option_to_list (option_and_then
-          (λ c. option_map (λ word. Good c word) (good_word setup.addr c bytes)) r)) ≡ false
-      by None f = refl
-      by (Some c) f = word-by (good_word setup.addr c bytes) where
-        word-by : (w : Option ℕ) → list_any (is_good_for cell) (option_to_list (option_map (λ word. Good c word) w)) ≡ false
-        word-by None = refl
-        word-by (Some w) = ap (λ (b : Bool). b || false) (f c refl)
+          by : (r : Option Cell) → ((c : Cell) → r ≡ Some c → same_cell c cell ≡ false) →
+              list_any (is_good_for cell) (option_to_list (option_and_then
+              (λ c. option_map (λ word. Good c word) (good_word setup.addr c bytes)) r)) ≡ false
+          by None f = refl
+          by (Some c) f = word-by (good_word setup.addr c bytes) where
+            word-by : (w : Option ℕ) → list_any (is_good_for cell) (option_to_list (option_map (λ word. Good c word) w)) ≡ false
+            word-by None = refl
+            word-by (Some w) = ap (λ (b : Bool). b || false) (f c refl)
     reads-none setup entries o is either None = refl
     reads-none setup entries o is either (Some (Accepted j)) = refl
     reads-none setup entries o is either (Some (Finished acked)) = refl
@@ -426,10 +426,10 @@ module _ (config : Config) (passes : ℕ) (before : List Event) (host : Summary)
         (reads-none (setup_of config passes) (life config passes (older ++ before)).entries _ refl (open-is older (front ++ told) below _ refl)
         (share_of (now config passes (older ++ before)) event).told)
         (stays-unread older (front ++ told) below was) where
-      go : (host' one rest : Bool) → one ≡ false → rest ≡ false → cond host' false (one || rest) ≡ false
-      go true one rest e f = refl
-      go false true rest e f = cc
-      go false false rest e f = f
+          go : (host' one rest : Bool) → one ≡ false → rest ≡ false → cond host' false (one || rest) ≡ false
+          go true one rest e f = refl
+          go false true rest e f = cc
+          go false false rest e f = f
 
   -- the earlier events of a list are told behind something
   pub told-drop : (newer rest : List Event) (front : List Entry) →
@@ -502,9 +502,9 @@ one-begun (Began j ∷ acts) job h =
     let none : asked_in acts ≡ [] = cc in
     ap (λ (x : Job). with_job (asked_by (job_event x)) (jobs_begun acts)) same
     ∙ ap (λ (js : List Asked). with_job (asked_by (job_event job)) js) (no-more acts none) where
-  no-more : (list : List Act) → asked_in list ≡ [] → jobs_begun list ≡ []
-  no-more [] n = refl
-  no-more (Called call ∷ list) n = no-more list n
-  no-more (Began k ∷ list) n = cc
-  no-more (Renewed ∷ list) n = cc
+      no-more : (list : List Act) → asked_in list ≡ [] → jobs_begun list ≡ []
+      no-more [] n = refl
+      no-more (Called call ∷ list) n = no-more list n
+      no-more (Began k ∷ list) n = cc
+      no-more (Renewed ∷ list) n = cc
 one-begun (Renewed ∷ acts) job h = cc

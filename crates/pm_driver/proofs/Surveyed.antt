@@ -82,13 +82,21 @@ asks-so P part v s learn check protect job is = go (v.left == 0) is where
       []
 
   all : (cells : Cells) (held : Held) (j : Job) → due_in part v cells held wants ≡ Some j → P j
-  all cells held j e = first-so P (listed cells held) ((λ one named. rule-so P (not v.learned) (Learn v.output) one learn named),
-      ((λ one named. map-so P (λ register. Check (Out v.output register)) (is_unread part v.read held wants) registers one
+  all cells held j e = first-so P (listed cells held) (
+    (λ one named. rule-so P (not v.learned) (Learn v.output) one learn named),
+    (
+      (λ one named. map-so P (λ register. Check (Out v.output register)) (is_unread part v.read held wants) registers one
           (λ r t. check r (first-true (has_register part r) _ t)) named),
-      ((λ one named. rule-so P (is_some v.plan && not v.read.protect) (Check Protect) one protect named),
-      ((λ one named. map-so P (λ register. Check (Out v.output register)) (is_unsure part cells v.output held wants) registers one
-          (λ r t. check r (first-true (has_register part r) _ t)) named),
-      ((λ one named. rule-so P (is_some v.plan && is_none (known_at cells Protect)) (Check Protect) one protect named), tt))))) j e
+      (
+        (λ one named. rule-so P (is_some v.plan && not v.read.protect) (Check Protect) one protect named),
+        (
+          (λ one named. map-so P (λ register. Check (Out v.output register)) (is_unsure part cells v.output held wants) registers one
+              (λ r t. check r (first-true (has_register part r) _ t)) named),
+          ((λ one named. rule-so P (is_some v.plan && is_none (known_at cells Protect)) (Check Protect) one protect named), tt),
+        ),
+      ),
+    ),
+  ) j e
 
   by : (format : Option Shape) → due_by part v s format ≡ Some job → P job
   by None e = let same : Learn v.output ≡ job = cc in subst P same learn

@@ -14,9 +14,7 @@ use crate::apply_end::{ApplyEnd, StopCause};
 use crate::bus::Bus;
 use crate::driver::Driver;
 use pm_host::{HostFault, Job, JobEnd};
-use pm_rail::{
-    PlanFault, PlanOrder, Survey, Wanted, next_order, plans_are_accepted,
-};
+use pm_rail::{PlanFault, PlanOrder, Survey, Wanted, next_order, plans_are_accepted};
 use pm_table::{Cell, Reg};
 
 // An order of a register that differed, and the word that was read.
