@@ -8,7 +8,6 @@ use Rattle.std.proofs.Math.Path.{fun_ext}
 use Rattle.pm_table.specs.declared.cell.Cell.{Cell}
 use Rattle.pm_table.specs.declared.cell.Cell.TheVariants.{Out, Protect}
 use Rattle.pm_table.specs.declared.reg.Reg.{Reg}
-use Rattle.pm_table.specs.declared.reg.Reg.TheVariants.{Operation, VoutCommand, VoutMax, MarginHigh, MarginLow, VoutMin}
 use Rattle.pm_device.specs.declared.config.Config.{Config}
 use Rattle.pm_device.specs.Held.{Held as Converter}
 use Rattle.pm_host.specs.declared.job.Job.{Job as Asked}
@@ -48,7 +47,8 @@ use Rattle.pm_driver.specs.Driven.{Driving, Runs, driven}
 use Rattle.pm_driver.specs.Lives.{Driven, IsLife, Leads, jobs_asked, with_job}
 use Rattle.pm_world.specs.Uncertainty.{job_event}
 use Rattle.pm_host.specs.declared.fault.HostFault.TheVariants.{Busy, UnknownOutput}
-use Rattle.pm_table.specs.Cell.{is_cell, same_cell, same_register}
+use Rattle.pm_table.specs.Cell.{is_cell, same_cell}
+use Rattle.pm_table.specs.Laws.{CellsAreToldApart}
 use Rattle.pm_table.specs.Rules.{first, rule}
 use Rattle.pm_limits.specs.Guard.{missing_cell, of_host}
 use Rattle.pm_driver.proofs.Surveyed.{asked-output, asked-plan, asks-so, busy-plan, ordered-output}
@@ -78,6 +78,7 @@ pub record Below : Type 0 where
   pub moves : SettingsMoveByTheOpenJob
   pub plans : PlansHoldInLives
   pub surveys : SurveysHoldInLives
+  pub apart : CellsAreToldApart
 
 -- ---- One job in a life ----
 
@@ -247,25 +248,14 @@ data Kind (part : PartRegisters) (v : Survey) : Asked → Type 0 where
   checks : (r : Reg) → has_register part r ≡ true → Kind part v (job.Check (Out v.output r))
   protects : Kind part v (job.Check Protect)
 
--- registers that test as one are one
-one-register : (q r : Reg) → same_register q r ≡ true → q ≡ r
-one-register Operation Operation h = refl
-one-register VoutCommand VoutCommand h = refl
-one-register VoutMax VoutMax h = refl
-one-register MarginHigh MarginHigh h = refl
-one-register MarginLow MarginLow h = refl
-one-register VoutMin VoutMin h = refl
-one-register q r h = cc
-
-not-both : (a b : Bool) → b ≡ false → (a && b) ≡ false
-not-both true b e = e
-not-both false b e = refl
-
--- registers of which the part has one and not the other are two
-two-registers : (part : PartRegisters) (r m : Reg) → has_register part r ≡ true → has_register part m ≡ false → same_register r m ≡ false
-two-registers part r m has none = go (same_register r m) refl where
-  go : (b : Bool) → same_register r m ≡ b → b ≡ false
-  go true same = let one : r ≡ m = one-register r m same in cc
+-- cells of registers of which the part has one and not the other are two
+two-cells : CellsAreToldApart → (part : PartRegisters) (one other : ℕ) (r m : Reg) → has_register part r ≡ true →
+    has_register part m ≡ false → same_cell (Out one r) (Out other m) ≡ false
+two-cells apart part one other r m has none = go (same_cell (Out one r) (Out other m)) refl where
+  go : (b : Bool) → same_cell (Out one r) (Out other m) ≡ b → b ≡ false
+  go true same =
+      let is : Out one r ≡ Out other m = (apart (Out one r) (Out other m)).0 same in
+      let register : r ≡ m = cc in cc
   go false same = refl
 
 module _ (laws : Below) (config : Config) (passes : ℕ) (part : PartRegisters) (output : ℕ) (wanted : Wanted) (before : List Event)
@@ -329,7 +319,7 @@ module _ (laws : Below) (config : Config) (passes : ℕ) (part : PartRegisters) 
       old new asks (λ s. refl) refl (λ register. record { orders = λ word p. cc; restores = λ p. cc })
       (λ m lacks told c e. let is : Out course.survey.output r ≡ c = cc in
       subst (λ (x : Cell). same_cell x (Out output m) ≡ false) is
-      (not-both (course.survey.output == output) (same_register r m) (two-registers part r m has lacks))) tt
+      (two-cells laws.apart part course.survey.output output r m has lacks)) tt
       (idle-check old.guard (Out course.survey.output r) (sym runs.fault)) runs.registers runs.leads steady way
   read-kind gives held restarts course es _ end old new protects asks runs steady way =
       read-on gives held restarts course es (job.Check Protect) (Check Protect) end

@@ -4,6 +4,7 @@ ghost use Rattle.pm_driver.specs.RailLaws.{AppliedPlansComeTrue, AppliedPlansKee
 
 use crate::bus::Bus;
 use pm_host::ends_are_told;
+use pm_table::cells_are_told_apart;
 use pm_world::{
     events_are_lived, plans_hold_in_lives, settings_move_by_the_open_job, surveys_hold_in_lives,
 };
@@ -13,6 +14,7 @@ use pm_world::{
 pub fn applied_plans_keep_rails<B: Bus>()
     ensures { AppliedPlansKeepRails B.gives B.held B.restarts }
 {
+    cells_are_told_apart();
     ends_are_told();
     events_are_lived();
     settings_move_by_the_open_job();
@@ -24,6 +26,7 @@ pub fn applied_plans_keep_rails<B: Bus>()
 pub fn applied_plans_come_true<B: Bus>()
     ensures { AppliedPlansComeTrue B.gives B.held B.restarts }
 {
+    cells_are_told_apart();
     ends_are_told();
     events_are_lived();
     settings_move_by_the_open_job();

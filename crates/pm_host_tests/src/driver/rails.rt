@@ -1,5 +1,5 @@
-//! Surveys, and plans that are carried out, over a bus with faults: how they end, how many frames they sent, and what the
-//! converter holds.
+//! Surveys, and plans that are carried out, over a bus with faults: how they end, how many frames they sent, and what
+//! the converter holds.
 
 use super::whole;
 use crate::checks::{equal, is_true};
@@ -11,8 +11,8 @@ use pm_table::{Cell, Coefficients, Reg};
 use pm_world::Back;
 use std::process::Abort;
 
-// What goes wrong with a frame: a write is lost, and falsely acknowledged; an answer is cut; the converter restarts before
-// it.
+// What goes wrong with a frame: a write is lost, and falsely acknowledged; an answer is cut; the converter restarts
+// before it.
 #[derive(Clone, Copy, Debug)]
 enum Wrong {
     Lost,
@@ -125,8 +125,8 @@ fn stopped(why: StopCause) -> ApplyEnd {
     ApplyEnd::Stopped { why }
 }
 
-// What goes wrong, with orders of one pass, and the tries; how it ends that VOUT_COMMAND is to be 3.3 V and VOUT_MAX 3.465 V,
-// from 1 V and 4 V, after how many frames, and the words that are held then.
+// What goes wrong, with orders of one pass, and the tries; how it ends that VOUT_COMMAND is to be 3.3 V and VOUT_MAX
+// 3.465 V, from 1 V and 4 V, after how many frames, and the words that are held then.
 static ENDS: [(&[(usize, Wrong)], u16, ApplyEnd, usize, [u16; 2]); 12] = [
     // A learn and five checks, two orders, and all of these once more.
     (&[], 60, ApplyEnd::Reached, 16, [0x34CD, 0x3770]),
@@ -226,8 +226,8 @@ fn a_plan_is_carried_out(rt: HostRuntime) {
     }
 }
 
-// The converter restarts before any one of the frames: all is brought about again, unless what is read behind the restart
-// is what was held before it too, VOUT_MIN and WRITE_PROTECT.
+// The converter restarts before any one of the frames: all is brought about again, unless what is read behind the
+// restart is what was held before it too, VOUT_MIN and WRITE_PROTECT.
 #[test]
 fn a_restart_is_made_good(rt: HostRuntime) {
     let wanted = wanted(Some(0x34CD), Some(0x3770));

@@ -15,6 +15,7 @@ returns g c = λ output wanted tries old new course runs same config passes befo
       moves = c.settings_move_by_the_open_job.ensures;
       plans = c.plans_hold_in_lives.ensures;
       surveys = c.surveys_hold_in_lives.ensures;
+      apart = c.cells_are_told_apart.ensures;
     } in
     let part = old.guard.registers in
     let missing : HoldsMissing part config (now config passes before).device.words output =
