@@ -233,19 +233,20 @@ TWICE = {
     "pm_frame": "bytes-more doubled-lt length_fault-found pec_of-lt residue-lt residues_of-lt same_from_sum",
     "pm_host": "all_any-length first_none le-times le_from_times lt-times possible_of-put_other reads_cell "
                "reads_question times-swap times-times writes_cell",
-    "pm_host_c": "at_most both-true within",
+    "pm_host_c": "at_most both-true found within",
     "pm_limits": "all-dens head not-above same-itself second through",
     "pm_model": "not-above true-there zero-on",
     "pm_num": "at_most at_most-trans from_T le-times le_from_times lt-times power times-swap times-times within",
-    "pm_rail": "below-count both-true first-of has-wanted head not-above off-not on-not or-first or-second "
+    "pm_rail": "below-count both-true first-of found has-wanted head not-above off-not on-not or-first or-second "
                "same-number selected-needed tail un-not unmapped",
-    "pm_table": "register_at-number",
+    "pm_table": "IsShort-cond IsShort-line_among register_at-number",
     "pm_text": "not-above",
     "pm_world": "all-dens and-both any-length cell-there doubled-byte entries-more from_T in-format itself "
                 "now-config one-more or-first or-second pec-byte put-other question-reads reads-cell "
                 "register_at-number residue-byte residues-byte same-number same_bytes selected-needed whole-hearing "
                 "write-heard write-kind",
     "pm_world_examples": "cancel_left sized",
+    "pmbhost_lines": "short_among short_choice",
 }
 
 
