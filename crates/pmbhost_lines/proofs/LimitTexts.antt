@@ -3,7 +3,8 @@ use Rattle.std.proofs.Common.{◌≡◌, ◌≢◌, ◌∙◌, ◌<◌, ◌++◌
 use Rattle.std.proofs.Common.{eqb, eq-eqb, ne_eqb, refl, ap, subst, arith}
 use Rattle.std.specs.Borrow.{Bor}
 use Rattle.std.proofs.lemmas.Str.Pattern.{IsSplitOnceResult, split_parts}
-use Rattle.pmbhost_lines.specs.Missing.{comma_pieces, parts_at, with_first}
+use Rattle.pm_limits.specs.declared.part_registers.PartRegisters.{PartRegisters}
+use Rattle.pmbhost_lines.specs.Missing.{comma_pieces, parts_at, with_first, without_name, without_names}
 use Rattle.pmbhost_lines.specs.Options.{limited}
 use Rattle.pmbhost_lines.specs.declared.options.start_fault.StartFault.{StartFault}
 
@@ -63,6 +64,19 @@ last_piece text none = pieces_are text ∙ ap (λ (o : Option (List ℕ × List 
 
 pub next_piece : (text front rest : List ℕ) → parts_at 44 text ≡ Some (front, rest) → comma_pieces text ≡ front ∷ comma_pieces rest
 next_piece text front rest some = pieces_are text ∙ ap (λ (o : Option (List ℕ × List ℕ)). pieces_by o text) some
+
+-- without the first register that is named, where there is such a one, and where there is none
+pub one_less : (part left : PartRegisters) (text name rest : List ℕ) → parts_at 44 text ≡ Some (name, rest)
+    → without_name part name ≡ Some left → without_names (Some part) (comma_pieces text) ≡ without_names (Some left) (comma_pieces rest)
+one_less part left text name rest some is =
+    ap (without_names (Some part)) (next_piece text name rest some)
+    ∙ ap (λ (o : Option PartRegisters). without_names o (comma_pieces rest)) is
+
+pub none_such : (part : PartRegisters) (text name rest : List ℕ) → parts_at 44 text ≡ Some (name, rest)
+    → without_name part name ≡ None → without_names (Some part) (comma_pieces text) ≡ None
+none_such part text name rest some is =
+    ap (without_names (Some part)) (next_piece text name rest some)
+    ∙ ap (λ (o : Option PartRegisters). without_names o (comma_pieces rest)) is
 
 -- what stands after a mark is shorter than the text
 abbrev IsShorter : Option (List ℕ × List ℕ) → List ℕ → Type 0
