@@ -1,10 +1,15 @@
 -- The parts of a text beside the first of a mark, its pieces between commas, and limits that are refused.
-use Rattle.std.proofs.Common.{◌≡◌, ◌≢◌, ◌∙◌, ◌<◌, ◌++◌, ℕ, suc, Bool, true, false, cond, List, [], ◌∷◌, length, get_or, Option, Some, None, IfSome, Err, option_map}
+use Rattle.std.proofs.Common.{◌≡◌, ◌≢◌, ◌∙◌, ◌<◌, ◌++◌, ℕ, suc, Bool, true, false, cond, List, [], ◌∷◌, length, get_or, Option, Some, None, IfSome, Err, is_some, option_map}
 use Rattle.std.proofs.Common.{eqb, eq-eqb, ne_eqb, refl, ap, subst, arith}
 use Rattle.std.specs.Borrow.{Bor}
 use Rattle.std.proofs.lemmas.Str.Pattern.{IsSplitOnceResult, split_parts}
-use Rattle.pmbhost_lines.specs.Missing.{comma_pieces, parts_at, with_first}
-use Rattle.pmbhost_lines.specs.Options.{limited}
+use Rattle.pm_limits.specs.declared.part_registers.PartRegisters.{PartRegisters}
+use Rattle.pmbhost_lines.specs.Missing.{comma_pieces, parts_at, with_first, without_name, without_names}
+use Rattle.pm_limits.specs.Guard.{Guarded, limits_at, narrow_fault}
+use Rattle.pm_limits.specs.declared.fault.LimitFault.{LimitFault}
+use Rattle.pmbhost_lines.specs.Options.{limited, limited_by, limited_once}
+use Rattle.pmbhost_lines.specs.declared.options.limit_text.OutputLimits.{OutputLimits}
+use Rattle.pmbhost_lines.specs.declared.options.start_fault.StartFault.TheVariants.{Limit, Limits}
 use Rattle.pmbhost_lines.specs.declared.options.start_fault.StartFault.{StartFault}
 
 -- a mark doesn't stand in the text
@@ -64,6 +69,19 @@ last_piece text none = pieces_are text ∙ ap (λ (o : Option (List ℕ × List 
 pub next_piece : (text front rest : List ℕ) → parts_at 44 text ≡ Some (front, rest) → comma_pieces text ≡ front ∷ comma_pieces rest
 next_piece text front rest some = pieces_are text ∙ ap (λ (o : Option (List ℕ × List ℕ)). pieces_by o text) some
 
+-- without the first register that is named, where there is such a one, and where there is none
+pub one_less : (part left : PartRegisters) (text name rest : List ℕ) → parts_at 44 text ≡ Some (name, rest)
+    → without_name part name ≡ Some left → without_names (Some part) (comma_pieces text) ≡ without_names (Some left) (comma_pieces rest)
+one_less part left text name rest some is =
+    ap (without_names (Some part)) (next_piece text name rest some)
+    ∙ ap (λ (o : Option PartRegisters). without_names o (comma_pieces rest)) is
+
+pub none_such : (part : PartRegisters) (text name rest : List ℕ) → parts_at 44 text ≡ Some (name, rest)
+    → without_name part name ≡ None → without_names (Some part) (comma_pieces text) ≡ None
+none_such part text name rest some is =
+    ap (without_names (Some part)) (next_piece text name rest some)
+    ∙ ap (λ (o : Option PartRegisters). without_names o (comma_pieces rest)) is
+
 -- what stands after a mark is shorter than the text
 abbrev IsShorter : Option (List ℕ × List ℕ) → List ℕ → Type 0
 IsShorter parts text = IfSome parts (λ found. length found.1 < length text)
@@ -85,3 +103,12 @@ rest_shorter mark text front rest some = subst (λ (o : Option (List ℕ × List
 pub fault_stays : (texts : List (List ℕ)) (fault : StartFault) → limited texts (Err fault) ≡ Err fault
 fault_stays [] fault = refl
 fault_stays (text ∷ texts) fault = fault_stays texts fault
+
+-- limits of an output that has none yet, and that are refused
+pub refused_once : (g : Guarded) (found : Option OutputLimits) (limits : OutputLimits) (fault : LimitFault) → found ≡ Some limits
+    → is_some (limits_at g limits.output) ≡ false → narrow_fault g limits.output limits.least limits.most ≡ Some fault
+    → limited_once g found ≡ Err (Limits fault)
+refused_once g found limits fault is none why =
+    ap (limited_once g) is
+    ∙ ap (λ (b : Bool). cond b (Err Limit) (limited_by g limits (narrow_fault g limits.output limits.least limits.most))) none
+    ∙ ap (limited_by g limits) why

@@ -24,13 +24,13 @@ pub(crate) fn read_part(text: &str) -> Option<PartRegisters>
 fn without_names(part: PartRegisters, text: &str) -> Option<PartRegisters>
     ensures { result ≡ spec_without_names (Some part) (comma_pieces text.now) }
 {
-    let mut left = part;
-    let mut rest = text;
-    'names: while let Some((name, more)) = parts_of(rest) {
-        left = without_name(left, name)?;
-        rest = more;
+    match parts_of(text) {
+        Some((name, rest)) => match without_name(part, name) {
+            Some(left) => without_names(left, rest),
+            None => None,
+        },
+        None => without_name(part, text),
     }
-    without_name(left, rest)
 }
 
 // What stands before the first comma of a text and what after it.
