@@ -393,6 +393,12 @@ uint8_t pm_microvolts(const pm_format *format, uint16_t word, int64_t *microvolt
 /* The word nearest to a number of microvolts. H7 where the format is none, N5, N3, N4. */
 uint8_t pm_nearest_word(const pm_format *format, int64_t microvolts, uint16_t *word);
 
+/* The word of a bound, of several the one that pm_nearest_word gives for its value: pm_at_most of the greatest value that isn't
+ * above so many microvolts, N3 where each is, and above all of them the greatest's word; pm_at_least of the least value that
+ * isn't below them, N4 where each is, and below all the least's word. H7 where the format is none, N5. */
+uint8_t pm_at_most(const pm_format *format, int64_t microvolts, uint16_t *word);
+uint8_t pm_at_least(const pm_format *format, int64_t microvolts, uint16_t *word);
+
 /* What a packet says. */
 typedef struct {
     uint8_t kind;  /* 1 send byte, 2 write byte, 3 write word, 4 PAGE_PLUS_WRITE, 5 read byte or word,

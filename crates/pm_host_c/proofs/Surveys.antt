@@ -34,11 +34,12 @@ use Rattle.pm_host_c.proofs.Plans.{IsAt}
 -- a register that was found passes the test
 found : (test : Reg → Bool) (listed : List Reg) (register : Reg) → find test listed ≡ Some register → test register ≡ true
 found test [] register is = cc
-found test (one ∷ listed) register is = by (test one) refl is
+found test (one ∷ listed) register is = by (test one) refl is (found test listed register)
   where
-    by : (b : Bool) → test one ≡ b → (if b then Some one else find test listed) ≡ Some register → test register ≡ true
-    by true passes same = let one_is : one ≡ register = cc in subst (λ (r : Reg). test r ≡ true) one_is passes
-    by false fails same = found test listed register same
+    by : (b : Bool) → test one ≡ b → (if b then Some one else find test listed) ≡ Some register
+        → (find test listed ≡ Some register → test register ≡ true) → test register ≡ true
+    by true passes same further = let one_is : one ≡ register = cc in subst (λ (r : Reg). test r ≡ true) one_is passes
+    by false fails same further = further same
 
 both-true : (a b : Bool) → (a && b) ≡ true → a ≡ true
 both-true true b is = refl
@@ -90,11 +91,11 @@ pub begins : (image : GuardImage) (s : Summary) (v : Survey) → IsAt image s v.
     → job_number (guard_of image) (next_job (registers_held image.registers) v s) ≡ accepted
 begins image s v at = next (λ job. is_some job ≡ true → job_number (guard_of image) job ≡ accepted)
     (registers_held image.registers) v s (record {
-  nothing = λ never. cc;
-  learn = λ is. rw (at.found, at.idle, at.there) refl;
-  check = λ register has is. rw (at.found, at.idle, at.there, has) refl;
-  protect = λ is. rw (at.found, at.idle) refl;
-})
+      nothing = λ never. cc;
+      learn = λ is. rw (at.found, at.idle, at.there) refl;
+      check = λ register has is. rw (at.found, at.idle, at.there, has) refl;
+      protect = λ is. rw (at.found, at.idle) refl;
+    })
 
 -- what is asked of a survey in memory that is idle
 pub record Asks (old : GuardImage) (was : SurveyImage) (s : Summary) (v : Survey) : Type 0 where
