@@ -78,6 +78,20 @@ class Rails(unittest.TestCase):
             self.assertEqual((it.exception.letter, it.exception.name), ("L7", "MissingRegister"))
         with self.assertRaises(ValueError):
             Host(0x58, without=("VOUT_COMMAND",))
+        pmbus.bus.frames.clear()
+        end = pmbus.apply(0, {"VOUT_MIN": 0x3400, "VOUT_COMMAND": 0x3480})
+        self.assertEqual((end.kind, end.refused.letter, end.register, codes(pmbus.bus.frames)), ("refused", "L7", "VOUT_MIN", []))
+
+    def test_a_survey_is_stuck_at_a_missing_margin(self):
+        pmbus = recorded(limits=None)
+        pmbus.order(0, "OPERATION", 0xA8)
+        lacking = pmhost.Pmbus(pmbus.bus, 0x58, 2, without=("VOUT_MARGIN_HIGH",))
+        end = lacking.survey(0)
+        self.assertEqual((end.kind, end.refused.letter), ("refused", "L7"))
+        pmbus.bus.frames.clear()
+        end = lacking.apply(0, VOLTS)
+        self.assertEqual((end.kind, end.refused.letter, end.register, codes(pmbus.bus.frames)),
+                         ("refused", "P4", "VOUT_MARGIN_HIGH", []))
 
 
 class Plans(unittest.TestCase):

@@ -301,7 +301,15 @@ impl Host {
         let (mut left, mut differed) = (tries, [false; Register::ALL.len()]);
         loop {
             let mut survey = Survey::of_plan(output, wanted, left)?;
-            self.surveyed(&mut survey, bus, &mut left)?;
+            if let Err(why) = self.surveyed(&mut survey, bus, &mut left) {
+                return Err(match why {
+                    NotReached::Refused(NotPlanned { refusal: Refusal::L7MissingRegister, .. }) => {
+                        self.plan(output, wanted).map_or_else(NotReached::from, |_| why)
+                        // it says which
+                    }
+                    _ => why,
+                });
+            }
             if !self.ordered(output, wanted, &mut left, &mut differed, bus)? {
                 return Ok(());
             }

@@ -545,16 +545,20 @@ static inline pm_rail_end pm_host_run_apply(pm_host *host, uint8_t output, const
     for (;;) {
         int has_ordered = 0;
         pm_survey survey;
+        pm_plan_order next;
         pm_rail_end end;
         uint8_t number = pm_survey_for(&survey, output, wanted, left);
         if (number != PM_OK)
             return pm_ended(PM_REFUSED, number, 0, 0);
         end = pm_run_jobs_of(host, &survey, &left, write, read, context);
+        if (end.number == PM_L7_MISSING_REGISTER) { /* the plan says which */
+            number = pm_host_plan(host, output, wanted, &next);
+            return pm_ended(PM_REFUSED, number == PM_OK || number == PM_PLAN_DONE ? end.number : number, next.code, 0);
+        }
         if (end.kind != PM_REACHED)
             return end;
         for (;;) {
             pm_step step;
-            pm_plan_order next;
             unsigned bit;
             number = left == 0 ? pm_host_plan(host, output, wanted, &next) : pm_host_next(host, output, wanted, &next);
             if (number == PM_PLAN_DONE)

@@ -110,4 +110,13 @@ fn a_part_may_lack_registers() {
     let cell = Some(Cell::Output(0, Register::VoutMin));
     let wanted = Wanted { min: Some(1), ..VOLTS };
     assert_eq!(host.plan(0, &wanted), Err(NotPlanned { refusal: Refusal::L7MissingRegister, cell }));
+    let refused = |refusal, register| Err(NotReached::Refused(NotPlanned { refusal, cell: Some(Cell::Output(0, register)) }));
+    let writes = bus.writes.len();
+    assert_eq!(host.run_apply(0, &wanted, 40, &mut bus), refused(Refusal::L7MissingRegister, Register::VoutMin));
+    bus.part = {
+        let output = Output { operation: 0xA8, ..Output::default() };
+        Part::new(0x58, &[output], (1, 0, 3)).unwrap()
+    };
+    assert_eq!(host.run_apply(0, &VOLTS, 40, &mut bus), refused(Refusal::P4NotKnown, Register::VoutMarginHigh));
+    assert_eq!(bus.writes.len(), writes);
 }
