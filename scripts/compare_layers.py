@@ -23,7 +23,10 @@ STRUCTS = {
     "sending": ("SendingImage", "pm_host_c/src/sending_image.rt"), "step": ("HostStep", "pm_host_c/src/host_step.rt"),
     "words": ("WordsImage", "pm_host/src/words_image.rt"), "standing": ("StandingImage", "pm_host/src/standing_image.rt"),
     "cell": ("KnownCell", "pm_host_c/src/known_cells.rt"), "known": ("KnownCells", "pm_host_c/src/known_cells.rt"),
+    "registers": ("RegistersImage", "pm_host_c/src/guard_image.rt"),
     "limits": ("LimitsImage", "pm_host_c/src/guard_image.rt"), "band": ("BandImage", "pm_host_c/src/limits.rt"),
+    "rail": ("RailImage", "pm_host_c/src/rail.rt"), "plan_order": ("PlanOrderImage", "pm_host_c/src/plan.rt"),
+    "wish": ("WishImage", "pm_host_c/src/wanted_image.rt"), "wanted": ("WantedImage", "pm_host_c/src/wanted_image.rt"),
     "format": ("FormatImage", "pm_host/src/format_image.rt"), "name": ("NameImage", "pm_host_c/src/name_image.rt"),
     "packet": ("Packet", "pm_host_c/src/packet.rt"), "payload": ("PayloadImage", "pm_host_c/src/answer.rt"),
     "part_output": ("OutputImage", "pm_device/src/image.rt"), "part_config": ("ConfigImage", "pm_device/src/image.rt"),
@@ -31,7 +34,8 @@ STRUCTS = {
 }
 COUNTS = {"PM_CELLS": "49", "CELLS": "49", "Cell::PLACES": "49", "ROOM": "32", "Reg::COUNT": "6"}
 FAULTS = {"HostFault": "pm_host/src/fault.rt", "NumFault": "pm_num/src/fault.rt", "LimitFault": "pm_limits/src/fault.rt",
-          "FrameFault": "pm_frame/src/fault.rt", "DeviceFault": "pm_device/src/fault.rt", "ConfigFault": "pm_device/src/config_fault.rt"}
+          "FrameFault": "pm_frame/src/fault.rt", "DeviceFault": "pm_device/src/fault.rt", "ConfigFault": "pm_device/src/config_fault.rt",
+          "PlanFault": "pm_rail/src/fault.rt"}
 # The words of an output, which C and Python name and Rattle and Rust count.
 REGISTERS = ["operation", "command", "max", "high", "low", "min"]
 
@@ -81,9 +85,10 @@ def words_of_types():
 
 
 def numbers_of_types():
-    """The words of each number that a type of faults has."""
+    """The words of each number that a type of faults has, in C: there those of a plan stand 20h above the converter's."""
     words = words_of_types()
-    return {int(number, 0): words[name, variant] for name, path in FAULTS.items() for variant, number in
+    return {int(number, 0) + (0x20 if (name, int(number, 0) >> 4) == ("PlanFault", 4) else 0): words[name, variant]
+            for name, path in FAULTS.items() for variant, number in
             re.findall(rf"{name}::(\w+)(?:\([^)]*\))? => (\d\w*),", read("crates", path)) if (name, variant) in words}
 
 
@@ -111,7 +116,7 @@ def refusals():
     text = HEADERS["pm_host_c"]
     found = {int(number, 0): spaced(name) for name, number in re.findall(r"\bPM_([A-Z]\d_\w+) = (\w+)", text)}
     found |= {int(number, 0): camel(name) for name, number in re.findall(r"\bPM_(NO_\w+|OTHER_FRAME) = (0xE\w)", text)}
-    yield "refusals of pm_host_c", {number: it for number, it in types.items() if it[0] in "HNLF"} | alone, {"its header": found}
+    yield "refusals of pm_host_c", {number: it for number, it in types.items() if it[0] in "HNLFP"} | alone, {"its header": found}
     found = {re.sub("^(PART|HEARD)_", "", name): int(number, 0) for name, number in re.findall(r"\bPM_(\w+) = (\w+)", HEADERS["pm_device_c"])}
     faults = {number: spaced(name) for name, number in found.items() if re.match(r"[A-Z]\d_", name)}
     yield "refusals of pm_device_c", {number: it for number, it in types.items() if it[0] in "VK"}, {"its header": faults}
@@ -140,10 +145,12 @@ def letters():
 def sizes():
     """Versions, layouts, and the bytes of a host and of a part: the types' by their tests, which are proved."""
     size = {name: int(re.search(rf"{name}\(\), &(\d+)", CRATES[crate]["tests.rt"])[1])
-            for crate, name in (("pm_host_c", "pm_host_size"), ("pm_device_c", "pm_part_size"))}
+            for crate, name in (("pm_host_c", "pm_host_size"), ("pm_host_c", "pm_survey_size"), ("pm_device_c", "pm_part_size"))}
+    survey = int(re.search(r"VERSION: u16 = (\d+);", CRATES["pm_host_c"]["survey_image.rt"])[1])
     layout = {crate: int(re.search(r"VERSION: u16 = (\d+);", read("crates", crate, "src/image.rt"))[1]) for crate in ("pm_host", "pm_device")}
     host = {"VERSION": int(re.search(r"const VERSION: u16 = (\w+);", CRATES["pm_host_c"]["host.rt"])[1], 0), "HOST_VERSION": layout["pm_host"],
-            "HOST_SIZE": size["pm_host_size"], "CELLS": int(COUNTS["PM_CELLS"])}
+            "HOST_SIZE": size["pm_host_size"], "SURVEY_VERSION": survey, "SURVEY_SIZE": size["pm_survey_size"],
+            "CELLS": int(COUNTS["PM_CELLS"])}
     part = {"PART_VERSION": layout["pm_device"], "PART_SIZE": size["pm_part_size"]}
     for crate, types in ("pm_host_c", host), ("pm_device_c", part):
         yield f"sizes of {crate}", types, {"its header": {it: int(re.search(rf"#define PM_{it} (\w+)", HEADERS[crate])[1], 0) for it in types}}
@@ -199,7 +206,8 @@ def fields_of_python(name):
 
 def kind_of(kind):
     """The kind of a field under one name in all layers."""
-    known = {"StandingImage": "standing", "WordsImage": "words", "CellImage": "cell", "KnownCell": "cell", "OutputImage": "part_output"}
+    known = {"StandingImage": "standing", "WordsImage": "words", "CellImage": "cell", "KnownCell": "cell", "OutputImage": "part_output",
+             "BandImage": "band", "WishImage": "wish"}
     return known.get(kind, kind)
 
 

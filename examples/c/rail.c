@@ -10,9 +10,11 @@
 /* A bus: its part, how it treats frames, and what came of them. */
 typedef struct {
     pm_part part;
-    unsigned faults;    /* 0 none; 1 random ones; 2 every write is acknowledged and lost; 3 nobody is there */
+    unsigned faults;    /* 0 none; 1 random ones; 2 every write is acknowledged and lost; 3 nobody is there; 4 one write is
+                         * heard, and neither its acknowledgement nor an answer comes back before the next write or check */
     unsigned is_told;   /* each write is printed */
-    unsigned writes;    /* how many were sent */
+    unsigned writes, reads; /* how many were sent */
+    unsigned lost;      /* how many answers are still lost */
     int64_t old, wanted; /* what the output commanded first, and what it is to command */
     unsigned others;    /* after how many frames it commanded anything else */
 } bus;
@@ -47,6 +49,8 @@ static uint8_t put(void *context, const uint8_t *bytes, uint64_t count) {
         return PM_UNHEARD;
     if (on->faults == 2)
         return PM_ACKED;
+    if (on->faults == 4)
+        on->lost = 2;
     if (fate > 0) /* 1: cut; 2: heard twice */
         taken = pm_part_hear(&on->part, bytes, fate == 1 ? count - 1 : count, 0, &reply) == PM_HEARD_TAKEN;
     if (fate == 2)
@@ -62,6 +66,7 @@ static uint64_t ask(void *context, const uint8_t *request, uint64_t count, uint8
     pm_part_reply reply;
     unsigned fate = on->faults == 1 ? draw(6) : 5;
     uint64_t came;
+    on->reads++;
     if (on->faults == 3 || pm_part_hear(&on->part, request, count, 1, &reply) != PM_HEARD_ANSWERED)
         return 0;
     came = (uint64_t)reply.length - 1;
@@ -71,6 +76,11 @@ static uint64_t ask(void *context, const uint8_t *request, uint64_t count, uint8
         reply.bytes[1 + draw((unsigned)came)] ^= 0x10;
     memcpy(answer, reply.bytes + 1, (size_t)came);
     look(on);
+    if (on->lost != 0) {
+        on->lost--;
+        on->faults = 0;
+        return 0;
+    }
     return fate == 1 ? 0 : fate == 2 ? came - 1 : came;
 }
 
@@ -149,7 +159,18 @@ static void story(void) {
     tell("apply 3.3 V", pm_host_run_apply(&host, 0, &volts, 40, put, ask, &on));
     tell_rail(&host);
     tell("apply 3.3 V again", pm_host_run_apply(&host, 0, &volts, 40, put, ask, &on));
-    printf("  %u writes in all\n", on.writes);
+    printf("  %u writes and %u reads in all\n", on.writes, on.reads);
+    on.faults = 4;
+    volts.command.word = 0x3400;
+    on.writes = on.reads = 0;
+    tell("apply 3.25 V, the answers to one order are lost", pm_host_run_apply(&host, 0, &volts, 40, put, ask, &on));
+    printf("  %u writes and %u reads\n", on.writes, on.reads);
+    volts.command.word = 0x34CD;
+    tell("apply 3.3 V with 6 tries", pm_host_run_apply(&host, 0, &volts, 6, put, ask, &on));
+    tell("apply 3.3 V with 7 tries", pm_host_run_apply(&host, 0, &volts, 7, put, ask, &on));
+    on.writes = on.reads = 0;
+    tell("apply 3.3 V with 8 tries", pm_host_run_apply(&host, 0, &volts, 8, put, ask, &on));
+    printf("  %u writes and %u reads\n", on.writes, on.reads);
     volts.command.word = 0x3000;
     on.faults = 2;
     tell("apply 3 V, writes are lost", pm_host_run_apply(&host, 0, &volts, 40, put, ask, &on));

@@ -2,8 +2,10 @@
 //! numbers and sizes.
 
 pub const VERSION: u16 = 0x0100;
-pub const HOST_VERSION: u16 = 4;
-pub const HOST_SIZE: usize = 2056;
+pub const HOST_VERSION: u16 = 5;
+pub const HOST_SIZE: usize = 2064;
+pub const SURVEY_VERSION: u16 = 1;
+pub const SURVEY_SIZE: usize = 40;
 pub const CELLS: usize = 49;
 pub const PART_SIZE: usize = 372;
 
@@ -71,6 +73,15 @@ pub struct FormatImage {
 
 #[repr(C)]
 #[derive(Clone, Copy, Default)]
+pub struct RegistersImage {
+    pub vout_max: u8,
+    pub vout_margin_high: u8,
+    pub vout_margin_low: u8,
+    pub vout_min: u8,
+}
+
+#[repr(C)]
+#[derive(Clone, Copy, Default)]
 pub struct LimitsImage {
     pub least: i64,
     pub most: i64,
@@ -81,6 +92,47 @@ pub struct LimitsImage {
 pub struct BandImage {
     pub least: i64,
     pub greatest: i64,
+}
+
+#[repr(C)]
+#[derive(Clone, Copy, Default)]
+pub struct RailImage {
+    pub power: u8,
+    pub within: u8,
+    pub band: u8,
+    pub unused: [u8; 5],
+    pub ends: BandImage,
+}
+
+#[repr(C)]
+#[derive(Clone, Copy, Default)]
+pub struct WishImage {
+    pub has: u16,
+    pub word: u16,
+}
+
+#[repr(C)]
+#[derive(Clone, Copy, Default)]
+pub struct WantedImage {
+    pub command: WishImage,
+    pub max: WishImage,
+    pub margin_high: WishImage,
+    pub margin_low: WishImage,
+    pub min: WishImage,
+}
+
+#[repr(C)]
+#[derive(Clone, Copy, Default)]
+pub struct PlanOrderImage {
+    pub code: u8,
+    pub unused: u8,
+    pub word: u16,
+}
+
+#[repr(C)]
+#[derive(Clone, Copy, Default)]
+pub struct SurveyImage {
+    pub held: [u64; SURVEY_SIZE / 8],
 }
 
 #[repr(C)]
@@ -143,12 +195,14 @@ pub struct ReplyImage {
 }
 
 const _: () = assert!(size_of::<HostImage>() == HOST_SIZE && size_of::<PartImage>() == PART_SIZE);
+const _: () = assert!(size_of::<SurveyImage>() == SURVEY_SIZE);
 
 extern "C" {
     pub fn pm_version() -> u16;
     pub fn pm_host_size() -> u64;
     pub fn pm_host_version() -> u16;
     pub fn pm_host_new(host: &mut HostImage, address: u8, outputs: u8, passes: u8) -> u8;
+    pub fn pm_host_new_with(host: &mut HostImage, address: u8, outputs: u8, passes: u8, registers: &RegistersImage) -> u8;
     pub fn pm_host_narrow(host: &mut HostImage, output: u8, least: i64, most: i64) -> u8;
     pub fn pm_host_limits(host: &HostImage, output: u8, limits: &mut LimitsImage) -> u8;
     pub fn pm_host_within(host: &HostImage, output: u8) -> u8;
@@ -169,10 +223,21 @@ extern "C" {
     pub fn pm_host_format(host: &HostImage, output: u8, format: &mut FormatImage) -> u8;
     pub fn pm_host_known(host: &HostImage, known: &mut KnownImage) -> u8;
     pub fn pm_host_restart_seen(host: &HostImage) -> u8;
+    pub fn pm_host_rail(host: &HostImage, output: u8, rail: &mut RailImage) -> u8;
+    pub fn pm_host_plan(host: &HostImage, output: u8, wanted: &WantedImage, next: &mut PlanOrderImage) -> u8;
+    pub fn pm_host_next(host: &mut HostImage, output: u8, wanted: &WantedImage, next: &mut PlanOrderImage) -> u8;
+    pub fn pm_survey_size() -> u64;
+    pub fn pm_survey_version() -> u16;
+    pub fn pm_survey_new(survey: &mut SurveyImage, output: u8, tries: u16) -> u8;
+    pub fn pm_survey_for(survey: &mut SurveyImage, output: u8, wanted: &WantedImage, tries: u16) -> u8;
+    pub fn pm_host_survey(host: &mut HostImage, survey: &mut SurveyImage) -> u8;
+    pub fn pm_survey_told(survey: &mut SurveyImage, kind: u16) -> u8;
     pub fn pm_refusal_name(number: u8, name: &mut NameImage) -> u8;
     pub fn pm_end_name(kind: u16, name: &mut NameImage) -> u8;
     pub fn pm_microvolts(format: &FormatImage, word: u16, microvolts: &mut i64) -> u8;
     pub fn pm_nearest_word(format: &FormatImage, microvolts: i64, word: &mut u16) -> u8;
+    pub fn pm_at_most(format: &FormatImage, microvolts: i64, word: &mut u16) -> u8;
+    pub fn pm_at_least(format: &FormatImage, microvolts: i64, word: &mut u16) -> u8;
     pub fn pm_pec(bytes: *const u8, count: u64) -> u8;
     pub fn pm_packet_write(address: u8, packet: &PacketImage, frame: &mut SendingImage) -> u8;
     pub fn pm_packet_read_write(address: u8, bytes: *const u8, count: u64, packet: &mut PacketImage) -> u8;

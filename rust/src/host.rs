@@ -45,11 +45,8 @@ impl Cell {
         }
     }
 
-    fn of(output: u8, code: u8) -> Cell {
-        Register::ALL
-            .into_iter()
-            .find(|register| register.code() == code)
-            .map_or(Cell::WriteProtect, |register| Cell::Output(output, register))
+    pub(crate) fn of(output: u8, code: u8) -> Cell {
+        Register::of(code).map_or(Cell::WriteProtect, |register| Cell::Output(output, register))
     }
 }
 
@@ -63,6 +60,11 @@ impl Register {
         Register::VoutMarginLow,
         Register::VoutMin,
     ];
+
+    /// The register of a command code, where it is one's.
+    pub(crate) fn of(code: u8) -> Option<Register> {
+        Register::ALL.into_iter().find(|register| register.code() == code)
+    }
 
     /// Its command code.
     pub const fn code(self) -> u8 {
@@ -253,7 +255,7 @@ pub enum Job {
 /// ```
 #[derive(Clone)]
 pub struct Host {
-    image: ffi::HostImage,
+    pub(crate) image: ffi::HostImage,
 }
 
 impl fmt::Debug for Host {
@@ -268,17 +270,37 @@ impl Host {
     /// A host for the device at this address, 08h to 77h, with 1 to 8 outputs; a job has at most 1 to 15 passes. Nothing is
     /// known, and no output has limits. NoAddress, H1, H2; NoHost where the library is of another version.
     pub fn new(address: u8, outputs: u8, passes: u8) -> Result<Host, Refusal> {
+        let mut image = Host::blank()?;
+        accepted(unsafe { ffi::pm_host_new(&mut image, address, outputs, passes) })?;
+        Ok(Host { image })
+    }
+
+    /// The same of a part whose outputs lack these registers: of VOUT_MAX, the margins and VOUT_MIN, since every part has the
+    /// others. A missing VOUT_MIN or VOUT_MAX cuts nothing, and a job on a missing register is refused (L7).
+    pub fn without(address: u8, outputs: u8, passes: u8, missing: &[Register]) -> Result<Host, Refusal> {
+        let has = |register| u8::from(!missing.contains(&register));
+        let registers = ffi::RegistersImage {
+            vout_max: has(Register::VoutMax),
+            vout_margin_high: has(Register::VoutMarginHigh),
+            vout_margin_low: has(Register::VoutMarginLow),
+            vout_min: has(Register::VoutMin),
+        };
+        let mut image = Host::blank()?;
+        accepted(unsafe { ffi::pm_host_new_with(&mut image, address, outputs, passes, &registers) })?;
+        Ok(Host { image })
+    }
+
+    fn blank() -> Result<ffi::HostImage, Refusal> {
         let found = unsafe { (ffi::pm_version() >> 8, ffi::pm_host_version(), ffi::pm_host_size()) };
         let wanted = (ffi::VERSION >> 8, ffi::HOST_VERSION, ffi::HOST_SIZE as u64);
         if found != wanted {
             return Err(Refusal::NoHost);
         }
-        let mut image = ffi::HostImage { held: [0; ffi::HOST_SIZE / 8] };
-        accepted(unsafe { ffi::pm_host_new(&mut image, address, outputs, passes) })?;
-        Ok(Host { image })
+        Ok(ffi::HostImage { held: [0; ffi::HOST_SIZE / 8] })
     }
 
-    /// Gives an output limits, or narrower ones. H4, N5, L1, L6.
+    /// Gives an output limits, or narrower ones. H4, N5, L1, L6, H3 where an order of the output is open that these would
+    /// refuse.
     pub fn narrow(&mut self, output: u8, limits: Limits) -> Result<(), Refusal> {
         accepted(unsafe { ffi::pm_host_narrow(&mut self.image, output, limits.least, limits.most) })
     }
@@ -294,15 +316,11 @@ impl Host {
 
     /// Whether an output's voltage lies within its limits, by what is known. H4.
     pub fn within(&self, output: u8) -> Result<Within, Refusal> {
-        match unsafe { ffi::pm_host_within(&self.image, output) } {
-            0x91 => Ok(Within::Yes),
-            0x92 => Ok(Within::No),
-            0x93 => Ok(Within::NotKnown),
-            number => Err(Refusal::of(number)),
-        }
+        within_of(unsafe { ffi::pm_host_within(&self.image, output) })
     }
 
-    /// Between which voltages an output may be, by what is known. H4, H7 where its format isn't known, N5.
+    /// Between which voltages an output may be, by what is known. H4, H7 where its format isn't known, NoBand where OPERATION may
+    /// hand its voltage to AVSBus, N5.
     pub fn band(&self, output: u8) -> Result<Band, Refusal> {
         let mut found = ffi::BandImage::default();
         accepted(unsafe { ffi::pm_host_band(&self.image, output, &mut found) })?;
@@ -322,19 +340,19 @@ impl Host {
         }
     }
 
-    /// Begins an order of a word. H3, H4, L2, L3, L4, H5, L5, H6.
+    /// Begins an order of a word. H3, H4, L7, L2, L3, L4, H5, L5, H6.
     pub fn order(&mut self, cell: Cell, word: u16) -> Result<(), Refusal> {
         let (output, code) = cell.numbers();
         accepted(unsafe { ffi::pm_host_order(&mut self.image, output, code, word) })
     }
 
-    /// Begins an order of the word nearest to microvolts. H3, H4, H5, H7, N5, N3, N4, L3, L4, H6.
+    /// Begins an order of the word nearest to microvolts. H3, H4, L7, H5, H7, N5, N3, N4, L3, L4, H6.
     pub fn order_micro(&mut self, cell: Cell, microvolts: i64) -> Result<(), Refusal> {
         let (output, code) = cell.numbers();
         accepted(unsafe { ffi::pm_host_order_micro(&mut self.image, output, code, microvolts) })
     }
 
-    /// Begins a check. H3, H4.
+    /// Begins a check. H3, H4, L7.
     pub fn check(&mut self, cell: Cell) -> Result<(), Refusal> {
         let (output, code) = cell.numbers();
         accepted(unsafe { ffi::pm_host_check(&mut self.image, output, code) })
@@ -387,22 +405,30 @@ impl Host {
     /// again by the host itself, and the last one's error is that of `Unknown`. A store, which wears the part's memory, is sent
     /// once: its later passes are told as not acknowledged, unsent.
     pub fn run<B: Bus>(&mut self, bus: &mut B) -> Result<(), NotDone<B::Error>> {
-        let (mut error, mut has_stored) = (None, false);
+        let mut error = None;
+        match self.run_to_end(bus, &mut error)? {
+            Step::Next => Err(NotDone::Refused(Refusal::NoEnd)),
+            Step::Done | Step::Learned => Ok(()),
+            Step::Differs(word) => Err(NotDone::Differs { word }),
+            Step::Unknown { fault } => Err(NotDone::Unknown { error, fault }),
+        }
+    }
+
+    /// The same, with the step at which the job ended, and the last transaction's error in its place.
+    pub(crate) fn run_to_end<B: Bus>(&mut self, bus: &mut B, error: &mut Option<B::Error>) -> Result<Step, Refusal> {
+        let mut has_stored = false;
         loop {
             let step = match self.sending() {
-                Sending::Nothing => return Err(NotDone::Refused(Refusal::OtherFrame)),
+                Sending::Nothing => return Err(Refusal::OtherFrame),
                 Sending::Write(_) if has_stored => self.finished(false)?,
                 Sending::Write(frame) => {
                     has_stored = frame[1..frame.len() - 1] == [STORE_USER_ALL];
-                    self.written(bus, &frame, &mut error)?
+                    self.written(bus, &frame, error)?
                 }
-                Sending::Request { frame, answer } => self.asked(bus, &frame, answer, &mut error)?,
+                Sending::Request { frame, answer } => self.asked(bus, &frame, answer, error)?,
             };
-            match step {
-                Step::Next => {}
-                Step::Done | Step::Learned => return Ok(()),
-                Step::Differs(word) => return Err(NotDone::Differs { word }),
-                Step::Unknown { fault } => return Err(NotDone::Unknown { error, fault }),
+            if step != Step::Next {
+                return Ok(step);
             }
         }
     }
@@ -487,6 +513,15 @@ impl Host {
     #[must_use]
     pub fn restart_seen(&self) -> bool {
         unsafe { ffi::pm_host_restart_seen(&self.image) == 1 }
+    }
+}
+
+pub(crate) fn within_of(number: u8) -> Result<Within, Refusal> {
+    match number {
+        0x91 => Ok(Within::Yes),
+        0x92 => Ok(Within::No),
+        0x93 => Ok(Within::NotKnown),
+        number => Err(Refusal::of(number)),
     }
 }
 

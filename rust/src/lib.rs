@@ -12,6 +12,7 @@ mod number;
 mod packet;
 mod part;
 mod patient;
+mod rail;
 mod refusal;
 
 pub use bus::{Bus, Operation};
@@ -23,6 +24,7 @@ pub use number::Format;
 pub use packet::{pec, Bytes, Data, Packet};
 pub use part::{Heard, NoAnswer, Output, Part, Reading};
 pub use patient::{Clock, NotHeard, Patient, Unheard};
+pub use rail::{NotPlanned, NotReached, PlanOrder, Power, Rail, Survey, Surveyed, Wanted};
 pub use refusal::Refusal;
 
 /// The name of how a job stands, by the number that the library gives it.

@@ -60,4 +60,28 @@ impl Format {
         accepted(unsafe { ffi::pm_nearest_word(&self.image(), microvolts, &mut found) })?;
         Ok(found)
     }
+
+    /// The word of the greatest value that isn't above millionths, as of a bound from above: N5, N3 where each is above them;
+    /// above the greatest value it is that value's word. H7 where the numbers are no format's.
+    ///
+    /// ```
+    /// use pm_host::Format;
+    /// assert_eq!(Format::Ulinear16(-12).at_most(3_300_000), Ok(0x34CC)); // the nearest, 34CDh, is 3.300048 V
+    /// assert_eq!(Format::Ulinear16(-12).at_least(3_300_000), Ok(0x34CD));
+    /// ```
+    pub fn at_most(self, microvolts: i64) -> Result<u16, Refusal> {
+        let mut found = 0;
+        // SAFETY: the references are valid, and the one that is written overlaps nothing.
+        accepted(unsafe { ffi::pm_at_most(&self.image(), microvolts, &mut found) })?;
+        Ok(found)
+    }
+
+    /// The word of the least value that isn't below millionths, as of a bound from below: N5, N4 where each is below them;
+    /// below the least value it is that value's word. H7 where the numbers are no format's.
+    pub fn at_least(self, microvolts: i64) -> Result<u16, Refusal> {
+        let mut found = 0;
+        // SAFETY: the references are valid, and the one that is written overlaps nothing.
+        accepted(unsafe { ffi::pm_at_least(&self.image(), microvolts, &mut found) })?;
+        Ok(found)
+    }
 }

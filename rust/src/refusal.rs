@@ -76,6 +76,8 @@ refusals! {
     L5NotKnownWithin = 0x25,
     /// L6: the new limits let through what the old ones don't.
     L6LimitsWidened = 0x26,
+    /// L7: the part doesn't have the register, or the margin that a byte of OPERATION selects.
+    L7MissingRegister = 0x27,
     /// F1: bytes of another device, or none.
     F1NotOurs = 0x31,
     /// F2: too few bytes.
@@ -106,6 +108,20 @@ refusals! {
     K6Nested = 0x46,
     /// K7: a code that isn't written, or isn't read.
     K7ReadOnly = 0x47,
+    /// P1: the format of the output's voltages isn't known.
+    P1FormatUnknown = 0x61,
+    /// P2: a wanted word is below the output's limits.
+    P2BelowLimit = 0x62,
+    /// P3: a wanted word is above the output's limits.
+    P3AboveLimit = 0x63,
+    /// P4: what a register or WRITE_PROTECT holds isn't known.
+    P4NotKnown = 0x64,
+    /// P5: a word will be below VOUT_MIN.
+    P5BelowMin = 0x65,
+    /// P6: a word will be above VOUT_MAX.
+    P6AboveMax = 0x66,
+    /// P7: WRITE_PROTECT doesn't allow each order that is still to come.
+    P7Protected = 0x67,
     /// V1: a part has 1 to 8 outputs.
     V1OutputCount = 0x51,
     /// V2: OPERATION or WRITE_PROTECT doesn't accept its start word.
@@ -134,6 +150,12 @@ refusals! {
     NoName = 0xE7,
     /// The command code is no reading's.
     NoReading = 0xE8,
+    /// The memory holds no survey.
+    NoSurvey = 0xE9,
+    /// The step is no end of a job.
+    NoEnd = 0xEA,
+    /// OPERATION may be a byte that hands the output's voltage to AVSBus.
+    NoBand = 0xEB,
 }
 
 impl fmt::Display for Refusal {

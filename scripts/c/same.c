@@ -42,7 +42,7 @@ uint32_t wide_word(const pm_format *format, int64_t microvolts, uint16_t *word) 
 #define wide_word pm_nearest_word
 #endif
 
-enum { HOSTS = 4, HALVES = PM_HOST_SIZE / 2, GUARD = 4, ROOM = 320, EXPORTS = 47 };
+enum { HOSTS = 4, HALVES = PM_HOST_SIZE / 2, GUARD = 4, ROOM = 320, EXPORTS = 59 };
 
 /* Hosts at addresses that eight divides, with guards around them: the last is damaged. */
 static uint64_t memory[HOSTS][(GUARD + HALVES + GUARD) / 4];
@@ -54,7 +54,11 @@ static struct {
     uint8_t a[3]; pm_sending sending; uint8_t b; pm_part_reply reply; uint16_t c; pm_words words; uint16_t d; pm_standing standing;
     uint16_t e; pm_format format; uint16_t f; pm_packet packet; uint16_t g; uint16_t word; uint16_t h[4]; int64_t microvolts;
     uint16_t i[4]; pm_limits limits; uint16_t j[4]; pm_band band; uint16_t k[4]; pm_name name; pm_payload payload; uint16_t l[4];
+    pm_rail rail; uint16_t m[4]; pm_plan_order order; uint16_t n[2];
 } out;
+
+/* A survey, with guards around it. */
+static struct { uint16_t before[4]; pm_survey survey; uint16_t after[4]; } asked;
 
 /* What is known of all cells, which is large: with guards of its own. */
 static struct { uint16_t before[3]; pm_known known; uint16_t after[3]; } cells;
@@ -196,7 +200,13 @@ static void new_host(unsigned number) {
     uint8_t address = (uint8_t)(draw(8) ? 0x58 : draw(256));
     uint8_t outputs = (uint8_t)(draw(8) ? 1 + draw(8) : draw(256));
     uint8_t passes = (uint8_t)(draw(8) ? 1 + draw(4) : draw(256));
-    heard(0, pm_host_new(host_at(number), address, outputs, passes), 255);
+    pm_registers has;
+    has.vout_max = (uint8_t)draw(8), has.vout_margin_high = (uint8_t)draw(4);
+    has.vout_margin_low = (uint8_t)draw(4), has.vout_min = (uint8_t)draw(4);
+    if (draw(2))
+        heard(0, pm_host_new(host_at(number), address, outputs, passes), 255);
+    else
+        heard(47, pm_host_new_with(host_at(number), address, outputs, passes, &has), 255);
 }
 
 /* Begins a job; what stands in `host` goes into the sums with the caller. */
@@ -297,15 +307,57 @@ static void ask(const pm_host *host) {
     add_bytes(&out, sizeof out);
 }
 
+/* Wishes, most times of few registers. */
+static pm_wanted draw_wanted(void) {
+    pm_wanted wanted;
+    pm_wish *wishes[] = {&wanted.command, &wanted.max, &wanted.margin_high, &wanted.margin_low, &wanted.min};
+    for (unsigned i = 0; i < 5; i++) {
+        wishes[i]->has = (uint16_t)(draw(3) ? 0 : draw(8) ? 1 : draw(65536));
+        wishes[i]->word = draw_word();
+    }
+    return wanted;
+}
+
+/* What an output commands, a plan's next order, and a survey's next job. */
+static void rails(pm_host *host) {
+    uint8_t output = draw_output();
+    uint16_t tries = (uint16_t)(draw(8) ? draw(12) : draw(65536));
+    pm_wanted wanted = draw_wanted();
+    memset(&out, (int)draw(256), sizeof out);
+    switch (draw(12)) {
+    case 0: heard(48, pm_host_rail(host, output, &out.rail), 255); break;
+    case 1: case 2: heard(49, pm_host_plan(host, output, &wanted, &out.order), 255); break;
+    case 3: heard(50, pm_host_next(host, output, &wanted, &out.order), 255); break;
+    case 4: heard(51, pm_survey_new(&asked.survey, output, tries), 255); break;
+    case 5: heard(52, pm_survey_for(&asked.survey, output, &wanted, tries), 255); break;
+    case 6: heard(54, pm_survey_told(&asked.survey, (uint16_t)(draw(8) ? draw(6) : draw(65536))), 255); break;
+    case 7: heard(55, (uint32_t)pm_survey_size() ^ (uint32_t)(pm_survey_size() >> 32), UINT32_MAX);
+        heard(56, pm_survey_version(), 65535); break;
+    case 8:
+        if (draw(8) == 0)
+            damage((uint8_t *)&asked.survey, sizeof asked.survey);
+        break;
+    default: heard(53, pm_host_survey(host, &asked.survey), 255); break;
+    }
+    add_bytes(&out, sizeof out);
+    add_halves((const uint16_t *)&asked, sizeof asked / 2);
+}
+
 static void numbers(void) {
     pm_format format = draw_format();
     uint16_t word = draw_word();
     int64_t microvolts = draw_microvolts();
     memset(&out, (int)draw(256), sizeof out);
-    if (draw(2))
-        heard(18, pm_microvolts(&format, word, &out.microvolts), 255);
-    else
-        heard(19, wide_word(&format, microvolts, &out.word), 255);
+    switch (draw(4)) {
+    case 0: case 1: heard(18, pm_microvolts(&format, word, &out.microvolts), 255); break;
+    case 2: heard(19, wide_word(&format, microvolts, &out.word), 255); break;
+    default:
+        if (draw(2))
+            heard(57, pm_at_most(&format, microvolts, &out.word), 255);
+        else
+            heard(58, pm_at_least(&format, microvolts, &out.word), 255);
+        break;
+    }
     add_bytes(&out, sizeof out);
 }
 
@@ -398,6 +450,8 @@ static void step(void) {
         begin(host);
     else if (kind < 56)
         exchange(host);
+    else if (kind < 64)
+        rails(host);
     else if (kind < 70)
         ask(host);
     else if (kind < 78 && draw(8))

@@ -82,6 +82,20 @@ PATIENT_ROWS = [
      "return bus->now(bus->context) < begun + patience;", "a part that is never ready again"),
     ("what is too long is an answer", "return came != 0 && came <= 2 &&", "return came != 0 &&", "more of a question"),
 ]
+# Of the loops of pm.h over a rail: what examples/c/rail.c prints is other than rail.expected then.
+RAILS = [
+    ("an order that differs is given for ever", "            if (differed & bit)\n", "            if (0)\n"),
+    ("an order that differs is the end", "            if (differed & bit)\n", "            if (1)\n"),
+    ("no survey behind the orders", "        if (!has_ordered)\n", "        if (1)\n"),
+    ("an order is given where no try is left", "number = left == 0 ? pm_host_plan(host, output, wanted, &next) : ", "number = "),
+    ("a register that isn't known is the end", "            if (number != PM_OK && number != PM_P4_NOT_KNOWN)\n", "            if (number != PM_OK)\n"),
+    ("a refusal lacks its register", "return pm_ended(PM_REFUSED, number, next.code, 0);\n            if (left == 0)",
+     "return pm_ended(PM_REFUSED, number, 0, 0);\n            if (left == 0)"),
+    ("a survey that is spent is reached", "            return pm_ended(PM_SPENT, 0, 0, 0);\n        if (number == PM_SURVEY_STUCK)",
+     "            return pm_ended(PM_REACHED, 0, 0, 0);\n        if (number == PM_SURVEY_STUCK)"),
+    ("an apply has twice its tries", "    uint16_t left = tries;\n", "    uint16_t left = (uint16_t)(2 * tries);\n"),
+    ("a job of a survey takes no try", "        *left = (uint16_t)(*left - 1);\n", ""),
+]
 # Of linux_bus.h: the bus, the mishaps of the transfers, and what i2c_dev.c prints without the bug.
 ORDER, TAKEN = "/dev/i2c-1 58 0 3300000", "i2c_dev: another program drives 5-0058: fuser /dev/i2c-5 names who has the bus open\n"
 DONE_LINE = "ended done, confirmed 34CD, 3300048 uV\n"
@@ -129,8 +143,9 @@ TESTS = [
      "each_job_sends_its_own_frames"),
     ("no output has no limits", HOST, "Err(Refusal::NoLimits) =>", "Err(Refusal::NoLimits | Refusal::H4UnknownOutput) =>",
      "an_output_that_isnt_there_is_h4"),
-    ("another word is done", HOST, "return Err(NotDone::Differs { word }),", "return Ok(drop(word)),", "a_protected_part_makes_an_order_an_error"),
-    ("unknown is done", HOST, "return Err(NotDone::Unknown { error, fault }),", "return Ok(drop((error, fault))),",
+    ("another word is done", HOST, "Step::Differs(word) => Err(NotDone::Differs { word }),", "Step::Differs(word) => Ok(drop(word)),", "a_protected_part_makes_an_order_an_error"),
+    ("unknown is done", HOST, "Step::Unknown { fault } => Err(NotDone::Unknown { error, fault }),",
+     "Step::Unknown { fault } => Ok(drop((error, fault))),",
      "no_command_is_done_over_a_dead_bus"),
     ("a write's error is lost", HOST, FAILED_WRITE, FAILED_WRITE.replace("Some(why)", "None.or(drop(why).into()).and(None)"),
      "no_command_is_done_over_a_dead_bus"),
@@ -212,6 +227,12 @@ class Copy:
         self.program("rows", "examples/c/run_rows.c")
         return f"\n{name}: " not in "\n" + self.run("./rows")[1]
 
+    def rail(self):
+        """Whether rail.c prints what it is to print."""
+        self.program("rail", "examples/c/rail.c")
+        with open(os.path.join(self.folder, "examples/c/rail.expected"), encoding="utf-8") as wanted:
+            return self.run("timeout", "60", "./rail")[1] == wanted.read()
+
     def warns(self, call):
         """Whether gcc warns of this call alone on a line."""
         with open(os.path.join(self.folder, "drops.c"), "w", encoding="utf-8") as file:
@@ -248,6 +269,8 @@ def mutants(copy):
         begin = f"{kind} pm_host_{call.partition('(')[0]}("
         yield (f"pm.h: {call.partition('(')[0]} may be dropped", "dropped answers",
                lambda: copy.planted(HEADER, f"PM_MUST_USE\n{begin}", begin, copy.warns, call))
+    for name, old, new in RAILS:
+        yield f"pm.h: {name}", "rail.c", lambda: copy.planted(HEADER, old, new, copy.rail)
     for name, old, new, row in PATIENT_ROWS:
         yield f"pm_patient.h: {name}", f"patient_rows.c, {row}", lambda: copy.planted(PATIENT, old, new, copy.patient_row, row)
     for name, old, new, words, mishaps, wanted in TRANSFERS:

@@ -393,6 +393,12 @@ uint8_t pm_microvolts(const pm_format *format, uint16_t word, int64_t *microvolt
 /* The word nearest to a number of microvolts. H7 where the format is none, N5, N3, N4. */
 uint8_t pm_nearest_word(const pm_format *format, int64_t microvolts, uint16_t *word);
 
+/* The word of a bound, of several the one that pm_nearest_word gives for its value: pm_at_most of the greatest value that isn't
+ * above so many microvolts, N3 where each is, and above all of them the greatest's word; pm_at_least of the least value that
+ * isn't below them, N4 where each is, and below all the least's word. H7 where the format is none, N5. */
+uint8_t pm_at_most(const pm_format *format, int64_t microvolts, uint16_t *word);
+uint8_t pm_at_least(const pm_format *format, int64_t microvolts, uint16_t *word);
+
 /* What a packet says. */
 typedef struct {
     uint8_t kind;  /* 1 send byte, 2 write byte, 3 write word, 4 PAGE_PLUS_WRITE, 5 read byte or word,
@@ -539,16 +545,20 @@ static inline pm_rail_end pm_host_run_apply(pm_host *host, uint8_t output, const
     for (;;) {
         int has_ordered = 0;
         pm_survey survey;
+        pm_plan_order next;
         pm_rail_end end;
         uint8_t number = pm_survey_for(&survey, output, wanted, left);
         if (number != PM_OK)
             return pm_ended(PM_REFUSED, number, 0, 0);
         end = pm_run_jobs_of(host, &survey, &left, write, read, context);
+        if (end.number == PM_L7_MISSING_REGISTER) { /* the plan says which */
+            number = pm_host_plan(host, output, wanted, &next);
+            return pm_ended(PM_REFUSED, number == PM_OK || number == PM_PLAN_DONE ? end.number : number, next.code, 0);
+        }
         if (end.kind != PM_REACHED)
             return end;
         for (;;) {
             pm_step step;
-            pm_plan_order next;
             unsigned bit;
             number = left == 0 ? pm_host_plan(host, output, wanted, &next) : pm_host_next(host, output, wanted, &next);
             if (number == PM_PLAN_DONE)

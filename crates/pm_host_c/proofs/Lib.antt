@@ -3,3 +3,4 @@ mod Named
 mod Ceils
 mod Plans
 mod Surveys
+mod Narrows

@@ -1,5 +1,6 @@
 -- What a survey asks for, and how its memory is kept.
 use Rattle.std.proofs.Common.{◌≡◌, ◌≢◌, ◌<◌, ℕ, Bool, true, false, List, [], ◌∷◌, Option, Some, None, option_map, refl, sym, ap, subst, ◌∙◌, rules}
+use Rattle.std.proofs.lemmas.Bool.{and_parts}
 use Rattle.std.specs.Prelude.{nat_lt, ◌==◌, ◌&&◌, ◌||◌, not, if◌then◌else◌, is_some, is_none, find}
 use Rattle.pm_table.specs.declared.cell.Cell.TheVariants.{Out, Protect}
 use Rattle.pm_table.specs.declared.reg.Reg.{Reg}
@@ -34,15 +35,12 @@ use Rattle.pm_host_c.proofs.Plans.{IsAt}
 -- a register that was found passes the test
 found : (test : Reg → Bool) (listed : List Reg) (register : Reg) → find test listed ≡ Some register → test register ≡ true
 found test [] register is = cc
-found test (one ∷ listed) register is = by (test one) refl is
+found test (one ∷ listed) register is = by (test one) refl is (found test listed register)
   where
-    by : (b : Bool) → test one ≡ b → (if b then Some one else find test listed) ≡ Some register → test register ≡ true
-    by true passes same = let one_is : one ≡ register = cc in subst (λ (r : Reg). test r ≡ true) one_is passes
-    by false fails same = found test listed register same
-
-both-true : (a b : Bool) → (a && b) ≡ true → a ≡ true
-both-true true b is = refl
-both-true false b is = cc
+    by : (b : Bool) → test one ≡ b → (if b then Some one else find test listed) ≡ Some register
+        → (find test listed ≡ Some register → test register ≡ true) → test register ≡ true
+    by true passes same further = let one_is : one ≡ register = cc in subst (λ (r : Reg). test r ≡ true) one_is passes
+    by false fails same further = further same
 
 -- what holds of nothing, of a learn and of a check of each cell of an output that the part has
 pub record HoldsOfEach (part : PartRegisters) (output : ℕ) (P : Option Job → Type 0) : Type 0 where
@@ -77,8 +75,8 @@ next P part v s each = left (v.left == 0)
         due (not v.learned) (find (is_unread part v.read held wants) registers)
         (is_some v.plan && not v.read.protect) (find (is_unsure part cells v.output held wants) registers)
         (is_some v.plan && is_none (known_at cells Protect))
-        (λ register is. both-true _ _ (found (is_unread part v.read held wants) registers register is))
-        (λ register is. both-true _ _ (found (is_unsure part cells v.output held wants) registers register is))
+        (λ register is. (and_parts _ _ (found (is_unread part v.read held wants) registers register is)).0)
+        (λ register is. (and_parts _ _ (found (is_unsure part cells v.output held wants) registers register is)).0)
 
     left : (b : Bool) → P (if b then None else due_job part v s)
     left true = each.nothing
@@ -90,11 +88,11 @@ pub begins : (image : GuardImage) (s : Summary) (v : Survey) → IsAt image s v.
     → job_number (guard_of image) (next_job (registers_held image.registers) v s) ≡ accepted
 begins image s v at = next (λ job. is_some job ≡ true → job_number (guard_of image) job ≡ accepted)
     (registers_held image.registers) v s (record {
-  nothing = λ never. cc;
-  learn = λ is. rw (at.found, at.idle, at.there) refl;
-  check = λ register has is. rw (at.found, at.idle, at.there, has) refl;
-  protect = λ is. rw (at.found, at.idle) refl;
-})
+      nothing = λ never. cc;
+      learn = λ is. rw (at.found, at.idle, at.there) refl;
+      check = λ register has is. rw (at.found, at.idle, at.there, has) refl;
+      protect = λ is. rw (at.found, at.idle) refl;
+    })
 
 -- what is asked of a survey in memory that is idle
 pub record Asks (old : GuardImage) (was : SurveyImage) (s : Summary) (v : Survey) : Type 0 where

@@ -1,7 +1,9 @@
 -- The word of a voltage and the voltage of a word, in the format that an image means.
 use Rattle.std.specs.Prelude.{◌≡◌, ℕ, ℤ, pos, neg_ℤ, ◌≤ℤ◌, ◌^◌, Bool, ◌||◌, nat_lt, if◌then◌else◌, ◌==◌, Option, Some, None}
+use Rattle.std.specs.Option.{option_map_or}
 use Rattle.pm_num.specs.declared.fault.NumFault.TheVariants.{TooLarge}
-use Rattle.pm_num.specs.AnyFormat.{Shape, InLinear11, shape_value}
+use Rattle.pm_num.specs.AnyFormat.{Shape, InLinear11, shape_highest, shape_lowest, shape_value}
+use Rattle.pm_num.specs.Bounds.{at_least_fault, at_most_fault}
 use Rattle.pm_num.specs.Ratio.{Ratio, AtMost, is_above, micros}
 use Rattle.pm_host.specs.declared.fault.HostFault.TheVariants.{FormatUnknown, UnknownOutput}
 use Rattle.pm_host.specs.Refusals.{range_fault}
@@ -16,6 +18,15 @@ use Rattle.pm_host.specs.FaultWords.{host_fault_number}
 abbrev pub word_number : Option Shape → ℤ → ℕ
 word_number None x = host_fault_number FormatUnknown
 word_number (Some shape) x = outcome (range_fault shape x)
+
+-- a word for a bound: H7 where there is no format, then N5, and N3 from above or N4 from below
+abbrev pub at_most_number : Option Shape → ℤ → ℕ
+at_most_number None x = host_fault_number FormatUnknown
+at_most_number (Some shape) x = option_map_or num_fault_number (at_most_fault (shape_lowest shape) x) accepted
+
+abbrev pub at_least_number : Option Shape → ℤ → ℕ
+at_least_number None x = host_fault_number FormatUnknown
+at_least_number (Some shape) x = option_map_or num_fault_number (at_least_fault (shape_highest shape) x) accepted
 
 -- this many whole microvolts are the most that aren't above the value
 pub record IsFloor (value : Ratio) (x : ℤ) : Type 0 where

@@ -1,11 +1,11 @@
 //! Limits of an output's voltage, and the band that is known.
 
-ghost use Rattle.std.specs.Prelude.{◌≡◌, ◌≢◌, ◌<◌, None, IsSomeAnd, option_map};
+ghost use Rattle.std.specs.Prelude.{◌≡◌, ◌≢◌, ◌<◌, slice_index_or, None, IsSomeAnd, option_map};
 ghost use Rattle.pm_host.specs.Image.{held};
 ghost use Rattle.pm_host.specs.Summary.{format_at};
-ghost use Rattle.pm_limits.specs.Band.{band_at};
+ghost use Rattle.pm_limits.specs.Band.{band_at, within_of};
 ghost use Rattle.pm_limits.specs.Guard.{limits_at, narrowed};
-ghost use Rattle.pm_host_c.specs.Guard.{guard_of, limits_held};
+ghost use Rattle.pm_host_c.specs.Guard.{guard_of, limits_held, limits_kept, registers_held};
 ghost use Rattle.pm_host_c.specs.Memory.{IsMemory};
 ghost use Rattle.pm_host_c.specs.Limits.{band_number, ends_in, ends_number, limits_number, narrow_number, no_band_number, within_number, within_word, IsBand, IsEnds};
 
@@ -88,8 +88,16 @@ pub extern "C" fn pm_host_within(host: &GuardImage, output: u8) -> u8
     if host.host.state.outputs <= output {
         return HostFault::UnknownOutput.number();
     }
-    let band = band_in(&host.host.state, host.registers.registers(), output);
-    of_within(within_limits(host.limits(output), band))
+    of_within(within_in(host, output))
+}
+
+// The same of an output that is there. Its number is below 8.
+fn within_in(host: &GuardImage, output: u8) -> Within
+    requires { output < 8 }
+    ensures { let band = band_at (registers_held host.now.registers) (held None host.now.host.state) output in
+        result ≡ within_of (slice_index_or (limits_kept host.now) output None) band }
+{
+    within_limits(host.limits(output), known_band(host, output))
 }
 
 /// The number of an answer.
@@ -117,18 +125,33 @@ pub extern "C" fn pm_host_band(host: &GuardImage, output: u8, band: &mut BandIma
     if host.host.state.outputs <= output {
         return HostFault::UnknownOutput.number();
     }
-    let known = band_in(&host.host.state, host.registers.registers(), output);
+    put_band_of(host, output, band)
+}
+
+// The same of an output that is there. Its number is below 8.
+fn put_band_of(host: &GuardImage, output: u8, band: &mut BandImage) -> u8
+    requires { output < 8 }
+    ensures number { let s = held None host.now.host.state in
+        result ≡ ends_in (format_at s output) (band_at (registers_held host.now.registers) s output) }
+    ensures said { let s = held None host.now.host.state in
+        result ≡ 0 → IsEnds (band_at (registers_held host.now.registers) s output) band.new }
+    ensures refused { result ≢ 0 → band.new ≡ band.old }
+{
+    let known = known_band(host, output);
     put_known(&host.host.state, output, &known, band)
+}
+
+/// The band of an output. Its number is below 8.
+pub(crate) fn known_band(host: &GuardImage, output: u8) -> Option<Band>
+    requires { output < 8 }
+    ensures { result ≡ band_at (registers_held host.now.registers) (held None host.now.host.state) output }
+{
+    band_in(&host.host.state, host.registers.registers(), output)
 }
 
 /// The ends of a band of an output, where there is one. H7 where its format isn't known, EBh where AVSBus may decide, N5 where
 /// an end is beyond 10^15 microvolts in size.
-pub(crate) fn put_known(
-    state: &State,
-    output: u8,
-    known: &Option<Band>,
-    ends: &mut BandImage,
-) -> u8
+pub(crate) fn put_known(state: &State, output: u8, known: &Option<Band>, ends: &mut BandImage) -> u8
     requires { output < 8 }
     ensures number { result ≡ ends_in (format_at (held None state.now) output) known.now }
     ensures said { result ≡ 0 → IsEnds known.now ends.new }

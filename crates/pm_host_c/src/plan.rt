@@ -108,7 +108,14 @@ fn planned(
     }
     let registers = host.registers.registers();
     let limits = host.limits(output);
-    match next_order_in(&host.host.state, stage, registers, &limits, output, &wanted.wanted()) {
+    match next_order_in(
+        &host.host.state,
+        stage,
+        registers,
+        &limits,
+        output,
+        &wanted.wanted(),
+    ) {
         Ok(next) => Ok(next),
         Err(fault) => Err(Refused::of(fault)),
     }

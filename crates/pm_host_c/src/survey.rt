@@ -8,7 +8,9 @@ ghost use Rattle.pm_rail.specs.Survey.{survey_of};
 
 use crate::guard_image::GuardImage;
 use crate::host::begin;
-use crate::numbers::{ACCEPTED, NO_END, NO_HOST, NO_SURVEY, SURVEY_DONE, SURVEY_SPENT, SURVEY_STUCK};
+use crate::numbers::{
+    ACCEPTED, NO_END, NO_HOST, NO_SURVEY, SURVEY_DONE, SURVEY_SPENT, SURVEY_STUCK,
+};
 use crate::survey_image::SurveyImage;
 use crate::wanted_image::WantedImage;
 use pm_host::{HostFault, JobEnd};

@@ -2,7 +2,7 @@
 
 ghost use Rattle.std.specs.Prelude.{◌≡◌};
 ghost use Rattle.pm_rail.specs.Survey.{wanted_in};
-ghost use Rattle.pm_host_c.specs.Survey.{asked_code, asked_held, asked_kind, flag, planned_held, reads_held, reads_image, survey_image, survey_in};
+ghost use Rattle.pm_host_c.specs.Survey.{asked_code, asked_held, asked_kind, planned_held, reads_held, reads_image, survey_image, survey_in};
 
 use crate::wanted_image::WantedImage;
 use pm_host::Job;

@@ -5,9 +5,9 @@ mod packets;
 mod rails;
 
 use self::calls::{
-    band, check, clear, finished, format, got, host, learn, limits, microvolts, narrow, nearest,
-    new, order, order_micro, possible, restart, restart_seen, restore, shown, standing, store,
-    within,
+    at_least, at_most, band, check, clear, finished, format, got, host, learn, limits, microvolts,
+    narrow, nearest, new, order, order_micro, possible, restart, restart_seen, restore, shown,
+    standing, store, within,
 };
 use self::checks::{equal, is_true};
 use crate::guard_image::GuardImage;
@@ -254,6 +254,15 @@ fn numbers_stand_alone(rt: HostRuntime) {
     equal(&rt, &microvolts(&format, 0x34CD), &(0, 3_300_048), &1);
     equal(&rt, &nearest(&format, 3_300_000), &(0, 0x34CD), &2);
     equal(&rt, &nearest(&format, -1), &(0x13, 7), &3);
+    equal(&rt, &at_most(&format, 3_300_000), &(0, 0x34CC), &10);
+    equal(&rt, &at_least(&format, 3_300_000), &(0, 0x34CD), &11);
+    equal(&rt, &at_most(&format, -1), &(0x13, 7), &12);
+    equal(&rt, &at_least(&format, -1), &(0, 0), &13);
+    equal(&rt, &at_most(&format, 16_000_000), &(0, 0xFFFF), &14);
+    equal(&rt, &at_least(&format, 16_000_000), &(0x14, 7), &15);
+    let beyond = 1_000_000_000_000_001;
+    equal(&rt, &at_most(&format, beyond), &(0x15, 7), &16);
+    equal(&rt, &at_least(&format, -beyond), &(0x15, 7), &17);
     equal(&rt, &nearest(&format, 16_000_000), &(0x14, 7), &4);
     equal(
         &rt,
@@ -271,6 +280,8 @@ fn numbers_stand_alone(rt: HostRuntime) {
     equal(&rt, &microvolts(&linear11, 0xD300), &(0, 12_000_000), &8);
     equal(&rt, &nearest(&linear11, -500_000), &(0, 0xFFFF), &9);
     equal(&rt, &nearest(&none, 1), &(7, 7), &6);
+    equal(&rt, &at_most(&none, 1), &(7, 7), &18);
+    equal(&rt, &at_least(&none, 1), &(7, 7), &19);
     equal(&rt, &microvolts(&none, 1), &(7, 7), &7);
 }
 

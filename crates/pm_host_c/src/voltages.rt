@@ -2,16 +2,17 @@
 
 ghost use Rattle.std.specs.Prelude.{◌≡◌, ◌≢◌, ◌<◌, pos, Some, IsSomeAnd, option_map};
 ghost use Rattle.pm_num.specs.AnyFormat.{shape_of, shape_value, shape_rank};
+ghost use Rattle.pm_num.specs.Bounds.{IsAtLeast, IsAtMost};
 ghost use Rattle.pm_num.specs.NearestWord.{nearest_word as spec_nearest_word};
 ghost use Rattle.pm_num.specs.Ratio.{is_above as spec_is_above, micros, InBounds};
 ghost use Rattle.pm_host.specs.Image.{format_held, host_of};
 ghost use Rattle.pm_host.specs.Summary.{format_at};
-ghost use Rattle.pm_host_c.specs.Voltages.{floor_number, is_far as spec_is_far, output_number, format_meant, value_number, word_number, IsCeil, IsFloor, IsFormat, IsNear, IsSmall};
+ghost use Rattle.pm_host_c.specs.Voltages.{at_least_number, at_most_number, floor_number, is_far as spec_is_far, output_number, format_meant, value_number, word_number, IsCeil, IsFloor, IsFormat, IsNear, IsSmall};
 
 use crate::guard_image::GuardImage;
 use crate::numbers::{ACCEPTED, NO_HOST};
 use pm_host::{FormatImage, HostFault, nearest_word};
-use pm_num::{AnyFormat, Frac, NumFault, NumFormat, micro};
+use pm_num::{AnyFormat, Frac, NumFault, NumFormat, at_least, at_most, micro};
 use std::cmp::Ordering;
 
 // The greatest number of microvolts that is answered, in size.
@@ -159,6 +160,48 @@ pub extern "C" fn pm_nearest_word(format: &FormatImage, microvolts: i64, word: &
         return HostFault::FormatUnknown.number();
     };
     match nearest_word(&format, microvolts) {
+        Ok(found) => {
+            *word = found;
+            ACCEPTED
+        }
+        Err(fault) => fault.number(),
+    }
+}
+
+/// The word of the greatest value that isn't above a number of microvolts, as of a bound from above. H7 where the numbers mean
+/// no format, N5, N3; above the greatest value it is that value's word.
+#[unsafe(no_mangle)]
+pub extern "C" fn pm_at_most(format: &FormatImage, microvolts: i64, word: &mut u16) -> u8
+    ensures number { result ≡ at_most_number (format_meant format.now) microvolts }
+    ensures word { result ≡ 0 → IsSomeAnd (format_meant format.now)
+        (λ shape. IsAtMost (shape_value shape) (shape_rank shape) (micros microvolts) word.new) }
+    ensures refused { result ≢ 0 → word.new ≡ word.old }
+{
+    let Some(format) = format_of(format) else {
+        return HostFault::FormatUnknown.number();
+    };
+    match at_most(&format, microvolts) {
+        Ok(found) => {
+            *word = found;
+            ACCEPTED
+        }
+        Err(fault) => fault.number(),
+    }
+}
+
+/// The word of the least value that isn't below a number of microvolts, as of a bound from below. H7 where the numbers mean no
+/// format, N5, N4; below the least value it is that value's word.
+#[unsafe(no_mangle)]
+pub extern "C" fn pm_at_least(format: &FormatImage, microvolts: i64, word: &mut u16) -> u8
+    ensures number { result ≡ at_least_number (format_meant format.now) microvolts }
+    ensures word { result ≡ 0 → IsSomeAnd (format_meant format.now)
+        (λ shape. IsAtLeast (shape_value shape) (shape_rank shape) (micros microvolts) word.new) }
+    ensures refused { result ≢ 0 → word.new ≡ word.old }
+{
+    let Some(format) = format_of(format) else {
+        return HostFault::FormatUnknown.number();
+    };
+    match at_least(&format, microvolts) {
         Ok(found) => {
             *word = found;
             ACCEPTED

@@ -176,6 +176,8 @@ CALLS = {
     "pm_end_name": (_u8, [_u16, _at(NameImage)]),
     "pm_microvolts": (_u8, [_at(FormatImage), _u16, _at(_i64)]),
     "pm_nearest_word": (_u8, [_at(FormatImage), _i64, _at(_u16)]),
+    "pm_at_most": (_u8, [_at(FormatImage), _i64, _at(_u16)]),
+    "pm_at_least": (_u8, [_at(FormatImage), _i64, _at(_u16)]),
     "pm_pec": (_u8, [_bytes, _u64]),
     "pm_packet_write": (_u8, [_u8, _at(PacketImage), _at(SendingImage)]),
     "pm_packet_read_write": (_u8, [_u8, _bytes, _u64, _at(PacketImage)]),

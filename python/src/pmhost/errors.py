@@ -60,12 +60,14 @@ class PmhostError(Exception):
 
 
 class Refused(PmhostError):
-    """A call that the library refused: nothing changed, and nothing was sent."""
+    """A call that the library refused: nothing changed, and nothing was sent. `register` is the one that the refusal of a plan is
+    about, where it is about one."""
 
     def __init__(self, number: int) -> None:
         self.number = number
         letter, _, name = name_of(number).rpartition(" ")
         self.letter, self.name = letter, name
+        self.register: str | None = None
         saying = SAYINGS.get(letter)
         super().__init__(f"{name_of(number)}: {saying}" if saying else name)
 
@@ -83,13 +85,7 @@ class LimitRefused(Refused):
 
 
 class PlanRefused(Refused):
-    """P1 to P7: why a plan gives no order. `register` is the one that it is about, None of P1."""
-
-    def __init__(self, number: int, register: str | None = None) -> None:
-        super().__init__(number)
-        self.register = register
-        if register is not None:
-            self.args = (f"{register}: {self.args[0]}",)
+    """P1 to P7: why a plan gives no order."""
 
 
 class FrameRefused(Refused):
@@ -146,7 +142,10 @@ def refusal(number: int) -> Refused:
 def refusal_of_plan(number: int, register: str | None) -> Refused:
     """The same of a plan, with the register that it is about."""
     found = refusal(number)
-    return PlanRefused(number, register) if isinstance(found, PlanRefused) else found
+    found.register = register
+    if register is not None:
+        found.args = (f"{register}: {found.args[0]}",)
+    return found
 
 
 def accepted(number: int) -> None:

@@ -7,7 +7,7 @@ from typing import Callable, Iterable, Protocol
 
 from . import _library as at
 from ._library import library
-from .errors import PlanRefused, Refused, accepted, refusal, refusal_of_plan
+from .errors import Refused, accepted, refusal, refusal_of_plan
 from .plans import APPLY_TRIES, ENDS, Band, PlanOrder, RailEnd, RailState, Survey, Tries, Wanted, wanted_image
 from .transfers import Transfers
 from .values import NAMES, Format, code_of, frame_bytes, whole
@@ -306,13 +306,15 @@ class Host:
         left, differed = Tries(whole(tries, 0, 0xFFFF, "tries")), set[str]()
         while True:
             end = self._surveyed(Survey(output, wanted, left.left), bus, transfers, left)
+            if end.refused is not None and end.refused.number == MISSING_REGISTER:
+                return self._stuck(output, wanted, end)
             if end.kind != "reached":
                 return end
             has_ordered = False
             while True:
                 try:
                     order = self.next(output, wanted) if left.left else self.plan(output, wanted)
-                except PlanRefused as fault:
+                except Refused as fault:
                     if fault.letter != "P4" or fault.register is None:
                         return RailEnd("refused", fault, fault.register)
                     if left.left == 0:
@@ -336,6 +338,14 @@ class Host:
                     differed.add(order.register)
             if not has_ordered:
                 return RailEnd("reached")
+
+    def _stuck(self, output: int, wanted: Wanted, end: RailEnd) -> RailEnd:
+        """The plan says which register is missing."""
+        try:
+            self.plan(output, wanted)
+        except Refused as fault:
+            return RailEnd("refused", fault, fault.register)
+        return end
 
     def give_up(self) -> None:
         """Ends the open job: its frames that are left aren't sent, and are told as failed."""

@@ -6,7 +6,7 @@ import re
 from dataclasses import dataclass
 from decimal import Decimal
 from fractions import Fraction
-from typing import Union
+from typing import Callable, Union
 
 from ._library import FormatImage, library
 from .errors import accepted
@@ -131,9 +131,20 @@ class Format:
 
     def nearest(self, microvolts: int) -> int:
         """The word nearest to so many millionths. N3, N4, N5."""
+        return self._found(library.pm_nearest_word, microvolts)
+
+    def at_most(self, microvolts: int) -> int:
+        """The word of the greatest value that isn't above so many millionths. N3, N5."""
+        return self._found(library.pm_at_most, microvolts)
+
+    def at_least(self, microvolts: int) -> int:
+        """The word of the least value that isn't below so many millionths. N4, N5."""
+        return self._found(library.pm_at_least, microvolts)
+
+    def _found(self, call: Callable[..., int], microvolts: int) -> int:
         found = ctypes.c_uint16()
         taken = whole(microvolts, -(2**63), 2**63 - 1, "microvolts")
-        accepted(library.pm_nearest_word(self.image(), taken, ctypes.byref(found)))
+        accepted(call(self.image(), taken, ctypes.byref(found)))
         return found.value
 
 

@@ -4,6 +4,7 @@ mod ends;
 #[cfg(target_os = "linux")]
 mod other_library;
 mod patience;
+mod rails;
 
 use pm_host::*;
 

@@ -1,10 +1,10 @@
 //! The calls, with no contract of their own: what a test says is run, and the prover needn't carry it.
 
 use crate::answer::{PayloadImage, pm_packet_read_answer};
-use crate::guard_image::{GuardImage, LimitsImage};
+use crate::guard_image::{GuardImage, LimitsImage, RegistersImage};
 use crate::host::{
-    pm_host_check, pm_host_clear, pm_host_learn, pm_host_new, pm_host_order, pm_host_order_micro,
-    pm_host_restart, pm_host_restore, pm_host_store,
+    pm_host_check, pm_host_clear, pm_host_learn, pm_host_new, pm_host_new_with, pm_host_order,
+    pm_host_order_micro, pm_host_restart, pm_host_restore, pm_host_store,
 };
 use crate::known::{pm_host_possible, pm_host_restart_seen, pm_host_standing};
 use crate::known_cells::{KnownCell, KnownCells, pm_host_known};
@@ -19,7 +19,7 @@ use crate::sending_image::SendingImage;
 use crate::survey::{pm_host_survey, pm_survey_for, pm_survey_new, pm_survey_told};
 use crate::survey_image::SurveyImage;
 use crate::told::{pm_host_finished, pm_host_got};
-use crate::voltages::{pm_host_format, pm_microvolts, pm_nearest_word};
+use crate::voltages::{pm_at_least, pm_at_most, pm_host_format, pm_microvolts, pm_nearest_word};
 use crate::wanted_image::WantedImage;
 use pm_host::{FormatImage, StandingImage, WordsImage};
 use pm_table::Cell;
@@ -44,6 +44,19 @@ pub(super) const PACKET: Packet = Packet {
 pub(super) fn host(passes: u8) -> GuardImage {
     let mut image = GuardImage::blank();
     let _ = pm_host_new(&mut image, 0x58, 2, passes);
+    image
+}
+
+// The same of a part that has these of VOUT_MAX, both margins and VOUT_MIN.
+pub(super) fn host_with(passes: u8, has: [u8; 4]) -> GuardImage {
+    let mut image = GuardImage::blank();
+    let registers = RegistersImage {
+        vout_max: has[0],
+        vout_margin_high: has[1],
+        vout_margin_low: has[2],
+        vout_min: has[3],
+    };
+    let _ = pm_host_new_with(&mut image, 0x58, 2, passes, &registers);
     image
 }
 
@@ -172,6 +185,18 @@ pub(super) fn microvolts(format: &FormatImage, word: u16) -> (u8, i64) {
 pub(super) fn nearest(format: &FormatImage, microvolts: i64) -> (u8, u16) {
     let mut word = 7;
     let number = pm_nearest_word(format, microvolts, &mut word);
+    (number, word)
+}
+
+pub(super) fn at_most(format: &FormatImage, microvolts: i64) -> (u8, u16) {
+    let mut word = 7;
+    let number = pm_at_most(format, microvolts, &mut word);
+    (number, word)
+}
+
+pub(super) fn at_least(format: &FormatImage, microvolts: i64) -> (u8, u16) {
+    let mut word = 7;
+    let number = pm_at_least(format, microvolts, &mut word);
     (number, word)
 }
 

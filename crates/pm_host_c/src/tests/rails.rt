@@ -1,8 +1,8 @@
 //! What an output commands, the next order of a plan, and surveys. Answers are of output 0 at 58h.
 
 use super::calls::{
-    band, finished, got, host, narrow, next, plan, rail, shown, survey, survey_for, survey_new,
-    told, within,
+    band, check, finished, got, host, host_with, narrow, next, order, order_micro, plan, rail,
+    restart, shown, survey, survey_for, survey_new, told, within,
 };
 use super::checks::{equal, is_true};
 use crate::guard_image::GuardImage;
@@ -237,7 +237,7 @@ fn memory_that_holds_no_survey_is_refused(rt: HostRuntime) {
             &wanted,
             &change,
         );
-        let _ = super::calls::restart(&mut image);
+        let _ = restart(&mut image);
         equal(&rt, &told(&mut changed(change), 2), &wanted, &change);
     }
     let mut asks = changed(5);
@@ -347,7 +347,7 @@ fn a_plan_goes_by_what_is_held(rt: HostRuntime) {
         );
     }
     let mut image = surveyed();
-    let _ = super::calls::check(&mut image, 0, 0x2B);
+    let _ = check(&mut image, 0, 0x2B);
     let _ = got(&mut image, READ[0].1);
     let wanted = (0x64, (0x01, 0, 0));
     equal(
@@ -390,4 +390,92 @@ fn a_rail_says_what_its_output_commands(rt: HostRuntime) {
             &power,
         );
     }
+}
+
+// What came for OPERATION of A0h, which its cell doesn't take, and of B0h, which hands the voltage to AVSBus; and the number of
+// the band.
+static UNTAKEN: [(&[u8], u8); 2] = [
+    (&[0xB1, 0x01, 0xA0, 0x93], 0),
+    (&[0xB1, 0x01, 0xB0, 0xE3], 0xEB),
+];
+
+#[test]
+fn a_byte_that_operation_does_not_take_is_not_known(rt: HostRuntime) {
+    for &(answer, number) in &UNTAKEN {
+        let mut image = surveyed_with(1, answer);
+        let (_, (power, _, found, _, _, _)) = rail(&image, 0);
+        equal(&rt, &(power, found), &(0, number), &number);
+        equal(&rt, &band(&image, 0).0, &number, &number);
+        equal(
+            &rt,
+            &next(&mut image, 0, &VOLTS),
+            &(0x64, (0x01, 0, 0)),
+            &number,
+        );
+    }
+}
+
+// A host whose part has VOUT_MAX and margin low, and neither margin high nor VOUT_MIN.
+fn lacking() -> GuardImage {
+    host_with(1, [1, 0, 2, 0])
+}
+
+#[test]
+fn a_part_may_lack_registers(rt: HostRuntime) {
+    let mut image = lacking();
+    equal(&rt, &check(&mut image, 0, 0x2B), &0x27, &1);
+    equal(&rt, &check(&mut image, 2, 0x2B), &4, &2);
+    equal(&rt, &order(&mut image, 0, 0x25, 0x1000), &0x27, &3);
+    equal(&rt, &order(&mut image, 0, 0x01, 0xA8), &0x27, &4);
+    equal(&rt, &order_micro(&mut image, 0, 0x2B, 1), &0x27, &5);
+    equal(&rt, &order(&mut image, 0, 0x01, 0x94), &0, &6);
+    equal(&rt, &restart(&mut image), &0, &7);
+    equal(&rt, &check(&mut image, 0, 0x2B), &0x27, &8);
+    equal(
+        &rt,
+        &next(&mut image, 0, &MARGIN),
+        &(0x27, (0x25, 0, 0)),
+        &9,
+    );
+    let mut asks = blank();
+    let _ = survey_for(&mut asks, 0, &VOLTS, 9);
+    for (number, (request, answer, end)) in JOBS.iter().enumerate() {
+        if number != 4 {
+            equal(&rt, &survey(&mut image, &mut asks), &0, request);
+            is_true(&rt, shown(&image, request).3, request);
+            equal(&rt, &got(&mut image, answer), &(*end, 0), request);
+            equal(&rt, &told(&mut asks, *end), &0, request);
+        }
+    }
+    equal(&rt, &survey(&mut image, &mut asks), &0x95, &10);
+    equal(
+        &rt,
+        &rail(&image, 0),
+        &(0, (1, 0x91, 0, [0; 5], 3_300_048, 3_300_049)),
+        &11,
+    );
+    equal(
+        &rt,
+        &next(&mut image, 0, &VOLTS),
+        &(0, (0x21, 0, 0x3500)),
+        &12,
+    );
+}
+
+#[test]
+fn a_survey_is_stuck_at_a_missing_margin(rt: HostRuntime) {
+    let mut image = lacking();
+    let mut asks = blank();
+    let _ = survey_new(&mut asks, 0, 9);
+    for (answer, end) in [
+        (JOBS[0].1, 4),
+        (&[0xB1, 0x01, 0xA8, 0xAB][..], 1),
+        (JOBS[3].1, 1),
+    ] {
+        equal(&rt, &survey(&mut image, &mut asks), &0, &end);
+        equal(&rt, &got(&mut image, answer), &(end, 0), &end);
+        equal(&rt, &told(&mut asks, end), &0, &end);
+    }
+    equal(&rt, &survey(&mut image, &mut asks), &0x97, &1);
+    equal(&rt, &shown(&image, &[]), &(0, 0, 0, true), &2);
 }

@@ -16,7 +16,7 @@ returns-in-Ok-next_order_in c =
     let s = held c.in-Ok.stage image.host.state in
     let below : nat_lt c.args.output s.setup.outputs ≡ true = search rules in
     let at : IsAt image s c.args.output =
-        record { found = c.in-Ok.ensures.found; idle = sym c.is_some.ensures ∙ c.if-is_some.false; there = below } in
+    record { found = c.in-Ok.ensures.found; idle = sym c.is_some.ensures ∙ c.if-is_some.false; there = below } in
     decides image s c.args.output (wants_meant c.args.wanted.now) c.limits-limits.result _ at c.limits-limits.ensures
     (sym c.in-Ok-next_order_in.is ∙ c.next_order_in.ensures
     ∙ ap (λ (r : PartRegisters). plan_of r s c.limits-limits.result c.args.output (wants_of c.wanted.result)) c.registers-registers.ensures
@@ -28,7 +28,7 @@ returns-in-Err c =
     let s = held c.in-Ok.stage image.host.state in
     let below : nat_lt c.args.output s.setup.outputs ≡ true = search rules in
     let at : IsAt image s c.args.output =
-        record { found = c.in-Ok.ensures.found; idle = sym c.is_some.ensures ∙ c.if-is_some.false; there = below } in
+    record { found = c.in-Ok.ensures.found; idle = sym c.is_some.ensures ∙ c.if-is_some.false; there = below } in
     ap Err c.of.ensures ∙ decides image s c.args.output (wants_meant c.args.wanted.now) c.limits-limits.result _ at c.limits-limits.ensures
     (sym c.in-Err.is ∙ c.next_order_in.ensures
     ∙ ap (λ (r : PartRegisters). plan_of r s c.limits-limits.result c.args.output (wants_of c.wanted.result)) c.registers-registers.ensures

@@ -1,0 +1,212 @@
+"""What an output commands, plans, surveys and the loops over them; words as in docs/: 34CDh is 3.300048 V."""
+import unittest
+from decimal import Decimal
+
+import pmhost
+from pmhost import Band, Differs, Host, PlanOrder, PlanRefused, RailEnd, RailState, Step, Survey, Unknown
+
+from .fixtures import Faulty, Recorded, rails
+
+VOLTS = {"VOUT_COMMAND": 0x3500}
+REACHED, SPENT = RailEnd("reached"), RailEnd("spent")
+AT_3V3 = RailState(True, Band(3300048, 3300049), True)
+
+
+def codes(frames):
+    """The command codes that were written, in their order; of reads none."""
+    return [frame[4] if frame[1] == 0x05 else frame[1] for frame in frames if frame[1] not in (0x06, 0x10, 0x30) or frame[1] == 0x10
+            and len(frame) == 4]
+
+
+def recorded(**named):
+    found = rails(Recorded, **named)
+    found.bus.frames.clear()
+    return found
+
+
+def refused(pmbus, wanted):
+    """The letter and the register of a plan's refusal."""
+    try:
+        return pmbus.host.plan(0, wanted)
+    except PlanRefused as it:
+        return it.letter, it.name, it.register
+
+
+class Rails(unittest.TestCase):
+    def test_a_rail_is_told_by_what_is_known(self):
+        pmbus = rails()
+        self.assertEqual(pmbus.rail(0), RailState(None, Band(0, 15999756), None))
+        self.assertEqual(pmbus.survey(0), REACHED)
+        self.assertEqual(pmbus.rail(0), AT_3V3)
+        pmbus.turn_off(0)
+        self.assertEqual(pmbus.rail(0), RailState(False, AT_3V3.band, True))
+        self.assertEqual(Host(0x58).rail(0), RailState(None, None, True))
+
+    def test_a_survey_reads_what_decides_and_no_more(self):
+        pmbus = recorded()
+        self.assertEqual(pmbus.survey(0), REACHED)
+        self.assertEqual([frame[4] for frame in pmbus.bus.frames], [0x20, 0x01, 0x21, 0x24, 0x2B])
+        pmbus.bus.frames.clear()
+        self.assertEqual(pmbus.survey(0, {"VOUT_MARGIN_LOW": 0x3400}), REACHED)
+        self.assertEqual([frame[-1] for frame in pmbus.bus.frames], [0x20, 0x01, 0x21, 0x24, 0x26, 0x2B, 0x10])
+
+    def test_a_survey_is_spent_and_says_so(self):
+        pmbus = rails(Faulty)
+        pmbus.bus.fates = ["deaf"] * 99
+        self.assertEqual(pmbus.survey(0, tries=3), SPENT)
+        self.assertEqual(Host(0x58).survey(Survey(0, tries=0)), "spent")
+
+    def test_a_survey_is_told_how_its_jobs_ended(self):
+        host, survey = Host(0x58, 1, 1), Survey(0, tries=2)
+        self.assertEqual((survey.output, survey.tries, host.survey(survey)), (0, 2, "begun"))
+        with self.assertRaises(pmhost.HostRefused):
+            host.survey(survey)
+        with self.assertRaises(pmhost.MemoryRefused) as it:
+            survey.told(Step("next"))
+        self.assertEqual(it.exception.name, "NoEnd")
+        survey.told(host.got(b""))
+        self.assertEqual(host.survey(survey), "begun")
+
+    def test_a_part_without_a_register_is_never_asked_for_it(self):
+        pmbus = recorded(without=("VOUT_MIN", "VOUT_MARGIN_HIGH"))
+        self.assertEqual(pmbus.apply(0, VOLTS), REACHED)
+        self.assertNotIn(0x2B, {frame[4] for frame in pmbus.bus.frames if len(frame) > 4})
+        self.assertEqual(pmbus.rail(0), RailState(True, Band(3312500, 3312500), True))
+        for call in (lambda: pmbus.host.check(0, "VOUT_MIN"), lambda: pmbus.host.order(0, "OPERATION", 0xA8)):
+            with self.assertRaises(pmhost.LimitRefused) as it:
+                call()
+            self.assertEqual((it.exception.letter, it.exception.name), ("L7", "MissingRegister"))
+        with self.assertRaises(ValueError):
+            Host(0x58, without=("VOUT_COMMAND",))
+        pmbus.bus.frames.clear()
+        end = pmbus.apply(0, {"VOUT_MIN": 0x3400, "VOUT_COMMAND": 0x3480})
+        self.assertEqual((end.kind, end.refused.letter, end.register, codes(pmbus.bus.frames)), ("refused", "L7", "VOUT_MIN", []))
+
+    def test_a_survey_is_stuck_at_a_missing_margin(self):
+        pmbus = recorded(limits=None)
+        pmbus.order(0, "OPERATION", 0xA8)
+        lacking = pmhost.Pmbus(pmbus.bus, 0x58, 2, without=("VOUT_MARGIN_HIGH",))
+        end = lacking.survey(0)
+        self.assertEqual((end.kind, end.refused.letter), ("refused", "L7"))
+        pmbus.bus.frames.clear()
+        end = lacking.apply(0, VOLTS)
+        self.assertEqual((end.kind, end.refused.letter, end.register, codes(pmbus.bus.frames)),
+                         ("refused", "P4", "VOUT_MARGIN_HIGH", []))
+
+
+class Plans(unittest.TestCase):
+    def test_a_plan_is_told_and_begun(self):
+        pmbus = rails()
+        pmbus.survey(0, VOLTS)
+        self.assertEqual(pmbus.host.plan(0, VOLTS), PlanOrder("VOUT_COMMAND", 0x3500))
+        self.assertEqual(pmbus.host.plan(0, {0x21: 0x34CD}), None)
+        self.assertEqual((pmbus.host.next(0, {}), pmbus.host.sending()), (None, None))
+        self.assertEqual(pmbus.host.next(0, VOLTS), PlanOrder("VOUT_COMMAND", 0x3500))
+        self.assertEqual(pmbus.host.sending().frame, bytes.fromhex("B0050400 21003559"))
+        with self.assertRaises(pmhost.HostRefused):
+            pmbus.host.plan(0, VOLTS)
+
+    def test_each_refusal_names_its_register(self):
+        pmbus = rails(limits=None)
+        self.assertEqual(refused(pmbus, VOLTS), ("P4", "NotKnown", "OPERATION"))
+        pmbus.survey(0, VOLTS)
+        self.assertEqual(refused(pmbus, {"VOUT_COMMAND": 0x3800}), ("P6", "AboveMax", "VOUT_COMMAND"))
+        self.assertEqual(refused(pmbus, {"VOUT_COMMAND": 0x3000}), ("P5", "BelowMin", "VOUT_COMMAND"))
+        pmbus.limit(0, "3.2", "3.465")
+        self.assertEqual(refused(pmbus, {"VOUT_MAX": 0x3000}), ("P2", "BelowLimit", "VOUT_MAX"))
+        self.assertEqual(refused(pmbus, {"VOUT_MARGIN_HIGH": 0xFFFF}), ("P3", "AboveLimit", "VOUT_MARGIN_HIGH"))
+        pmbus.order(0, "WRITE_PROTECT", 0x80)
+        self.assertEqual(refused(pmbus, VOLTS), ("P7", "Protected", "VOUT_COMMAND"))
+        pmbus.restart()
+        self.assertEqual(refused(pmbus, VOLTS), ("P1", "FormatUnknown", None))
+        lacking = rails(without=("VOUT_MIN",))
+        with self.assertRaises(pmhost.LimitRefused):
+            lacking.host.plan(0, {"VOUT_MIN": 0x3400})
+
+    def test_what_is_no_voltage_is_no_wish(self):
+        host = Host(0x58)
+        for wanted in ({"OPERATION": 0x80}, {"WRITE_PROTECT": 0}, {"VOUT": 1}, {"VOUT_MAX": 0x10000}):
+            with self.assertRaises(ValueError):
+                host.plan(0, wanted)
+        with self.assertRaises(TypeError):
+            host.plan(0, {"VOUT_MAX": "3.3"})
+
+
+class Applies(unittest.TestCase):
+    def test_a_rail_is_set_bound_first_and_surveyed(self):
+        pmbus, seen = recorded(limits=None), []
+        wanted = {"VOUT_COMMAND": 0x3900, "VOUT_MAX": 0x3A00}
+        end = pmbus.apply(0, wanted, before_order=seen.append, after_order=lambda order, step: seen.append(step.kind))
+        self.assertEqual(end, REACHED)
+        self.assertEqual(seen, [PlanOrder("VOUT_MAX", 0x3A00), "done", PlanOrder("VOUT_COMMAND", 0x3900), "done"])
+        self.assertEqual(codes(pmbus.bus.frames), [0x24, 0x21])
+        self.assertEqual(pmbus.bus.part.volts(0), Decimal("3.5625"))
+        self.assertEqual(pmbus.bus.frames[-1], bytes.fromhex("B010"))
+
+    def test_nothing_is_written_where_nothing_is_due(self):
+        pmbus = recorded()
+        self.assertEqual(pmbus.apply(0, {"VOUT_COMMAND": 0x34CD, "VOUT_MIN": 0x3334}), REACHED)
+        self.assertEqual(codes(pmbus.bus.frames), [])
+        self.assertEqual(len(pmbus.bus.frames), 6)
+
+    def test_what_is_refused_has_written_nothing(self):
+        pmbus = recorded()
+        end = pmbus.apply(0, {"VOUT_MAX": 0x3700, "VOUT_COMMAND": 0x3768})
+        self.assertEqual((end.kind, end.refused.letter, end.register), ("refused", "P6", "VOUT_COMMAND"))
+        self.assertEqual(codes(pmbus.bus.frames), [])
+
+    def test_an_order_that_differs_is_given_once_again(self):
+        pmbus = rails(Faulty, passes=1)
+        begun = []
+        pmbus.bus.fates = ["ok"] * 6 + ["deaf"]
+        self.assertEqual(pmbus.apply(0, VOLTS, before_order=begun.append), REACHED)
+        self.assertEqual(len(begun), 2)
+        begun.clear()
+        pmbus.bus.fates = ["ok"] * 6 + ["acked", "ok", "acked"]
+        end = pmbus.apply(0, {"VOUT_COMMAND": 0x3480}, before_order=begun.append)
+        self.assertEqual((end, len(begun)), (RailEnd("differs", None, "VOUT_COMMAND", 0x3500), 2))
+
+    def test_an_order_that_ended_unknown_is_checked_first(self):
+        pmbus = rails(Faulty, passes=1)
+        begun = []
+        pmbus.bus.fates = ["ok"] * 7 + ["lost"]
+        self.assertEqual(pmbus.apply(0, VOLTS, before_order=begun.append), REACHED)
+        self.assertEqual(len(begun), 1)
+
+    def test_tries_bound_all_jobs(self):
+        pmbus = recorded()
+        self.assertEqual(pmbus.apply(0, VOLTS, tries=5), SPENT)
+        self.assertEqual(codes(pmbus.bus.frames), [])
+        pmbus.bus.frames.clear()
+        self.assertEqual(pmbus.apply(0, VOLTS, tries=6), RailEnd("spent", None, "VOUT_COMMAND"))
+        self.assertEqual(codes(pmbus.bus.frames), [])
+        self.assertEqual(pmbus.apply(0, VOLTS, tries=13), REACHED)
+
+    def test_volts_are_set_and_the_rail_is_told(self):
+        pmbus = rails()
+        self.assertEqual(pmbus.set_volts(0, "3.25"), RailState(True, Band(3250000, 3250000), True))
+        self.assertEqual(pmbus.set_volts(0, Decimal("3.3")), AT_3V3)
+        pmbus.order(0, "OPERATION", 0xA8)
+        margin = pmbus.set_volts(0, "3.25")
+        self.assertEqual((margin.band, pmbus.bus.part.volts(0)), (Band(3375000, 3375000), Decimal("3.375")))
+        with self.assertRaises(PlanRefused):
+            pmbus.set_volts(0, "3.6")
+        lossy = rails(Faulty, passes=1)
+        lossy.bus.fates = ["ok"] * 6 + ["acked", "ok", "acked"]
+        with self.assertRaises(Differs) as it:
+            lossy.set_volts(0, "3.25")
+        self.assertEqual((it.exception.word, it.exception.possible), (0x34CD, (0x34CD,)))
+        lossy.bus.fates = ["deaf"] * 999
+        with self.assertRaises(Unknown):
+            lossy.set_volts(0, "3.25")
+
+
+class Bounds(unittest.TestCase):
+    def test_a_bound_is_rounded_to_its_side(self):
+        form = pmhost.Format("ULINEAR16", -12)
+        self.assertEqual((form.at_most(3300000), form.nearest(3300000), form.at_least(3300000)), (0x34CC, 0x34CD, 0x34CD))
+        self.assertEqual((form.at_most(16000000), form.at_least(-1)), (0xFFFF, 0))
+        for call, microvolts, letter in ((form.at_most, -1, "N3"), (form.at_least, 16000000, "N4"), (form.at_least, -10**15 - 1, "N5")):
+            with self.assertRaises(pmhost.NumberRefused) as it:
+                call(microvolts)
+            self.assertEqual(it.exception.letter, letter)
