@@ -83,8 +83,11 @@ def order_refusal(host, limits, cell, word):
         return None
     own = limits[cell[0]]
     if cell[1] == OPERATION:
-        is_on = accepts(cell, word) and word >= 0x80
-        return "L5 NotKnownWithin" if is_on and within(own, band(host, cell[0], word)) != "yes" else None
+        if not accepts(cell, word) or word < 0x80:
+            return None
+        if host.format(cell[0]) is None:
+            return "L2 FormatUnknown"
+        return "L5 NotKnownWithin" if within(own, band(host, cell[0], word)) != "yes" else None
     form = host.format(cell[0])
     return outside(own, value(form, word)) if form else "L2 FormatUnknown"
 
