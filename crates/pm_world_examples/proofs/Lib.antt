@@ -1,2 +1,3 @@
 mod Ones
+mod Overhearing
 mod SharedCodes

@@ -1,4 +1,5 @@
 -- What the crate promises.
 pub mod ByName
+pub mod Neighbours
 pub mod Ones
 pub mod SharedCodes

@@ -19,6 +19,7 @@
 //! - `whole`: a job that is open after a run ends by frames that come whole.
 //! - `moves`: what moves a setting or the store.
 //! - `plans`: what plans and surveys of rails are worth.
+//! - `neighbours`: hosts and converters in pairs on one bus, each as if it were alone.
 //! - `own_loop`: events that a caller's own loop lets happen.
 //! - `drivers`: what a driver over a simulated bus, or over a patient one, makes of orders.
 #![tactic(auto)]
@@ -33,9 +34,11 @@ pub mod good;
 mod laws;
 pub mod limits;
 pub mod moves;
+pub mod neighbours;
 pub mod orders;
 pub mod own_loop;
 pub mod plans;
 pub mod whole;
 
 pub use laws::{laws_by_name, ones_are_no_answer, reads_that_share_their_code};
+pub use neighbours::neighbours_are_apart;
