@@ -1,5 +1,5 @@
 -- What a converter that overhears its neighbours keeps, and what its host is told.
-use Rattle.std.proofs.Common.{◌≡◌, ◌≢◌, ◌⊎◌, inl, inr, ℕ, ◌+◌, ◌*◌, ◌<◌, Bool, true, false, cond, not, ◌&&◌, ◌||◌, eqb, Option, Some, None, List, [], ◌∷◌, length, take}
+use Rattle.std.proofs.Common.{◌≡◌, ◌≢◌, ◌⊎◌, inl, inr, ℕ, Bool, true, false, cond, not, ◌&&◌, ◌||◌, eqb, Option, Some, None, List, [], ◌∷◌, length, take}
 use Rattle.std.proofs.Common.{refl, sym, ◌∙◌, ap, subst, arith}
 use Rattle.std.specs.Prelude.{nat_lt, bytes_eq}
 use Rattle.std.specs.Cmp.Lexicographic.{pointwise}
@@ -9,7 +9,11 @@ use Rattle.std.proofs.lemmas.Bool.{and_parts, eqb-true, ne_eqb, or_cases, or_rig
 use Rattle.std.proofs.lemmas.Slice.Eq.{bytes_eq-Decides}
 use Rattle.pm_table.specs.declared.cell.Cell.{Cell}
 use Rattle.pm_table.specs.declared.cell.Cell.TheVariants.{Out, Protect}
-use Rattle.pm_table.specs.declared.reg.Reg.TheVariants.{MarginHigh, MarginLow, Operation, VoutCommand, VoutMax, VoutMin}
+use Rattle.pm_table.specs.declared.reg.Reg.{Reg}
+use Rattle.pm_table.specs.Cell.{cell_at, register_code}
+use Rattle.pm_table.specs.Laws.{RegistersAreInTheTable}
+use Rattle.pm_model.specs.Settings.{word_at}
+use Rattle.pm_host.specs.Messages.{cell_read}
 use Rattle.pm_frame.specs.declared.fault.FrameFault.{FrameFault}
 use Rattle.pm_frame.specs.declared.fault.FrameFault.TheVariants as frame
 use Rattle.pm_frame.specs.declared.message.Message.{Message}
@@ -27,7 +31,7 @@ use Rattle.pm_device.specs.Effect as device
 use Rattle.pm_device.specs.Held.{CmlFaults, Held}
 use Rattle.pm_device.specs.History.{after, is_for_other, next as device_next}
 use Rattle.pm_device.specs.Laws.{FramesForOthersAreSilent, RequestsLatchAtMost}
-use Rattle.pm_device.specs.Reply.{payload_for, reply_of, reply_to}
+use Rattle.pm_device.specs.Reply.{payload_for, plain_register, register_bytes, register_word, reply_of, reply_to}
 use Rattle.pm_device.specs.Verdict.{answers_coefficients, fault_verdict, read_verdict, unless_faulty, verdict_of, write_verdict}
 use Rattle.pm_host.specs.declared.command.Command.TheVariants.{ClearFaults, RestoreUserAll, StoreUserAll}
 use Rattle.pm_host.specs.declared.question.Question.TheVariants.{Coefficients, Mode, Word}
@@ -39,7 +43,6 @@ use Rattle.pm_world.specs.declared.arrival.Arrival.{Arrival}
 use Rattle.pm_world.specs.declared.arrival.Arrival.TheVariants as arrives
 use Rattle.pm_world.specs.declared.back.Back.{Back}
 use Rattle.pm_world.specs.declared.back.Back.TheVariants as returns
-use Rattle.pm_world.specs.declared.cause.Cause.{Cause}
 use Rattle.pm_world.specs.declared.cause.Cause.TheVariants.{NotBetrayed, WrongKind}
 use Rattle.pm_world.specs.declared.event.Event.{Event}
 use Rattle.pm_world.specs.declared.event.Event.TheVariants.{Check, Clear, Deliver, Exchange, Finish, Learn, Order, OrderMicro, Reading, RestartDevice, RestartHost, Restore, Store}
@@ -94,14 +97,17 @@ faulty-alike held bytes wrong = go (write_fault held.config.addr bytes) refl whe
   go None e = absurd (wrong e)
   go (Some fault) e = fault-alike held fault
 
--- the laws of what is heard
-pub record Laws : Type 0 where
+-- the laws that this rests on
+pub record Below : Type 0 where
+  pub table : RegistersAreInTheTable
   pub silent : FramesForOthersAreSilent
   pub requests : RequestsLatchAtMost
   pub betrayal : BetrayalIsRefused
+  pub followed : LivesAreFollowed
+  pub lived : EventsAreLived
 
 -- what passes by sets such bits at most
-passing-alike : Laws → (held : Held) (heard : Overheard) → passes_by held.config.addr heard ≡ true
+passing-alike : Below → (held : Held) (heard : Overheard) → passes_by held.config.addr heard ≡ true
     → AreAlike (device_next held (device.Hearing heard.bytes heard.ending)) held
 passing-alike laws held heard passes = by_ending heard.bytes heard.ending passes where
   by_ending : (bytes : List ℕ) (ending : Ending) → passes_by held.config.addr (record { bytes = bytes; ending = ending }) ≡ true
@@ -115,7 +121,7 @@ passing-alike laws held heard passes = by_ending heard.bytes heard.ending passes
     go (inr wrong) = faulty-alike held bytes (laws.betrayal.write held.config.addr bytes wrong)
 
 -- all that passes by
-pub overheard-alike : Laws → (held : Held) (heard : List Overheard) → AllPassBy held.config.addr heard
+pub overheard-alike : Below → (held : Held) (heard : List Overheard) → AllPassBy held.config.addr heard
     → AreAlike (overhearing held heard) held
 unfolding overhearing
 overheard-alike laws held [] passes = refl
@@ -127,30 +133,33 @@ overheard-alike laws held (one ∷ before) (passes, all) =
 
 -- ---- what is answered
 
--- a host's message is answered from nothing but the configuration and the words
-payload-same : (held : Held) (faults : CmlFaults) (stage : Stage)
+-- a register's word doesn't depend on what is latched,
+register-same : RegistersAreInTheTable → (held : Held) (faults : CmlFaults) (output : ℕ) (register : Reg)
+    → register_word (record held { faults = faults }) output (register_code register) ≡ register_word held output (register_code register)
+register-same table held faults output register =
+    let code : ℕ = register_code register in
+    let kept : (plain : ℕ) → option_map_or (λ cell. word_at held.words cell) (cell_at code output) plain ≡ word_at held.words (Out output register) =
+    λ plain. ap (λ o. option_map_or (λ cell. word_at held.words cell) o plain) (table.found register output) in
+    kept (plain_register (record held { faults = faults }) output code) ∙ sym (kept (plain_register held output code))
+
+-- and so is a cell's read,
+cell-same : RegistersAreInTheTable → (held : Held) (faults : CmlFaults) (cell : Cell)
+    → payload_for (record held { faults = faults }) (cell_read cell) ≡ payload_for held (cell_read cell)
+cell-same table held faults (Out output register) = ap (register_bytes (register_code register)) (register-same table held faults output register)
+cell-same table held faults Protect = refl
+
+-- and each message of a host: it is answered from nothing but the configuration and the words
+payload-same : RegistersAreInTheTable → (held : Held) (faults : CmlFaults) (stage : Stage)
     → payload_for (record held { faults = faults }) (stage_message stage) ≡ payload_for held (stage_message stage)
-payload-same held faults (Writes (Out output register) word pass) = refl
-payload-same held faults (Writes Protect word pass) = refl
-payload-same held faults (Reads (Out output Operation) word pass) = refl
-payload-same held faults (Reads (Out output VoutCommand) word pass) = refl
-payload-same held faults (Reads (Out output VoutMax) word pass) = refl
-payload-same held faults (Reads (Out output MarginHigh) word pass) = refl
-payload-same held faults (Reads (Out output MarginLow) word pass) = refl
-payload-same held faults (Reads (Out output VoutMin) word pass) = refl
-payload-same held faults (Reads Protect word pass) = refl
-payload-same held faults (Asks (Word (Out output Operation)) tries) = refl
-payload-same held faults (Asks (Word (Out output VoutCommand)) tries) = refl
-payload-same held faults (Asks (Word (Out output VoutMax)) tries) = refl
-payload-same held faults (Asks (Word (Out output MarginHigh)) tries) = refl
-payload-same held faults (Asks (Word (Out output MarginLow)) tries) = refl
-payload-same held faults (Asks (Word (Out output VoutMin)) tries) = refl
-payload-same held faults (Asks (Word Protect) tries) = refl
-payload-same held faults (Asks (Mode output) tries) = refl
-payload-same held faults (Asks (Coefficients output) tries) = refl
-payload-same held faults (Sends (ClearFaults output) tries) = refl
-payload-same held faults (Sends StoreUserAll tries) = refl
-payload-same held faults (Sends RestoreUserAll tries) = refl
+payload-same table held faults (Writes (Out output register) word pass) = refl
+payload-same table held faults (Writes Protect word pass) = refl
+payload-same table held faults (Reads cell word pass) = cell-same table held faults cell
+payload-same table held faults (Asks (Word cell) tries) = cell-same table held faults cell
+payload-same table held faults (Asks (Mode output) tries) = refl
+payload-same table held faults (Asks (Coefficients output) tries) = refl
+payload-same table held faults (Sends (ClearFaults output) tries) = refl
+payload-same table held faults (Sends StoreUserAll tries) = refl
+payload-same table held faults (Sends RestoreUserAll tries) = refl
 
 -- two functions agree on a choice of two where they agree on both
 agree_on_choice : {X Y : Type 0} (f g : X → Y) (b : Bool) (x y : X) → f x ≡ g x → f y ≡ g y → f (cond b x y) ≡ g (cond b x y)
@@ -211,15 +220,15 @@ heard-as addr (Sends StoreUserAll tries) reads = absurd (false≢true reads)
 heard-as addr (Sends RestoreUserAll tries) reads = absurd (false≢true reads)
 
 -- A host's own request that is heard whole is answered alike, whatever is latched in STATUS_CML.
-pub own-same : (held : Held) (faults : CmlFaults) (addr : ℕ) (stage : Stage) → is_read_message (stage_message stage) ≡ true
+pub own-same : RegistersAreInTheTable → (held : Held) (faults : CmlFaults) (addr : ℕ) (stage : Stage) → is_read_message (stage_message stage) ≡ true
     → reply_of (record held { faults = faults }) (frame_of addr (stage_message stage)) Restart
     ≡ reply_of held (frame_of addr (stage_message stage)) Restart
 unfolding reply_of verdict_of
-own-same held faults addr stage reads =
+own-same table held faults addr stage reads =
     unless-same held faults (request_fault held.config.addr (frame_of addr (stage_message stage)))
     (message_in (frame_of addr (stage_message stage)))
     (subst (λ m. payload_for (record held { faults = faults }) m ≡ payload_for held m) (sym (heard-as addr stage reads))
-    (payload-same held faults stage))
+    (payload-same table held faults stage))
 
 -- ---- what is on the wire for another pair
 
@@ -271,14 +280,14 @@ answer-passes addr other rest Stop =
 -- ---- worlds
 
 -- a request of the host's own that was heard whole is answered alike
-reply-whole : (held : Held) (faults : CmlFaults) (addr : ℕ) (stage : Stage) (bytes : List ℕ) (ending : Ending)
+reply-whole : RegistersAreInTheTable → (held : Held) (faults : CmlFaults) (addr : ℕ) (stage : Stage) (bytes : List ℕ) (ending : Ending)
     → is_read_message (stage_message stage) ≡ true → is_heard_whole (frame_of addr (stage_message stage)) bytes ending ≡ true
     → answer_in (reply_of (record held { faults = faults }) bytes ending) ≡ answer_in (reply_of held bytes ending)
-reply-whole held faults addr stage bytes Stop reads whole = absurd (false≢true whole)
-reply-whole held faults addr stage bytes Restart reads whole =
+reply-whole table held faults addr stage bytes Stop reads whole = absurd (false≢true whole)
+reply-whole table held faults addr stage bytes Restart reads whole =
     let frame : List ℕ = frame_of addr (stage_message stage) in
     subst (λ b. answer_in (reply_of (record held { faults = faults }) b Restart) ≡ answer_in (reply_of held b Restart))
-    (sym ((bytes_eq-Decides bytes frame).0 whole)) (ap answer_in (own-same held faults addr stage reads))
+    (sym ((bytes_eq-Decides bytes frame).0 whole)) (ap answer_in (own-same table held faults addr stage reads))
 
 -- one that arrives whole was heard whole
 arrives-whole : (frame : List ℕ) (message : Message) → is_read_message message ≡ true
@@ -305,11 +314,11 @@ gives-cases (arrives.Bytes heard ending) (returns.Cut few) gives = absurd (false
 gives-cases (arrives.Bytes heard ending) (returns.Bytes bytes) gives = inr (λ answer other. refl)
 
 -- what comes back is the same,
-came-same : (held : Held) (faults : CmlFaults) (addr : ℕ) (stage : Stage) (arrival : Arrival) (back : Back)
+came-same : RegistersAreInTheTable → (held : Held) (faults : CmlFaults) (addr : ℕ) (stage : Stage) (arrival : Arrival) (back : Back)
     → is_read_message (stage_message stage) ≡ true → gives_return (Exchange arrival back) ≡ true
     → back_bytes (answer_to (record held { faults = faults }) addr (stage_message stage) arrival) back
     ≡ back_bytes (answer_to held addr (stage_message stage) arrival) back
-came-same held faults addr stage arrival back reads gives = go (gives-cases arrival back gives) where
+came-same table held faults addr stage arrival back reads gives = go (gives-cases arrival back gives) where
   message : Message
   message = stage_message stage
 
@@ -319,16 +328,16 @@ came-same held faults addr stage arrival back reads gives = go (gives-cases arri
 
   go : (arrival ≡ arrives.Whole) ⊎ ((answer other : List ℕ) → back_bytes answer back ≡ back_bytes other back) → Same arrival
   go (inl whole) = subst Same (sym whole)
-      (ap (λ a. back_bytes a back) (reply-whole held faults addr stage (frame_of addr (stage_message stage))
+      (ap (λ a. back_bytes a back) (reply-whole table held faults addr stage (frame_of addr (stage_message stage))
       (whole_ending (stage_message stage)) reads (arrives-whole (frame_of addr (stage_message stage)) (stage_message stage) reads)))
   go (inr said) = said _ _
 
 -- and is judged alike
-return-same : (held : Held) (faults : CmlFaults) (addr : ℕ) (stage : Stage) (arrival : Arrival) (back : Back)
+return-same : RegistersAreInTheTable → (held : Held) (faults : CmlFaults) (addr : ℕ) (stage : Stage) (arrival : Arrival) (back : Back)
     → is_read_message (stage_message stage) ≡ true → gives_return (Exchange arrival back) ≡ true
     → return_cause (record held { faults = faults }) addr (stage_message stage) arrival back
     ≡ return_cause held addr (stage_message stage) arrival back
-return-same held faults addr stage arrival back reads gives = go _ refl where
+return-same table held faults addr stage arrival back reads gives = go _ refl where
   frame : List ℕ
   frame = frame_of addr (stage_message stage)
 
@@ -355,11 +364,11 @@ return-same held faults addr stage arrival back reads gives = go _ refl where
       ≡ return_cause held addr (stage_message stage) arrival back
   go true whole = by (ap (λ a.
       is_legal_return frame (whole_answer (stage_message stage)) (is_heard_whole frame heard ending) a (back_bytes a back))
-      (reply-whole held faults addr stage heard ending reads whole))
+      (reply-whole table held faults addr stage heard ending reads whole))
   go false cut = by (cut-same frame (whole_answer (stage_message stage)) (is_heard_whole frame heard ending) one two
       (back_bytes one back) cut
       ∙ ap (λ b. is_legal_return frame (whole_answer (stage_message stage)) (is_heard_whole frame heard ending) two b)
-      (came-same held faults addr stage arrival back reads gives))
+      (came-same table held faults addr stage arrival back reads gives))
 
 -- what follows a rule is the same where the rule doesn't apply
 after-rule : {X : Type 0} (applies : Bool) (fault : X) (x y : Option X) → (applies ≡ false → x ≡ y)
@@ -368,42 +377,42 @@ after-rule true fault x y h = refl
 after-rule false fault x y h = h refl
 
 -- an exchange is judged alike,
-exchange-same : (t : State) (faults : CmlFaults) (arrival : Arrival) (back : Back) → gives_return (Exchange arrival back) ≡ true
+exchange-same : RegistersAreInTheTable → (t : State) (faults : CmlFaults) (arrival : Arrival) (back : Back) → gives_return (Exchange arrival back) ≡ true
     → exchange_cause (with_faults t faults) arrival back (sending_in t.host) ≡ exchange_cause t arrival back (sending_in t.host)
-exchange-same t faults arrival back gives = go t.host.stage where
+exchange-same table t faults arrival back gives = go t.host.stage where
   go : (stage : Option Stage) → exchange_cause (with_faults t faults) arrival back (option_map stage_message stage)
       ≡ exchange_cause t arrival back (option_map stage_message stage)
   go None = refl
   go (Some stage) = after-rule (not (is_read_message (stage_message stage))) WrongKind _ _ (λ e.
       ap (option_or (hearing_cause t.host.setup.addr (stage_message stage) arrival))
-      (return-same t.device faults t.host.setup.addr stage arrival back (not-false _ e) gives))
+      (return-same table t.device faults t.host.setup.addr stage arrival back (not-false _ e) gives))
 
 -- and so is each event
-beside-same : (t : State) (faults : CmlFaults) (event : Event) → gives_return event ≡ true
+beside-same : RegistersAreInTheTable → (t : State) (faults : CmlFaults) (event : Event) → gives_return event ≡ true
     → cause_beside (with_faults t faults) event ≡ cause_beside t event
-beside-same t faults (Order cell word) gives = refl
-beside-same t faults (OrderMicro cell x) gives = refl
-beside-same t faults (Check cell) gives = refl
-beside-same t faults (Learn output) gives = refl
-beside-same t faults (Clear output) gives = refl
-beside-same t faults Store gives = refl
-beside-same t faults Restore gives = refl
-beside-same t faults (Deliver arrival) gives = refl
-beside-same t faults (Finish acked) gives = refl
-beside-same t faults (Exchange arrival back) gives = exchange-same t faults arrival back gives
-beside-same t faults RestartDevice gives = refl
-beside-same t faults RestartHost gives = refl
-beside-same t faults (Reading output code word) gives = refl
+beside-same table t faults (Order cell word) gives = refl
+beside-same table t faults (OrderMicro cell x) gives = refl
+beside-same table t faults (Check cell) gives = refl
+beside-same table t faults (Learn output) gives = refl
+beside-same table t faults (Clear output) gives = refl
+beside-same table t faults Store gives = refl
+beside-same table t faults Restore gives = refl
+beside-same table t faults (Deliver arrival) gives = refl
+beside-same table t faults (Finish acked) gives = refl
+beside-same table t faults (Exchange arrival back) gives = exchange-same table t faults arrival back gives
+beside-same table t faults RestartDevice gives = refl
+beside-same table t faults RestartHost gives = refl
+beside-same table t faults (Reading output code word) gives = refl
 
-cause-same : (t : State) (faults : CmlFaults) (event : Event) → gives_return event ≡ true
+cause-same : RegistersAreInTheTable → (t : State) (faults : CmlFaults) (event : Event) → gives_return event ≡ true
     → event_cause (with_faults t faults) event ≡ event_cause t event
-cause-same t faults event gives = ap (option_or (refused (refusal_of t.host event))) (beside-same t faults event gives)
+cause-same table t faults event gives = ap (option_or (refused (refusal_of t.host event))) (beside-same table t faults event gives)
 
 -- an exchange that is legal tells both ends the same,
-exchanged-same : (t : State) (faults : CmlFaults) (arrival : Arrival) (back : Back) → gives_return (Exchange arrival back) ≡ true
+exchanged-same : RegistersAreInTheTable → (t : State) (faults : CmlFaults) (arrival : Arrival) (back : Back) → gives_return (Exchange arrival back) ≡ true
     → exchange_cause t arrival back (sending_in t.host) ≡ None
     → exchanged (with_faults t faults) arrival back (sending_in t.host) ≡ exchanged t arrival back (sending_in t.host)
-exchanged-same t faults arrival back gives = go t.host.stage where
+exchanged-same table t faults arrival back gives = go t.host.stage where
   go : (stage : Option Stage) → exchange_cause t arrival back (option_map stage_message stage) ≡ None
       → exchanged (with_faults t faults) arrival back (option_map stage_message stage)
       ≡ exchanged t arrival back (option_map stage_message stage)
@@ -412,30 +421,30 @@ exchanged-same t faults arrival back gives = go t.host.stage where
       let reads = not-false (is_read_message (stage_message stage))
       (rule-none (not (is_read_message (stage_message stage))) WrongKind (or-none _ _ free).0) in
       ap (λ b. record (exchanged t arrival back (Some (stage_message stage))) { told = Some (host.Got b) })
-      (came-same t.device faults t.host.setup.addr stage arrival back reads gives)
+      (came-same table t.device faults t.host.setup.addr stage arrival back reads gives)
 
 -- and so does each event
-tells-same : (t : State) (faults : CmlFaults) (event : Event) → gives_return event ≡ true → cause_beside t event ≡ None
+tells-same : RegistersAreInTheTable → (t : State) (faults : CmlFaults) (event : Event) → gives_return event ≡ true → cause_beside t event ≡ None
     → share_beside (with_faults t faults) event ≡ share_beside t event
-tells-same t faults (Order cell word) gives free = refl
-tells-same t faults (OrderMicro cell x) gives free = refl
-tells-same t faults (Check cell) gives free = refl
-tells-same t faults (Learn output) gives free = refl
-tells-same t faults (Clear output) gives free = refl
-tells-same t faults Store gives free = refl
-tells-same t faults Restore gives free = refl
-tells-same t faults (Deliver arrival) gives free = refl
-tells-same t faults (Finish acked) gives free = refl
-tells-same t faults (Exchange arrival back) gives free = exchanged-same t faults arrival back gives free
-tells-same t faults RestartDevice gives free = refl
-tells-same t faults RestartHost gives free = refl
-tells-same t faults (Reading output code word) gives free = refl
+tells-same table t faults (Order cell word) gives free = refl
+tells-same table t faults (OrderMicro cell x) gives free = refl
+tells-same table t faults (Check cell) gives free = refl
+tells-same table t faults (Learn output) gives free = refl
+tells-same table t faults (Clear output) gives free = refl
+tells-same table t faults Store gives free = refl
+tells-same table t faults Restore gives free = refl
+tells-same table t faults (Deliver arrival) gives free = refl
+tells-same table t faults (Finish acked) gives free = refl
+tells-same table t faults (Exchange arrival back) gives free = exchanged-same table t faults arrival back gives free
+tells-same table t faults RestartDevice gives free = refl
+tells-same table t faults RestartHost gives free = refl
+tells-same table t faults (Reading output code word) gives free = refl
 
-share-same : (t : State) (faults : CmlFaults) (event : Event) → gives_return event ≡ true → event_cause t event ≡ None
+share-same : RegistersAreInTheTable → (t : State) (faults : CmlFaults) (event : Event) → gives_return event ≡ true → event_cause t event ≡ None
     → share_of (with_faults t faults) event ≡ share_of t event
-share-same t faults event gives free =
+share-same table t faults event gives free =
     ap (option_map_or (λ job. tells (host.Accepted job)) (asked t event))
-    (tells-same t faults event gives (or-none (refused (refusal_of t.host event)) (cause_beside t event) free).1)
+    (tells-same table t faults event gives (or-none (refused (refusal_of t.host event)) (cause_beside t event) free).1)
 
 -- what the converter makes of it depends on nothing that is latched in STATUS_CML
 device-same : (held : Held) (faults : CmlFaults) (heard : Option device.Event)
@@ -445,12 +454,12 @@ device-same held faults None = refl
 device-same held faults (Some event) = refl
 
 -- the world after an event of its own, with other latched bits
-next-same : (t : State) (faults : CmlFaults) (event : Event) → gives_return event ≡ true → event_cause t event ≡ None
+next-same : RegistersAreInTheTable → (t : State) (faults : CmlFaults) (event : Event) → gives_return event ≡ true → event_cause t event ≡ None
     → next (with_faults t faults) event ≡ with_faults (next t event) (next (with_faults t faults) event).device.faults
 unfolding next
-next-same t faults event gives free =
+next-same table t faults event gives free =
     let share : Share = share_of t event in
-    let same = share-same t faults event gives free in
+    let same = share-same table t faults event gives free in
     ap (λ (x : Share). counted (shared (with_faults t faults) x)) same
     ∙ ap (λ (d : Held). record (counted (shared t share)) { device = d }) (device-same t.device faults share.heard)
     ∙ ap (λ (x : Share). with_faults (counted (shared t share)) (counted (shared (with_faults t faults) x)).device.faults) (sym same)
@@ -462,42 +471,32 @@ pub record IsApart (config : Config) (passes : ℕ) (s : State) (events : List E
   pub lived : IsLived config passes events
   pub alone : s ≡ with_faults (now config passes events) s.device.faults
 
--- the laws of the events
-pub record Lives : Type 0 where
-  pub heard : Laws
-  pub followed : LivesAreFollowed
-  pub lived : EventsAreLived
-
--- no event changes the configuration
-now-config : (config : Config) (passes : ℕ) (events : List Event) → (now config passes events).device.config ≡ config
-unfolding now state_of device_now
-now-config config passes events = refl
-
 -- one more of its own events
-own-apart : Lives → (config : Config) (passes : ℕ) (s : State) (events : List Event) (event : Event) → IsApart config passes s events
+own-apart : Below → (config : Config) (passes : ℕ) (s : State) (events : List Event) (event : Event) → IsApart config passes s events
     → IsLegal s event → gives_return event ≡ true → IsApart config passes (next s event) (event ∷ events)
 own-apart laws config passes s events event before legal gives =
     let t : State = now config passes events in
     let free : event_cause t event ≡ None =
-    sym (cause-same t s.device.faults event gives)
+    sym (cause-same laws.table t s.device.faults event gives)
     ∙ subst (λ x. event_cause x event ≡ None) before.alone legal.free in
     let lived = laws.lived.more config passes events event before.lived free in
     record {
       lived = lived;
       alone = ap (λ x. next x event) before.alone
-          ∙ next-same t s.device.faults event gives free
+          ∙ next-same laws.table t s.device.faults event gives free
           ∙ ap (λ x. with_faults x (next (with_faults t s.device.faults) event).device.faults)
           (sym (laws.followed.more config passes events event lived))
           ∙ ap (λ x. with_faults (now config passes (event ∷ events)) (next x event).device.faults) (sym before.alone);
     }
 
 -- something overheard
-overheard-apart : Lives → (config : Config) (passes : ℕ) (s : State) (events : List Event) (heard : List Overheard)
+overheard-apart : Below → (config : Config) (passes : ℕ) (s : State) (events : List Event) (heard : List Overheard)
     → IsApart config passes s events → AllPassBy config.addr heard
     → IsApart config passes (record s { device = overhearing s.device heard }) events
+unfolding now state_of device_now
 overheard-apart laws config passes s events heard before passes_all =
-    let config_is : s.device.config ≡ config = ap (λ (x : State). x.device.config) before.alone ∙ now-config config passes events in
-    let alike = overheard-alike laws.heard s.device heard (subst (λ (c : Config). AllPassBy c.addr heard) (sym config_is) passes_all) in
+    let config_is : s.device.config ≡ config = ap (λ (x : State). x.device.config) before.alone in
+    let alike = overheard-alike laws s.device heard (subst (λ (c : Config). AllPassBy c.addr heard) (sym config_is) passes_all) in
     record {
       lived = before.lived;
       alone = ap (λ (d : Held). record s { device = d }) alike
@@ -505,7 +504,7 @@ overheard-apart laws config passes s events heard before passes_all =
     }
 
 -- so is a pair after all events of the board
-pub board-apart : Lives → (board : Board) (pair : ℕ) (events : List Happening)
+pub board-apart : Below → (board : Board) (pair : ℕ) (events : List Happening)
     → IsSound (board.config pair) → IsSetup (setup_of (board.config pair) (board.passes pair)) → AreLegalFor board pair events
     → IsApart (board.config pair) (board.passes pair) (on_board board pair events) (own pair events)
 unfolding on_board own

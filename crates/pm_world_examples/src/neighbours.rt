@@ -12,6 +12,7 @@ ghost use Rattle.pm_world_examples.specs.Neighbours.{Board, Happening, IsLivedOn
 
 use pm_device::{frames_for_others_are_silent, requests_latch_at_most};
 use pm_frame::betrayal_is_refused;
+use pm_table::registers_are_in_the_table;
 use pm_world::{
     confirmed_settings_are_held, events_are_lived, lives_are_followed,
     settings_move_by_the_open_job,
@@ -27,6 +28,7 @@ use pm_world::{
 pub fn neighbours_are_apart()
     ensures { NeighboursAreApart }
 {
+    registers_are_in_the_table();
     frames_for_others_are_silent();
     requests_latch_at_most();
     betrayal_is_refused();

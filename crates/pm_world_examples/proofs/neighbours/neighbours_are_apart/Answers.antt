@@ -1,18 +1,17 @@
 use Rattle.std.proofs.Common.{ℕ, ◌<◌, List, ap}
 use Rattle.pm_device.specs.Effect.{kept_in}
 use Rattle.pm_world.specs.State.{State}
-use Rattle.pm_world_examples.proofs.Overhearing.{IsApart, Lives, answer-passes, board-apart, frame-passes}
+use Rattle.pm_world_examples.proofs.Overhearing.{IsApart, Below, answer-passes, board-apart, frame-passes}
 use Rattle.pm_world_examples.specs.Neighbours.{Board, Happening, IsLivedOn, on_board, own}
 use Rattle.pm_world_examples.proofs.neighbours.neighbours_are_apart.Goals as goal
 
 pub returns : goal.returns
 returns c =
-    let laws : Lives = record {
-      heard = record {
-        silent = c.frames_for_others_are_silent.ensures;
-        requests = c.requests_latch_at_most.ensures;
-        betrayal = c.betrayal_is_refused.ensures;
-      };
+    let laws : Below = record {
+      table = c.registers_are_in_the_table.ensures;
+      silent = c.frames_for_others_are_silent.ensures;
+      requests = c.requests_latch_at_most.ensures;
+      betrayal = c.betrayal_is_refused.ensures;
       followed = c.lives_are_followed.ensures;
       lived = c.events_are_lived.ensures;
     } in
