@@ -138,14 +138,16 @@ register-same : RegistersAreInTheTable → (held : Held) (faults : CmlFaults) (o
     → register_word (record held { faults = faults }) output (register_code register) ≡ register_word held output (register_code register)
 register-same table held faults output register =
     let code : ℕ = register_code register in
-    let kept : (plain : ℕ) → option_map_or (λ cell. word_at held.words cell) (cell_at code output) plain ≡ word_at held.words (Out output register) =
+    let kept : (plain : ℕ) → option_map_or (λ cell. word_at held.words cell) (cell_at code output) plain
+    ≡ word_at held.words (Out output register) =
     λ plain. ap (λ o. option_map_or (λ cell. word_at held.words cell) o plain) (table.found register output) in
     kept (plain_register (record held { faults = faults }) output code) ∙ sym (kept (plain_register held output code))
 
 -- and so is a cell's read,
 cell-same : RegistersAreInTheTable → (held : Held) (faults : CmlFaults) (cell : Cell)
     → payload_for (record held { faults = faults }) (cell_read cell) ≡ payload_for held (cell_read cell)
-cell-same table held faults (Out output register) = ap (register_bytes (register_code register)) (register-same table held faults output register)
+cell-same table held faults (Out output register) =
+    ap (register_bytes (register_code register)) (register-same table held faults output register)
 cell-same table held faults Protect = refl
 
 -- and each message of a host: it is answered from nothing but the configuration and the words
@@ -220,7 +222,8 @@ heard-as addr (Sends StoreUserAll tries) reads = absurd (false≢true reads)
 heard-as addr (Sends RestoreUserAll tries) reads = absurd (false≢true reads)
 
 -- A host's own request that is heard whole is answered alike, whatever is latched in STATUS_CML.
-pub own-same : RegistersAreInTheTable → (held : Held) (faults : CmlFaults) (addr : ℕ) (stage : Stage) → is_read_message (stage_message stage) ≡ true
+pub own-same : RegistersAreInTheTable
+    → (held : Held) (faults : CmlFaults) (addr : ℕ) (stage : Stage) → is_read_message (stage_message stage) ≡ true
     → reply_of (record held { faults = faults }) (frame_of addr (stage_message stage)) Restart
     ≡ reply_of held (frame_of addr (stage_message stage)) Restart
 unfolding reply_of verdict_of
@@ -377,7 +380,8 @@ after-rule true fault x y h = refl
 after-rule false fault x y h = h refl
 
 -- an exchange is judged alike,
-exchange-same : RegistersAreInTheTable → (t : State) (faults : CmlFaults) (arrival : Arrival) (back : Back) → gives_return (Exchange arrival back) ≡ true
+exchange-same : RegistersAreInTheTable
+    → (t : State) (faults : CmlFaults) (arrival : Arrival) (back : Back) → gives_return (Exchange arrival back) ≡ true
     → exchange_cause (with_faults t faults) arrival back (sending_in t.host) ≡ exchange_cause t arrival back (sending_in t.host)
 exchange-same table t faults arrival back gives = go t.host.stage where
   go : (stage : Option Stage) → exchange_cause (with_faults t faults) arrival back (option_map stage_message stage)
@@ -409,7 +413,8 @@ cause-same : RegistersAreInTheTable → (t : State) (faults : CmlFaults) (event 
 cause-same table t faults event gives = ap (option_or (refused (refusal_of t.host event))) (beside-same table t faults event gives)
 
 -- an exchange that is legal tells both ends the same,
-exchanged-same : RegistersAreInTheTable → (t : State) (faults : CmlFaults) (arrival : Arrival) (back : Back) → gives_return (Exchange arrival back) ≡ true
+exchanged-same : RegistersAreInTheTable
+    → (t : State) (faults : CmlFaults) (arrival : Arrival) (back : Back) → gives_return (Exchange arrival back) ≡ true
     → exchange_cause t arrival back (sending_in t.host) ≡ None
     → exchanged (with_faults t faults) arrival back (sending_in t.host) ≡ exchanged t arrival back (sending_in t.host)
 exchanged-same table t faults arrival back gives = go t.host.stage where
@@ -424,7 +429,8 @@ exchanged-same table t faults arrival back gives = go t.host.stage where
       (came-same table t.device faults t.host.setup.addr stage arrival back reads gives)
 
 -- and so does each event
-tells-same : RegistersAreInTheTable → (t : State) (faults : CmlFaults) (event : Event) → gives_return event ≡ true → cause_beside t event ≡ None
+tells-same : RegistersAreInTheTable
+    → (t : State) (faults : CmlFaults) (event : Event) → gives_return event ≡ true → cause_beside t event ≡ None
     → share_beside (with_faults t faults) event ≡ share_beside t event
 tells-same table t faults (Order cell word) gives free = refl
 tells-same table t faults (OrderMicro cell x) gives free = refl
@@ -440,7 +446,8 @@ tells-same table t faults RestartDevice gives free = refl
 tells-same table t faults RestartHost gives free = refl
 tells-same table t faults (Reading output code word) gives free = refl
 
-share-same : RegistersAreInTheTable → (t : State) (faults : CmlFaults) (event : Event) → gives_return event ≡ true → event_cause t event ≡ None
+share-same : RegistersAreInTheTable
+    → (t : State) (faults : CmlFaults) (event : Event) → gives_return event ≡ true → event_cause t event ≡ None
     → share_of (with_faults t faults) event ≡ share_of t event
 share-same table t faults event gives free =
     ap (option_map_or (λ job. tells (host.Accepted job)) (asked t event))
@@ -454,7 +461,8 @@ device-same held faults None = refl
 device-same held faults (Some event) = refl
 
 -- the world after an event of its own, with other latched bits
-next-same : RegistersAreInTheTable → (t : State) (faults : CmlFaults) (event : Event) → gives_return event ≡ true → event_cause t event ≡ None
+next-same : RegistersAreInTheTable
+    → (t : State) (faults : CmlFaults) (event : Event) → gives_return event ≡ true → event_cause t event ≡ None
     → next (with_faults t faults) event ≡ with_faults (next t event) (next (with_faults t faults) event).device.faults
 unfolding next
 next-same table t faults event gives free =
