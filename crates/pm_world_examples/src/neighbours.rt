@@ -20,10 +20,10 @@ use pm_world::{
 
 /// A pair on a board holds what it would hold alone. Its settings, its store and PAGE, what its host knows, and how
 /// its last job ended are those of its own events (`kept`, `host`, `end`), which it could have lived through alone
-/// (`lived`). No more than latched bits of STATUS_CML differ (`alone`). Each converter hears what is on the wire for the
+/// (`lived`). Only latched bits of STATUS_CML differ (`alone`). Each converter hears what is on the wire for the
 /// others, each in its own way. Another host's frame passes by it however it legally arrives, also where damage turns
 /// one address into another (`frames`), and so does what follows another's read address (`answers`). A request whose
-/// address was damaged may be answered by another converter: what comes back is then given by its bytes, which are legal
+/// address was damaged may be answered by another one: what comes back is then given by its bytes, which are legal
 /// where the packet error code betrays them over the host's own request.
 pub fn neighbours_are_apart()
     ensures { NeighboursAreApart }
