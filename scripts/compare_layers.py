@@ -85,10 +85,9 @@ def words_of_types():
 
 
 def numbers_of_types():
-    """The words of each number that a type of faults has, in C: there those of a plan stand 20h above the converter's."""
+    """The words of each number that a type of faults has."""
     words = words_of_types()
-    return {int(number, 0) + (0x20 if (name, int(number, 0) >> 4) == ("PlanFault", 4) else 0): words[name, variant]
-            for name, path in FAULTS.items() for variant, number in
+    return {int(number, 0): words[name, variant] for name, path in FAULTS.items() for variant, number in
             re.findall(rf"{name}::(\w+)(?:\([^)]*\))? => (\d\w*),", read("crates", path)) if (name, variant) in words}
 
 

@@ -126,7 +126,9 @@ class Life:
         if most < least:
             return "L1 LimitsInverted"
         old = self.limits[output]
-        return "L6 LimitsWidened" if old and (least < old[0] or most > old[1]) else None
+        if old and (least < old[0] or most > old[1]):
+            return "L6 LimitsWidened"
+        return limits.open_refusal(self.plain, (least, most), output)
 
     def judged(self, *event):
         """Why limits refuse an order before the host does."""

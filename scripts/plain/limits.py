@@ -77,16 +77,29 @@ def within(limits, found):
     return "no" if faults[0] == faults[1] else "unknown"
 
 
+def judged(host, own, cell, word):
+    """What an output's limits say of a word for one of its cells."""
+    form = host.format(cell[0])
+    if cell[1] != OPERATION:
+        return outside(own, value(form, word)) if form else "L2 FormatUnknown"
+    is_on = accepts(cell, word) and word >= 0x80
+    if not is_on or within(own, band(host, cell[0], word)) == "yes":
+        return None
+    return "L5 NotKnownWithin" if form else "L2 FormatUnknown"
+
+
 def order_refusal(host, limits, cell, word):
     """What a guard says of an order beside its host: None where the host alone decides."""
     if host.refusal(cell[0]) or cell == PROTECT or limits[cell[0]] is None:
         return None
-    own = limits[cell[0]]
-    if cell[1] == OPERATION:
-        is_on = accepts(cell, word) and word >= 0x80
-        return "L5 NotKnownWithin" if is_on and within(own, band(host, cell[0], word)) != "yes" else None
-    form = host.format(cell[0])
-    return outside(own, value(form, word)) if form else "L2 FormatUnknown"
+    return judged(host, limits[cell[0]], cell, word)
+
+
+def open_refusal(host, pair, output):
+    """H3 where an order of the output is open that these limits refuse: its frame may be sent again."""
+    job = host.last_job()[0]
+    is_open = job is not None and job[0] == "order" and job[1][0] == output and host.progress()[0] == "sending"
+    return "H3 Busy" if is_open and judged(host, pair, *job[1:]) else None
 
 
 def refusal(host, limits, event):

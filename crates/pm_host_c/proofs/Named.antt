@@ -22,10 +22,9 @@ use Rattle.pm_limits.specs.declared.fault.LimitFault.TheVariants as limits
 use Rattle.pm_limits.specs.FaultWords.{limit_fault_number, limit_fault_words}
 use Rattle.pm_rail.specs.declared.fault.PlanFault.{PlanFault}
 use Rattle.pm_rail.specs.declared.fault.PlanFault.TheVariants as plan
-use Rattle.pm_rail.specs.FaultWords.{plan_fault_words}
+use Rattle.pm_rail.specs.FaultWords.{plan_fault_number, plan_fault_words}
 use Rattle.pm_host_c.specs.Host.{step_kind}
 use Rattle.pm_host_c.specs.Names.{end_words, refusal_words, step_words}
-use Rattle.pm_host_c.specs.Numbers.{plan_number}
 
 -- under its number each fault of limits, those of their host included, has its own words
 pub limit : (fault : LimitFault) → refusal_words (limit_fault_number fault) ≡ Some (limit_fault_words fault)
@@ -79,7 +78,7 @@ config (setup.BadMode output fault) = refl
 config (setup.BadCoefficients fault) = refl
 
 -- under its number each refusal of a plan, about whatever cell, has its own words
-pub planned : (fault : PlanFault) → refusal_words (plan_number fault) ≡ Some (plan_fault_words fault)
+pub planned : (fault : PlanFault) → refusal_words (plan_fault_number fault) ≡ Some (plan_fault_words fault)
 planned plan.Busy = refl
 planned (plan.MissingRegister register) = refl
 planned plan.FormatUnknown = refl

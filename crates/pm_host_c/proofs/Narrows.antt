@@ -1,12 +1,11 @@
 -- Why limits of a host in a caller's memory aren't narrowed.
-use Rattle.std.proofs.Common.{◌≡◌, ℕ, ℤ, true, [], ◌∷◌, Option, Some, None, refl, ap}
+use Rattle.std.proofs.Common.{◌≡◌, ℕ, ℤ, true, [], ◌∷◌, Some, None, ap}
 use Rattle.std.specs.Prelude.{nat_lt, slice_index_or}
 use Rattle.pm_table.specs.Rules.{first}
 use Rattle.pm_host.specs.Image.{host_of}
 use Rattle.pm_host.specs.Summary.{Summary}
 use Rattle.pm_limits.specs.declared.fault.LimitFault.{LimitFault}
 use Rattle.pm_limits.specs.FaultWords.{limit_fault_number}
-use Rattle.pm_limits.specs.Bounds.{Bounds}
 use Rattle.pm_limits.specs.Guard.{narrower_fault, open_fault}
 use Rattle.pm_host_c.specs.declared.guard_image.GuardImage.{GuardImage}
 use Rattle.pm_host_c.specs.Guard.{guard_of, limits_kept, registers_held}

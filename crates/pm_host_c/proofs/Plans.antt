@@ -14,6 +14,7 @@ use Rattle.pm_limits.specs.Guard.{Guarded, limits_at}
 use Rattle.pm_rail.specs.declared.fault.PlanFault.{PlanFault}
 use Rattle.pm_rail.specs.declared.fault.PlanFault.TheVariants.{Busy, MissingRegister, FormatUnknown, BelowLimit, AboveLimit, NotKnown, BelowMin, AboveMax, Protected}
 use Rattle.pm_rail.specs.declared.orders.PlanOrder.{PlanOrder}
+use Rattle.pm_rail.specs.FaultWords.{plan_fault_number}
 use Rattle.pm_rail.specs.Laws.{PlansAreAccepted}
 use Rattle.pm_rail.specs.Orders.{plan_of}
 use Rattle.pm_rail.specs.Registers.{Wants}
@@ -21,7 +22,7 @@ use Rattle.pm_host_c.specs.declared.guard_image.GuardImage.{GuardImage}
 use Rattle.pm_host_c.specs.declared.plan.Refused.{Refused}
 use Rattle.pm_host_c.specs.Guard.{guard_of, limits_kept, registers_held}
 use Rattle.pm_host_c.specs.Host.{job_number}
-use Rattle.pm_host_c.specs.Numbers.{accepted, limit_outcome, plan_number}
+use Rattle.pm_host_c.specs.Numbers.{accepted, limit_outcome}
 use Rattle.pm_host_c.specs.Plan.{numbered, plan_in, refused_by}
 
 -- a host whose memory it is, that has no open job, and an output of it
@@ -64,7 +65,7 @@ abbrev number-in : Result (Option PlanOrder) Refused → ℕ
 number-in (Ok next) = 1
 number-in (Err refused) = refused.number
 
-some-number : (fault : PlanFault) → plan_number fault ≡ 0 → ⊥
+some-number : (fault : PlanFault) → plan_fault_number fault ≡ 0 → ⊥
 some-number Busy zero = cc
 some-number (MissingRegister register) zero = cc
 some-number FormatUnknown zero = cc

@@ -19,7 +19,7 @@ use Rattle.pm_table.specs.declared.cell.Cell.TheVariants.{Protect}
 use Rattle.pm_table.specs.declared.reg.Reg.TheVariants.{VoutCommand}
 use Rattle.pm_rail.specs.declared.fault.PlanFault.{PlanFault}
 use Rattle.pm_rail.specs.declared.fault.PlanFault.TheVariants as plan
-use Rattle.pm_rail.specs.FaultWords.{plan_fault_words}
+use Rattle.pm_rail.specs.FaultWords.{plan_fault_number, plan_fault_words}
 use Rattle.pm_device.specs.FaultWords.{config_fault_number, config_fault_words, device_fault_number, device_fault_words}
 use Rattle.pm_limits.specs.declared.fault.LimitFault.{LimitFault}
 use Rattle.pm_limits.specs.declared.fault.LimitFault.TheVariants.{LimitsInverted, BelowLimit, AboveLimit, NotKnownWithin, LimitsWidened, MissingRegister, Host}
@@ -27,7 +27,7 @@ use Rattle.pm_limits.specs.declared.fault.LimitFault.TheVariants as limits
 use Rattle.pm_limits.specs.FaultWords.{limit_fault_number, limit_fault_words}
 use Rattle.pm_host_c.specs.declared.name_image.NameImage.{NameImage}
 use Rattle.pm_host_c.specs.Host.{step_kind}
-use Rattle.pm_host_c.specs.Numbers.{accepted, no_name, plan_number}
+use Rattle.pm_host_c.specs.Numbers.{accepted, no_name}
 
 -- every fault of limits, of their host and of a number
 abbrev pub limit_faults : List LimitFault
@@ -74,7 +74,7 @@ abbrev pub config_words : ℕ → Option (List ℕ)
 config_words n = option_map config_fault_words (find (λ fault. config_fault_number fault == n) config_faults)
 
 abbrev pub plan_words : ℕ → Option (List ℕ)
-plan_words n = option_map plan_fault_words (find (λ fault. plan_number fault == n) plan_faults)
+plan_words n = option_map plan_fault_words (find (λ fault. plan_fault_number fault == n) plan_faults)
 
 -- what only a caller in C can ask wrongly, of a host, a survey or a part
 abbrev pub own_words : ℕ → Option (List ℕ)
@@ -133,5 +133,5 @@ pub record RefusalsAreNamed : Type 0 where
   pub frame : (fault : FrameFault) → refusal_words (frame_fault_number fault) ≡ Some (frame_fault_words fault)
   pub device : (fault : DeviceFault) → refusal_words (device_fault_number fault) ≡ Some (device_fault_words fault)
   pub config : (fault : ConfigFault) → refusal_words (config_fault_number fault) ≡ Some (config_fault_words fault)
-  pub plan : (fault : PlanFault) → refusal_words (plan_number fault) ≡ Some (plan_fault_words fault)
+  pub plan : (fault : PlanFault) → refusal_words (plan_fault_number fault) ≡ Some (plan_fault_words fault)
   pub step : (step : Step) → end_words (step_kind step) ≡ Some (step_words step)

@@ -1,13 +1,11 @@
 -- The numbers that calls answer, of which no two mean two things: 0 where nothing is refused; a refusal's own,
 -- which stands beside its words; E0h to E4h, E6h, E7h and E9h to EBh for what only a caller in C can ask wrongly; 91h
 -- to 93h for where a voltage lies; and 94h to 97h for what has ended. This project's own choice.
-use Rattle.std.specs.Prelude.{ℕ, ◌+◌, ◌/◌, ◌==◌, Bool, if◌then◌else◌, Option, Some, None}
+use Rattle.std.specs.Prelude.{ℕ, Bool, if◌then◌else◌, Option, Some, None}
 use Rattle.pm_host.specs.declared.fault.HostFault.{HostFault}
 use Rattle.pm_host.specs.FaultWords.{host_fault_number}
 use Rattle.pm_limits.specs.declared.fault.LimitFault.{LimitFault}
 use Rattle.pm_limits.specs.FaultWords.{limit_fault_number}
-use Rattle.pm_rail.specs.declared.fault.PlanFault.{PlanFault}
-use Rattle.pm_rail.specs.FaultWords.{plan_fault_number}
 
 -- nothing is refused
 abbrev pub accepted : ℕ
@@ -80,11 +78,6 @@ survey_stuck = 0x97
 -- a flag is 1 or 0
 abbrev pub flag : Bool → ℕ
 flag b = if b then 1 else 0
-
--- A refusal of a plan: P1 to P7 are 61h to 67h, since the converter's K1 to K7 have 41h to 47h; any other is as the host
--- has it.
-abbrev pub plan_number : PlanFault → ℕ
-plan_number fault = if plan_fault_number fault / 16 == 4 then plan_fault_number fault + 0x20 else plan_fault_number fault
 
 -- what a call answers that is refused with this, or accepted
 abbrev pub outcome : Option HostFault → ℕ

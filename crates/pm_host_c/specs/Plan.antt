@@ -10,19 +10,19 @@ use Rattle.pm_host.specs.Refusals.{is_busy}
 use Rattle.pm_limits.specs.Guard.{Guarded, limits_at}
 use Rattle.pm_rail.specs.declared.fault.PlanFault.{PlanFault}
 use Rattle.pm_rail.specs.declared.orders.PlanOrder.{PlanOrder}
-use Rattle.pm_rail.specs.FaultWords.{plan_fault_code}
+use Rattle.pm_rail.specs.FaultWords.{plan_fault_code, plan_fault_number}
 use Rattle.pm_rail.specs.Orders.{plan_of}
 use Rattle.pm_rail.specs.Registers.{Wants}
 use Rattle.pm_host_c.specs.declared.plan.PlanOrderImage.{PlanOrderImage}
 use Rattle.pm_host_c.specs.declared.plan.Refused.{Refused}
-use Rattle.pm_host_c.specs.Numbers.{accepted, no_host, plan_done, plan_number}
+use Rattle.pm_host_c.specs.Numbers.{accepted, no_host, plan_done}
 
 -- a refusal that is about no register, and one of a plan
 abbrev pub refused_by : ℕ → Refused
 refused_by number = record { number = number; code = 0 }
 
 abbrev pub refused_as : PlanFault → Refused
-refused_as fault = record { number = plan_number fault; code = unwrap_or (plan_fault_code fault) 0 }
+refused_as fault = record { number = plan_fault_number fault; code = unwrap_or (plan_fault_code fault) 0 }
 
 -- what a plan answers, with its refusals as numbers
 abbrev pub numbered : Result (Option PlanOrder) PlanFault → Result (Option PlanOrder) Refused

@@ -5,7 +5,6 @@ ghost use Rattle.pm_host.specs.Image.{host_of};
 ghost use Rattle.pm_host_c.specs.Guard.{guard_of};
 ghost use Rattle.pm_host_c.specs.Host.{job_begun};
 ghost use Rattle.pm_host_c.specs.Memory.{IsMemory};
-ghost use Rattle.pm_host_c.specs.Numbers.{plan_number};
 ghost use Rattle.pm_host_c.specs.Plan.{plan_answer, plan_image, plan_in, plan_job, refused_as};
 ghost use Rattle.pm_host_c.specs.Wanted.{wants_meant};
 
@@ -145,24 +144,12 @@ impl Refused {
         ensures { result ≡ refused_as fault }
     {
         Refused {
-            number: number_of_fault(fault),
+            number: fault.number(),
             code: match fault.code() {
                 Some(code) => code.0,
                 None => 0,
             },
         }
-    }
-}
-
-// The number of a plan's fault in C.
-fn number_of_fault(fault: PlanFault) -> u8
-    ensures { result ≡ plan_number fault }
-{
-    let number = fault.number();
-    if number / 16 == 4 {
-        number + 0x20
-    } else {
-        number
     }
 }
 

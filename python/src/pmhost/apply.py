@@ -10,7 +10,7 @@ from dataclasses import dataclass, field
 from typing import Callable
 
 from . import probe, voltages
-from .errors import LimitRefused, PlanRefused, Refused
+from .errors import PlanRefused, Refused
 from .plans import PlanOrder, Wanted
 from .pmbus import Pmbus
 from .rails import SETTINGS, WORDS, Rail
@@ -82,32 +82,13 @@ class Board:
     def word(self, rail: Rail, key: str) -> int:
         """The word of a setting: one that keeps the bound of VOUT_MAX or VOUT_MIN; of a voltage that equals a bound of its rail
         that bound's; otherwise the nearest one."""
-        micro, (least, most) = rail.settings[key], rail.limits
+        micro, (least, most), form = rail.settings[key], rail.limits, self.format(rail)
         is_most = key == "max" or key in WORDS and micro in (rail.settings.get("max"), most)
         is_least = key == "min" or key in WORDS and micro in (rail.settings.get("min"), least)
         try:
-            word = self.format(rail).nearest(micro)
+            return (form.at_most if is_most else form.at_least if is_least else form.nearest)(micro)
         except Refused as fault:
             raise Stopped(f"{rail.name}.{key}: {voltages.shown(micro)}: {fault.letter} {fault.name}, in the rail's format") from None
-        if not is_most and not is_least:
-            return word
-        ends = (least, micro) if is_most else (micro, most)
-        for each in (word, (word + 1) % 0x10000, (word - 1) % 0x10000):
-            if self.lies(rail, each, *ends):
-                return each
-        raise Stopped(f"{rail.name}.{key}: {voltages.shown(micro)}: no word of the rail's format keeps this bound and lies within the limits")
-
-    def lies(self, rail: Rail, word: int, least: int, most: int) -> bool:
-        """Whether a word's value lies from `least` to `most`, as limits judge it: on a copy of the host."""
-        judge = self.part.host.copy()
-        try:
-            judge.narrow(rail.output, least, most)
-            judge.order(rail.output, SETTINGS["max"], word)
-        except LimitRefused:
-            return False
-        except Refused:
-            return True
-        return True
 
     def format(self, rail: Rail) -> Format:
         found = self.part.host.format(rail.output)
@@ -330,5 +311,13 @@ class Board:
         return "-" if word is None else f"{word:04X} {voltages.shown(self.format(it.rail).microvolts(word))}"
 
     def is_outside(self, it: Setting) -> bool:
-        """Whether what is known of a setting lies outside the rail's limits."""
-        return it.last is not None and not self.lies(it.rail, it.last, *it.rail.limits)
+        """Whether what is known of a setting lies outside the rail's limits, as these judge an order: on a copy of the host."""
+        if it.last is None:
+            return False
+        judge = self.part.host.copy()
+        try:
+            judge.narrow(it.rail.output, *it.rail.limits)
+            judge.order(it.rail.output, it.register, it.last)
+        except Refused as fault:
+            return fault.letter in ("L3", "L4")
+        return False

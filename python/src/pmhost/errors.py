@@ -105,8 +105,8 @@ class MemoryRefused(Refused):
     store of WRITE_PROTECT, which has none."""
 
 
-FAMILIES = {"H": HostRefused, "N": NumberRefused, "L": LimitRefused, "P": PlanRefused, "F": FrameRefused, "K": PartRefused,
-            "V": SetupRefused}
+FAMILIES: dict[str, type[Refused]] = {
+    "H": HostRefused, "N": NumberRefused, "L": LimitRefused, "P": PlanRefused, "F": FrameRefused, "K": PartRefused, "V": SetupRefused}
 
 
 class NotDone(PmhostError):
