@@ -295,11 +295,8 @@ impl Walk {
 
     // One order of an output's plan, or what it waits for.
     fn steps(&mut self, rt: &impl Abort, output: u8) {
-        match plans(
-            &self.world,
-            output,
-            &self.courses[usize::from(output % 2)].wanted,
-        ) {
+        let wanted = self.courses[usize::from(output % 2)].wanted;
+        match plans(&self.world, output, &wanted) {
             Ok(None) => self.ends(output, End::Done),
             Ok(Some(order)) => {
                 self.orders = self.orders.wrapping_add(1);

@@ -2,6 +2,7 @@
 //! OPERATION doesn't take, and limits that are narrowed while an order is open.
 
 use super::guards::{LINEAR, first, give_up, guard, learn, read, refusal, tell};
+use super::rails::{asks, next_of};
 use crate::checks::{equal, is_true};
 use pm_frame::Message;
 use pm_host::{HostFault, Job, JobEnd, Told};
@@ -221,7 +222,7 @@ fn a_byte_that_operation_does_not_take_selects_any_register(rt: HostRuntime) {
         let known = rail_of(&guard, 0).power != Power::NotKnown;
         equal(&rt, &known, &taken, byte);
         read_protect(&mut guard);
-        let fault = next_order(&guard, 0, &NOTHING).err();
+        let fault = next_of(&rt, &guard, 0, &NOTHING).err();
         let unknown = Some(PlanFault::NotKnown(first(Reg::Operation)));
         equal(&rt, &fault, if taken { &None } else { &unknown }, byte);
     }
@@ -399,8 +400,7 @@ fn a_survey_reads_no_missing_register(rt: HostRuntime) {
         });
         let mut survey = Survey::new(0, None, 20);
         for _ in 0..20 {
-            is_true(&rt, guard.host().outputs() > 0, &at);
-            match survey.next(&guard) {
+            match asks(&rt, &mut survey, &guard) {
                 Some(Job::Learn(_)) => {
                     learn(&mut guard, 0, LINEAR, &[]);
                     survey.told(JobEnd::Learned);

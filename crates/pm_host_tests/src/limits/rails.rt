@@ -63,7 +63,7 @@ fn each(words: &[u16; 6]) -> Held {
 }
 
 // The next order of an output that there is, and its beginning.
-fn next_of(
+pub(crate) fn next_of(
     rt: &impl Abort,
     guard: &Guard,
     output: u8,
@@ -90,7 +90,7 @@ fn rail_at(rt: &impl Abort, guard: &Guard, output: u8) -> Rail {
 }
 
 // The next job of a survey of an output that there is.
-fn asks(rt: &impl Abort, survey: &mut Survey, guard: &Guard) -> Option<Job> {
+pub(crate) fn asks(rt: &impl Abort, survey: &mut Survey, guard: &Guard) -> Option<Job> {
     is_true(rt, survey.output < guard.host().outputs(), &survey.output);
     survey.next(guard)
 }
