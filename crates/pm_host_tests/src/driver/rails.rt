@@ -355,7 +355,7 @@ fn a_survey_sends_a_frame_for_each_register(rt: HostRuntime) {
                     equal(
                         &rt,
                         &driver.bus().next,
-                        &registers.wrapping_add(*more),
+                        &usize::wrapping_add(*registers, *more),
                         &(mode, registers),
                     );
                 }
