@@ -1,3 +1,4 @@
 mod Ones
 mod Overhearing
 mod SharedCodes
+mod Found

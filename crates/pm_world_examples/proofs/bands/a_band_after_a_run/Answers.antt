@@ -1,0 +1,10 @@
+use Rattle.std.specs.Prelude.{◌∷◌, reverse}
+use Rattle.pm_world_examples.proofs.Found.{found-so}
+use Rattle.pm_world_examples.proofs.bands.a_band_after_a_run.Goals as goal
+
+pub returns : goal.returns
+returns c = found-so c.short_after_a_run.result
+    (λ lived spelled short part band stands holds at.
+    c.bands_are_held.ensures c.args.c c.args.passes part (reverse c.args.events.now) c.args.output band
+    spelled lived c.requires short stands holds at)
+    c.short_after_a_run.ensures.lived c.short_after_a_run.ensures.spelled c.short_after_a_run.ensures.short
