@@ -212,7 +212,9 @@ static void random_rails(unsigned rails) {
         pm_host host = new_host();
         pm_wanted wanted;
         pm_rail_end end;
-        bus on = new_bus(bytes[draw(4)], word(), word(), word(), word(), word()), to;
+        /* (arguments of a call may be drawn in any order, and declarations in this one alone) */
+        uint16_t min = word(), margin_low = word(), margin_high = word(), max = word(), command = word();
+        bus on = new_bus(bytes[draw(4)], command, max, margin_high, margin_low, min), to;
         wanted.command = wish(), wanted.max = wish(), wanted.margin_high = wish(), wanted.margin_low = wish(), wanted.min = wish();
         to = new_bus(held(&on, PM_OPERATION), wanted.command.has ? wanted.command.word : held(&on, PM_VOUT_COMMAND),
                      wanted.max.has ? wanted.max.word : held(&on, PM_VOUT_MAX),
