@@ -437,6 +437,6 @@ fn rails_command_their_old_or_their_new_voltage(rt: HostRuntime) -> Result<(), S
     is_true(&rt, tally.done >= 40, &tally);
     is_true(&rt, tally.refused >= 40, &tally);
     is_true(&rt, tally.changes >= 20, &tally);
-    is_true(&rt, tally.going + tally.lost <= 3, &tally);
+    is_true(&rt, tally.going.wrapping_add(tally.lost) <= 3, &tally);
     Ok(())
 }
