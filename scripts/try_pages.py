@@ -177,20 +177,20 @@ def toolchain_faults(shell, found):
     trusted = set(re.findall(r"`([\w-]+)`", found[found.index("Trusted: "):]))
     installed = set(shell.run("rt version").stdout.split()) - {"logic"} if shutil.which("rt") else set()
     with open(os.path.join(program.ROOT, "crates.txt"), encoding="utf-8") as file:
-        lines = [line.partition(":") for line in file if not line.startswith("#")]
+        lines = [line.partition(":") for line in file if line.strip() and not line.startswith("#")]
     libraries = {word for _, _, rest in lines for word in rest.split()} - {name.split()[0] for name, _, _ in lines}
     if trusted != libraries | (installed or trusted - libraries):
         yield f"it trusts {sorted(trusted)}, and not {sorted(libraries | installed)}"
 
 
 def listing_fault(found):
-    """The README's listing is the driver's, whose clauses and call for the prover it leaves out."""
+    """The README's listing is the rail of the driver's own example, which a test runs."""
     listing = re.search(r"^```rust\n(.*?)^```", found, re.M | re.S)[1]
-    with open(os.path.join(program.ROOT, "crates/pm_driver/src/frames.rt"), encoding="utf-8") as file:
-        body = re.search(r"^fn send.*?^}\n", file.read(), re.M | re.S)[0]
-    body = re.sub(r"^    ensures .*?^{\n.*?<B>\(\);\n", "{\n", body, flags=re.M | re.S)
+    with open(os.path.join(program.ROOT, "crates/pm_host_tests/src/driver/example.rt"), encoding="utf-8") as file:
+        body = re.search(r"^fn applied.*?^}\n", file.read(), re.M | re.S)[0]
+    body = re.sub(r",\s*}", " }", re.sub(r"Some\((driver\.apply\(.*?\))\)", r"\1", body))
     plain = [" ".join(it.split()) for it in (listing, body)]
-    return [] if plain[0] == plain[1] else ["its listing isn't that of crates/pm_driver/src/frames.rt"]
+    return [] if plain[0] in plain[1] else ["its listing isn't that of crates/pm_host_tests/src/driver/example.rt"]
 
 
 def manual_faults(page):
