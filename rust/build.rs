@@ -23,7 +23,7 @@ fn archive(target: &str, library: &str) -> PathBuf {
         return folder.join(format!("lib{library}.a"));
     }
     if !is_built_here {
-        refuse(format!("no archives for {target}: build them by scripts/c/targets.sh --out FOLDER, and give {own}=FOLDER/NAME"));
+        refuse(format!("no archives for {target}: build them by trials/c/targets.sh --out FOLDER, and give {own}=FOLDER/NAME"));
     }
     let home = env::var_os("CARGO_MANIFEST_DIR").expect("cargo sets it");
     Path::new(&home).join(format!("../crates/{library}/out/lib{library}.a"))

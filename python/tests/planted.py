@@ -15,7 +15,7 @@ import tempfile
 sys.dont_write_bytecode = True
 HERE = os.path.dirname(os.path.abspath(__file__))
 ROOT = os.path.dirname(os.path.dirname(HERE))
-sys.path[:0] = [os.path.join(HERE, "data"), os.path.join(ROOT, "scripts")]
+sys.path[:0] = [os.path.join(HERE, "data"), os.path.join(ROOT, "tools")]
 
 from planted_rows import PLANTED  # noqa: E402
 from tally import Tally  # noqa: E402

@@ -1,4 +1,4 @@
-//! The calls of the two libraries, as their headers pm.h and pm_part.h have them. scripts/compare_layers.py compares names,
+//! The calls of the two libraries, as their headers pm.h and pm_part.h have them. tools/compare_layers.py compares names,
 //! numbers and sizes.
 
 pub const VERSION: u16 = 0x0100;
