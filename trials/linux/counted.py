@@ -82,7 +82,7 @@ class Adapter(vhost.FrontEnd):
         return mishap in ("deaf", "hung", "gone", "short0", "short1")
 
     def write(self, message, mishap):
-        bench, frame = self.bench, [2 * message.address, *message.written]
+        part, frame = self.bench.parts[message.address], [2 * message.address, *message.written]
         if mishap == "false":
             return b""
         if self.is_unheard(mishap):
@@ -90,15 +90,15 @@ class Adapter(vhost.FrontEnd):
         frame = frame[:-1] if mishap == "half" else frame
         if mishap == "flip":
             frame[-2] ^= 1
-        return FAILED if self.heard(frame, "stop", mishap) is None or mishap == "half" else b""
+        return FAILED if self.heard(part, frame, "stop", mishap) is None or mishap == "half" else b""
 
     def read(self, sent, back, mishap):
-        bench = self.bench
+        bench, part = self.bench, self.bench.parts[sent.address]
         if self.is_unheard(mishap) or mishap == "false":
             return [b"" if mishap == "short1" else FAILED, FAILED]
-        answer = self.heard([2 * sent.address, *sent.written], "restart", mishap)
+        answer = self.heard(part, [2 * sent.address, *sent.written], "restart", mishap)
         if answer is None:
-            is_first = mishap in ("lostall", "short0h") or bench.part.refusal == errno.ENXIO
+            is_first = mishap in ("lostall", "short0h") or part.refusal == errno.ENXIO
             return [FAILED if is_first else b"", FAILED]
         if mishap == "empty":
             return [b"", b""]
@@ -110,18 +110,18 @@ class Adapter(vhost.FrontEnd):
             got = got[:-1] + bytes([got[-1] ^ 4])
         return [b"", got[:-1] + b"\xff" if mishap == "cut" else got]
 
-    def heard(self, frame, ending, mishap):
+    def heard(self, part, frame, ending, mishap):
         """What the part answers, None also where that is lost. Where the kernel repeats a transfer by itself, this
         adapter's transfer is repeated here, unless it is asked for errors: then it is told to try again."""
         bench = self.bench
-        bench.error = errno.EIO if mishap == "short0h" else bench.part.refusal
+        bench.error = errno.EIO if mishap == "short0h" else part.refusal
         if mishap == "twice":
-            bench.part.hear(frame, ending)
+            part.hear(frame, ending)
             if bench.has_errors:
                 bench.plan.insert(0, "again")
                 bench.error = errno.EAGAIN
                 return None
-        answer = bench.part.hear(frame, ending)
+        answer = part.hear(frame, ending)
         if mishap == "power":
-            bench.part.restart()
+            part.restart()
         return None if mishap in ("lost", "lostall", "short0h") else answer

@@ -8,7 +8,8 @@ import os
 from counted import BENCH
 from pmhost.bus.linux import I2C_M_RD, I2C_RDWR, Message, Messages
 
-ROOM = 4096
+# The most that i2c-dev takes.
+ROOM = 8192
 FOLDER = os.environ.get("FOLDER", "")
 
 

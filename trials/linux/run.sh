@@ -24,6 +24,9 @@
 #   drawn     jobs of every kind under drawn faults, all registers asked behind (SEED and LISTS in the environment)
 #   lines     lines that are held low, at rest and behind each byte
 #   patience  parts that are busy behind each write or away behind a store, by missing acknowledgements and by ones
+#   signals   a signal while a transfer is under way, at each transfer of a call with a job of every kind
+#   boards    `pmhost apply` of a board under each fault at each transfer, and of 200 drawn ones under drawn faults (SEED, BOARDS)
+#   several   two parts at two addresses and one behind a multiplexer, a pmhost for each at once, under each fault
 #   together  both hosts at once, a part that is unplugged, a pmhost that is killed
 #
 # What is wrong is printed, each trial's own last line, and last how many runs passed and failed in all.
@@ -35,7 +38,7 @@ root=$(cd "$here/../.." && pwd)
 command -v i2ctransfer > /dev/null || [ -x /usr/sbin/i2ctransfer ] || refuse "no i2ctransfer: install i2c-tools"
 start "$@"
 began=$(date +%s)
-kinds="faults rows commands captures together programs patience drawn lines"
+kinds="several boards faults rows signals commands captures together programs patience drawn lines"
 gcc -O2 -Wall -Wextra -Werror -I"$root/crates/pm_host_c/include" "$root/examples/c/i2c_dev.c" "$archive" -o "$CACHE/i2c_dev" ||
     refuse "examples/c/i2c_dev.c doesn't build"
 rm -f "$CACHE/i2c_dev_rust"
@@ -53,6 +56,7 @@ for kind in $kinds; do
     for bus in 5 0 1; do
         names+=("$kind$bus") drawn=()
         [ $kind != drawn ] || drawn=("${SEED-7}" "${LISTS-60}")
+        [ $kind != boards ] || drawn=("${SEED-7}" "${BOARDS-200}")
         VCD=$([ $kind$bus = captures5 ] && echo 1) trial $kind$bus $kind $bus "${drawn[@]}"
     done
 done
