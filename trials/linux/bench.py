@@ -21,9 +21,14 @@ failed transfer, by its number, for an adapter that answers errors. The mishaps 
     last      the last answer comes once more
     gone      nobody hears it: the error is that of an adapter that was unplugged
     power     the part restarts inside its answer, whose bytes behind the first are FF; a write is heard before it
+    nackK     byte K isn't acknowledged, and neither it nor what would follow is heard: the address is byte 0
+    arb       the bus is lost to another master before anything is heard
+    ones      nobody hears it, writes are acknowledged, and reads are ones
+    zeros     the same, and reads are zeros
     flip      a bit of a write's last byte but one is changed on its way, and the write is acknowledged
     sdaK      on the wire alone: SDA is held low behind K bytes of the frame, until the fourth stop
     sclK      on the wire alone: SCL is held low behind K bytes of the frame, until the fourth stop
+    stretchN  on the wire alone: the clock is held low for N milliseconds before an answer
     stale     on the wire alone: the read address isn't acknowledged, and the next one that comes alone gets the answer
     held      it is under way until the guest takes the file `held` away
 """

@@ -3,6 +3,7 @@
 The driver of the kernel tells of a failed transfer by the number of messages that went, and by no error.
 """
 import errno
+import re
 import struct
 
 import vhost
@@ -10,6 +11,11 @@ import vhost
 # Where the bench itself stands on the bus, and where it tells the error of the last failed transfer.
 BENCH, ERROR = 0x0A, 0x0B
 ZERO_LENGTH = 1 << 0
+# Mishaps of a transfer that nobody hears, with their errors.
+UNHEARD = {"deaf": errno.ENXIO, "nack0": errno.ENXIO, "hung": errno.ETIMEDOUT, "gone": errno.ENODEV, "short0": errno.EIO, "short1": errno.EIO,
+           "arb": errno.EAGAIN}
+DROPPED = ("false", "ones", "zeros")
+NACK = re.compile(r"nack(\d)")
 READS = 2
 FAILED = None
 
@@ -78,14 +84,20 @@ class Adapter(vhost.FrontEnd):
 
     def is_unheard(self, mishap):
         """The transfer fails, and the part doesn't hear it."""
-        self.bench.error = {"hung": errno.ETIMEDOUT, "gone": errno.ENODEV, "short0": errno.EIO, "short1": errno.EIO}.get(mishap, errno.ENXIO)
-        return mishap in ("deaf", "hung", "gone", "short0", "short1")
+        self.bench.error = UNHEARD.get(mishap, errno.ENXIO)
+        return mishap in UNHEARD
 
     def write(self, message, mishap):
         part, frame = self.bench.parts[message.address], [2 * message.address, *message.written]
-        if mishap == "false":
+        if mishap in DROPPED:
             return b""
         if self.is_unheard(mishap):
+            return FAILED
+        nack = NACK.fullmatch(mishap)
+        if nack and int(nack[1]) < len(frame):
+            if int(nack[1]) > 1:
+                part.hear(frame[:int(nack[1])], "stop")
+            self.bench.error = part.refusal
             return FAILED
         frame = frame[:-1] if mishap == "half" else frame
         if mishap == "flip":
@@ -94,8 +106,14 @@ class Adapter(vhost.FrontEnd):
 
     def read(self, sent, back, mishap):
         bench, part = self.bench, self.bench.parts[sent.address]
+        if mishap in ("ones", "zeros"):
+            return [b"", (b"\xff" if mishap == "ones" else b"\0") * back.count]
         if self.is_unheard(mishap) or mishap == "false":
             return [b"" if mishap == "short1" else FAILED, FAILED]
+        nack = NACK.fullmatch(mishap)
+        if nack and int(nack[1]) <= len(sent.written):
+            self.bench.error = part.refusal
+            return [FAILED, FAILED]
         answer = self.heard(part, [2 * sent.address, *sent.written], "restart", mishap)
         if answer is None:
             is_first = mishap in ("lostall", "short0h") or part.refusal == errno.ENXIO

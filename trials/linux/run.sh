@@ -23,6 +23,7 @@
 #   captures  one run, told by pmhost's trace, the kernel's tracepoints and the waveform of the wires
 #   drawn     jobs of every kind under drawn faults, all registers asked behind (SEED and LISTS in the environment)
 #   lines     lines that are held low, at rest and behind each byte
+#   ones      answers of ones and of zeros where they are good ones, and a clock that is held
 #   patience  parts that are busy behind each write or away behind a store, by missing acknowledgements and by ones
 #   signals   a signal while a transfer is under way, at each transfer of a call with a job of every kind
 #   boards    `pmhost apply` of a board under each fault at each transfer, and of 200 drawn ones under drawn faults (SEED, BOARDS)
@@ -38,7 +39,7 @@ root=$(cd "$here/../.." && pwd)
 command -v i2ctransfer > /dev/null || [ -x /usr/sbin/i2ctransfer ] || refuse "no i2ctransfer: install i2c-tools"
 start "$@"
 began=$(date +%s)
-kinds="several boards faults rows signals commands captures together programs patience drawn lines"
+kinds="several boards faults rows signals commands captures together programs patience drawn lines ones"
 gcc -O2 -Wall -Wextra -Werror -I"$root/crates/pm_host_c/include" "$root/examples/c/i2c_dev.c" "$archive" -o "$CACHE/i2c_dev" ||
     refuse "examples/c/i2c_dev.c doesn't build"
 rm -f "$CACHE/i2c_dev_rust"
