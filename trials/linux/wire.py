@@ -225,7 +225,8 @@ class Wire:
         frame, mishap = self.frame, self.mishap
         if mishap in ("false", "ones", "zeros"):
             return
-        frame = frame[:-1] if mishap == "half" or NACK.fullmatch(mishap) else frame
+        nack = NACK.fullmatch(mishap)
+        frame = frame[:-1] if mishap == "half" else frame[:int(nack[1])] if nack else frame
         if len(frame) < 2:
             return
         if mishap == "flip" and len(frame) > 2:
