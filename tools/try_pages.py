@@ -31,12 +31,13 @@ MOST_LINES = {"README.md": 120}
 # The tables of docs/texts.md with lines of a trace, and the options of `decode` that tell them so.
 TRACES = [("what is told",), ("what is told with values", "--values"), ("what is told of all codes", "--all"),
           ("what is told with times", "--times")]
-FILE = re.compile(r"(?:\.\./)?(?:crates|tools|trials|packaging|python|rust|mutants|docs|examples|bench|attacks)/[\w./-]*\w")
+FILE = re.compile(r"(?:\.\./)?(?:crates|tools|trials|packaging|python|rust|mutants|docs|examples|bench)/[\w./-]*\w")
 
 
 def pages():
     """The pages, by name from the root."""
-    for path in ["README.md", "CHANGELOG.md", "examples/README.md", *sorted(glob.glob("docs/*.*", root_dir=program.ROOT))]:
+    for path in ["README.md", "CHANGELOG.md", *sorted(glob.glob("docs/**/*.[m1]*", root_dir=program.ROOT, recursive=True)),
+                 *sorted(glob.glob("*/README.md", root_dir=program.ROOT))]:
         with open(os.path.join(program.ROOT, path), encoding="utf-8") as file:
             yield path, file.read()
 
@@ -143,7 +144,7 @@ def table_faults(found):
 def name_faults(name, found):
     """The files that a page names, and links."""
     links = [it for it in re.findall(r"\]\(([^)#]+)\)", found) if "://" not in it]
-    files = [it for it in FILE.findall(found) if not it.startswith(("../", BUILT, "crates/NAME", "crates/X", "attacks/NAME"))]
+    files = [it for it in FILE.findall(found) if not it.startswith(("../", BUILT, "crates/NAME", "crates/X", "mutants/NAME"))]
     places = [os.path.join(os.path.dirname(name), it) for it in links] + files
     for place in places:
         if not os.path.exists(os.path.join(program.ROOT, place)) and "/out" not in place:
@@ -155,11 +156,11 @@ def name_faults(name, found):
 def source_words():
     """The words of the sources, of the tools and trials, and of the names of planted bugs."""
     words = set()
-    for form in ("crates/*/src/**/*.rt", "crates/*/specs/**/*.antt", "crates/*/must-fail/*", "attacks/**/*",
+    for form in ("crates/*/src/**/*.rt", "crates/*/specs/**/*.antt", "crates/*/must-fail/*", "mutants/*.txt",
                  "tools/**/*", "trials/**/*.py", "crates/*/include/*.h", "python/**/*.py", "rust/**/*.rs"):
         for path in glob.glob(os.path.join(program.ROOT, form), recursive=True):
             words.add(os.path.basename(path).partition(".")[0])
-            if path.endswith((".rt", ".antt", ".py", ".h", ".rs")):
+            if path.endswith((".rt", ".antt", ".py", ".h", ".rs", ".txt")):
                 with open(path, encoding="utf-8") as file:
                     words.update(re.findall(r"\w+", file.read()))
     with open(os.path.join(program.ROOT, "crates.txt"), encoding="utf-8") as file:
