@@ -47,7 +47,7 @@ extern "C" {
 #endif
 
 /* The version of the library, the greater part in the upper byte; pm_version answers that of the one that was linked. */
-#define PM_VERSION 0x0100
+#define PM_VERSION 0x0001
 
 /* The versions of a host's layout and a survey's, their sizes in bytes, and the stack that a call takes at most: PM_STACK, and PM_NAME_STACK
  * of pm_refusal_name, in which a loader may bind memmove. docs/firmware.md has what calls take on each processor, and an
