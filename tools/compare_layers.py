@@ -70,7 +70,7 @@ def versions():
     """One version everywhere: that of the programs, of both packages, and, in two bytes, of the library and its callers."""
     own = re.search(r'pub const VERSION: &str = "(.*)";', read("crates/pm_console/src/options.rt"))[1]
     yield "versions", own, {"python": re.search(r'^version = "(.*)"', read("python/pyproject.toml"), re.MULTILINE)[1],
-                            "python's module": re.search('"(.*)"$', read("python/src/pmhost/_version.py"), re.MULTILINE)[1],
+                            "python's module": re.search('^__version__ = "(.*)"', read("python/src/pmhost/_version.py"), re.MULTILINE)[1],
                             "rust": re.search(r'^version = "(.*)"', read("rust/Cargo.toml"), re.MULTILINE)[1]}
     major, minor, _ = map(int, own.split("."))
     forms = {"its type": ("crates/pm_host_c/src/host.rt", r"^const VERSION: u16 = (\w+);"), "its header": ("crates/pm_host_c/include/pm.h", r"^#define PM_VERSION (\w+)"),
