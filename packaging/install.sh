@@ -67,8 +67,8 @@ for each in pm_host_c pm_device_c; do
 done
 if [ -z "$library" ]; then
     program "$pmb" "by (cd crates/pmb && rt run -- replay < stdin), set PMB"
-    program "$pmbhost" "as docs/bus.md says, set PMBHOST"
-    program "$pmbpart" "as docs/desk.md says, set PMBPART"
+    program "$pmbhost" "as docs/board.md says, set PMBHOST"
+    program "$pmbpart" "as docs/no-board.md says, set PMBPART"
     command -v python3 > /dev/null || die "no python3 on this machine: pmhost wants it; or give --library"
 fi
 version=$(sed -n 's/^pub const VERSION: &str = "\(.*\)";$/\1/p' "$root/crates/pm_console/src/options.rt")

@@ -50,7 +50,7 @@ extern "C" {
 #define PM_VERSION 0x0001
 
 /* The versions of a host's layout and a survey's, their sizes in bytes, and the stack that a call takes at most: PM_STACK, and PM_NAME_STACK
- * of pm_refusal_name, in which a loader may bind memmove. docs/firmware.md has what calls take on each processor, and an
+ * of pm_refusal_name, in which a loader may bind memmove. docs/c.md has what calls take on each processor, and an
  * archive says its own bound as stack-bytes in its section .comment. */
 #define PM_HOST_VERSION 5
 #define PM_HOST_SIZE 2064
