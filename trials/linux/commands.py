@@ -77,7 +77,7 @@ def without_comments(trace):
 
 
 def board(page):
-    """From a board to a confirmed voltage, and what went over the wire."""
+    """From a board to a confirmed setting, and what went over the wire."""
     page.bench.put("modes 14 40")
     page.tell("pmhost -b 1 -a 58 probe", exactly(f"probe: {PROBE}") + FURTHER, BEFORE, more=[] if PROBE.strip() in page.text else ["the page has another"])
     page.bench.put("proved")
