@@ -161,7 +161,7 @@ ok deaf deaf ok deaf ok|-b 1 -a 58 --outputs 1 --passes 1 clear 0|0|clear 0: ack
 |-b 3 -a 58 probe|2||/dev/i2c-3: Permission denied: be root, or ask for leave to open it (ls -l /dev/i2c-3)
 |-b 4 -a 58 probe|2||/dev/i2c-4: Inappropriate ioctl for device: it is no I2C bus
 |-b 5 -a 58 probe|2||another program drives 5-0058: fuser /dev/i2c-5 names who has the bus open
-|-b 6 -a 58 probe|2||a line is held low: address 02, which no part may have, acknowledges: look at SDA and SCL, take the power off
+|-b 6 -a 58 probe|2||a line is held low: address 02, which no part may have, acknowledges: clock SCL nine times and send a stop, cycle the supply last
 |-b 5 -a 58 --share-bus learn 0|0|learn 0: learned ULINEAR16 -12|
 count ok ok deaf*40|-b 1 -a 58 --outputs 1 clear 0|0|clear 0: acknowledged\n43 transfers, 195 ms|
 |-b 9 -a 58 probe|2||/dev/i2c-9: No such file or directory: load i2c-dev (modprobe i2c-dev), and look for the bus (ls /dev/i2c-*)
