@@ -2,7 +2,7 @@
 several BUS.
 
 The parts have the addresses 58, 59 and, behind channel 3 of a PCA9548 at 70, 5A. Each pmhost is a process of its own. Each kind of
-fault strikes each transfer of one of them once, with 1 and 3 passes, while the others' meet none. Every word is ordered for one
+fault strikes each transfer of one of them once, with 1 and with 3 passes in turn, while the others' meet none. Every word is ordered for one
 register of one part alone, so that one that any other ever held is seen. The multiplexer is left as it was selected, and put
 apart behind each transfer.
 
@@ -10,11 +10,12 @@ Last the transfers of the multiplexer itself are struck, with a second part at 5
 multiplexer rightly is a premise: what a select that was falsely acknowledged does is counted and shown, and no fault.
 """
 import collections
+import contextlib
 import io
+import json
 import os
 import re
-import sys
-import tempfile
+import signal
 
 from drawn import KNOWN
 from faults import KINDS, ON_WIRE
@@ -29,7 +30,8 @@ PLACES = ("58", "59", f"{CHANNEL}/5A")
 REGISTERS = (("0", "VOUT_COMMAND"), ("1", "VOUT_COMMAND"), ("1", "VOUT_MARGIN_HIGH"), ("0", "VOUT_MIN"))
 STRUCK = {"58": "58", f"{CHANNEL}/5A": "5A"}
 DONE = re.compile(r"word [01]: \w+ [0-9A-F]{4} confirmed; ")
-AS_IS, DISCONNECT = "-1", "-2"
+# How the kernel leaves the multiplexer behind a transfer.
+RESTS = {"left as it is": "-1", "put apart behind each transfer": "-2"}
 
 
 def channel(number, at):
@@ -52,31 +54,54 @@ class Multiplexer:
         write(f"{ADAPTERS}/i2c-{self.number}/delete_device", f"0x{MUX}")
 
 
-class Process:
-    """A pmhost of its own, with its orders for the part at a place."""
+class Program:
+    """A process of its own for the part at a place: it carries one call of pmhost after another out, as it is told."""
 
-    def __init__(self, bus, place, orders, passes):
-        self.place, self.orders = place, orders
-        self.file = tempfile.TemporaryFile(dir="/run")
-        words = ["-b", bus, "-a", place.rpartition("/")[2], "--outputs=2", "--no-limit", "--patience=0", f"--passes={passes}",
-                 *" + ".join([*(f"word {output} {register} {word:04X}" for (output, register), word in orders.items()), "known"]).split()]
+    def __init__(self, bus, place):
+        self.bus, self.place = bus, place
+        (taken, self.asks), (self.answers, told) = os.pipe(), os.pipe()
         self.number = os.fork()
         if not self.number:
-            status = 99
-            try:
-                for stream in (1, 2):
-                    os.dup2(self.file.fileno(), stream)
-                sys.stdout = sys.stderr = io.TextIOWrapper(os.fdopen(os.dup(1), "wb"), line_buffering=True)
-                status = cli.main(words)
-            finally:
-                sys.stdout.flush()
-                os._exit(status)
+            signal.signal(signal.SIGINT, signal.SIG_DFL)
+            with os.fdopen(taken) as asked, os.fdopen(told, "w") as answers:
+                os.close(self.asks)
+                for line in asked:
+                    print(json.dumps(called(json.loads(line))), file=answers, flush=True)
+            os._exit(0)
+        os.close(taken)
+        os.close(told)
+        self.asks, self.answers = os.fdopen(self.asks, "w"), os.fdopen(self.answers)
+
+    def begin(self, words):
+        print(json.dumps(words), file=self.asks, flush=True)
 
     def end(self):
-        self.status = os.waitstatus_to_exitcode(os.waitpid(self.number, 0)[1])
-        self.file.seek(0)
-        self.said = self.file.read().decode("utf-8", "replace").splitlines()
-        self.file.close()
+        return json.loads(self.answers.readline())
+
+    def close(self):
+        self.asks.close()
+        os.waitpid(self.number, 0)
+
+
+def called(words):
+    """A call of pmhost: its status, and what it said."""
+    out = io.StringIO()
+    with contextlib.redirect_stdout(out), contextlib.redirect_stderr(out):
+        status = cli.main(words)
+    return status, out.getvalue().splitlines()
+
+
+class Call:
+    """A call with the orders for the part at a place."""
+
+    def __init__(self, program, orders, passes):
+        self.program, self.place, self.orders = program, program.place, orders
+        jobs = [*(f"word {output} {register} {word:04X}" for (output, register), word in orders.items()), "known"]
+        program.begin(["-b", program.bus, "-a", self.place.rpartition("/")[2], "--outputs=2", "--no-limit", "--patience=0", f"--passes={passes}",
+                       *" + ".join(jobs).split()])
+
+    def end(self):
+        self.status, self.said = self.program.end()
         return self
 
     def is_done(self):
@@ -110,11 +135,11 @@ class Trial:
 
     def __init__(self, bench, places):
         self.bench, self.places, self.orders = bench, places, ordered(places)
-        self.buses = {place: channel(bench.number, place[0]) if "/" in place else str(bench.number) for place in places}
+        self.programs = [Program(channel(bench.number, place[0]) if "/" in place else str(bench.number), place) for place in places]
         self.starts = None
 
     def run(self, struck, plan, passes):
-        """The processes, what the bench tells behind them, and the words that stood where nobody ordered them."""
+        """The calls, what the bench tells behind them, and the words that stood where nobody ordered them."""
         self.bench.put("proved")
         for place in self.places:
             at, _, address = place.rpartition("/")
@@ -123,9 +148,13 @@ class Trial:
         self.starts = self.starts or self.bench.ask()["all"]["58"]["cells"]
         self.bench.say(f"struck {struck}")
         self.bench.say(f"plan {' '.join(plan)}")
-        processes = [each.end() for each in [Process(self.buses[place], place, self.orders[place], passes) for place in self.places]]
+        calls = [each.end() for each in [Call(program, self.orders[program.place], passes) for program in self.programs]]
         told = self.bench.ask()
-        return processes, told, list(self.wrong(told["all"]))
+        return calls, told, list(self.wrong(told["all"]))
+
+    def close(self):
+        for each in self.programs:
+            each.close()
 
     def wrong(self, told):
         for place in self.places:
@@ -135,20 +164,21 @@ class Trial:
                     yield f"{place}: {name} held {word:04X}, which nobody ordered"
 
 
-def by_processes(bench, tally, kinds):
+def by_processes(bench, tally, kinds, rests):
     trial, counts = Trial(bench, PLACES), collections.Counter()
     for struck, address in STRUCK.items():
         length = trial.run(address, [], 3)[1]["count"]
         for kind in kinds:
             for place in range(length):
-                for passes in (1, 3):
-                    plan = ["ok"] * place + [kind]
-                    processes, told, wrong = trial.run(address, plan, passes)
-                    untrue = [fault for each in processes
-                              for fault in each.untrue(told["all"][each.place]["cells"], kind == "restart" and each.place == struck, each.place == struck)]
-                    counts.update({"runs": 1, "wrong part or output": bool(wrong), "false": bool(untrue), "all done": all(each.is_done() for each in processes)})
-                    tally.tell(f"bus {bench.number}, {struck} struck, {passes} passes, {' '.join(plan)}", [*wrong, *untrue])
-    print(f"bus {bench.number}, a pmhost for each of {', '.join(PLACES)}: " + ", ".join(f"{name} {count}" for name, count in counts.items()), flush=True)
+                passes, plan = 1 + 2 * (place & 1), ["ok"] * place + [kind]
+                calls, told, wrong = trial.run(address, plan, passes)
+                untrue = [fault for each in calls
+                          for fault in each.untrue(told["all"][each.place]["cells"], kind == "restart" and each.place == struck, each.place == struck)]
+                counts.update({"runs": 1, "wrong part or output": bool(wrong), "false": bool(untrue), "all done": all(each.is_done() for each in calls)})
+                tally.tell(f"bus {bench.number}, {struck} struck, {passes} passes, {' '.join(plan)}", [*wrong, *untrue])
+    trial.close()
+    print(f"bus {bench.number}, a pmhost for each of {', '.join(PLACES)}, the multiplexer {rests}: "
+          + ", ".join(f"{name} {count}" for name, count in counts.items()), flush=True)
 
 
 def by_selects(bench, kinds):
@@ -159,6 +189,7 @@ def by_selects(bench, kinds):
         for place in range(length):
             _, _, wrong = trial.run(MUX, ["ok"] * place + [kind], 3)
             counts[kind].update({"runs": 1, "a word at the other part": bool(wrong)})
+    trial.close()
     for kind, found in counts.items():
         print(f"bus {bench.number}, a select struck, {kinds[kind]}: " + ", ".join(f"{name} {count}" for name, count in found.items()), flush=True)
 
@@ -166,9 +197,9 @@ def by_selects(bench, kinds):
 def main(words):
     bench, tally = Bench(int(words[0])), Tally()
     kinds, mux = {**KINDS, **(ON_WIRE if bench.number == 5 else {})}, Multiplexer(bench)
-    for way in (AS_IS, DISCONNECT):
+    for rests, way in RESTS.items():
         mux.rests(way)
-        by_processes(bench, tally, kinds)
+        by_processes(bench, tally, kinds, rests)
     by_selects(bench, {kind: name for kind, name in kinds.items() if kind in ("restart", "deaf", "lost", "false")})
     mux.take_away()
     return tally.end()
