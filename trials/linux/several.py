@@ -65,7 +65,7 @@ class Program:
             signal.signal(signal.SIGINT, signal.SIG_DFL)
             with os.fdopen(taken) as asked, os.fdopen(told, "w") as answers:
                 os.close(self.asks)
-                for line in asked:
+                for line in iter(asked.readline, "null\n"):
                     print(json.dumps(called(json.loads(line))), file=answers, flush=True)
             os._exit(0)
         os.close(taken)
@@ -79,7 +79,7 @@ class Program:
         return json.loads(self.answers.readline())
 
     def close(self):
-        self.asks.close()
+        self.begin(None)
         os.waitpid(self.number, 0)
 
 
