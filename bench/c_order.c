@@ -35,8 +35,12 @@ static uint8_t free_write(void *context, const uint8_t *bytes, uint64_t count) {
 }
 
 static uint64_t free_read(void *context, const uint8_t *request, uint64_t count, uint8_t *answer, uint64_t room) {
+    const uint8_t *bytes = *(const uint8_t **)context + 1;
     (void)request, (void)count;
-    memcpy(answer, *(const uint8_t **)context + 1, room);
+    if (room == 4)
+        memcpy(answer, bytes, 4);
+    else
+        memcpy(answer, bytes, 2);
     return room;
 }
 

@@ -181,7 +181,7 @@ def by_processes(bench, tally, kinds, rests):
           + ", ".join(f"{name} {count}" for name, count in counts.items()), flush=True)
 
 
-def by_selects(bench, kinds):
+def by_selects(bench, kinds, rests):
     """The multiplexer's own transfers are struck, with two parts of one address behind it."""
     trial, counts = Trial(bench, ("58", f"{CHANNEL}/5A", f"{OTHER}/5A")), collections.defaultdict(collections.Counter)
     length = trial.run(MUX, [], 3)[1]["count"]
@@ -191,7 +191,7 @@ def by_selects(bench, kinds):
             counts[kind].update({"runs": 1, "a word at the other part": bool(wrong)})
     trial.close()
     for kind, found in counts.items():
-        print(f"bus {bench.number}, a select struck, {kinds[kind]}: " + ", ".join(f"{name} {count}" for name, count in found.items()), flush=True)
+        print(f"bus {bench.number}, a select struck, the multiplexer {rests}, {kinds[kind]}: " + ", ".join(f"{name} {count}" for name, count in found.items()), flush=True)
 
 
 def main(words):
@@ -200,6 +200,6 @@ def main(words):
     for rests, way in RESTS.items():
         mux.rests(way)
         by_processes(bench, tally, kinds, rests)
-    by_selects(bench, {kind: name for kind, name in kinds.items() if kind in ("restart", "deaf", "lost", "false")})
+        by_selects(bench, {kind: name for kind, name in kinds.items() if kind in ("restart", "deaf", "lost", "false")}, rests)
     mux.take_away()
     return tally.end()
