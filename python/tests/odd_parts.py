@@ -29,6 +29,10 @@ class Proved:
         frame = bytes(frame)
         return self.asked(frame) if ending == "restart" else self.written(frame)
 
+    def hear_stranger(self, frame, ending):
+        """What it answers to a frame that arrives at another address: nothing."""
+        return list(self.part.hear(bytes(frame), ending == "restart")) or None
+
     def asked(self, request):
         """The answer to a request."""
         try:
