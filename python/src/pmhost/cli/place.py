@@ -11,7 +11,8 @@ from ..parts import DESK, BoardPart
 from ..pmbus import Pmbus
 from ..transfers import Transfers
 
-HELD_LOW = "a line is held low: address 02, which no part may have, acknowledges: look at SDA and SCL, take the power off"
+HELD_LOW = ("a line is held low: address 02, which no part may have, acknowledges: clock SCL nine times and send a stop, "
+            "cycle the supply last")
 
 
 class Options:
