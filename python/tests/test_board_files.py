@@ -253,6 +253,31 @@ class Files(unittest.TestCase):
                       "before: u12", err)
         self.assertNotIn("15", self.codes("u14"))
 
+    def test_a_restart_is_that_of_its_part(self):
+        """A part that restarted before its own rail is ordered is seen at it; the rails of the others are ordered all the same."""
+        self.parts["u14"].converter.set((0, 0x24), 0x5000)
+        heard, frames = self.parts["u13"].hear, []
+
+        def restarting(frame, ending):
+            frames.append(frame)
+            if frame[1] == 0x05:
+                self.parts["u14"].converter.set((0, 0x24), 0x4000)
+            return heard(frame, ending)
+
+        self.parts["u13"].hear = restarting
+        status, out, err = applied(self.text, self.over())
+        self.assertEqual((status, self.codes("u12"), self.codes("u13"), self.codes("u14")), (1, ["21"], ["21"], ["21"]))
+        self.assertIn("u14 restarted meanwhile: nothing that was read before holds: run this again", err)
+
+    def test_a_part_that_rounds_leaves_the_others_as_they_are(self):
+        """A rounded word that is taken looks like a restart of its part: of the others nothing is doubted."""
+        self.parts["u14"] = kernel.Rounding(address=0x4F)
+        first, pll = self.text.split("[rails.core]")[0], self.text[self.text.index("[rails.pll]"):]
+        text = first + pll.replace("0.9375V", "0.9V") + "\n" + self.text[len(first):self.text.index("[rails.pll]")]
+        status, out, err = applied(text, self.over(), "--accept", "20mV")
+        self.assertEqual((status, err), (0, ""))
+        self.assertIn("u14   pll   VOUT_COMMAND  0E66 0.899902V  0E60 0.898437V  accepted", out)
+
     def test_the_same_object_as_of_one_part(self):
         board = json.loads(applied(self.text, self.over(), "--json")[1])
         one = json.loads(called(["-b", "desk", "--json", "read", "0"], None)[1])

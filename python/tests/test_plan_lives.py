@@ -1,6 +1,6 @@
 """Random lives with a plan for each of two outputs: frames are lost, cut, damaged, repeated and falsely acknowledged, orders end in any
 way, the host restarts, and other jobs come between. The converter is watched after each event: each output commands its old voltage or
-the wanted one, and changes once at most. PMHOST_LIVES says how many lives there are, as 50000."""
+the wanted one, and changes once at most. PMHOST_PLAN_LIVES says how many lives there are, as 50000."""
 import collections
 import os
 import random
@@ -15,7 +15,7 @@ from plain.numbers import value_of
 from plain.packets import CODES
 from plain.rail import VOLTAGES, commands
 
-LIVES, EVENTS = int(os.environ.get("PMHOST_LIVES", "300")), 220
+LIVES, EVENTS = int(os.environ.get("PMHOST_PLAN_LIVES", "300")), 220
 ADDRESS, PROTECT = 0x58, (None, CODES["WRITE_PROTECT"])
 # Words of which none is far from two others, and those at both ends of signed ones.
 WORDS, BYTES = (0x0000, 0x0010, 0x0100, 0x7000, 0x8000, 0xFFF0), (0x00, 0x80, 0xA8, 0x94)

@@ -98,7 +98,7 @@ def judged(host, own, cell, word, missing=()):
 
 def missing_refusal(host, missing, event):
     """L7 of a job on a register that the part doesn't have, and of an order of OPERATION that selects one."""
-    if event[0] not in ("order", "volts", "check") or event[1] == PROTECT or host.refusal(event[1][0]):
+    if not missing or event[0] not in ("order", "volts", "check") or event[1] == PROTECT or host.refusal(event[1][0]):
         return None
     register = event[1][1]
     if event[0] == "order" and register == OPERATION and accepts(event[1], event[2]):

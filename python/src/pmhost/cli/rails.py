@@ -6,6 +6,7 @@ from typing import Any
 
 from .. import rails
 from ..apply import Board, Setting, Stopped
+from ..parts import BadRails
 from ..rails import Rail
 from .answer import Answer, in_digits, number
 from .call import Call, said
@@ -36,7 +37,7 @@ def judge_file(arguments: argparse.Namespace) -> None:
     call: Call = arguments.call
     try:
         found = arguments.rails = rails.read(arguments.file)
-    except rails.BadRails as bad:
+    except BadRails as bad:
         raise BadCall(str(bad)) from bad
     call.take_rails(arguments, found)
 

@@ -5,7 +5,8 @@ import argparse
 
 from .. import readings
 from ..pmbus import Pmbus
-from ..readings import BITS, KINDS
+from ..readings import KINDS
+from ..status import BITS
 from .answer import Answer
 from .call import Call, said
 
