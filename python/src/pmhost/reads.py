@@ -10,7 +10,7 @@ from typing import Callable
 
 from . import clock
 from .bus.ones import NOBODY, NoAnswer, is_ones
-from .errors import FrameRefused
+from .errors import FrameRefused, Refused
 from .host import Bus
 from .packets import Packet, pec, read_answer
 
@@ -36,6 +36,15 @@ class Read:
 
 class NotGood(Exception):
     """What is wrong with an answer."""
+
+
+def is_known(asked: Packet) -> bool:
+    """Whether the library has the packet."""
+    try:
+        asked.frame(0x58)
+    except Refused:
+        return False
+    return True
 
 
 class Reads:
@@ -83,10 +92,36 @@ class Reads:
 
         return self._tried(asked.frame(self.address), asked.answer, payload)
 
-    def byte(self, page: int, code: int) -> Read:
-        """A byte of a page by PAGE_PLUS, of any code."""
+    def coefficients(self, code: int, side: int) -> Read:
+        """m, b and R of a code of the library's table, as COEFFICIENTS answers them; of another code none."""
+        asked = Packet("COEFFICIENTS", code, page=side)
+        return self.packet(asked) if is_known(asked) else Read(None)
+
+    def code(self, code: int, size: int, page: int | None) -> Read:
+        """One or two bytes of any code, of a page by PAGE_PLUS or of the device: by a packet of the library's table where it has the
+        code."""
+        asked = Packet("read", code) if page is None else Packet("PAGE_PLUS_READ", code, page=page)
+        if is_known(asked):
+            return self.packet(asked)
+        return self.plain(code, size) if page is None else self.of_page(page, code, size)
+
+    def of_page(self, page: int, code: int, size: int) -> Read:
+        """So many bytes of a page by PAGE_PLUS, of any code."""
         request = bytes([self.address << 1, PAGE_PLUS_READ, 2, page, code])
-        return self._tried(request, 3, lambda came: self._counted(request, came, 1))
+        return self._tried(request, size + 2, lambda came: self._counted(request, came, size))
+
+    def plain(self, code: int, size: int) -> Read:
+        """So many bytes of the device, of any code."""
+        request = bytes([self.address << 1, code])
+
+        def payload(came: bytes) -> bytes:
+            if len(came) != size + 1:
+                raise NotGood("F2 Short" if len(came) < size + 1 else "F3 Long")
+            if came != self.with_pec(request, came):
+                raise NotGood("F5 WrongPec")
+            return came[:-1]
+
+        return self._tried(request, size + 1, payload)
 
     def block(self, code: int) -> Read:
         """A block of at most 32 bytes, of any code."""
