@@ -47,7 +47,7 @@ def transfer_of(line: str, microvolts: tuple[int, ...]) -> Transfer:
     assert found
     said = found[4] if found[2] is None else found[5]
     is_well = found[4] == "taken" or found[4].startswith("answer") and found[4].removeprefix("answer ") == found[6]
-    came = f"part {said}, {found[5]}" if found[2] is None else f"came {found[6]}"
+    came = f"{said}, {found[5]}" if found[2] is None else f"came {found[6]}"
     return Transfer(bytes.fromhex(found[1]), found[2] is not None, found[3], is_well, came, microvolts)
 
 

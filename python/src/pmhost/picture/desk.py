@@ -18,6 +18,12 @@ CODES = {0x00: "PAGE", 0x01: "OPERATION", 0x10: "WRITE_PROTECT", 0x20: "VOUT_MOD
          0x25: "VOUT_MARGIN_HIGH", 0x26: "VOUT_MARGIN_LOW", 0x2B: "VOUT_MIN"}
 
 
+# Mishaps in words, by their kinds.
+BEFELL = {"lost": "nothing arrives", "cut": "cut on the way", "damaged": "damaged on the way", "twice": "heard twice",
+          "mute": "its acknowledgement or answer is lost", "short": "the answer is cut", "garbled": "the answer is damaged",
+          "false": "nothing arrives, and somebody else acknowledges", "restart": "the part restarts before it"}
+
+
 @dataclass(frozen=True)
 class Transfer:
     """A frame of a host, the mishap that befell it, whether it came through well, what was said of it, and the microvolts that
@@ -88,7 +94,8 @@ class DeskPicture:
         self.parts.append(line(x, top, x + self.wide, top, "#dcdfe3"))
         self.parts.append(symbol("good" if transfer.is_well else "fault", x + 9, top + 15))
         self.parts.append(text(x + FRAME_AT, top + 17, meaning(self.address, transfer.frame, transfer.is_request), 13))
-        came = f"{transfer.mishap}: {transfer.came}" if transfer.mishap != "ok" else transfer.came
+        befell = BEFELL.get(transfer.mishap.partition(":")[0])
+        came = f"{befell}: {transfer.came}" if befell else transfer.came
         self.parts.append(text(x + FRAME_AT, top + 33, came, 11, PALE if transfer.mishap == "ok" else FAULT))
         colours = changed(before, transfer.microvolts, self.wanted)
         for output in self.outputs:
