@@ -85,6 +85,10 @@ class Bench:
         for channel, behind in self.mux.channels.items() if self.mux else ():
             yield from ((f"{channel}/{address:02X}", part) for address, part in behind.items())
 
+    def is_low(self):
+        """The part holds the data line low."""
+        return getattr(self.part, "is_low", False)
+
     def mishap(self):
         """What befalls the transfer that begins."""
         self.count += 1
@@ -129,13 +133,14 @@ class Bench:
             self.part.restart()
 
     def told(self):
-        told = {"held": parts.held(self.part), "page": self.part.converter.page, "count": self.count, "plan": self.plan,
-                "kind": type(self.part.converter).__name__, "maxima": getattr(self.part, "maxima", list)(),
+        told = {"held": parts.held(self.part), "word": self.part.word(), "count": self.count, "plan": self.plan,
+                "kind": type(getattr(self.part, "converter", self.part)).__name__, "maxima": getattr(self.part, "maxima", list)(),
                 "cells": parts.cells(self.part), "ever": self.part.told_ever(),
                 "wrong": getattr(self.part, "wrong", [])[:MOST_WRONG], "behind restart": parts.behind_restart(self.part)}
         everywhere = dict(self.everywhere())
         if len(everywhere) > 1:
-            told["all"] = {place: {"held": parts.held(part), "cells": parts.cells(part), "ever": part.told_ever()}
+            told["all"] = {place: {"held": parts.held(part), "cells": parts.cells(part), "ever": part.told_ever(),
+                                   "wrong": getattr(part, "wrong", [])[:MOST_WRONG], "behind restart": parts.behind_restart(part)}
                            for place, part in everywhere.items()}
         return json.dumps(told).encode("ascii")
 

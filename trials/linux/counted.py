@@ -64,7 +64,8 @@ class Adapter(vhost.FrontEnd):
             return [bench.at_bench(address, each.written, each.count) for each in messages]
         bench.error = errno.ENXIO
         if address not in bench.parts:
-            return [FAILED] * len(messages)
+            # (a line that is held low acknowledges everything)
+            return [b"\0" * (each.count or 0) if bench.is_low() else FAILED for each in messages]
         if address != bench.address:
             return self.beside(messages)
         if [each.count is None for each in messages] == [True]:

@@ -28,6 +28,7 @@
 #   signals   a signal while a transfer is under way, at each transfer of a call with a job of every kind
 #   boards    `pmhost apply` of a board under each fault at each transfer, and of 200 drawn ones under drawn faults (SEED, BOARDS)
 #   several   two parts at two addresses and one behind a multiplexer, a pmhost for each at once, under each fault
+#   board_file  the same three parts by one board file, under each fault, and 40 drawn board files of eight rails
 #   together  both hosts at once, a part that is unplugged, a pmhost that is killed
 #
 # What is wrong is printed, each trial's own last line, and last how many runs passed and failed in all.
@@ -39,7 +40,7 @@ root=$(cd "$here/../.." && pwd)
 command -v i2ctransfer > /dev/null || [ -x /usr/sbin/i2ctransfer ] || refuse "no i2ctransfer: install i2c-tools"
 start "$@"
 began=$(date +%s)
-kinds="several boards faults rows signals commands captures together programs patience drawn lines ones"
+kinds="several board_file boards faults rows signals commands captures together programs patience drawn lines ones"
 gcc -O2 -Wall -Wextra -Werror -I"$root/crates/pm_host_c/include" "$root/examples/c/i2c_dev.c" "$archive" -o "$CACHE/i2c_dev" ||
     refuse "examples/c/i2c_dev.c doesn't build"
 rm -f "$CACHE/i2c_dev_rust"
