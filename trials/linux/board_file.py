@@ -2,7 +2,7 @@
 
 The parts are at 58 and 59 of the bus, and at 5A behind channel 3 of a PCA9548 at 70 that the kernel drives (several.py). A board of
 three rails, one of each part, that goes through meets each kind of fault at each transfer of the part at 58, and of that behind the
-multiplexer. Then BOARDS (40) drawn boards of eight rails (python/tests/test_board_files.py) go while each part in turn meets drawn
+multiplexer (over the slow bus 5 at one). Then BOARDS (40) drawn boards of eight rails (python/tests/test_board_files.py) go while each part in turn meets drawn
 faults. Unless its part restarted no output ever commands anything but its old and its new voltage, and no register of any part ever
 held a word but its old and its wanted one. What is told is so.
 """
@@ -11,9 +11,9 @@ import contextlib
 import io
 import random
 
-from boards import LENGTH, MORE, ON_SLOW, ONE_IN, RESTARTS, WIRE
+from boards import LENGTH, MORE, ONE_IN, RESTARTS
 from faults import KINDS, ON_WIRE
-from guest_bus import Bench
+from guest_bus import WIRE, Bench, places
 from parts import ADDRESSES, board_of_parts
 from pmhost import cli
 from pmhost.rails import SETTINGS
@@ -123,7 +123,7 @@ def main(words):
         table.tally.tell(f"bus {bench.number}, no fault", [] if clean.status == 0 else [clean.err])
         length = clean.told["count"]
         for kind in kinds:
-            for place in drawn.sample(range(length), ON_SLOW) if is_slow else range(length):
+            for place in places(bench, length, 1):
                 table.run(small, struck, ["ok"] * place + [kind])
         table.show(f"a board of three parts, {length} transfers of {struck} struck")
     others = [kind for kind in kinds if kind not in RESTARTS]

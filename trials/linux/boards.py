@@ -2,7 +2,7 @@
 
 Each board of two rails has settings of its own, cut ones and such on a margin too, and a file of what is wanted
 (python/tests/test_boards.py). One that goes through meets each kind of fault at each of its transfers; then BOARDS (200) drawn ones
-go by lists of drawn faults, every other one with one or two restarts. On the slow bus 5 three drawn transfers stand for all of them. Unless the part restarted no output ever commands anything but
+go by lists of drawn faults, every other one with one or two restarts. On the slow bus 5 two drawn transfers stand for all of them. Unless the part restarted no output ever commands anything but
 its old and its new voltage, looked at behind each frame, and no register ever held a word but its old and its wanted one. With
 and without a restart, what is told is so.
 """
@@ -12,7 +12,7 @@ import io
 import random
 
 from faults import KINDS, ON_WIRE
-from guest_bus import Bench
+from guest_bus import WIRE, Bench, places
 from parts import board
 from pmhost import cli
 from pmhost.rails import SETTINGS
@@ -27,8 +27,8 @@ MORE = {"twice": "heard twice", "hung": "a line held low", "empty": "an answer t
         "short0h": "short count, heard", "short1": "short count of two"}
 # One transfer in this many meets a drawn fault.
 ONE_IN = 8
-# The bit-banged bus is slow: so many places of each kind of fault there.
-WIRE, ON_SLOW = 5, 3
+# How many transfers stand for all of them over the slow bus.
+ON_SLOW = 2
 
 
 class Run:
@@ -105,15 +105,14 @@ def goes_through(seed):
 def main(words):
     bench = Bench(int(words[0]))
     seed, boards = (int(words[1]) if len(words) > 1 else SEED), (int(words[2]) if len(words) > 2 else BOARDS)
-    table, kinds = Table(bench, seed), {**KINDS, **MORE, **RESTARTS, **(ON_WIRE if bench.number == 5 else {})}
+    table, kinds = Table(bench, seed), {**KINDS, **MORE, **RESTARTS, **(ON_WIRE if bench.number == WIRE else {})}
     number = goes_through(seed)
     length = table.run(number, []).told["count"]
-    drawn = random.Random(seed)
     for kind in kinds:
-        for place in range(length) if bench.number != WIRE else drawn.sample(range(length), ON_SLOW):
+        for place in places(bench, length, ON_SLOW):
             table.run(number, ["ok"] * place + [kind])
     table.show(f"board {number}, of {length} transfers, under one fault")
-    others = [kind for kind in kinds if kind not in RESTARTS]
+    drawn, others = random.Random(seed), [kind for kind in kinds if kind not in RESTARTS]
     for number in range(boards):
         plan = [drawn.choice(others) if drawn.randrange(ONE_IN) == 0 else "ok" for _ in range(LENGTH)]
         for _ in range(drawn.choice((0, 0, 1, 2))):

@@ -11,12 +11,12 @@ import random
 import re
 
 from faults import KINDS, ON_WIRE
-from guest_bus import Bench
+from guest_bus import WIRE, Bench
 from pmhost import cli
 from pmhost.values import CODES
 from tally import Tally
 
-SEED, LISTS, EACH = 7, 60, 6
+SEED, LISTS, EACH, ON_SLOW = 7, 60, 6, 2
 ORDERS = (("0", "VOUT_COMMAND", "14CD"), ("1", "VOUT_COMMAND", "1400"), ("0", "VOUT_MAX", "3770"), ("1", "VOUT_MARGIN_HIGH", "1500"),
           ("0", "VOUT_MARGIN_LOW", "0E00"), ("1", "VOUT_MIN", "0200"), ("0", "OPERATION", "A8"), ("-", "WRITE_PROTECT", "40"))
 LATER = (("-", "WRITE_PROTECT", "00"), ("0", "OPERATION", "80"), ("1", "VOUT_COMMAND", "1700"))
@@ -79,11 +79,11 @@ def main(words):
     seed, lists = (int(words[1]) if len(words) > 1 else SEED), (int(words[2]) if len(words) > 2 else LISTS)
     bench.put("proved")
     STARTS.update(bench.ask()["cells"])
-    drawn, kinds = random.Random(seed), {**KINDS, **MORE, **(ON_WIRE if bench.number == 5 else {})}
+    drawn, kinds = random.Random(seed), {**KINDS, **MORE, **(ON_WIRE if bench.number == WIRE else {})}
     clean = Run(bench, [], 3)
     tally.tell(f"bus {bench.number}, no fault", [*clean.wrong_cells(), *clean.false_statements(), *([] if clean.status == 0 else [clean.err])])
     length = clean.told["count"]
-    plans = [["ok"] * drawn.randrange(length) + [kind] for kind in kinds for _ in range(EACH)]
+    plans = [["ok"] * drawn.randrange(length) + [kind] for kind in kinds for _ in range(ON_SLOW if bench.number == WIRE else EACH)]
     for _ in range(lists):
         plan = ["ok"] * length
         for _ in range(drawn.choice((2, 3, 4, 5))):

@@ -4,12 +4,15 @@ import errno
 import fcntl
 import json
 import os
+import random
 
 from counted import BENCH
 from pmhost.bus.linux import I2C_M_RD, I2C_RDWR, Message, Messages
 
 # The most that i2c-dev takes.
 ROOM = 8192
+# The bit-banged bus, which is slow: there a few drawn places stand for all.
+WIRE = 5
 FOLDER = os.environ.get("FOLDER", "")
 
 
@@ -38,6 +41,11 @@ class Bench:
         """A part as it is made, and mishaps for its transfers."""
         self.say(f"part {part}")
         self.say(f"plan {mishaps}")
+
+
+def places(bench, length, on_wire, seed=7):
+    """The transfers that a fault strikes in turn: all of them, and over the slow bus so many that are drawn."""
+    return range(length) if bench.number != WIRE else sorted(random.Random(f"{seed} {length}").sample(range(length), min(on_wire, length)))
 
 
 def root_file(*parts):

@@ -9,12 +9,11 @@ import contextlib
 import io
 import re
 
-from guest_bus import Bench
+from guest_bus import WIRE, Bench
 from pmhost import cli
 from pmhost.values import CODES
 from tally import Tally
 
-WIRE = 5
 CALLS = ("clear 0", "store", "restore --outputs-may-go-off", "word 0 VOUT_COMMAND 34CD", "read 0 VOUT_COMMAND", "read - WRITE_PROTECT", "probe")
 CLAIMS = re.compile(r"confirmed|acknowledged|: done|PEC yes|can drive")
 FRAME, TRANSFERS = 8, 3

@@ -2,18 +2,19 @@
 
 At 4A an answer of ones to WRITE_PROTECT has the right packet error code, and so has one of zeros at 48. There and at 58, jobs of
 every kind meet ones and zeros in each single transfer and in all of them, and on the wire a clock that is held low for less and for
-more than the adapter's patience of 50 ms. Nothing may be told as confirmed, read or done that isn't so.
+more than the adapter's patience of 50 ms, over that slow bus at four drawn transfers of each kind. Nothing may be told as confirmed, read or done that isn't so.
 """
 import collections
 import re
 
 import drawn
 from drawn import Run
-from guest_bus import Bench
+from guest_bus import WIRE, Bench, places
 from pmhost.values import CODES
 from tally import Tally
 
-WIRE = 5
+# How many transfers stand for all of them over the slow bus.
+ON_SLOW = 4
 ADDRESSES = ("48", "4A", "58")
 KINDS, ON_WIRE = ("ones", "zeros"), ("stale", "stretch20", "stretch80", "stretch160")
 ALL = 400
@@ -48,7 +49,7 @@ def main(words):
         length = clean.told["count"]
         tally.tell(f"bus {bench.number} at {address}, no fault", [*clean.wrong_cells(), *clean.false_statements(), *([] if clean.status == 0 else [clean.err])])
         for kind in kinds:
-            for place in range(length):
+            for place in places(bench, length, ON_SLOW):
                 judged(bench, tally, counts, ["ok"] * place + [kind], 1 + 2 * (place & 1), address)
         for kind in KINDS:
             for place in (0, 2, length // 2):

@@ -11,13 +11,13 @@ import re
 import subprocess
 
 from faults import ORDERS, OUTPUTS, WORDS
-from guest_bus import Bench
+from guest_bus import WIRE, Bench
 from pmhost import cli
 from tally import Tally
 
 PROGRAMS = [path for path in (os.path.join(os.environ["CACHE"], name) for name in ("i2c_dev", "i2c_dev_rust")) if os.path.exists(path)]
 ORDERED, START = 0x34CD, 0x1000
-DELAYS, AWAY, WIRE = (1, 10, 30, 150), 400, 5
+DELAYS, AWAY = (1, 10, 30, 150), 400
 JOBS = f"{ORDERS} + store + read 0 VOUT_COMMAND + read 1 VOUT_COMMAND + known"
 DONE = re.compile(r"word [01]: VOUT_COMMAND \w{4} confirmed; ")
 READ = re.compile(r"read ([01]): VOUT_COMMAND (\w{4}) ")

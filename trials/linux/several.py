@@ -2,7 +2,7 @@
 several BUS.
 
 The parts have the addresses 58, 59 and, behind channel 3 of a PCA9548 at 70, 5A. Each pmhost is a process of its own. Each kind of
-fault strikes each transfer of one of them once, with 1 and with 3 passes in turn, while the others' meet none. Every word is ordered for one
+fault strikes each transfer of one of them once (over the slow bus 5 three of them), with 1 and with 3 passes in turn, while the others' meet none. Every word is ordered for one
 register of one part alone, so that one that any other ever held is seen. The multiplexer is left as it was selected, and put
 apart behind each transfer.
 
@@ -19,13 +19,15 @@ import signal
 
 from drawn import KNOWN
 from faults import KINDS, ON_WIRE
-from guest_bus import Bench
+from guest_bus import WIRE, Bench, places
 from pmhost import cli
 from pmhost.values import CODES
 from rows import ADAPTERS, write
 from tally import Tally
 
 MUX, CHANNEL, OTHER = "70", 3, 5
+# How many transfers stand for all of them over the slow bus.
+ON_SLOW = 3
 PLACES = ("58", "59", f"{CHANNEL}/5A")
 REGISTERS = (("0", "VOUT_COMMAND"), ("1", "VOUT_COMMAND"), ("1", "VOUT_MARGIN_HIGH"), ("0", "VOUT_MIN"))
 STRUCK = {"58": "58", f"{CHANNEL}/5A": "5A"}
@@ -169,7 +171,7 @@ def by_processes(bench, tally, kinds, rests):
     for struck, address in STRUCK.items():
         length = trial.run(address, [], 3)[1]["count"]
         for kind in kinds:
-            for place in range(length):
+            for place in places(bench, length, ON_SLOW):
                 passes, plan = 1 + 2 * (place & 1), ["ok"] * place + [kind]
                 calls, told, wrong = trial.run(address, plan, passes)
                 untrue = [fault for each in calls
@@ -186,7 +188,7 @@ def by_selects(bench, kinds, rests):
     trial, counts = Trial(bench, ("58", f"{CHANNEL}/5A", f"{OTHER}/5A")), collections.defaultdict(collections.Counter)
     length = trial.run(MUX, [], 3)[1]["count"]
     for kind in kinds:
-        for place in range(length):
+        for place in places(bench, length, ON_SLOW):
             _, _, wrong = trial.run(MUX, ["ok"] * place + [kind], 3)
             counts[kind].update({"runs": 1, "a word at the other part": bool(wrong)})
     trial.close()
@@ -196,7 +198,7 @@ def by_selects(bench, kinds, rests):
 
 def main(words):
     bench, tally = Bench(int(words[0])), Tally()
-    kinds, mux = {**KINDS, **(ON_WIRE if bench.number == 5 else {})}, Multiplexer(bench)
+    kinds, mux = {**KINDS, **(ON_WIRE if bench.number == WIRE else {})}, Multiplexer(bench)
     for rests, way in RESTS.items():
         mux.rests(way)
         by_processes(bench, tally, kinds, rests)
