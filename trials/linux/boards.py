@@ -28,7 +28,7 @@ MORE = {"twice": "heard twice", "hung": "a line held low", "empty": "an answer t
 # One transfer in this many meets a drawn fault.
 ONE_IN = 8
 # How many transfers stand for all of them over the slow bus.
-ON_SLOW = 2
+FEW = 2
 
 
 class Run:
@@ -109,7 +109,7 @@ def main(words):
     number = goes_through(seed)
     length = table.run(number, []).told["count"]
     for kind in kinds:
-        for place in places(bench, length, ON_SLOW):
+        for place in places(bench, length, FEW):
             table.run(number, ["ok"] * place + [kind])
     table.show(f"board {number}, of {length} transfers, under one fault")
     drawn, others = random.Random(seed), [kind for kind in kinds if kind not in RESTARTS]

@@ -43,9 +43,10 @@ class Bench:
         self.say(f"plan {mishaps}")
 
 
-def places(bench, length, on_wire, seed=7):
-    """The transfers that a fault strikes in turn: all of them, and over the slow bus so many that are drawn."""
-    return range(length) if bench.number != WIRE else sorted(random.Random(f"{seed} {length}").sample(range(length), min(on_wire, length)))
+def places(bench, length, few, is_short=False):
+    """The transfers that a fault strikes in turn: all of them, and over the slow bus, or in a short trial, so few that are drawn."""
+    is_few = is_short or bench.number == WIRE
+    return sorted(random.Random(length).sample(range(length), min(few, length))) if is_few else range(length)
 
 
 def root_file(*parts):

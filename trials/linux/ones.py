@@ -14,7 +14,7 @@ from pmhost.values import CODES
 from tally import Tally
 
 # How many transfers stand for all of them over the slow bus.
-ON_SLOW = 4
+FEW = 4
 ADDRESSES = ("48", "4A", "58")
 KINDS, ON_WIRE = ("ones", "zeros"), ("stale", "stretch20", "stretch80", "stretch160")
 ALL = 400
@@ -49,7 +49,7 @@ def main(words):
         length = clean.told["count"]
         tally.tell(f"bus {bench.number} at {address}, no fault", [*clean.wrong_cells(), *clean.false_statements(), *([] if clean.status == 0 else [clean.err])])
         for kind in kinds:
-            for place in places(bench, length, ON_SLOW):
+            for place in places(bench, length, FEW):
                 judged(bench, tally, counts, ["ok"] * place + [kind], 1 + 2 * (place & 1), address)
         for kind in KINDS:
             for place in (0, 2, length // 2):

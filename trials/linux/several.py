@@ -1,8 +1,8 @@
 """Two parts at two addresses of a bus and one behind a multiplexer that the kernel drives, a pmhost for each, all three at once:
-several BUS.
+several BUS [short].
 
 The parts have the addresses 58, 59 and, behind channel 3 of a PCA9548 at 70, 5A. Each pmhost is a process of its own. Each kind of
-fault strikes each transfer of one of them once (over the slow bus 5 three of them), with 1 and with 3 passes in turn, while the others' meet none. Every word is ordered for one
+fault strikes each transfer of one of them once (over the slow bus 5, and where the trial is short, three of them), with 1 and with 3 passes in turn, while the others' meet none. Every word is ordered for one
 register of one part alone, so that one that any other ever held is seen. The multiplexer is left as it was selected, and put
 apart behind each transfer.
 
@@ -27,7 +27,7 @@ from tally import Tally
 
 MUX, CHANNEL, OTHER = "70", 3, 5
 # How many transfers stand for all of them over the slow bus.
-ON_SLOW = 3
+FEW = 3
 PLACES = ("58", "59", f"{CHANNEL}/5A")
 REGISTERS = (("0", "VOUT_COMMAND"), ("1", "VOUT_COMMAND"), ("1", "VOUT_MARGIN_HIGH"), ("0", "VOUT_MIN"))
 STRUCK = {"58": "58", f"{CHANNEL}/5A": "5A"}
@@ -166,12 +166,12 @@ class Trial:
                     yield f"{place}: {name} held {word:04X}, which nobody ordered"
 
 
-def by_processes(bench, tally, kinds, rests):
+def by_processes(bench, tally, kinds, rests, is_short):
     trial, counts = Trial(bench, PLACES), collections.Counter()
     for struck, address in STRUCK.items():
         length = trial.run(address, [], 3)[1]["count"]
         for kind in kinds:
-            for place in places(bench, length, ON_SLOW):
+            for place in places(bench, length, FEW, is_short):
                 passes, plan = 1 + 2 * (place & 1), ["ok"] * place + [kind]
                 calls, told, wrong = trial.run(address, plan, passes)
                 untrue = [fault for each in calls
@@ -183,12 +183,12 @@ def by_processes(bench, tally, kinds, rests):
           + ", ".join(f"{name} {count}" for name, count in counts.items()), flush=True)
 
 
-def by_selects(bench, kinds, rests):
+def by_selects(bench, kinds, rests, is_short):
     """The multiplexer's own transfers are struck, with two parts of one address behind it."""
     trial, counts = Trial(bench, ("58", f"{CHANNEL}/5A", f"{OTHER}/5A")), collections.defaultdict(collections.Counter)
     length = trial.run(MUX, [], 3)[1]["count"]
     for kind in kinds:
-        for place in places(bench, length, ON_SLOW):
+        for place in places(bench, length, FEW, is_short):
             _, _, wrong = trial.run(MUX, ["ok"] * place + [kind], 3)
             counts[kind].update({"runs": 1, "a word at the other part": bool(wrong)})
     trial.close()
@@ -197,11 +197,11 @@ def by_selects(bench, kinds, rests):
 
 
 def main(words):
-    bench, tally = Bench(int(words[0])), Tally()
+    bench, tally, is_short = Bench(int(words[0])), Tally(), words[1:] == ["short"]
     kinds, mux = {**KINDS, **(ON_WIRE if bench.number == WIRE else {})}, Multiplexer(bench)
     for rests, way in RESTS.items():
         mux.rests(way)
-        by_processes(bench, tally, kinds, rests)
-        by_selects(bench, {kind: name for kind, name in kinds.items() if kind in ("restart", "deaf", "lost", "false")}, rests)
+        by_processes(bench, tally, kinds, rests, is_short)
+        by_selects(bench, {kind: name for kind, name in kinds.items() if kind in ("restart", "deaf", "lost", "false")}, rests, is_short)
     mux.take_away()
     return tally.end()
