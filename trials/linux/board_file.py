@@ -11,7 +11,7 @@ import contextlib
 import io
 import random
 
-from boards import LENGTH, MORE, ONE_IN, RESTARTS
+from boards import LENGTH, MORE, RESTARTS
 from faults import KINDS, ON_WIRE
 from guest_bus import WIRE, Bench, places
 from parts import ADDRESSES, board_of_parts
@@ -24,6 +24,8 @@ from tally import Tally
 from tests.test_board_files import LAST, RandomBoards
 
 SEED, BOARDS, ON_SLOW_BOARDS = 7, 40, 4
+# One transfer in this many of the struck part meets a drawn fault.
+ONE_IN = 40
 PLACES = {"u1": "58", "u2": "59", "u3": f"{CHANNEL}/5A"}
 # The rails of the small board: the output of each part.
 SMALL = {"u1": 0, "u2": 1, "u3": 0}
