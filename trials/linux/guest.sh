@@ -15,7 +15,7 @@ mountpoint -q /dev || mount -t devtmpfs none /dev
 ln -sf /proc/self/fd /dev/fd
 cd "$ROOT" || echo "no $ROOT in the guest"
 for module in errno_bus wire_bus; do python3 trials/linux/kernel_module.py in "$CACHE/modules/$module.ko"; done
-python3 trials/linux/trials.py ${TRIAL//,/ } > "$FOLDER/said" 2>&1 < /dev/null
+python3 -u trials/linux/trials.py ${TRIAL//,/ } > "$FOLDER/said" 2>&1 < /dev/null
 echo "status $?" > "$FOLDER/ended"
 dmesg > "$FOLDER/dmesg"
 for module in wire_bus errno_bus; do python3 trials/linux/kernel_module.py out $module; done
