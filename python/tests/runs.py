@@ -67,8 +67,8 @@ class Run:
     cells: list = field(default_factory=list)
     faults: dict = field(default_factory=dict)
     functions: int = I2C_FUNC_I2C
-    held: str = ""
-    writes: str = ""
+    held: str = "1000"
+    writes: str = "0"
     comments: list = field(default_factory=list)
     toml: list = field(default_factory=list)
     status: int = 0
@@ -111,11 +111,15 @@ class Run:
         buses = {bus: {address: part for (other, address), part in parts.items() if other == bus} for bus, _ in parts}
         return BoardKernel(buses, self.mishaps.split(), faults=self.faults)
 
+    def made_part(self):
+        """The one part of a run without several."""
+        return self.made_parts()[7, 0x58]
+
     @property
     def wanted(self):
-        """What the parts hold behind the run, and how many writes they heard."""
+        """What the parts hold behind the run, and how many writes they heard: one word is that of each part."""
         many = max(len(self.board), 1)
-        return self.held or " ".join(["1000"] * many), self.writes or " ".join(["0"] * many)
+        return tuple(words if " " in words else " ".join([words] * many) for words in (self.held, self.writes))
 
 
 def made(words, **more):

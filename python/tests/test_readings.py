@@ -2,10 +2,12 @@
 import unittest
 from decimal import Decimal
 
-from pmhost import Format, Output, Part, PartBus, Pmbus, readings
+from pmhost import (Format, FrameRefused, MemoryRefused, Output, Part, PartBus, Pmbus, code_request, pec, read_block, read_plain, readings)
 from pmhost.readings import KINDS, Reading
+from pmhost.reads import Reads
 from pmhost.status import BITS, names_of
 
+from .fixtures import Recorded
 from .odd_parts import DirectTelemetry, Telemetry
 from .running import ROOT, stored
 from .test_runs import Blocks
@@ -96,7 +98,46 @@ class Values(unittest.TestCase):
         pmbus.carried_out()
         self.assertEqual(readings.noted(bus, 0x58, 0), "STATUS_CML 80 COMMAND, STATUS_VOUT 00")
         self.assertEqual(readings.noted(bus, 0x58, None), "STATUS_CML 80 COMMAND")
-        self.assertEqual(readings.noted(bus, 0x59, 0), "")
+        silent = Recorded(part)
+        self.assertEqual(readings.noted(silent, 0x59, 0), "")
+        self.assertEqual(silent.frames, [bytes.fromhex("B27E")] * 3, "STATUS_VOUT of a part that doesn't answer")
+
+
+class OtherReads(unittest.TestCase):
+    """Reads of any code, which are no packets of the table."""
+
+    def test_blocks(self):
+        self.assertEqual(code_request(0x58, 0x99), bytes.fromhex("B099"))
+        self.assertEqual(read_block(0x58, 0x99, bytes.fromhex("B1 03 4C 54 43 9F")), b"LTC")
+        self.assertEqual(read_block(0x58, 0x99, bytes.fromhex("B1 00 51")), b"")
+        whole = bytes.fromhex("B1 20") + bytes(range(32))
+        self.assertEqual(read_block(0x58, 0x99, whole + bytes([pec(b"\xB0\x99" + whole)])), bytes(range(32)))
+        for data, letter in (("B1034C54439E", "F5"), ("B1034C5443", "F2"), ("B1034C54439FFF", "F3"), ("B121", "F4"), ("B3034C54439F", "F1"), ("", "F1")):
+            with self.subTest(data), self.assertRaises(FrameRefused) as it:
+                read_block(0x58, 0x99, bytes.fromhex(data))
+            self.assertEqual(it.exception.letter, letter)
+
+    def test_some_bytes(self):
+        self.assertEqual(read_plain(0x58, 0x79, 2, bytes.fromhex("B140008F")), b"\x40\x00")
+        for size, data, letter in ((2, "B140008E", "F5"), (3, "B140008F", "F2"), (1, "B140008F", "F3"), (2, "B340008F", "F1")):
+            with self.subTest(data), self.assertRaises(FrameRefused) as it:
+                read_plain(0x58, 0x79, size, bytes.fromhex(data))
+            self.assertEqual(it.exception.letter, letter)
+        for call in (lambda: read_plain(0x58, 0x79, 33, b""), lambda: code_request(0x78, 0), lambda: code_request(0x58, 256)):
+            with self.assertRaises(ValueError):
+                call()
+        with self.assertRaises(MemoryRefused):
+            read_block(0x78, 0x99, b"")
+
+    def test_a_block_is_cut_at_its_end(self):
+        """An adapter reads 34 bytes: what stands behind a block's packet error code is nothing."""
+        class Long(PartBus):
+            def read(self, request, count):
+                found = {0x99: "034C54439F", 0x9A: "0050", 0x9B: "21"}[request[1]]
+                return (bytes.fromhex(found) + b"\xFF" * 40)[:count]
+
+        reads = Reads(Long(Part(0x58, [Output()])), 0x58)
+        self.assertEqual((reads.block(0x99).payload, reads.block(0x9A).why, reads.block(0x9B).why), (b"LTC", "F5 WrongPec", "F4 WrongCount"))
 
 
 class Rows(Blocks):

@@ -20,6 +20,7 @@ sys.path.insert(0, os.path.dirname(os.path.dirname(os.path.abspath(__file__))))
 import paths  # noqa: E402, F401
 from plain.converter import Converter  # noqa: E402
 from plain.packets import CODES, name_of, pec  # noqa: E402
+from plain.rail import plan  # noqa: E402
 from plain.session import PlainSession, in_hex  # noqa: E402
 from pmhost.programs import HostProgram, NoAnswer, path_of  # noqa: E402
 from program import seed_and_count  # noqa: E402
@@ -99,7 +100,6 @@ ENDS = [
     (["--address=58", "--outputs=1", "--passes=2", "--without=VOUT_MIN"], b"check 0 VOUT_MIN\nplan 0 VOUT_MIN=0001\n", 0,
      b"refused L7 MissingRegister\nrefused L7 MissingRegister VOUT_MIN\n", ""),
     (["--address=58", "--outputs=1", "--passes=2", "--without=VOUT_COMMAND"], b"seen\n", 2, b"", "pmbhost: bad without\n"),
-    (["--address=58", "--outputs=1", "--passes=2", "--without="], b"seen\n", 2, b"", "pmbhost: bad without\n"),
 ]
 NAMES = [name_of(code) for code in (0x01, 0x21, 0x24, 0x25, 0x26, 0x2B)]
 VOLTAGES = NAMES[1:]
@@ -176,11 +176,11 @@ def job_line(dice, outputs):
         f"volts {dice.randrange(outputs)} VOUT_COMMAND {dice.choice([3300000, 1000000, -1, 10**16, dice.randrange(20000000)])}"])
 
 
-def limits_line(dice, outputs):
-    """Limits about the voltages that are ordered, which narrow them, widen them or are inverted."""
+def limits_line(dice, outputs, output=None):
+    """Limits about the voltages that are ordered, which narrow them, widen them or are inverted; of an output where one is given."""
     least = dice.choice([0, 900000, 900001, 1000000, 3200000, dice.randrange(-10**6, 4 * 10**6)])
     most = dice.choice([3465000, 3300048, 3300049, 7000000, 16 * 10**6, dice.randrange(-10**6, 2 * 10**7)])
-    return f"narrow {dice.randrange(outputs + (dice.random() < 0.05))} {least} {most}"
+    return f"narrow {dice.randrange(outputs + (dice.random() < 0.05)) if output is None else output} {least} {most}"
 
 
 def rail_line(dice, outputs):
@@ -192,13 +192,34 @@ def rail_line(dice, outputs):
     return dice.choice([f"rail {output}", f"plan {output}{wishes}", f"next {output}{wishes}", f"survey {output}", f"survey {output}{wishes}"])
 
 
-def survey_line(dice, plain):
-    """The survey that is open goes on; where none is, one begins."""
-    survey = plain.open_survey
-    wanted = {0x21: dice.choice([0x1000, 0x1800])} if survey is None and dice.random() < 0.7 else survey and survey.wanted
-    wishes = "".join(f" {name_of(register)}={word:04X}" for register, word in (wanted or {}).items())
-    output = survey.output if survey else dice.randrange(plain.host.outputs)
-    return f"{'survey' if survey or dice.random() < 0.5 else 'next'} {output}{wishes or ' VOUT_COMMAND=1000'}"
+class Course:
+    """What is wanted of an output: it is surveyed, and its plan goes on, until it is done or refused."""
+
+    def __init__(self, dice, plain):
+        self.output, names = dice.randrange(plain.host.outputs), dice.sample(VOLTAGES, dice.choice([1, 1, 2, 3, 5]))
+        words = {"VOUT_MAX": [0x2000, 0x1800, 0x1100], "VOUT_MIN": [0x0000, 0x0800, 0x0F00]}
+        self.wanted = {CODES[name]: dice.choice(words.get(name, [0x1000, 0x0FFF, 0x1100, 0x0F00])) for name in names}
+
+    def line(self, dice, plain):
+        """The next line of it; None where it has come to its end."""
+        found = plan(plain.host, plain.limits, plain.missing, self.output, self.wanted)
+        wishes = "".join(f" {name_of(register)}={word:04X}" for register, word in self.wanted.items())
+        if found is None or isinstance(found, str) and found[:2] not in ("P1", "P4"):
+            return None
+        if isinstance(found, str):
+            return f"survey {self.output}{wishes}"
+        return f"{dice.choice(['next', 'next', 'next', 'plan'])} {self.output}{wishes}"
+
+
+def course_line(dice, plain):
+    """A line of the course that is under way, or its last one and another course."""
+    course = getattr(plain, "course", None) or Course(dice, plain)
+    plain.course, line = course, course.line(dice, plain)
+    if line is None:
+        wishes = "".join(f" {name_of(register)}={word:04X}" for register, word in course.wanted.items())
+        plain.course, line = None, f"{dice.choice(['plan', 'rail'])} {course.output}"
+        line += wishes if line.startswith("plan") else ""
+    return line
 
 
 def told_line(dice, plain, device):
@@ -237,9 +258,12 @@ def any_line(dice, plain, device, outputs):
     if chance < 0.25:
         return dice.choice(["finished ack", "got", job_line(dice, outputs), rail_line(dice, outputs), limits_line(dice, outputs)])
     if plain.host.sending() is not None:
+        job = plain.host.last_job()[0]
+        if job[0] == "order" and job[1][0] is not None and dice.random() < 0.05:
+            return limits_line(dice, outputs, job[1][0])
         return told_line(dice, plain, device)
-    if chance < 0.7:
-        return survey_line(dice, plain)
+    if chance < 0.8:
+        return course_line(dice, plain)
     return dice.choice([job_line, rail_line])(dice, outputs)
 
 
@@ -247,7 +271,7 @@ def setup_of(dice, outputs):
     """A configuration with formats of both kinds."""
     words = {0x01: 0x80, 0x21: 0x1000, 0x24: 0x7000, 0x25: 0x1100, 0x26: 0x0F00, 0x2B: 0x0000}
     return {"address": 0x58, "count": outputs, "outputs": [(dice.choice([0x14, 0x17, 0x40]), words) for _ in range(outputs)],
-            "protect": 0x00, "coefficients": (1000, 0, 0), "version": 2}
+            "protect": dice.choice([0x00] * 9 + [0x40]), "coefficients": (1000, 0, 0), "version": 2}
 
 
 def random_faults(dice, wanted):
