@@ -1,18 +1,11 @@
 /* How long an order takes over the static library, and how much stack its calls take; beside it an order by
  * plain code: the frame and its PEC, the answer judged, no words kept. bench/c_order.sh runs it. With arguments it does
-<<<<<<< HEAD
- * one thing alone and ends, so that its instructions are counted: `loop`, orders; `guard`, orders within limits; `run`,
- * orders by pm_host_run over a bus of no cost; `patient`, the same by pm_patient_run, with its patience of 200 ms; `bands`,
- * bands of outputs whose registers list as many words as they can. The second says the format, `linear` or `direct`, and
- * the third how often. It prints how many orders were done, or how many listed words were looked at. */
-#include "pm_patient.h"
-=======
  * one thing alone and ends, so that its instructions are counted: `loop`, orders; `guard`, orders within limits; `plan`,
- * orders within limits that a plan gives, and `asked`, plans that are asked for their next order alone; `bands`, bands of
+ * orders within limits that a plan gives, and `asked`, plans that are asked for their next order alone; `run`, orders by
+ * pm_host_run over a bus of no cost; `patient`, the same by pm_patient_run, with its patience of 200 ms; `bands`, bands of
  * outputs whose registers list as many words as they can. The second says the format, `linear` or `direct`, and the third
  * how often. It prints how many orders were done, or how many listed words were looked at. */
-#include "pm.h"
->>>>>>> d213a9b6351b29bd2c055e25d7a79d85813c2a2e
+#include "pm_patient.h"
 #include <stdio.h>
 #include <stdlib.h>
 #include <string.h>
@@ -36,7 +29,25 @@ static int order(pm_host *host, const uint8_t *answer, uint16_t word) {
     return pm_host_got(host, answer, 5).kind == PM_DONE;
 }
 
-<<<<<<< HEAD
+/* The same of an order that a plan gives. */
+static int planned(pm_host *host, const uint8_t *answer, uint16_t word) {
+    const pm_wanted wanted = {.command = {1, word}};
+    pm_plan_order next;
+    pm_sending frame;
+    if (pm_host_next(host, 0, &wanted, &next) || pm_host_sending(host, &frame))
+        return 0;
+    pm_host_finished(host, 1);
+    pm_host_sending(host, &frame);
+    return pm_host_got(host, answer, 5).kind == PM_DONE;
+}
+
+/* A plan is asked for its next order, which isn't begun. */
+static int asked(const pm_host *host, uint16_t word) {
+    const pm_wanted wanted = {.command = {1, word}};
+    pm_plan_order next;
+    return pm_host_plan(host, 0, &wanted, &next) == PM_OK;
+}
+
 /* A bus of no cost: each write is acknowledged, and each read has the answer that the context points to. */
 static uint8_t free_write(void *context, const uint8_t *bytes, uint64_t count) {
     (void)context, (void)bytes, (void)count;
@@ -68,25 +79,6 @@ static int order_by_loop(pm_host *host, const uint8_t *answer, uint16_t word, in
     if (pm_host_order(host, 0, PM_VOUT_COMMAND, word))
         return 0;
     return (is_patient ? pm_patient_run(host, &bus) : pm_host_run(host, free_write, free_read, &answer)).kind == PM_DONE;
-=======
-/* The same of an order that a plan gives. */
-static int planned(pm_host *host, const uint8_t *answer, uint16_t word) {
-    const pm_wanted wanted = {.command = {1, word}};
-    pm_plan_order next;
-    pm_sending frame;
-    if (pm_host_next(host, 0, &wanted, &next) || pm_host_sending(host, &frame))
-        return 0;
-    pm_host_finished(host, 1);
-    pm_host_sending(host, &frame);
-    return pm_host_got(host, answer, 5).kind == PM_DONE;
-}
-
-/* A plan is asked for its next order, which isn't begun. */
-static int asked(const pm_host *host, uint16_t word) {
-    const pm_wanted wanted = {.command = {1, word}};
-    pm_plan_order next;
-    return pm_host_plan(host, 0, &wanted, &next) == PM_OK;
->>>>>>> d213a9b6351b29bd2c055e25d7a79d85813c2a2e
 }
 
 /* Answers the request that is being sent by these bytes. */
@@ -237,14 +229,10 @@ int main(int count, char **arguments) {
             done = bands(&host, all);
         else
             for (long i = 0; i < all; i++)
-<<<<<<< HEAD
-                done += is_run ? order_by_loop(&host, answers[i & 1], (uint16_t)(0x34CD + (i & 1)), is_patient)
-                               : order(&host, answers[i & 1], (uint16_t)(0x34CD + (i & 1)));
-=======
-                done += is_asked  ? asked(&host, (uint16_t)(0x34D0 + (i & 1)))
-                        : is_plan ? planned(&host, answers[i & 1], (uint16_t)(0x34CD + (i & 1)))
-                                  : order(&host, answers[i & 1], (uint16_t)(0x34CD + (i & 1)));
->>>>>>> d213a9b6351b29bd2c055e25d7a79d85813c2a2e
+                done += is_run     ? order_by_loop(&host, answers[i & 1], (uint16_t)(0x34CD + (i & 1)), is_patient)
+                        : is_asked ? asked(&host, (uint16_t)(0x34D0 + (i & 1)))
+                        : is_plan  ? planned(&host, answers[i & 1], (uint16_t)(0x34CD + (i & 1)))
+                                   : order(&host, answers[i & 1], (uint16_t)(0x34CD + (i & 1)));
         printf("%ld\n", done);
         return 0;
     }
