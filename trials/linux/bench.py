@@ -9,9 +9,9 @@ the guest has gone.
 
 At address 0A of the first bus, text is taken: `part WORDS` puts a part there (parts.py), as made, and takes all others away;
 `beside WORDS` another one, at an address of its own, and `behind K WORDS` one behind channel K of the multiplexer at 70, which
-`mux` puts there and which stays; `struck XX` says whose transfers meet mishaps, where it isn't the first part; `adapter errno` or `adapter count` says who asks; `plan WORD ..` has a
-mishap for each coming transfer; `restart` restarts the part; `low sda` and `low scl` have a line of the wire held low until
-`low none`. A read there tells as JSON what the parts hold, each word that a register of them held since it was put there
+`mux` puts there and which stays; `struck XX` says whose transfers meet mishaps, where it isn't the first part; `adapter errno` or
+`adapter count` says who asks; `plan WORD ..` has a mishap for each coming transfer; `restart` restarts the part; `low sda` and
+`low scl` have a line of the wire held low until `low none`. A read there tells as JSON what the parts hold, each word that a register of them held since it was put there
 (`ever`), and how many transfers met the mishaps. A read of a byte at 0B tells the error of the last
 failed transfer, by its number, for an adapter that answers errors. The mishaps are those of python/tests/kernel.py, and
 

@@ -1,10 +1,11 @@
 """One `pmhost apply` of a board file over two parts at two addresses and one behind a multiplexer: board_file BUS [SEED [BOARDS]].
 
-The parts are at 58 and 59 of the bus, and at 5A behind channel 3 of a PCA9548 at 70 that the kernel drives (several.py). A board of
-three rails, one of each part, that goes through meets each kind of fault at each transfer of the part at 58, and of that behind the
-multiplexer (over the slow bus 5 at one). Then BOARDS (40) drawn boards of eight rails (python/tests/test_board_files.py) go while each part in turn meets drawn
-faults. Unless its part restarted no output ever commands anything but its old and its new voltage, and no register of any part ever
-held a word but its old and its wanted one. What is told is so.
+The parts are at 58 and 59 of the bus, and at 5A behind channel 3 of a PCA9548 at 70 that the kernel drives (several.py). A board
+of three rails, one of each part, that goes through meets each kind of fault at each transfer of the part at 58, and of that
+behind the multiplexer (over the slow bus 5 at one). Then BOARDS (40) drawn boards of eight rails
+(python/tests/test_board_files.py) go while each part in turn meets drawn faults. Unless its part restarted no output ever
+commands anything but its old and its new voltage, and no register of any part ever held a word but its old and its wanted one.
+What is told is so.
 """
 import collections
 import contextlib

@@ -1,10 +1,10 @@
 """`pmhost apply` over drawn boards, under faults: boards BUS [SEED [BOARDS]].
 
 Each board of two rails has settings of its own, cut ones and such on a margin too, and a file of what is wanted
-(python/tests/test_boards.py). One that goes through meets each kind of fault at each of its transfers; then BOARDS (200) drawn ones
-go by lists of drawn faults, every other one with one or two restarts. On the slow bus 5 two drawn transfers stand for all of them. Unless the part restarted no output ever commands anything but
-its old and its new voltage, looked at behind each frame, and no register ever held a word but its old and its wanted one. With
-and without a restart, what is told is so.
+(python/tests/test_boards.py). One that goes through meets each kind of fault at each of its transfers; then BOARDS (200) drawn
+ones go by lists of drawn faults, every other one with one or two restarts. On the slow bus 5 two drawn transfers stand for all of
+them. Unless the part restarted no output ever commands anything but its old and its new voltage, looked at behind each frame, and
+no register ever held a word but its old and its wanted one. With and without a restart, what is told is so.
 """
 import collections
 import contextlib

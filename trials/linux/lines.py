@@ -1,9 +1,10 @@
 """pmhost over lines that are held low, an adapter that is unplugged, and answers that come once more: lines BUS.
 
 Either line of the bit-banged bus is held low at rest, and behind each byte of a frame; on the other buses a transfer fails as one
-with a line held low does, or as over an adapter that is unplugged. Nothing may be told as done, acknowledged or confirmed that isn't so, by orders, clear, store, restore,
-reads and probe. Of each ordered pair of registers of two outputs the first's answer comes once more to the second's read: it passes
-for that just where the two reads share their packet error code up to the read address.
+with a line held low does, or as over an adapter that is unplugged. Nothing may be told as done, acknowledged or confirmed that
+isn't so, by orders, clear, store, restore, reads and probe. Of each ordered pair of registers of two outputs the first's answer
+comes once more to the second's read: it passes for that just where the two reads share their packet error code up to the read
+address.
 """
 import contextlib
 import io

@@ -1,8 +1,9 @@
 """Answers of ones and of zeros at the addresses where they are good ones, and a clock that is held: ones BUS.
 
 At 4A an answer of ones to WRITE_PROTECT has the right packet error code, and so has one of zeros at 48. There and at 58, jobs of
-every kind meet ones and zeros in each single transfer and in all of them, and on the wire a clock that is held low for less and for
-more than the adapter's patience of 50 ms, over that slow bus at four drawn transfers of each kind. Nothing may be told as confirmed, read or done that isn't so.
+every kind meet ones and zeros in each single transfer and in all of them, and on the wire a clock that is held low for less and
+for more than the adapter's patience of 50 ms, over that slow bus at four drawn transfers of each kind. Nothing may be told as
+confirmed, read or done that isn't so.
 """
 import collections
 import re

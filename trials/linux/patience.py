@@ -1,8 +1,9 @@
 """pmhost, examples/c/i2c_dev.c and rust/examples/i2c_dev.rs and parts that are busy behind each write, in real time: patience BUS.
 
-Eight orders, a store and both checks by pmhost, and an order and a store by each example, at a part that is busy for 1, 10, 30 or 150 milliseconds behind each write and away for
-400 behind the store, by missing acknowledgements and by ones. With the patience that pmhost has by itself all ends well; with
-none some end unknown where it is busy for 30 or more, and at no delay is anything false said. A part at 08h is driven.
+Eight orders, a store and both checks by pmhost, and an order and a store by each example, at a part that is busy for 1, 10, 30 or
+150 milliseconds behind each write and away for 400 behind the store, by missing acknowledgements and by ones. With the patience
+that pmhost has by itself all ends well; with none some end unknown where it is busy for 30 or more, and at no delay is anything
+false said. A part at 08h is driven.
 """
 import contextlib
 import io

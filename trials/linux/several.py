@@ -1,10 +1,10 @@
 """Two parts at two addresses of a bus and one behind a multiplexer that the kernel drives, a pmhost for each, all three at once:
 several BUS [short].
 
-The parts have the addresses 58, 59 and, behind channel 3 of a PCA9548 at 70, 5A. Each pmhost is a process of its own. Each kind of
-fault strikes each transfer of one of them once (over the slow bus 5, and where the trial is short, three of them), with 1 and with 3 passes in turn, while the others' meet none. Every word is ordered for one
-register of one part alone, so that one that any other ever held is seen. The multiplexer is left as it was selected, and put
-apart behind each transfer.
+The parts have the addresses 58, 59 and, behind channel 3 of a PCA9548 at 70, 5A. Each pmhost is a process of its own. Each kind
+of fault strikes each transfer of one of them once (over the slow bus 5, and where the trial is short, three of them), with 1 and
+with 3 passes in turn, while the others' meet none. Every word is ordered for one register of one part alone, so that one that any
+other ever held is seen. The multiplexer is left as it was selected, and put apart behind each transfer.
 
 Last the transfers of the multiplexer itself are struck, with a second part at 5A behind channel 5. That the kernel drives the
 multiplexer rightly is a premise: what a select that was falsely acknowledged does is counted and shown, and no fault.
