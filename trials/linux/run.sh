@@ -16,7 +16,7 @@
 # KEEP a folder for what the guests left.
 # Buses: 0 is i2c-virtio, whose failed transfers are short counts; 1 answers errors; 5 is bit-banged, i2c-gpio.
 #
-#   rows      every run of python/tests/data that is about a bus, by pmhost as a process
+#   rows      every run of python/tests/data that is about a bus, on bus 0 by pmhost as a process
 #   faults    eight orders under nine kinds of fault at each transfer, and 60 lists of two to four faults
 #   commands  the commands of docs/board.md and docs/captures.md
 #   programs  examples/c/i2c_dev.c and examples/pmbhost/drive.py under each fault
@@ -56,10 +56,11 @@ names=()
 for kind in $kinds; do
     # The bit by bit one takes longest: it begins first.
     for bus in 5 0 1; do
-        names+=("$kind$bus") drawn=()
-        [ $kind != drawn ] || drawn=("${SEED-7}" "${LISTS-60}")
-        [ $kind != boards ] || drawn=("${SEED-7}" "${BOARDS-200}")
-        VCD=$([ $kind$bus = captures5 ] && echo 1) trial $kind$bus $kind $bus "${drawn[@]}"
+        names+=("$kind$bus") more=()
+        [ $kind$bus != rows0 ] || more=(processes)
+        [ $kind != drawn ] || more=("${SEED-7}" "${LISTS-60}")
+        [ $kind != boards ] || more=("${SEED-7}" "${BOARDS-200}")
+        VCD=$([ $kind$bus = captures5 ] && echo 1) trial $kind$bus $kind $bus "${more[@]}"
     done
 done
 wait
