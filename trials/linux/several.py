@@ -17,7 +17,7 @@ import os
 import re
 import signal
 
-from drawn import KNOWN
+from drawn import KNOWN, WORD
 from faults import KINDS, ON_WIRE
 from guest_bus import WIRE, Bench, places
 from pmhost import cli
@@ -99,8 +99,8 @@ class Call:
     def __init__(self, program, orders, passes):
         self.program, self.place, self.orders = program, program.place, orders
         jobs = [*(f"word {output} {register} {word:04X}" for (output, register), word in orders.items()), "known"]
-        program.begin(["-b", program.bus, "-a", self.place.rpartition("/")[2], "--outputs=2", "--no-limit", "--patience=0", f"--passes={passes}",
-                       *" + ".join(jobs).split()])
+        program.begin(["-b", program.bus, "-a", self.place.rpartition("/")[2], "--outputs=2", "--no-limit", "--patience=0",
+                       f"--passes={passes}", *" + ".join(jobs).split()])
 
     def end(self):
         self.status, self.said = self.program.end()
@@ -109,16 +109,17 @@ class Call:
     def is_done(self):
         return self.status == 0 and sum(map(bool, map(DONE.match, self.said))) == len(self.orders)
 
-    def untrue(self, cells, has_restarted, is_struck):
-        """What it said and isn't so."""
+    def untrue(self, cells, kind, is_struck):
+        """What it said and isn't so; its part is struck by this kind of fault, or another is."""
+        has_restarted = is_struck and kind == "restart"
         known = [found for found in map(KNOWN.fullmatch, self.said) if found]
         if len(known) != 13 or self.status not in (0, 1) or not is_struck and not self.is_done():
             yield f"{self.place}: status {self.status}, {self.said}"
         for found in known:
             output, register, confirmed, possible = found.groups()
             word = cells[f"{output} {CODES[register]:02X}"]
-            if not has_restarted and (confirmed and int(confirmed, 16) != word or
-                                      possible and word not in {int(each, 16) for each in re.findall(r"\b[0-9A-F]{4}\b|\b[0-9A-F]{2}\b", possible)}):
+            told = [confirmed] if confirmed else WORD.findall(possible or "")
+            if not has_restarted and told and word not in {int(each, 16) for each in told}:
                 yield f"{self.place}: {found[0]}, and {word:04X} is held"
         if "restart seen: yes" in self.said and not has_restarted:
             yield f"{self.place}: a restart was seen, and there was none"
@@ -174,9 +175,9 @@ def by_processes(bench, tally, kinds, rests, is_short):
             for place in places(bench, length, FEW, is_short):
                 passes, plan = 1 + 2 * (place & 1), ["ok"] * place + [kind]
                 calls, told, wrong = trial.run(address, plan, passes)
-                untrue = [fault for each in calls
-                          for fault in each.untrue(told["all"][each.place]["cells"], kind == "restart" and each.place == struck, each.place == struck)]
-                counts.update({"runs": 1, "wrong part or output": bool(wrong), "false": bool(untrue), "all done": all(each.is_done() for each in calls)})
+                untrue = [fault for each in calls for fault in each.untrue(told["all"][each.place]["cells"], kind, each.place == struck)]
+                counts.update({"runs": 1, "wrong part or output": bool(wrong), "false": bool(untrue),
+                               "all done": all(each.is_done() for each in calls)})
                 tally.tell(f"bus {bench.number}, {struck} struck, {passes} passes, {' '.join(plan)}", [*wrong, *untrue])
     trial.close()
     print(f"bus {bench.number}, a pmhost for each of {', '.join(PLACES)}, the multiplexer {rests}: "
@@ -193,7 +194,8 @@ def by_selects(bench, kinds, rests, is_short):
             counts[kind].update({"runs": 1, "a word at the other part": bool(wrong)})
     trial.close()
     for kind, found in counts.items():
-        print(f"bus {bench.number}, a select struck, the multiplexer {rests}, {kinds[kind]}: " + ", ".join(f"{name} {count}" for name, count in found.items()), flush=True)
+        print(f"bus {bench.number}, a select struck, the multiplexer {rests}, {kinds[kind]}: "
+              + ", ".join(f"{name} {count}" for name, count in found.items()), flush=True)
 
 
 def main(words):
