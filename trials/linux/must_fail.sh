@@ -1,7 +1,7 @@
 #!/usr/bin/env bash
 # Plants bugs into copies of the package and of the C example, each of which a trial over a whole Linux must find: a short
 # count that is taken for success, once in each of the three programs that make transfers; a buffer for answers that is kept
-# from one transfer to the next; and an address that is another part's. Prints what found them.
+# from one transfer to the next; an address that is another part's; and answers of ones that are believed. Prints what found them.
 #
 #   trials/linux/must_fail.sh [OPTIONS]
 #
@@ -42,7 +42,9 @@ plant buffer python/src/pmhost/bus/linux.py "back = ctypes.create_string_buffer(
 tried buffer lines 0
 plant address python/src/pmhost/bus/linux.py "return self._sent(self.address, " "return self._sent(min(self.address, 0x59), "
 tried address several 0 short
-names="package frames buffer address"
+plant ones python/src/pmhost/bus/linux.py "return given(answer)" "return answer"
+tried ones ones 0
+names="package frames buffer address ones"
 plant program examples/c/linux_bus.h "return went == count;" "return went >= 0;"
 mkdir "$work/cache"
 ln -s "$built/kernel" "$built/modules" "$built/libpmhost.so" "$work/cache"
