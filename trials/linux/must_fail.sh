@@ -53,7 +53,7 @@ gcc -I"$root/crates/pm_host_c/include" "$work/program/tree/examples/c/i2c_dev.c"
 CACHE=$work/cache tried program programs 0
 names="$names program"
 wait
-. "$here/../tally.sh"
+. "$root/tools/tally.sh"
 for name in $names; do
     if grep -qE ' passed, [1-9][0-9]* failed$' "$work/$name/guest/said" 2> /dev/null; then
         tell 0; echo "$name: found"

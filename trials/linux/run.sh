@@ -65,7 +65,7 @@ for kind in $kinds; do
 done
 wait
 python3 "$here/waveform.py" "$work/captures5" > "$work/waveform" 2>&1
-. "$here/../tally.sh"
+. "$root/tools/tally.sh"
 # count NAME FILE: what a trial said, and its last line's numbers.
 count() {
     local last

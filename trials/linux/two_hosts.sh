@@ -42,7 +42,7 @@ for each in limit regulator polled ours sharpest; do
 done
 [ -z "${KEEP-}" ] || cp -r "$work" "$KEEP"
 sed 's/^/not as before: /' <(grep -vxFf "$here/results/two_hosts.txt" "$work/table") | tee "$work/others"
-. "$here/../tally.sh"
+. "$root/tools/tally.sh"
 failed=$(wc -l < "$work/others") passed=$(wc -l < "$work/table")
 passed=$((passed - failed))
 end_tally

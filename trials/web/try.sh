@@ -12,7 +12,7 @@ folder=$(realpath "$1")
 cd "$(dirname "$0")"
 work=$(mktemp -d)
 trap 'rm -rf "$work"; [ -z "${server-}" ] || kill "$server" 2> /dev/null' EXIT
-. ../tally.sh
+. ../../tools/tally.sh
 if command -v node > /dev/null; then
     node --no-warnings --experimental-wasm-memory64 rows.mjs "$folder" > "$work/rows" 2> "$work/log"
     grep -v ' passed, ' "$work/rows"
