@@ -1,8 +1,8 @@
-"""`pmhost apply` over drawn boards, under faults: boards BUS [SEED [BOARDS]].
+"""`pmhost apply` over drawn boards, under faults: boards BUS [SEED [BOARDS [drawn]]].
 
 Each board of two rails has settings of its own, cut ones and such on a margin too, and a file of what is wanted
 (python/tests/test_boards.py). One that goes through meets each kind of fault at each of its transfers; then BOARDS (200) drawn
-ones go by lists of drawn faults, every other one with one or two restarts. On the slow bus 5 two drawn transfers stand for all of
+ones go by lists of drawn faults, every other one with one or two restarts, and with the word `drawn` these alone. On the slow bus 5 two drawn transfers stand for all of
 them. Unless the part restarted no output ever commands anything but its old and its new voltage, looked at behind each frame, and
 no register ever held a word but its old and its wanted one. With and without a restart, what is told is so.
 """
@@ -106,12 +106,13 @@ def main(words):
     bench = Bench(int(words[0]))
     seed, boards = (int(words[1]) if len(words) > 1 else SEED), (int(words[2]) if len(words) > 2 else BOARDS)
     table, kinds = Table(bench, seed), {**KINDS, **MORE, **RESTARTS, **(ON_WIRE if bench.number == WIRE else {})}
-    number = goes_through(seed)
-    length = table.run(number, []).told["count"]
-    for kind in kinds:
-        for place in places(bench, length, FEW):
-            table.run(number, ["ok"] * place + [kind])
-    table.show(f"board {number}, of {length} transfers, under one fault")
+    if words[3:] != ["drawn"]:
+        number = goes_through(seed)
+        length = table.run(number, []).told["count"]
+        for kind in kinds:
+            for place in places(bench, length, FEW):
+                table.run(number, ["ok"] * place + [kind])
+        table.show(f"board {number}, of {length} transfers, under one fault")
     drawn, others = random.Random(seed), [kind for kind in kinds if kind not in RESTARTS]
     for number in range(boards):
         plan = [drawn.choice(others) if drawn.randrange(ONE_IN) == 0 else "ok" for _ in range(LENGTH)]
