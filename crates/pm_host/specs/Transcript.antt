@@ -1,7 +1,8 @@
 -- The transcript of a host: what it accepted and was told, newest first. What a host sends, how a job
 -- ends and which formats were learned is found in it by looking back. The frames are those of PMBus
 -- 1.3 Part II; jobs, passes and ends are this project's own choice.
-use Rattle.std.specs.Prelude.{ℕ, suc, ◌*◌, ◌%◌, Bool, false, not, if◌then◌else◌, ◌==◌, List, [], ◌∷◌, length, Option, Some, None, Result, Ok, Err, is_some, is_none, option_map, option_and_then}
+use Rattle.std.specs.Prelude.{ℕ, suc, ◌*◌, ◌%◌, Bool, false, not, if◌then◌else◌, ◌==◌, List, [], ◌∷◌, length, Option, Some, None, Result}
+use Rattle.std.specs.Prelude.{Ok, Err, is_some, is_none, option_map, option_and_then}
 use Rattle.std.specs.Option.{option_or, option_map_or}
 use Rattle.std.specs.Result.{result_ok}
 use Rattle.pm_num.specs.AnyFormat.{Shape, InUlinear16}
