@@ -30,7 +30,7 @@ use Rattle.pm_host.specs.Answers.{good_payload, good_word, word_in}
 use Rattle.pm_host.specs.Ended.{IsRead, StepTells, job_in, stage_job}
 use Rattle.pm_host.specs.Known.{Known, HasPlaces, all_any, known_now, known_possible}
 use Rattle.pm_host.specs.Laws.{TranscriptsAreFollowed}
-use Rattle.pm_host.specs.Lemmas.{all_any-length, reads_cell, reads_question}
+use Rattle.pm_host.specs.Lemmas.{all_any-length, reads_cell, reads_question, writes_cell}
 use Rattle.pm_host.specs.Marks.{Good, marks}
 use Rattle.pm_host.specs.Messages.{cell_read, cell_write, command_message}
 use Rattle.pm_host.specs.Possible.{is_possible, only, possible_of}
