@@ -1,6 +1,7 @@
 -- What a session, a host with limits and the survey that is open, answers to a line, and what it is then. This project's
 -- own choice.
-use Rattle.std.specs.Prelude.{ℕ, ℤ, ◌-◌, ◌==◌, Bool, true, false, if◌then◌else◌, nat_lt, List, [], Option, Some, None, Result, Ok, Err, is_none, option_map}
+use Rattle.std.specs.Prelude.{ℕ, ℤ, ◌-◌, ◌==◌, Bool, true, false, if◌then◌else◌, nat_lt, List, [], Option, Some, None, Result, Ok, Err}
+use Rattle.std.specs.Prelude.{is_none, option_map}
 use Rattle.std.specs.Option.{option_map_or}
 use Rattle.pm_table.specs.declared.cell.Cell.{Cell}
 use Rattle.pm_table.specs.declared.cell.Cell.TheVariants.{Out}
@@ -41,7 +42,8 @@ use Rattle.pmbhost_lines.specs.declared.ask.Ask.TheVariants as ask
 use Rattle.pmbhost_lines.specs.declared.refusal.Refusal.{Refusal}
 use Rattle.pmbhost_lines.specs.declared.refusal.Refusal.TheVariants as refusal
 use Rattle.pmbhost_lines.specs.declared.reply.Reply.{Reply}
-use Rattle.pmbhost_lines.specs.declared.reply.Reply.TheVariants.{Write, Request, Idle, Ended, Restarted, State, Seen, Band, Limits, Narrowed, Rail, Plan, Survey, Refused}
+use Rattle.pmbhost_lines.specs.declared.reply.Reply.TheVariants.{Write, Request, Idle, Ended, Restarted, State, Seen, Band, Limits}
+use Rattle.pmbhost_lines.specs.declared.reply.Reply.TheVariants.{Narrowed, Rail, Plan, Survey, Refused}
 use Rattle.pmbhost_lines.specs.declared.session.Session.{Session}
 
 -- the answer to a line, and the session after it
