@@ -108,14 +108,14 @@ send_end setup told =
     if is_acked told then Some Done
     else (if length told == setup.passes then Some Unknown else None)
 
--- A learn reads VOUT_MODE up to the first good answer, which is this byte,
+-- A learn reads VOUT_MODE up to the first good answer, which is this byte.
 abbrev pub mode_told : Setup → ℕ → List Entry → Option ℕ
 mode_told setup output [] = None
 mode_told setup output (Got bytes ∷ before) =
     option_or (mode_told setup output before) (good_mode setup.addr output bytes)
 mode_told setup output (_ ∷ before) = mode_told setup output before
 
--- and from then on, for DIRECT, COEFFICIENTS up to the first good answer, which is this,
+-- A learn that has read VOUT_MODE reads COEFFICIENTS from then on, for DIRECT, up to the first good answer, which is this.
 abbrev pub coefficients_told : Setup → ℕ → List Entry → Option Coefficients
 coefficients_told setup output [] = None
 coefficients_told setup output (Got bytes ∷ before) =

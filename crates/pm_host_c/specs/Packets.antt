@@ -68,6 +68,6 @@ answer_number address message bytes =
 abbrev pub payload_of : PayloadImage → List ℕ
 payload_of payload = take payload.length payload.bytes
 
--- and the word that the first two are, the low one first
+-- A payload has the word that its first two bytes are, the low one first.
 abbrev pub HasPayload : PayloadImage → Type 0
 HasPayload payload = payload.word ≡ slice_index payload.bytes 0 + 256 * slice_index payload.bytes 1

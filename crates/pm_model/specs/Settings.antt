@@ -64,7 +64,7 @@ abbrev pub is_accepted_at : ℕ → Words → ℕ → Bool
 is_accepted_at count words place =
     not (is_cell count (cell_in place)) || cell_accepts (cell_in place) (slice_index words place)
 
--- so is the word at each place
+-- the word at each place is one that its cell accepts, where a converter with this many outputs has the cell
 unfoldable pub are_accepted : ℕ → Words → Bool
 are_accepted count words = list_all (is_accepted_at count words) (range_with_len 0 places)
 

@@ -182,7 +182,7 @@ pub record BetrayedDamageIsLegal : Type 0 where
       let answer = answer_in (reply_of held heard Restart) in AreBytes answer →
       is_legal_return frame (whole_answer request) whole answer answer ≡ true
 
--- So such damage stops no run: a world that isn't full takes the delivery, and the exchange.
+-- Such damage stops no run: a world that isn't full takes the delivery, and the exchange.
 pub record BetrayedDamageIsTaken : Type 0 where
   pub delivered : (config : Config) (passes : ℕ) (events : List Event) (message : Message)
       (bytes : List ℕ) (ending : Ending) →

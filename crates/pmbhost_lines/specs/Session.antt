@@ -173,7 +173,7 @@ abbrev pub plans : Session → Result (Option PlanOrder) PlanFault → Answered
 plans s (Err fault) = refuses s (refusal.Plan fault)
 plans s (Ok order) = stays s (Plan order)
 
--- and the same order begun: it is one that nothing refuses
+-- the same order begun: it is one that nothing refuses
 abbrev pub begins_next : Session → ℕ → Result (Option PlanOrder) PlanFault → Answered
 begins_next s output (Err fault) = refuses s (refusal.Plan fault)
 begins_next s output (Ok None) = stays s (Plan None)

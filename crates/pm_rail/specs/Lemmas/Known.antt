@@ -234,7 +234,7 @@ module _ (value : Scale) (known held : Held) (wants : Wants) (none : wants Opera
       let s = selected-same in
       cc
 
-  -- and so is what isn't cut at the end
+  -- what is known is cut at the end of a plan exactly where what is held is
   pub uncut-same : is_cut_by value (goal_of known wants) ≡ is_cut_by value (goal_of held wants)
   uncut-same =
       let max = agree VoutMax refl in
