@@ -2,7 +2,7 @@
 use Rattle.std.proofs.Common.{rules, ◌≡◌, ℕ, suc, ◌+◌, ◌*◌, ◌/◌, ◌%◌, ◌≤◌, Bool, true, false, not, cond, eqb, List, [], ◌∷◌, length, set}
 use Rattle.std.proofs.Common.{Option, Some, None, Result, Ok, Err, is_none, option_map, option_and_then, option_to_list, refl}
 use Rattle.std.proofs.Common.{add-one}
-use Rattle.std.specs.Option.{option_or, option_map_or}
+use Rattle.std.specs.Option.{option_map_or}
 use Rattle.std.proofs.lemmas.Bool.{false≢true}
 use Rattle.pm_num.specs.AnyFormat.{Shape}
 use Rattle.pm_table.specs.declared.cell.Cell.{Cell}

@@ -5,7 +5,7 @@ use Rattle.std.proofs.Common.{Option, Some, None, Result, Ok, Err, is_some, opti
 use Rattle.std.specs.Option.{option_map_or}
 use Rattle.std.specs.Result.{result_ok}
 use Rattle.std.proofs.lemmas.Bool.{eqb-true, false≢true, eq-eqb}
-use Rattle.std.proofs.lemmas.List.{get_or-set_same, get_or-set_other, length-replicate}
+use Rattle.std.proofs.lemmas.List.{get_or-set_same, get_or-set_other}
 use Rattle.pm_num.specs.AnyFormat.{Shape, InUlinear16}
 use Rattle.pm_table.specs.declared.cell.Cell.{Cell}
 use Rattle.pm_table.specs.declared.fault.TableFault.{TableFault}
@@ -32,7 +32,7 @@ use Rattle.pm_host.specs.Known.{Known, HasPlaces, all_any, known_now, known_poss
 use Rattle.pm_host.specs.Laws.{TranscriptsAreFollowed}
 use Rattle.pm_host.specs.Lemmas.{all_any-length, reads_cell, reads_question, writes_cell}
 use Rattle.pm_host.specs.Marks.{Good, marks}
-use Rattle.pm_host.specs.Messages.{cell_read, cell_write, command_message}
+use Rattle.pm_host.specs.Messages.{command_message}
 use Rattle.pm_host.specs.Possible.{is_possible, only, possible_of}
 use Rattle.pm_host.specs.Now.{now, stage_of, job_stage, AreTold}
 use Rattle.pm_host.specs.Standing.{standing_of}

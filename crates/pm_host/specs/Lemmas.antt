@@ -1,6 +1,6 @@
 -- Facts on messages and on what is known that proofs above take by name. Each stands for a clause of its definition: which
 -- way the message of a cell or of a question goes, and what another cell's write leaves.
-use Rattle.std.specs.Prelude.{◌≡◌, ℕ, Bool, true, false, List, ◌∷◌, length}
+use Rattle.std.specs.Prelude.{◌≡◌, ℕ, true, false, List, ◌∷◌, length}
 use Rattle.std.proofs.Common.{rules}
 use Rattle.std.proofs.lemmas.List.{length-replicate}
 use Rattle.pm_table.specs.declared.cell.Cell.{Cell}
