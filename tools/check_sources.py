@@ -14,6 +14,8 @@ It prints a line for each finding, and has status 1 if there is one. With --plac
     laws       a record of laws in proofs, where the law has a name in the definitions of its crate
     proofs     a crate names the proofs of another: a lemma that crates above need stands in specs/Lemmas
     lemma      a lemma that is proved a second time, under whatever name
+    middle     a comment of a proof begins in the middle of a sentence: with and, so, or, nor
+    long       a line of a proof or a definition is over 140 characters
     page       a refusal of a type isn't in docs/refusals.md, or one of the page or of a help is in no type
     example    an example of a comment stands in no test, word for word
     claims     a law doesn't stand on its crate's page of docs/claims/, or on another one's too
@@ -31,6 +33,7 @@ import planted
 import refusals
 from crate_copy import crates_below, read
 from program import answer_help
+from proof_text import MOST, over
 
 REGISTERS = ("Operation", "VoutCommand", "VoutMax", "MarginHigh", "MarginLow", "VoutMin")
 NEAR = 5
@@ -226,31 +229,6 @@ def page(src):
                         yield path, number, "page", "no type has %s %s" % refusal
 
 
-# Lemmas that stand twice yet, by their crates: each that goes leaves this list, and none comes to it.
-TWICE = {
-    "pm_device": "less-true map-none still_set",
-    "pm_driver": "both-so bytes-self entries-more first-none in-format later-none long-so none-more now-config "
-                 "reads-so request-legal whole-legal writes-so",
-    "pm_frame": "bytes-more doubled-lt length_fault-found pec_of-lt residue-lt residues_of-lt same_from_sum",
-    "pm_host": "all_any-length first_none le-times le_from_times lt-times possible_of-put_other reads_cell "
-               "reads_question times-swap times-times writes_cell",
-    "pm_host_c": "at_most both-true found within",
-    "pm_limits": "all-dens head not-above same-itself second through",
-    "pm_model": "not-above true-there zero-on",
-    "pm_num": "at_most at_most-trans from_T le-times le_from_times lt-times power times-swap times-times within",
-    "pm_rail": "below-count both-true first-of found has-wanted head not-above off-not on-not or-first or-second "
-               "same-number selected-needed tail un-not unmapped",
-    "pm_table": "IsShort-cond IsShort-line_among register_at-number",
-    "pm_text": "not-above",
-    "pm_world": "all-dens and-both any-length cell-there doubled-byte entries-more from_T in-format itself "
-                "now-config one-more or-first or-second pec-byte put-other question-reads reads-cell "
-                "register_at-number residue-byte residues-byte same-number same_bytes selected-needed whole-hearing "
-                "write-heard write-kind",
-    "pm_world_examples": "cancel_left sized",
-    "pmbhost_lines": "short_among short_choice",
-}
-
-
 def foreign(crates):
     """Places where a crate names the proofs of another."""
     for path, number, name in house.lower_proofs(crates):
@@ -260,9 +238,17 @@ def foreign(crates):
 def twins(crates):
     """Lemmas that are proved a second time."""
     for _, those in house.doubled_lemmas(crates):
-        new = [(path, number, name) for path, number, name in those if name not in TWICE.get(path.split("/")[1], "").split()]
-        for path, number, name in new:
+        for path, number, name in those:
             yield path, number, "lemma", "%s stands %d times: %s" % (name, len(those), ", ".join(sorted({it[0] for it in those})))
+
+
+def unreadable(crates, proofs):
+    """Comments of proofs that hang on the line before, and lines of proofs and definitions that are too long to read."""
+    for path, number, text in house.middles(crates):
+        yield path, number, "middle", text
+    for path, _ in proofs:
+        for number in over(read(path)):
+            yield path, number, "long", "over %d characters" % MOST
 
 
 LAW = re.compile(r"^pub fn (\w+)(?:<[^\n]*>)?\(\)(?: *$| *\{)", re.M)
@@ -334,6 +320,7 @@ def findings(crates):
         yield from laws(path, lines)
     yield from foreign(crates)
     yield from twins(crates)
+    yield from unreadable(crates, specs + proofs)
     yield from unrun(crates)
     yield from unclaimed(crates)
     yield from planted.findings(crates)

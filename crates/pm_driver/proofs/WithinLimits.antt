@@ -27,7 +27,7 @@ use Rattle.pm_limits.specs.declared.part_registers.PartRegisters.{PartRegisters}
 use Rattle.pm_limits.specs.Bounds.{Bounds, IsWithin, is_wider}
 use Rattle.pm_limits.specs.Guard.{Guarded, LetsBegin, guard_fault, guarded_order, judged, limits_at, missing_cell, missing_ordered, of_host, word_fault}
 use Rattle.pm_limits.specs.Lemmas.Guarded.{guarded-voltage}
-use Rattle.pm_limits.specs.Lemmas.Order.{through}
+use Rattle.pm_num.specs.Lemmas.Over.{at_most-trans}
 use Rattle.pm_world.specs.declared.event.Event.{Event}
 use Rattle.pm_world.specs.declared.event.Event.TheVariants.{RestartHost}
 use Rattle.pm_world.specs.Job.{asked_by}
@@ -119,8 +119,8 @@ narrower own bounds value narrow within =
     go true high l h none = cc
     go false true l h none = cc
     go false false l h none = record {
-      from_least = through (micros bounds.least) (micros own.least) value (omega arith) (grind (arith, ints, nat_tests)) within.from_least;
-      to_greatest = through value (micros own.most) (micros bounds.most) (omega arith) within.to_greatest (grind (arith, ints, nat_tests));
+      from_least = at_most-trans (micros bounds.least) (micros own.least) value (omega arith) (grind (arith, ints, nat_tests)) within.from_least;
+      to_greatest = at_most-trans value (micros own.most) (micros bounds.most) (omega arith) within.to_greatest (grind (arith, ints, nat_tests));
     }
 
 -- a word within an output's own limits in a known format lies within any limits that those are as narrow as

@@ -1,5 +1,6 @@
 mod calls;
 mod checks;
+mod example;
 mod limits;
 mod packets;
 mod rails;

@@ -1,5 +1,6 @@
 -- What the laws of this crate say.
-use Rattle.std.specs.Prelude.{◌≡◌, ◌≢◌, ◌⊎◌, ◌<◌, ◌+◌, ℕ, Bool, true, false, Option, Some, None, IsSomeAnd, is_none, is_some, option_map, Ok}
+use Rattle.std.specs.Prelude.{◌≡◌, ◌≢◌, ◌⊎◌, ◌<◌, ◌+◌, ℕ, Bool, true, false, Option, Some, None, IsSomeAnd, is_none, is_some, option_map}
+use Rattle.std.specs.Prelude.{Ok}
 use Rattle.pm_num.specs.AnyFormat.{Shape, shape_value}
 use Rattle.pm_num.specs.Ratio.{Ratio}
 use Rattle.pm_table.specs.declared.reg.Reg.{Reg}
@@ -78,11 +79,13 @@ MayHold part s output wants held = (shape : Shape) → format_at s output ≡ So
 -- ones these are: the next order is theirs (`next`), the output isn't cut by the words at the end (`uncut`), and where
 -- no order is left each wanted word is held (`done`). By these the other laws speak of what a plan answers.
 pub record PlansAreOfWhatIsHeld : Type 0 where
-  pub next : (part : PartRegisters) (s : Summary) (limits : Option Bounds) (output : ℕ) (wants : Wants) (order : Option PlanOrder) (held : Held) →
+  pub next : (part : PartRegisters) (s : Summary) (limits : Option Bounds) (output : ℕ) (wants : Wants) (order : Option PlanOrder)
+      (held : Held) →
       wants Operation ≡ None → MayHold part s output wants held → plan_of part s limits output wants ≡ Ok order →
       IsSomeAnd (format_at s output)
       (λ shape. option_map (order_of held wants) (next_register (shape_value shape) held wants) ≡ order)
-  pub uncut : (part : PartRegisters) (s : Summary) (limits : Option Bounds) (output : ℕ) (wants : Wants) (order : Option PlanOrder) (held : Held) →
+  pub uncut : (part : PartRegisters) (s : Summary) (limits : Option Bounds) (output : ℕ) (wants : Wants) (order : Option PlanOrder)
+      (held : Held) →
       wants Operation ≡ None → MayHold part s output wants held → plan_of part s limits output wants ≡ Ok order →
       IsSomeAnd (format_at s output) (λ shape. is_cut_by (shape_value shape) (goal_of held wants) ≡ false)
   pub done : (part : PartRegisters) (s : Summary) (limits : Option Bounds) (output : ℕ) (wants : Wants) (held : Held)

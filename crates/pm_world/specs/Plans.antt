@@ -58,7 +58,7 @@ MayAsk config passes part output wants later before (Some (host.Order (Out other
 MayAsk config passes part output wants later before (Some (host.Send RestoreUserAll)) = ⊥
 MayAsk config passes part output wants later before job = Unit {0}
 
--- so it is at each of the later events, at which the converter doesn't restart
+-- each of the later events asks for nothing but such a job, and restarts no converter
 abbrev pub Follows : Config → ℕ → PartRegisters → ℕ → Wants → List Event → List Event → Type 0
 Follows config passes part output wants [] before = Unit {0}
 Follows config passes part output wants (event ∷ later) before =
