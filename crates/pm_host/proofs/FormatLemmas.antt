@@ -1,5 +1,5 @@
 -- The bytes of a format that was learned are those that the format is written by.
-use Rattle.std.proofs.Common.{◌≡◌, ℕ, ◌+◌, ◌*◌, ◌-◌, ◌/◌, ◌%◌, ◌<◌, Bool, true, false, cond, nat_lt, List, [], ◌∷◌, is_some, Ok, Err, refl, sym, ap, ◌∙◌, arith}
+use Rattle.std.proofs.Common.{◌≡◌, ℕ, ◌+◌, ◌*◌, ◌/◌, ◌%◌, ◌<◌, Bool, true, false, cond, nat_lt, List, [], ◌∷◌, is_some, Ok, Err, refl, sym, ap, ◌∙◌, arith}
 use Rattle.std.proofs.lemmas.Bool.{lt-ltb}
 use Rattle.std.proofs.lemmas.Int.{of_z-to_z}
 use Rattle.std.specs.Prelude.{pos, ◌-ℤ◌}
@@ -12,7 +12,6 @@ use Rattle.pm_table.specs.declared.coefficients.Coefficients.{Coefficients}
 use Rattle.pm_table.specs.Coefficients.{coefficient_bytes, coefficients_of, high_byte, low_byte, signed_word}
 use Rattle.pm_table.specs.Format.{is_decimal}
 use Rattle.pm_table.specs.VoutMode.{exponent_of}
-use Rattle.pm_host.specs.declared.format_image.FormatImage.{FormatImage}
 use Rattle.pm_host.specs.Memory.{format_image, mode_byte, IsFormat}
 
 -- of ULINEAR16 the byte of VOUT_MODE

@@ -62,9 +62,7 @@ impl FormatImage {
             return format_of(VoutMode::Direct, Coefficients::read(self.coefficients)).ok();
         }
         match VoutMode::read(self.mode) {
-            Ok(VoutMode::Linear(exponent)) => {
-                Ulinear16::new(exponent).map(AnyFormat::Ulinear16)
-            }
+            Ok(VoutMode::Linear(exponent)) => { Ulinear16::new(exponent).map(AnyFormat::Ulinear16) }
             _ => None,
         }
     }

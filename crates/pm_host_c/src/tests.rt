@@ -10,8 +10,8 @@ use self::calls::{
     standing, store, within,
 };
 use self::checks::{equal, is_true};
-use crate::guard_image::GuardImage;
 use crate::format_numbers::FormatNumbers;
+use crate::guard_image::GuardImage;
 use crate::host::{pm_host_size, pm_host_version, pm_version};
 use crate::survey::{pm_survey_size, pm_survey_version};
 use pm_host::WordsImage;

@@ -158,9 +158,7 @@ impl State {
                 Progress::Over(JobEnd::Done)
             }
             Question::Mode(output) => self.mode_known(output, byte_in(payload)),
-            Question::Coefficients(output) => {
-                self.learned(output, FormatImage::direct(payload))
-            }
+            Question::Coefficients(output) => { self.learned(output, FormatImage::direct(payload)) }
         }
     }
 
