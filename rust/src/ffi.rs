@@ -2,7 +2,7 @@
 //! numbers and sizes.
 
 pub const VERSION: u16 = 0x0001;
-pub const HOST_VERSION: u16 = 5;
+pub const HOST_VERSION: u16 = 6;
 pub const HOST_SIZE: usize = 2064;
 pub const SURVEY_VERSION: u16 = 1;
 pub const SURVEY_SIZE: usize = 40;

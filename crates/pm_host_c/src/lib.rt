@@ -21,6 +21,7 @@
 #![tactic(auto)]
 
 mod answer;
+mod format_numbers;
 mod guard_image;
 mod host;
 mod host_step;

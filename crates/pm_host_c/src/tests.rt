@@ -11,15 +11,16 @@ use self::calls::{
     standing, store, within,
 };
 use self::checks::{equal, is_true};
+use crate::format_numbers::FormatNumbers;
 use crate::guard_image::GuardImage;
 use crate::host::{pm_host_size, pm_host_version, pm_version};
 use crate::survey::{pm_survey_size, pm_survey_version};
-use pm_host::{FormatImage, WordsImage};
+use pm_host::WordsImage;
 
 #[test]
 fn sizes_are_those_of_the_header(rt: HostRuntime) {
     equal(&rt, &pm_host_size(), &2064, &1);
-    equal(&rt, &(pm_version(), pm_host_version()), &(0x0001, 5), &2);
+    equal(&rt, &(pm_version(), pm_host_version()), &(0x0001, 6), &2);
     equal(&rt, &pm_survey_size(), &40, &3);
     equal(&rt, &pm_survey_version(), &1, &4);
 }
@@ -230,15 +231,14 @@ fn memory_that_holds_no_host_is_refused(rt: HostRuntime) {
 }
 
 // What damaged memory says of output 1, that still reads as a host: a count past the words, a flag that is
-// neither, an exponent that no format has.
+// neither, a mode that names no format.
 #[test]
 fn damaged_memory_says_what_can_be_read(rt: HostRuntime) {
     let mut image = host(2);
     let state = &mut image.host.state;
     state.known.possible[7].count = 0x0400;
     state.known.standing[7].is_confirmed = 2;
-    state.formats[1].kind = 1;
-    state.formats[1].exponent = 99;
+    state.formats[1].mode = 0x60;
     equal(&rt, &possible(&image, 1, 0x21), &(0, 0, 0), &1);
     equal(&rt, &standing(&image, 1, 0x21), &(0, 0, 0), &2);
     equal(&rt, &format(&image, 1), &(0, 0, 0), &3);
@@ -246,7 +246,7 @@ fn damaged_memory_says_what_can_be_read(rt: HostRuntime) {
 
 #[test]
 fn numbers_stand_alone(rt: HostRuntime) {
-    let format = FormatImage {
+    let format = FormatNumbers {
         kind: 1,
         exponent: -12,
         m: 0,
@@ -271,13 +271,13 @@ fn numbers_stand_alone(rt: HostRuntime) {
         &(0x15, 7),
         &5,
     );
-    let none = FormatImage {
+    let none = FormatNumbers {
         kind: 2,
         exponent: 0,
         m: 0,
         b: 0,
     };
-    let linear11 = FormatImage { kind: 3, ..none };
+    let linear11 = FormatNumbers { kind: 3, ..none };
     equal(&rt, &microvolts(&linear11, 0xD300), &(0, 12_000_000), &8);
     equal(&rt, &nearest(&linear11, -500_000), &(0, 0xFFFF), &9);
     equal(&rt, &nearest(&none, 1), &(7, 7), &6);
@@ -299,7 +299,7 @@ static LARGE: [(i16, u16, (u8, i64)); 5] = [
 #[test]
 fn what_is_beyond_the_most_is_refused(rt: HostRuntime) {
     for &(b, word, wanted) in &LARGE {
-        let format = FormatImage {
+        let format = FormatNumbers {
             kind: 2,
             exponent: -9,
             m: 1,

@@ -21,7 +21,7 @@ use crate::survey_image::SurveyImage;
 use crate::told::{pm_host_finished, pm_host_got};
 use crate::voltages::{pm_at_least, pm_at_most, pm_host_format, pm_microvolts, pm_nearest_word};
 use crate::wanted_image::WantedImage;
-use pm_host::{FormatImage, StandingImage, WordsImage};
+use pm_host::{StandingImage, WordsImage};
 use pm_table::Cell;
 
 pub(super) const NOTHING: SendingImage = SendingImage {
@@ -133,7 +133,7 @@ pub(super) fn possible(image: &GuardImage, output: u8, code: u8) -> (u8, u16, u1
 }
 
 pub(super) fn format(image: &GuardImage, output: u8) -> (u8, u8, i8) {
-    let mut format = FormatImage {
+    let mut format = FormatNumbers {
         kind: 7,
         exponent: 7,
         m: 7,
@@ -176,25 +176,25 @@ pub(super) fn written(address: u8, packet: &Packet, bytes: &[u8]) -> (u8, u8, bo
     (number, frame.length, frame.bytes.starts_with(bytes))
 }
 
-pub(super) fn microvolts(format: &FormatImage, word: u16) -> (u8, i64) {
+pub(super) fn microvolts(format: &FormatNumbers, word: u16) -> (u8, i64) {
     let mut microvolts = 7;
     let number = pm_microvolts(format, word, &mut microvolts);
     (number, microvolts)
 }
 
-pub(super) fn nearest(format: &FormatImage, microvolts: i64) -> (u8, u16) {
+pub(super) fn nearest(format: &FormatNumbers, microvolts: i64) -> (u8, u16) {
     let mut word = 7;
     let number = pm_nearest_word(format, microvolts, &mut word);
     (number, word)
 }
 
-pub(super) fn at_most(format: &FormatImage, microvolts: i64) -> (u8, u16) {
+pub(super) fn at_most(format: &FormatNumbers, microvolts: i64) -> (u8, u16) {
     let mut word = 7;
     let number = pm_at_most(format, microvolts, &mut word);
     (number, word)
 }
 
-pub(super) fn at_least(format: &FormatImage, microvolts: i64) -> (u8, u16) {
+pub(super) fn at_least(format: &FormatNumbers, microvolts: i64) -> (u8, u16) {
     let mut word = 7;
     let number = pm_at_least(format, microvolts, &mut word);
     (number, word)
