@@ -4,7 +4,7 @@ use Rattle.std.specs.Prelude.{unwrap_or, [], ◌∷◌}
 use Rattle.std.specs.Option.{option_map_or}
 use Rattle.std.proofs.Common.{inl, inr, sym, ◌∙◌, ap, arith, subst}
 use Rattle.std.proofs.lemmas.Bool.Decides.{nat_tests}
-use Rattle.pm_num.specs.Ratio.{Ratio, is_above}
+use Rattle.pm_num.specs.Ratio.{is_above}
 use Rattle.pm_num.specs.Lemmas.Order.{not-above-itself}
 use Rattle.pm_table.specs.declared.reg.Reg.{Reg}
 use Rattle.pm_table.specs.declared.reg.Reg.TheVariants.{Operation, VoutCommand, VoutMax, MarginHigh, MarginLow, VoutMin}

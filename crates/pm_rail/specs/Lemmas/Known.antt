@@ -1,7 +1,6 @@
 -- What an answer of the plan says, by what a host knows, and that it is the one for the words that are held.
 use Rattle.std.specs.Prelude.{◌≡◌, ◌≢◌, ℕ, Bool, true, false, not, ◌&&◌, ◌||◌, ◌==◌, refl, Option, Some, None, if◌then◌else◌, find, is_none}
 use Rattle.std.specs.Prelude.{is_some, unwrap_or, option_and_then, option_map, List, [], ◌∷◌, Ok, Err}
-use Rattle.std.specs.Option.{option_or}
 use Rattle.std.proofs.Common.{sym, ◌∙◌, ap, arith}
 use Rattle.std.proofs.lemmas.Bool.Decides.{nat_tests}
 use Rattle.std.proofs.lemmas.Bool.{eq-eqb, or_left, or_right}
