@@ -13,7 +13,7 @@ use Rattle.pm_world.specs.declared.event.Event.TheVariants.{RestartHost}
 use Rattle.pm_world.specs.Confirmed.{reads_cell, restarted_since, restarts_converter}
 use Rattle.pm_world.specs.Life.{life}
 use Rattle.pm_world.specs.State.{tells}
-use Rattle.pm_driver.specs.Acts.{Act, AreCalls, Began, Call, Called, Renewed}
+use Rattle.pm_driver.specs.Acts.{Act, AreCalls, Began, Call, Called, Looked, Read, Renewed}
 use Rattle.pm_driver.specs.Bus.{restarts_in}
 use Rattle.pm_driver.specs.Driven.{Driving, HasLife, HasNoRestartSince, MayBegin, driven}
 use Rattle.pm_driver.specs.Ends.{cell_read}
@@ -145,6 +145,10 @@ calls-none gives restarts is_so all old so (Called call ∷ acts) new calls =
     (one.0 ∙ earlier.0, one.1)
 calls-none gives restarts is_so all old so (Began job ∷ acts) new calls = calls-none gives restarts is_so all old so acts new calls
 calls-none gives restarts is_so all old so (Renewed ∷ acts) new calls = calls-none gives restarts is_so all old so acts new calls
+calls-none gives restarts is_so all old so (Looked request room came ∷ acts) new calls =
+    let earlier = calls-none gives restarts is_so all old so acts calls.0 calls.1 in
+    let one = all (Read request room came) calls.0 new earlier.1 calls.2 in
+    (one.0 ∙ earlier.0, one.1)
 
 -- a job restarts nothing
 pub jobs-none : {B : Type 0} (gives : B → Call → B → Type 0) (held : B → Held) (restarts : B → ℕ) → JobsRestartNothing gives held restarts

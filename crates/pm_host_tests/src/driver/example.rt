@@ -3,7 +3,8 @@
 use crate::checks::equal;
 use pm_device::Config;
 use pm_device_tests::BASE;
-use pm_driver::{ApplyEnd, Bus, Driver, Fault, driver_over};
+use pm_driver::{ApplyEnd, Bus, Driver, Fault, driver_over, requests_are_no_writes};
+use pm_frame::{code_request, read_plain};
 use pm_host::JobEnd;
 use pm_limits::LimitFault;
 use pm_rail::Wanted;
@@ -27,6 +28,15 @@ fn applied<B: Bus>(driver: &mut Driver<B>) -> Option<ApplyEnd> {
     Some(driver.apply(0, &wanted, 60)) // Reached: the converter holds both words
 }
 
+fn status<B: Bus>(driver: &mut Driver<B>) -> Option<u16> {
+    let mut room = [0; 4]; // the read address, two bytes and the PEC
+    // law: no beginning of the request is a write
+    requests_are_no_writes();
+    let count = driver.read(&code_request(0x58, 0x79), &mut room).ok()?; // H3: a job is open
+    let payload = read_plain(0x58, 0x79, 2, &room[..count]).ok()?; // F5 where a bit changed
+    Some(u16::from_le_bytes([payload[0], payload[1]]))
+}
+
 fn tried(config: Config, plan: &[Fault]) -> Option<JobEnd> {
     let mut driver = driver_over(config, 2, plan)?;
     driver.order(Cell::Out(0, Reg::VoutCommand), 0x34CD).ok()
@@ -39,6 +49,7 @@ fn the_examples_of_the_roots_run(rt: HostRuntime) {
         Some(mut driver) => {
             equal(&rt, &applied(&mut driver), &Some(ApplyEnd::Reached), &2);
             equal(&rt, &ordered(&mut driver), &Ok(JobEnd::Done), &3);
+            equal(&rt, &status(&mut driver), &Some(0), &4);
         }
         None => panic!(rt; "refused"),
     }

@@ -1,5 +1,5 @@
 use Rattle.pm_driver.proofs.Surveyed.{asked-free}
-use Rattle.pm_driver.proofs.driver.Driver.read.Goals as goal
+use Rattle.pm_driver.proofs.driver.Driver.run_read.Goals as goal
 
 pub unreachable-requires : goal.unreachable-requires
 unreachable-requires g c =
