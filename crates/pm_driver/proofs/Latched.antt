@@ -9,23 +9,18 @@ use Rattle.std.proofs.lemmas.Slice.Eq.{bytes_eq-Decides, starts_is}
 use Rattle.pm_table.specs.declared.cell.Cell.{Cell}
 use Rattle.pm_table.specs.declared.cell.Cell.TheVariants.{Out, Protect}
 use Rattle.pm_table.specs.Codes as command
-use Rattle.pm_table.specs.declared.reg.Reg.{Reg}
 use Rattle.pm_table.specs.declared.reg.Reg.TheVariants.{Operation}
 use Rattle.pm_frame.specs.declared.fault.FrameFault.{FrameFault}
 use Rattle.pm_frame.specs.declared.fault.FrameFault.TheVariants.{NotOurs}
 use Rattle.pm_frame.specs.declared.message.Message.{Message}
-use Rattle.pm_frame.specs.declared.message.Message.TheVariants.{PagePlusRead}
 use Rattle.pm_frame.specs.Betrayal.{is_betrayed}
 use Rattle.pm_frame.specs.Fault.{write_fault, request_fault}
 use Rattle.pm_frame.specs.Laws.{BetrayalIsRefused, RequestsAreExact}
 use Rattle.pm_frame.specs.Layout.{IsRequest, is_read_message}
 use Rattle.pm_frame.specs.View.{message_in}
-use Rattle.pm_table.specs.Cell.{register_code}
 use Rattle.pm_device.specs.declared.ending.Ending.{Ending}
 use Rattle.pm_device.specs.declared.ending.Ending.TheVariants.{Stop, Restart}
-use Rattle.pm_device.specs.declared.verdict.Verdict.TheVariants.{Answers, Refuses}
-use Rattle.pm_device.specs.declared.fault.DeviceFault.{DeviceFault}
-use Rattle.pm_device.specs.declared.fault.DeviceFault.TheVariants.{BadPage, UnsupportedData}
+use Rattle.pm_device.specs.declared.heard.Heard.{Heard}
 use Rattle.pm_device.specs.Effect as device
 use Rattle.pm_device.specs.Held.{CmlFaults, Held}
 use Rattle.pm_device.specs.History.{after, next as device_next}
@@ -37,7 +32,7 @@ use Rattle.pm_host.specs.declared.command.Command.TheVariants.{ClearFaults}
 use Rattle.pm_host.specs.declared.question.Question.TheVariants.{Word, Mode, Coefficients}
 use Rattle.pm_host.specs.declared.stage.Stage.{Stage}
 use Rattle.pm_host.specs.declared.stage.Stage.TheVariants.{Asks, Reads, Sends, Writes}
-use Rattle.pm_host.specs.Messages.{cell_read, cell_write, coefficients_read, command_message, mode_read, values_written}
+use Rattle.pm_host.specs.Messages.{cell_read, cell_write, command_message, values_written}
 use Rattle.pm_host.specs.Summary.{Summary, sending_in, stage_message}
 use Rattle.pm_world.specs.declared.arrival.Arrival.{Arrival}
 use Rattle.pm_world.specs.declared.arrival.Arrival.TheVariants as arrival
@@ -55,8 +50,8 @@ pub same-of : {one other : Held} → one ≡ other → IsSameButFaults one other
 same-of {one = one} is = subst (λ x. IsSameButFaults one x) is refl
 
 -- what a third holds, of which the other differs in latched bits alone
-pub same-on : {one middle other : Held} → IsSameButFaults one middle → IsSameButFaults other middle → IsSameButFaults one other
-same-on {one = one} first second = first ∙ ap (λ (x : Held). record x { faults = one.faults }) (sym second)
+pub same-on : (one middle other : Held) → IsSameButFaults one middle → IsSameButFaults other middle → IsSameButFaults one other
+same-on one middle other first second = first ∙ ap (λ (x : Held). record x { faults = one.faults }) (sym second)
 
 -- an event makes the same of both
 next-same : (held : Held) (faults : CmlFaults) (event : device.Event) →
@@ -80,9 +75,9 @@ refused-same held bytes faulty = go (write_fault held.config.addr bytes) faulty 
   go : (fault : Option FrameFault) → fault ≢ None →
       let new = after held (device.Heard (unless_faulty fault (write_verdict held.config held.words held.page (message_in bytes)))) in
       IsSameButFaults new held
-  go None no = absurd (no refl)
-  go (Some NotOurs) no = refl
-  go (Some fault) no = refl
+  go None some = absurd (some refl)
+  go (Some NotOurs) some = refl
+  go (Some fault) some = refl
 
 -- what starts a frame is a beginning of it
 front-is : (frame bytes : List ℕ) → starts_with eqb frame bytes ≡ true → frame ≡ bytes ++ drop (length bytes) frame
@@ -93,15 +88,15 @@ pub hears-same : BetrayalIsRefused → RequestsLatchAtMost → (held : Held) (re
     IsNoWrite held.config.addr request → is_legal_hearing request bytes ending ≡ true →
     IsSameButFaults (device_next held (device.Hearing bytes ending)) held
 unfolding is_legal_hearing
-hears-same betrayal latch held request bytes Restart no legal = latch.alone held bytes
-hears-same betrayal latch held request bytes Stop no legal =
+hears-same betrayal latch held request bytes Restart plain legal = latch.alone held bytes
+hears-same betrayal latch held request bytes Stop plain legal =
     refused-same held bytes (go (or_cases (starts_with eqb request bytes) (is_betrayed [] bytes) legal))
   where
     go : (starts_with eqb request bytes ≡ true) ⊎ (is_betrayed [] bytes ≡ true) → write_fault held.config.addr bytes ≢ None
     go (inl front) =
         let cut : take (length bytes) request ≡ bytes = ap (take (length bytes)) (front-is request bytes front)
         ∙ put-in bytes bytes (drop (length bytes) request) refl in
-        subst (λ l. write_fault held.config.addr l ≢ None) cut (no (length bytes))
+        subst (λ l. write_fault held.config.addr l ≢ None) cut (plain (length bytes))
     go (inr wrong) = betrayal.write held.config.addr bytes wrong
 
 -- ---- answers to the host's own requests
@@ -112,19 +107,11 @@ faulty-alike : (held : Held) (faults : CmlFaults) (fault : FrameFault) →
 faulty-alike held faults NotOurs = refl
 faulty-alike held faults fault = refl
 
--- a register's word is no status
-register-alike : (held : Held) (faults : CmlFaults) (output : ℕ) (register : Reg) →
-    reply_to (record held { faults = faults }) (Answers (PagePlusRead output (register_code register)))
-    ≡ reply_to held (Answers (PagePlusRead output (register_code register)))
-register-alike held faults output Operation = refl
-register-alike held faults output register = refl
-
 -- of two verdicts either
-either-alike : (held : Held) (faults : CmlFaults) (b : Bool) (answer : Message) (fault : DeviceFault) →
-    reply_to (record held { faults = faults }) (Answers answer) ≡ reply_to held (Answers answer) →
-    reply_to (record held { faults = faults }) (cond b (Answers answer) (Refuses fault)) ≡ reply_to held (cond b (Answers answer) (Refuses fault))
-either-alike held faults true answer fault alike = alike
-either-alike held faults false answer fault alike = refl
+either-alike : {V : Type 0} (one other : V → Heard) (b : Bool) (x y : V) → one x ≡ other x → one y ≡ other y →
+    one (cond b x y) ≡ other (cond b x y)
+either-alike one other true x y first second = first
+either-alike one other false x y first second = second
 
 -- no write is a read
 no-read : (cell : Cell) (word : ℕ) → is_read_message (cell_write cell word) ≡ true → ⊥
@@ -135,12 +122,13 @@ no-sent : (sent : Command) → is_read_message (command_message sent) ≡ true �
 no-sent (ClearFaults output) h = cc
 no-sent sent h = cc
 
--- the read of a cell
+-- the read of a cell, whose word is no status
 cell-alike : (held : Held) (faults : CmlFaults) (cell : Cell) →
     reply_to (record held { faults = faults }) (read_verdict held.config (cell_read cell)) ≡ reply_to held (read_verdict held.config (cell_read cell))
+cell-alike held faults (Out output Operation) =
+    either-alike (reply_to (record held { faults = faults })) (reply_to held) (nat_lt output held.config.count) _ _ refl refl
 cell-alike held faults (Out output register) =
-    either-alike held faults (nat_lt output held.config.count) (PagePlusRead output (register_code register)) BadPage
-    (register-alike held faults output register)
+    either-alike (reply_to (record held { faults = faults })) (reply_to held) (nat_lt output held.config.count) _ _ refl refl
 cell-alike held faults Protect = refl
 
 -- what a host asks for
@@ -151,9 +139,10 @@ stage-alike held faults (Writes cell word pass) reads = absurd (no-read cell wor
 stage-alike held faults (Reads cell word pass) reads = cell-alike held faults cell
 stage-alike held faults (Asks (Word cell) tries) reads = cell-alike held faults cell
 stage-alike held faults (Asks (Mode output) tries) reads =
-    either-alike held faults (nat_lt output held.config.count) (mode_read output) BadPage refl
+    either-alike (reply_to (record held { faults = faults })) (reply_to held) (nat_lt output held.config.count) _ _ refl refl
 stage-alike held faults (Asks (Coefficients output) tries) reads =
-    either-alike held faults (answers_coefficients held.config command.vout_command values_written) coefficients_read UnsupportedData refl
+    either-alike (reply_to (record held { faults = faults })) (reply_to held)
+    (answers_coefficients held.config command.vout_command values_written) _ _ refl refl
 stage-alike held faults (Sends sent tries) reads = absurd (no-sent sent reads)
 
 -- a message that a host sends and that reads
@@ -183,7 +172,8 @@ reply-alike exact held faults host message request sending is = go (request_faul
   go (Some fault) = faulty-alike held faults fault
   go None = so
 
-own-same : RequestsAreExact → (one other : Held) (host : Summary) (message : Message) (request : List ℕ) → IsSameButFaults one other →
+-- so the bytes that answer it are the same
+pub own-same : RequestsAreExact → (one other : Held) (host : Summary) (message : Message) (request : List ℕ) → IsSameButFaults one other →
     sending_in host ≡ Some message → IsRequest host.setup.addr message request →
     answer_in (reply_of one request Restart) ≡ answer_in (reply_of other request Restart)
 own-same exact one other host message request same sending is =

@@ -1,5 +1,5 @@
 -- A read that is no job, as the events of a life.
-use Rattle.std.proofs.Common.{◌≡◌, ◌+◌, ◌<◌, ℕ, zero, suc, Bool, true, false, cond, arith, List, [], ◌∷◌, Option, Some, None, length, take, drop}
+use Rattle.std.proofs.Common.{◌≡◌, ◌+◌, ◌<◌, ℕ, zero, suc, Bool, true, false, cond, arith, List, [], ◌∷◌, ◌++◌, Option, Some, None, length, take, drop}
 use Rattle.std.proofs.Common.{refl, sym, ◌∙◌, ap, subst}
 use Rattle.std.specs.Option.{option_or}
 use Rattle.std.specs.Prelude.{◌≢◌, nat_lt}
@@ -19,6 +19,7 @@ use Rattle.pm_frame.specs.PlainRead.{code_request}
 use Rattle.pm_host.specs.Summary.{Summary}
 use Rattle.pm_world.specs.declared.event.Event.{Event}
 use Rattle.pm_world.specs.Legal.{ending_of, heard_bytes}
+use Rattle.pm_world.specs.Life.{now}
 use Rattle.pm_driver.specs.Acts.{Call, IsNoWrite, Looked}
 use Rattle.pm_driver.specs.Bus.{IsAsked, held_after, is_beside}
 use Rattle.pm_driver.specs.Laws.{LawsOfLives}
@@ -42,17 +43,17 @@ look-goes : LawsOfLives → (request room came : List ℕ) (host : Summary) (old
     IsNoWrite host.setup.addr request → (is : IsAsked request (length room) old was came new count) →
     (config : Config) (passes : ℕ) (before : List Event) → IsLife config passes before host old →
     Goes config passes before is.before (Looked request room came ∷ []) None host new
-look-goes laws request room came host old was new count no is config passes before life =
+look-goes laws request room came host old was new count plain is config passes before life =
     let beside = quiet request is_beside (beside-one laws request) is.before is.beside_before life in
     let lived = beside.is_life in
     let middle = held_after request old is.before in
     let latched = hears-same laws.betrayal laws.latch middle request (heard_bytes request is.arrival) (ending_of Restart is.arrival)
-    (subst (λ a. IsNoWrite a request) (own-address lived) no) is.legal in
+    (subst (λ a. IsNoWrite a request) (own-address lived) plain) is.legal in
     record {
       is_life = record {
         lived = lived.lived;
         host_is = lived.host_is;
-        held_is = same-on lived.held_is (subst (λ d. IsSameButFaults d middle) is.after latched);
+        held_is = same-on (now config passes (is.before ++ before)).device middle new lived.held_is (subst (λ d. IsSameButFaults d middle) is.after latched);
       };
       told = beside.told;
       ended = tt;
@@ -96,14 +97,19 @@ pair-short start code = go (is_plain_write code) where
       (some-so _ (Short 2) (ap (λ b. rule b (Short 2)) (lt-ltb 2 (payload_length code + 3) (omega arith))))
   go false = some-so (Some (Short 2)) (Short 2) refl
 
+pair-no-write : (addr own code : ℕ) → write_fault addr (code_request own code) ≢ None
+unfolding write_fault
+pair-no-write addr own code =
+    second-so (opening_fault (write_address addr) (code_request own code)) _ (first-so _ _ (pair-short (write_address own) code))
+
 -- the request of a plain read or a block read
 code-no-write : (addr own code : ℕ) → IsNoWrite addr (code_request own code)
 unfolding write_fault opening_fault address_fault
 code-no-write addr own code zero = some-so _ NotOurs refl
 code-no-write addr own code (suc zero) = first-so _ _ (second-so (address_fault (write_address addr) (write_address own ∷ [])) _
     (some-so _ (Short 1) refl))
-code-no-write addr own code (suc (suc count)) =
-    second-so (opening_fault (write_address addr) (code_request own code)) _ (first-so _ _ (pair-short (write_address own) code))
+code-no-write addr own code (suc (suc zero)) = pair-no-write addr own code
+code-no-write addr own code (suc (suc (suc count))) = pair-no-write addr own code
 
 -- the request of a message that reads
 message-no-write : RequestsAreExact → DamageIsRefused → (addr own : ℕ) (request : Message) (bytes : List ℕ) →

@@ -17,13 +17,13 @@ use Rattle.pm_driver.specs.Lives.{Leads}
 
 -- What a read that is no job does. It is refused with H3 exactly where a job is open, and then nothing changes, in the
 -- room neither. Otherwise it is one call of the bus, with this request and this room, and its answer is that of the bus
--- (`gives`, `fits`). The host isn't told of it, and it and its limits stay (`guard`). Each life that led to the driver leads
+-- (`once`, `fits`). The host isn't told of it, and it and its limits stay (`guard`). Each life that led to the driver leads
 -- on, by restarts of the converter and readings alone (`leads`). While the bus counts no restart, a cell since whose
 -- reading the converter didn't restart stays one (`stays`), and words that lie within limits do in any case (`within`).
 pub record Looks {B : Type 0} (gives : B → Call → B → Type 0) (held : B → Held) (restarts : B → ℕ) (request room : List ℕ) (old : Driving B) (result : Result ℕ HostFault) (answer : List ℕ) (new : Driving B) : Type 0 where
   pub fault : result_err result ≡ rule (is_busy old.guard.host) Busy
   pub fits : IfOk result (λ count. count ≤ length answer)
-  pub gives : IfOk result (λ count. gives old.bus (Read request room (take count answer)) new.bus)
+  pub once : IfOk result (λ count. gives old.bus (Read request room (take count answer)) new.bus)
   pub leads : IfOk result (λ count. Leads gives held restarts (Looked request room (take count answer) ∷ []) None
       (driven old) (driven new))
   pub err : OnErr result ((new ≡ old) × (answer ≡ room))
