@@ -1,5 +1,5 @@
 -- A read that is no job, as the events of a life.
-use Rattle.std.proofs.Common.{◌≡◌, ◌+◌, ◌<◌, ℕ, zero, suc, Bool, true, false, cond, arith, List, [], ◌∷◌, ◌++◌, Option, Some, None, length, take, drop}
+use Rattle.std.proofs.Common.{◌≡◌, ◌+◌, ◌<◌, ◌≤◌, ℕ, zero, suc, Bool, true, false, cond, arith, List, [], ◌∷◌, ◌++◌, Option, Some, None, Ok, length, take, drop}
 use Rattle.std.proofs.Common.{refl, sym, ◌∙◌, ap, subst}
 use Rattle.std.specs.Option.{option_or}
 use Rattle.std.specs.Prelude.{◌≢◌, nat_lt}
@@ -16,21 +16,26 @@ use Rattle.pm_frame.specs.Fault.{address_fault, length_fault, opening_fault, req
 use Rattle.pm_frame.specs.Laws.{DamageIsRefused, RequestsAreExact}
 use Rattle.pm_frame.specs.Layout.{IsRequest, is_plain_write, write_address}
 use Rattle.pm_frame.specs.PlainRead.{code_request}
+use Rattle.pm_host.specs.declared.fault.HostFault.TheVariants.{Busy}
+use Rattle.pm_host.specs.Refusals.{is_busy}
 use Rattle.pm_host.specs.Summary.{Summary}
 use Rattle.pm_world.specs.declared.event.Event.{Event}
 use Rattle.pm_world.specs.Legal.{ending_of, heard_bytes}
 use Rattle.pm_world.specs.Life.{now}
-use Rattle.pm_driver.specs.Acts.{Call, IsNoWrite, Looked}
+use Rattle.pm_driver.specs.Acts.{Call, IsNoWrite, Looked, Read}
 use Rattle.pm_driver.specs.Bus.{IsAsked, held_after, is_beside}
+use Rattle.pm_driver.specs.Driven.{Driving, driven}
 use Rattle.pm_driver.specs.Laws.{LawsOfLives}
-use Rattle.pm_driver.specs.Lives.{Goes, IsLife, IsSameButFaults}
-use Rattle.pm_driver.specs.Looks.{RequestsAreNoWrites}
+use Rattle.pm_driver.specs.Lives.{Driven, Goes, IsLife, IsSameButFaults, Leads}
+use Rattle.pm_driver.specs.Looks.{Looks, RequestsAreNoWrites}
 use Rattle.pm_driver.specs.Steps.{LooksLead}
 use Rattle.pm_driver.proofs.BegunJobs.{life-setup}
 use Rattle.pm_driver.proofs.EndedJobs.{now-config}
 use Rattle.pm_driver.proofs.Grown.{beside-one, quiet}
 use Rattle.pm_driver.proofs.Latched.{hears-same, same-on}
+use Rattle.pm_driver.proofs.NoRestarts.{leads-since}
 use Rattle.pm_driver.proofs.SentFrames.{beside-none, none-asked}
+use Rattle.pm_driver.proofs.WithinLimits.{jobless-within}
 
 -- the host of a life sends to its converter's address
 own-address : {config : Config} {passes : ℕ} {events : List Event} {host : Summary} {held : Held} → IsLife config passes events host held →
@@ -73,6 +78,43 @@ looks-lead laws gives held restarts request room came host old new may is so = r
   orders = none-asked is_beside beside-none is.before is.beside_before;
   lives = look-goes laws request room came host (held old) (restarts old) (held new) (restarts new) may.1 is;
 }
+
+-- ---- what the call does
+
+-- a read while no job is open
+pub record IsLooked {B : Type 0} (gives : B → Call → B → Type 0) (held : B → Held) (restarts : B → ℕ) (request room answer : List ℕ) (count : ℕ)
+    (old : Driving B) (bus : B) : Type 0 where
+  pub idle : is_busy old.guard.host ≡ false
+  pub plain : IsNoWrite old.guard.host.setup.addr request
+  pub fits : count ≤ length answer
+  pub asked : IsAsked request (length room) (held old.bus) (restarts old.bus) (take count answer) (held bus) (restarts bus)
+  pub once : gives old.bus (Read request room (take count answer)) bus
+
+-- it leads on
+pub looked-leads : {B : Type 0} (gives : B → Call → B → Type 0) (held : B → Held) (restarts : B → ℕ) → LooksLead gives held restarts →
+    {request room answer : List ℕ} {count : ℕ} {old : Driving B} {bus : B} → IsLooked gives held restarts request room answer count old bus →
+    Leads gives held restarts (Looked request room (take count answer) ∷ []) None (driven old) (record { host = old.guard.host; bus = bus })
+looked-leads gives held restarts lead {request = request} {room = room} {answer = answer} {count = count} {old = old} {bus = bus} is =
+    lead request room (take count answer) old.guard.host old.bus bus (is.idle, is.plain) is.asked is.once
+
+-- so it does what is said of it
+pub looks-so : LawsOfLives → {B : Type 0} (gives : B → Call → B → Type 0) (held : B → Held) (restarts : B → ℕ) → LooksLead gives held restarts →
+    {request room answer : List ℕ} {count : ℕ} {old : Driving B} {bus : B} → IsLooked gives held restarts request room answer count old bus →
+    Looks gives held restarts request room old (Ok count) answer (record { guard = old.guard; bus = bus })
+looks-so laws gives held restarts lead {request = request} {room = room} {answer = answer} {count = count} {old = old} {bus = bus} is =
+    let leads = looked-leads gives held restarts lead is in
+    let act = Looked request room (take count answer) in
+    let new : Driven _ = record { host = old.guard.host; bus = bus } in
+    record {
+      fault = ap (λ b. rule b Busy) (sym is.idle);
+      fits = is.fits;
+      once = is.once;
+      leads = leads;
+      err = tt;
+      guard = refl;
+      stays = λ same cell since. leads-since gives held restarts (act ∷ []) None (driven old) new cell leads same since;
+      within = λ output bounds lived. jobless-within laws gives held restarts (act ∷ []) (driven old) new refl leads output bounds lived;
+    }
 
 -- ---- requests are no writes
 
