@@ -214,10 +214,10 @@ comes-same request needed one other way so came alike comes = go way refl comes 
       return-same request needed (is_heard_whole request (heard_bytes request w) (ending_of Restart w)) (answer_of one request w)
       (answer_of other request w) came
       (λ whole.
-          let so' = heard-so request w whole in
-          let at : (held : Held) → answer_of held request w ≡ answer_in (reply_of held request Restart) =
-          λ held. ap₂ (λ b e. answer_in (reply_of held b e)) so'.0 so'.1 in
-          at other ∙ (alike ∙ sym (at one)))
+      let so' = heard-so request w whole in
+      let at : (held : Held) → answer_of held request w ≡ answer_in (reply_of held request Restart) =
+      λ held. ap₂ (λ b e. answer_in (reply_of held b e)) so'.0 so'.1 in
+      at other ∙ (alike ∙ sym (at one)))
       (subst (λ b. is_legal_return request needed (is_heard_whole request (heard_bytes request w) (ending_of Restart w))
       (answer_of one request w) b ≡ true) back.came_is back.returned)
 

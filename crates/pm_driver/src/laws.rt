@@ -4,7 +4,7 @@ ghost use Rattle.pm_driver.specs.Laws.{EndsAreTrue, LeadsCompose, NewConvertersA
 ghost use Rattle.pm_driver.specs.Laws.{LawsOfLives, RestartsAreCounted};
 ghost use Rattle.pm_driver.specs.Looks.{RequestsAreNoWrites};
 ghost use Rattle.pm_driver.specs.Steps.{CallsGo, FramesLead, JobsLead, LooksLead, RenewalsLead};
-ghost use Rattle.pm_driver.specs.Undisturbed.{JobsRestartNothing, UndisturbedOrdersAreDone, WholeFramesAreLegal};
+ghost use Rattle.pm_driver.specs.Undisturbed.{JobsRestartNothing, ReadsRestartNothing, UndisturbedOrdersAreDone, WholeFramesAreLegal};
 
 use crate::bus::Bus;
 use pm_device::requests_latch_at_most;
@@ -101,6 +101,11 @@ pub fn undisturbed_orders_are_done<B: Bus>()
 /// Over a bus whose calls restart nothing, what the host confirms of a cell that was read is held: no job ends that.
 pub fn jobs_restart_nothing<B: Bus>()
     ensures { JobsRestartNothing B.gives B.held B.restarts }
+{}
+
+/// Nor does a read that is no job.
+pub fn reads_restart_nothing<B: Bus>()
+    ensures { ReadsRestartNothing B.gives B.held B.restarts }
 {}
 
 /// By a call of the frame that the host was sending a life goes on by just the events that the bus's clause names.
