@@ -1,5 +1,5 @@
 -- Converters that hold the same but for the latched bits of STATUS_CML.
-use Rattle.std.proofs.Common.{◌≡◌, ◌⊎◌, inl, inr, ℕ, Bool, true, false, cond, eqb, List, [], ◌++◌, length, take, drop, Option, Some, None}
+use Rattle.std.proofs.Common.{◌≡◌, ◌⊎◌, inl, inr, ℕ, Bool, true, false, cond, eqb, List, [], length, take, drop, Option, Some, None}
 use Rattle.std.proofs.Common.{refl, sym, ◌∙◌, ap, ap₂, option_map, subst}
 use Rattle.std.specs.Prelude.{◌≢◌, nat_lt}
 use Rattle.std.specs.List.{starts_with}
@@ -79,9 +79,11 @@ refused-same held bytes faulty = go (write_fault held.config.addr bytes) faulty 
   go (Some NotOurs) some = refl
   go (Some fault) some = refl
 
--- what starts a frame is a beginning of it
-front-is : (frame bytes : List ℕ) → starts_with eqb frame bytes ≡ true → frame ≡ bytes ++ drop (length bytes) frame
-front-is frame bytes h = (starts_is Decides-eqb frame bytes (starts_with eqb frame bytes) refl).0 h
+-- bytes that a frame starts with are that many of its first ones
+first-bytes : (frame bytes : List ℕ) → starts_with eqb frame bytes ≡ true → take (length bytes) frame ≡ bytes
+first-bytes frame bytes starts =
+    ap (take (length bytes)) ((starts_is Decides-eqb frame bytes (starts_with eqb frame bytes) refl).0 starts)
+    ∙ put-in bytes bytes (drop (length bytes) frame) refl
 
 -- bytes that are heard legally of what can't be a write latch at most
 pub hears-same : BetrayalIsRefused → RequestsLatchAtMost → (held : Held) (request bytes : List ℕ) (ending : Ending) →
@@ -94,9 +96,7 @@ hears-same betrayal latch held request bytes Stop plain legal =
   where
     go : (starts_with eqb request bytes ≡ true) ⊎ (is_betrayed [] bytes ≡ true) → write_fault held.config.addr bytes ≢ None
     go (inl front) =
-        let cut : take (length bytes) request ≡ bytes = ap (take (length bytes)) (front-is request bytes front)
-        ∙ put-in bytes bytes (drop (length bytes) request) refl in
-        subst (λ l. write_fault held.config.addr l ≢ None) cut (plain (length bytes))
+        subst (λ l. write_fault held.config.addr l ≢ None) (first-bytes request bytes front) (plain (length bytes))
     go (inr wrong) = betrayal.write held.config.addr bytes wrong
 
 -- ---- answers to the host's own requests

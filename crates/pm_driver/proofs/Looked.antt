@@ -1,18 +1,20 @@
 -- A read that is no job, as the events of a life.
-use Rattle.std.proofs.Common.{◌≡◌, ◌+◌, ◌≤◌, ℕ, zero, suc, Bool, true, false, cond, arith, List, [], ◌∷◌, ◌++◌, Option, Some, None, Ok, length, take, drop}
+use Rattle.std.proofs.Common.{◌≡◌, ◌+◌, ◌≤◌, ℕ, zero, suc, Bool, true, false, not, cond, eqb, arith, List, [], ◌∷◌, ◌++◌, Option, Some, None, Ok, length, take, drop}
 use Rattle.std.proofs.Common.{refl, sym, ◌∙◌, ap, subst}
 use Rattle.std.specs.Option.{option_or}
 use Rattle.std.specs.Prelude.{◌≢◌, nat_lt}
-use Rattle.std.proofs.lemmas.Bool.{lt-ltb}
+use Rattle.std.proofs.lemmas.Bool.{eqb-true, lt-ltb}
 use Rattle.std.proofs.lemmas.List.{take-append-drop}
-use Rattle.pm_table.specs.Commands.{payload_length}
+use Rattle.pm_table.specs.Codes as command
+use Rattle.pm_table.specs.Commands.{is_written, line_of, payload_length}
 use Rattle.pm_table.specs.Rules.{rule}
-use Rattle.pm_frame.specs.declared.fault.FrameFault.TheVariants.{NotOurs, Short}
+use Rattle.pm_frame.specs.declared.fault.FrameFault.{FrameFault}
+use Rattle.pm_frame.specs.declared.fault.FrameFault.TheVariants.{NotOurs, Short, WrongDirection}
 use Rattle.pm_frame.specs.declared.message.Message.{Message}
 use Rattle.pm_device.specs.declared.ending.Ending.TheVariants.{Restart}
 use Rattle.pm_device.specs.declared.config.Config.{Config}
 use Rattle.pm_device.specs.Held.{Held}
-use Rattle.pm_frame.specs.Fault.{address_fault, length_fault, opening_fault, request_fault, size_fault, write_fault}
+use Rattle.pm_frame.specs.Fault.{address_fault, length_fault, opening_fault, pec_fault, plain_fault, request_fault, size_fault, write_fault}
 use Rattle.pm_frame.specs.Laws.{DamageIsRefused, RequestsAreExact}
 use Rattle.pm_frame.specs.Layout.{IsRequest, is_plain_write, write_address}
 use Rattle.pm_frame.specs.PlainRead.{code_request}
@@ -144,14 +146,47 @@ unfolding write_fault
 pair-no-write addr own code =
     second-so (opening_fault (write_address addr) (code_request own code)) _ (first-so _ _ (pair-short (write_address own) code))
 
+-- no byte, and one
+none-short : (addr : ℕ) → write_fault addr [] ≢ None
+unfolding write_fault opening_fault address_fault
+none-short addr = some-so _ NotOurs refl
+
+one-short : (addr start : ℕ) → write_fault addr (start ∷ []) ≢ None
+unfolding write_fault opening_fault address_fault
+one-short addr start = first-so _ _ (second-so (address_fault (write_address addr) (start ∷ [])) _ (some-so _ (Short 1) refl))
+
 -- the request of a plain read or a block read
 code-no-write : (addr own code : ℕ) → IsNoWrite addr (code_request own code)
-unfolding write_fault opening_fault address_fault
-code-no-write addr own code zero = some-so _ NotOurs refl
-code-no-write addr own code (suc zero) = first-so _ _ (second-so (address_fault (write_address addr) (write_address own ∷ [])) _
-    (some-so _ (Short 1) refl))
+code-no-write addr own code zero = none-short addr
+code-no-write addr own code (suc zero) = one-short addr (write_address own)
 code-no-write addr own code (suc (suc zero)) = pair-no-write addr own code
 code-no-write addr own code (suc (suc (suc count))) = pair-no-write addr own code
+
+-- of two faults the second, where the first doesn't come
+other-so : (first : Bool) (one other : Option FrameFault) → (first ≡ true → ⊥) → other ≢ None → cond first one other ≢ None
+other-so true one other never some = absurd (never refl)
+other-so false one other never some = some
+
+-- PAGE_PLUS_WRITE is written
+carrier-written : is_written command.page_plus_write ≡ true
+unfolding line_of
+carrier-written = refl
+
+-- bytes whose code isn't written
+unwritten-so : (addr start code : ℕ) (rest : List ℕ) → is_written code ≡ false → write_fault addr (start ∷ code ∷ rest) ≢ None
+unfolding write_fault plain_fault
+unwritten-so addr start code rest unwritten =
+    second-so (opening_fault (write_address addr) (start ∷ code ∷ rest)) _ (second-so (size_fault (start ∷ code ∷ rest)) _
+    (second-so (pec_fault [] (start ∷ code ∷ rest)) _ (first-so _ _ (other-so (eqb code command.page_plus_write) _ _
+    (λ e.
+    let written : is_written code ≡ true = ap is_written (eqb-true code command.page_plus_write e) ∙ carrier-written in cc)
+    (second-so _ _ (first-so _ _
+    (some-so _ (WrongDirection 1) (ap (λ b. rule (not b) (WrongDirection 1)) unwritten))))))))
+
+unwritten-no-write : (addr start code : ℕ) (rest : List ℕ) → is_written code ≡ false → IsNoWrite addr (start ∷ code ∷ rest)
+unwritten-no-write addr start code rest unwritten zero = none-short addr
+unwritten-no-write addr start code rest unwritten (suc zero) = one-short addr start
+unwritten-no-write addr start code rest unwritten (suc (suc count)) = unwritten-so addr start code (take count rest) unwritten
 
 -- the request of a message that reads
 message-no-write : RequestsAreExact → DamageIsRefused → (addr own : ℕ) (request : Message) (bytes : List ℕ) →
@@ -161,4 +196,4 @@ message-no-write exact damage addr own request bytes is count =
     (subst (λ l. request_fault own l ≡ None) (sym (take-append-drop count bytes)) (exact.spelled own request bytes is))
 
 pub no-writes : RequestsAreExact → DamageIsRefused → RequestsAreNoWrites
-no-writes exact damage = record { code = code-no-write; message = message-no-write exact damage }
+no-writes exact damage = record { code = code-no-write; unwritten = unwritten-no-write; message = message-no-write exact damage }

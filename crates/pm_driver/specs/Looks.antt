@@ -1,7 +1,8 @@
 -- What a read does that is no job, and which bytes it may send: this project's own choice.
-use Rattle.std.specs.Prelude.{◌≡◌, ◌≤◌, ℕ, List, [], ◌∷◌, length, take, None, Result, IfOk, OnErr}
+use Rattle.std.specs.Prelude.{◌≡◌, ◌≤◌, ℕ, List, [], ◌∷◌, length, take, false, None, Result, IfOk, OnErr}
 use Rattle.std.specs.Result.{result_err}
 use Rattle.pm_table.specs.declared.cell.Cell.{Cell}
+use Rattle.pm_table.specs.Commands.{is_written}
 use Rattle.pm_table.specs.Rules.{rule}
 use Rattle.pm_frame.specs.declared.message.Message.{Message}
 use Rattle.pm_frame.specs.Layout.{IsRequest}
@@ -33,8 +34,10 @@ pub record Looks {B : Type 0} (gives : B → Call → B → Type 0) (held : B �
   pub within : (output : ℕ) (bounds : Bounds) → HasLifeWithin output bounds old.guard.host (held old.bus) →
       HasLifeWithin output bounds new.guard.host (held new.bus)
 
--- No beginning is a write to any address: of the request of a plain read or a block read of any code (`code`), and of the
--- request of a message that reads (`message`).
+-- No beginning is a write to any address: of the request of a plain read or a block read of any code (`code`), of any bytes
+-- whose code isn't written (`unwritten`), as PAGE_PLUS_READ of any page and code, and of the request of a message that reads
+-- (`message`).
 pub record RequestsAreNoWrites : Type 0 where
   pub code : (addr own code : ℕ) → IsNoWrite addr (code_request own code)
+  pub unwritten : (addr start code : ℕ) (rest : List ℕ) → is_written code ≡ false → IsNoWrite addr (start ∷ code ∷ rest)
   pub message : (addr own : ℕ) (request : Message) (bytes : List ℕ) → IsRequest own request bytes → IsNoWrite addr bytes

@@ -152,8 +152,8 @@ impl<B: Bus> Driver<B> {
     /// room for a byte at least.
     ///
     /// No beginning of the request is a write to the converter, since the bus may cut it off there by a stop: that of
-    /// [`code_request`](pm_frame::code_request) never is one, nor that of a message that reads
-    /// ([`requests_are_no_writes`](crate::requests_are_no_writes)).
+    /// [`code_request`](pm_frame::code_request) never is one, nor bytes whose code isn't written, as PAGE_PLUS_READ, nor the
+    /// request of a message that reads ([`requests_are_no_writes`](crate::requests_are_no_writes)).
     ///
     /// The converter latches bits of STATUS_CML at most. Settings, store and PAGE stay, unless it restarts, which the bus
     /// counts; what the host calls confirmed holds on as between two jobs.
@@ -162,11 +162,12 @@ impl<B: Bus> Driver<B> {
     ///
     /// ```
     /// fn status<B: Bus>(driver: &mut Driver<B>) -> Option<u16> {
+    ///     let code = Code::STATUS_WORD.0;
     ///     let mut room = [0; 4]; // the read address, two bytes and the PEC
     ///     // law: no beginning of the request is a write
     ///     requests_are_no_writes();
-    ///     let count = driver.read(&code_request(0x58, 0x79), &mut room).ok()?; // H3: a job is open
-    ///     let payload = read_plain(0x58, 0x79, 2, &room[..count]).ok()?; // F5 where a bit changed
+    ///     let count = driver.read(&code_request(0x58, code), &mut room).ok()?; // H3: a job is open
+    ///     let payload = read_plain(0x58, code, 2, &room[..count]).ok()?; // F5 where a bit changed
     ///     Some(u16::from_le_bytes([payload[0], payload[1]]))
     /// }
     /// ```

@@ -22,7 +22,7 @@ use pm_driver::{
 use pm_frame::code_request;
 use pm_host::{Job, JobEnd};
 use pm_limits::LimitFault;
-use pm_table::{Cell, Reg};
+use pm_table::{Cell, Code, Reg};
 
 /// What the host confirms is held, where the plan has no restart.
 pub fn confirmed_is_held<'a>(driver: &Driver<SimulatedBus<'a>>)
@@ -78,7 +78,11 @@ pub fn orders_around_a_read<'a>(
     let mut room = [0; 4];
     // law: no beginning of the request is a write
     requests_are_no_writes();
-    let _ = read_without_restart(&mut driver, &code_request(0x58, 0x79), &mut room);
+    let _ = read_without_restart(
+        &mut driver,
+        &code_request(0x58, Code::STATUS_WORD.0),
+        &mut room,
+    );
     let _ = run_without_restart(
         &mut driver,
         Job::Order(Cell::Out(1, Reg::VoutCommand), word),

@@ -8,7 +8,7 @@ use pm_frame::{code_request, read_plain};
 use pm_host::JobEnd;
 use pm_limits::LimitFault;
 use pm_rail::Wanted;
-use pm_table::{Cell, Reg};
+use pm_table::{Cell, Code, Reg};
 
 fn ordered<B: Bus>(driver: &mut Driver<B>) -> Result<JobEnd, LimitFault> {
     driver.order(Cell::Out(0, Reg::VoutCommand), 0x34CD) // Done: the converter held 34CDh when it was read
@@ -29,11 +29,12 @@ fn applied<B: Bus>(driver: &mut Driver<B>) -> Option<ApplyEnd> {
 }
 
 fn status<B: Bus>(driver: &mut Driver<B>) -> Option<u16> {
+    let code = Code::STATUS_WORD.0;
     let mut room = [0; 4]; // the read address, two bytes and the PEC
     // law: no beginning of the request is a write
     requests_are_no_writes();
-    let count = driver.read(&code_request(0x58, 0x79), &mut room).ok()?; // H3: a job is open
-    let payload = read_plain(0x58, 0x79, 2, &room[..count]).ok()?; // F5 where a bit changed
+    let count = driver.read(&code_request(0x58, code), &mut room).ok()?; // H3: a job is open
+    let payload = read_plain(0x58, code, 2, &room[..count]).ok()?; // F5 where a bit changed
     Some(u16::from_le_bytes([payload[0], payload[1]]))
 }
 
