@@ -167,19 +167,14 @@ other-so : (first : Bool) (one other : Option FrameFault) → (first ≡ true �
 other-so true one other never some = absurd (never refl)
 other-so false one other never some = some
 
--- PAGE_PLUS_WRITE is written
-carrier-written : is_written command.page_plus_write ≡ true
-unfolding line_of
-carrier-written = refl
-
 -- bytes whose code isn't written
 unwritten-so : (addr start code : ℕ) (rest : List ℕ) → is_written code ≡ false → write_fault addr (start ∷ code ∷ rest) ≢ None
-unfolding write_fault plain_fault
+unfolding write_fault plain_fault line_of
 unwritten-so addr start code rest unwritten =
     second-so (opening_fault (write_address addr) (start ∷ code ∷ rest)) _ (second-so (size_fault (start ∷ code ∷ rest)) _
     (second-so (pec_fault [] (start ∷ code ∷ rest)) _ (first-so _ _ (other-so (eqb code command.page_plus_write) _ _
     (λ e.
-    let written : is_written code ≡ true = ap is_written (eqb-true code command.page_plus_write e) ∙ carrier-written in cc)
+    let written : is_written code ≡ true = ap is_written (eqb-true code command.page_plus_write e) in cc)
     (second-so _ _ (first-so _ _
     (some-so _ (WrongDirection 1) (ap (λ b. rule (not b) (WrongDirection 1)) unwritten))))))))
 
