@@ -1,14 +1,16 @@
 //! The examples of the root of `pm_driver` and of its buses, word for word.
 
 use crate::checks::equal;
+use crate::driver::{said, whole};
 use pm_device::Config;
 use pm_device_tests::BASE;
 use pm_driver::{ApplyEnd, Bus, Driver, Fault, driver_over, requests_are_no_writes};
 use pm_frame::{code_request, read_plain};
-use pm_host::JobEnd;
+use pm_host::{JobEnd, Standing};
 use pm_limits::LimitFault;
 use pm_rail::Wanted;
 use pm_table::{Cell, Code, Reg};
+use pm_world::Arrival;
 
 fn ordered<B: Bus>(driver: &mut Driver<B>) -> Result<JobEnd, LimitFault> {
     driver.order(Cell::Out(0, Reg::VoutCommand), 0x34CD) // Done: the converter held 34CDh when it was read
@@ -51,6 +53,28 @@ fn the_examples_of_the_roots_run(rt: HostRuntime) {
             equal(&rt, &applied(&mut driver), &Some(ApplyEnd::Reached), &2);
             equal(&rt, &ordered(&mut driver), &Ok(JobEnd::Done), &3);
             equal(&rt, &status(&mut driver), &Some(0), &4);
+        }
+        None => panic!(rt; "refused"),
+    }
+}
+
+// Its second frame, a request, is cut behind its second byte: CML is bit 1 of STATUS_WORD, and the host says no less.
+#[test]
+fn a_status_between_two_orders_shows_what_was_latched(rt: HostRuntime) {
+    let plan = [
+        whole(),
+        Fault {
+            request: Arrival::Cut(2),
+            ..whole()
+        },
+    ];
+    match driver_over(BASE, 2, &plan) {
+        Some(mut driver) => {
+            equal(&rt, &ordered(&mut driver), &Ok(JobEnd::Done), &1);
+            equal(&rt, &said(driver.host()), &Standing::Confirmed(0x34CD), &2);
+            equal(&rt, &status(&mut driver), &Some(0x0002), &3);
+            equal(&rt, &said(driver.host()), &Standing::Confirmed(0x34CD), &4);
+            equal(&rt, &ordered(&mut driver), &Ok(JobEnd::Done), &5);
         }
         None => panic!(rt; "refused"),
     }
