@@ -96,7 +96,7 @@ hears-same betrayal latch held request bytes Stop plain legal =
   where
     go : (starts_with eqb request bytes ≡ true) ⊎ (is_betrayed [] bytes ≡ true) → write_fault held.config.addr bytes ≢ None
     go (inl front) =
-        subst (λ l. write_fault held.config.addr l ≢ None) (first-bytes request bytes front) (plain (length bytes))
+        subst (λ l. write_fault held.config.addr l ≢ None) (first-bytes request bytes front) (plain.cut (length bytes))
     go (inr wrong) = betrayal.write held.config.addr bytes wrong
 
 -- ---- answers to the host's own requests

@@ -156,7 +156,7 @@ unfolding write_fault opening_fault address_fault
 one-short addr start = first-so _ _ (second-so (address_fault (write_address addr) (start ∷ [])) _ (some-so _ (Short 1) refl))
 
 -- the request of a plain read or a block read
-code-no-write : (addr own code : ℕ) → IsNoWrite addr (code_request own code)
+code-no-write : (addr own code count : ℕ) → write_fault addr (take count (code_request own code)) ≢ None
 code-no-write addr own code zero = none-short addr
 code-no-write addr own code (suc zero) = one-short addr (write_address own)
 code-no-write addr own code (suc (suc zero)) = pair-no-write addr own code
@@ -178,7 +178,8 @@ unwritten-so addr start code rest unwritten =
     (second-so _ _ (first-so _ _
     (some-so _ (WrongDirection 1) (ap (λ b. rule (not b) (WrongDirection 1)) unwritten))))))))
 
-unwritten-no-write : (addr start code : ℕ) (rest : List ℕ) → is_written code ≡ false → IsNoWrite addr (start ∷ code ∷ rest)
+unwritten-no-write : (addr start code : ℕ) (rest : List ℕ) → is_written code ≡ false → (count : ℕ) →
+    write_fault addr (take count (start ∷ code ∷ rest)) ≢ None
 unwritten-no-write addr start code rest unwritten zero = none-short addr
 unwritten-no-write addr start code rest unwritten (suc zero) = one-short addr start
 unwritten-no-write addr start code rest unwritten (suc (suc count)) = unwritten-so addr start code (take count rest) unwritten
@@ -186,9 +187,15 @@ unwritten-no-write addr start code rest unwritten (suc (suc count)) = unwritten-
 -- the request of a message that reads
 message-no-write : RequestsAreExact → DamageIsRefused → (addr own : ℕ) (request : Message) (bytes : List ℕ) →
     IsRequest own request bytes → IsNoWrite addr bytes
-message-no-write exact damage addr own request bytes is count =
-    damage.request_written own addr (take count bytes) (drop count bytes)
-    (subst (λ l. request_fault own l ≡ None) (sym (take-append-drop count bytes)) (exact.spelled own request bytes is))
+message-no-write exact damage addr own request bytes is = record {
+  cut = λ count. damage.request_written own addr (take count bytes) (drop count bytes)
+      (subst (λ l. request_fault own l ≡ None) (sym (take-append-drop count bytes)) (exact.spelled own request bytes is));
+}
 
 pub no-writes : RequestsAreExact → DamageIsRefused → RequestsAreNoWrites
-no-writes exact damage = record { code = code-no-write; unwritten = unwritten-no-write; message = message-no-write exact damage }
+no-writes exact damage = record {
+  code = λ addr own code bytes is. subst (IsNoWrite addr) (sym is) (record { cut = code-no-write addr own code });
+  unwritten = λ addr start code rest bytes is unwritten.
+      subst (IsNoWrite addr) (sym is) (record { cut = unwritten-no-write addr start code rest unwritten });
+  message = message-no-write exact damage;
+}

@@ -47,8 +47,8 @@ host_by s [] = s
 host_by s (act ∷ before) = host_after (host_by s before) (told_by act)
 
 -- No beginning of these bytes is a write to this address: wherever a stop cuts them off, the converter takes nothing.
-abbrev pub IsNoWrite : ℕ → List ℕ → Type 0
-IsNoWrite addr bytes = (count : ℕ) → write_fault addr (take count bytes) ≢ None
+pub record IsNoWrite (addr : ℕ) (bytes : List ℕ) : Type 0 where
+  pub cut : (count : ℕ) → write_fault addr (take count bytes) ≢ None
 
 -- A call sends the frame of the message that the host was sending, and a read has room for just a whole answer, all
 -- zero. A job is one that the host doesn't refuse. A read that is no job comes while no job is open, and no beginning of

@@ -38,6 +38,7 @@ pub record Looks {B : Type 0} (gives : B → Call → B → Type 0) (held : B �
 -- whose code isn't written (`unwritten`), as PAGE_PLUS_READ of any page and code, and of the request of a message that reads
 -- (`message`).
 pub record RequestsAreNoWrites : Type 0 where
-  pub code : (addr own code : ℕ) → IsNoWrite addr (code_request own code)
-  pub unwritten : (addr start code : ℕ) (rest : List ℕ) → is_written code ≡ false → IsNoWrite addr (start ∷ code ∷ rest)
+  pub code : (addr own code : ℕ) (bytes : List ℕ) → bytes ≡ code_request own code → IsNoWrite addr bytes
+  pub unwritten : (addr start code : ℕ) (rest bytes : List ℕ) → bytes ≡ start ∷ code ∷ rest → is_written code ≡ false →
+      IsNoWrite addr bytes
   pub message : (addr own : ℕ) (request : Message) (bytes : List ℕ) → IsRequest own request bytes → IsNoWrite addr bytes
