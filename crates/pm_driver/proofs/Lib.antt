@@ -14,6 +14,9 @@ mod Surveyed
 mod Followed
 mod Chains
 mod RailLives
+mod SurveyRuns
+mod ReachedPlans
+mod RailLeads
 mod Parts
 mod Patience
 mod Plan

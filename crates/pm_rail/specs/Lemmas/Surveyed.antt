@@ -177,7 +177,7 @@ whole v s = go (format_at s v.output) where
   go (Some shape) = refl
 
 -- what is found passes the test
-found : (test : Reg → Bool) (listed : List Reg) (register : Reg) → find test listed ≡ Some register → test register ≡ true
+pub found : (test : Reg → Bool) (listed : List Reg) (register : Reg) → find test listed ≡ Some register → test register ≡ true
 found test [] register is = cc
 found test (one ∷ rest) register is = go (found test rest register) (test one) refl is where
   go : (find test rest ≡ Some register → test register ≡ true) → (b : Bool) → test one ≡ b →
