@@ -13,6 +13,8 @@ mod Idle
 mod Surveyed
 mod Followed
 mod Chains
+mod PlanOrders
+mod CarriedOut
 mod RailLives
 mod SurveyRuns
 mod ReachedPlans

@@ -1,6 +1,6 @@
 -- The jobs of surveys and plans, put together.
-use Rattle.std.specs.Prelude.{◌≡◌, ℕ, refl, List, [], ◌∷◌, ◌++◌, Option, Some, None, IsSomeAnd}
-use Rattle.std.proofs.Common.{ap}
+use Rattle.std.specs.Prelude.{◌≡◌, ℕ, List, [], ◌∷◌, ◌++◌, Option, Some, None, IsSomeAnd}
+use Rattle.std.proofs.Common.{◌∙◌, ap}
 use Rattle.pm_device.specs.Held.{Held}
 use Rattle.pm_host.specs.declared.job_end.JobEnd.{JobEnd}
 use Rattle.pm_host.specs.Jobs.{accepted_job}
@@ -15,23 +15,22 @@ use Rattle.pm_driver.specs.Lives.{Driven, Leads}
 use Rattle.pm_driver.specs.Rails.{Applied, Surveys, again, events_in, events_of, more, nothing, read, wrote}
 use Rattle.pm_driver.specs.SurveyLaws.{events_read}
 use Rattle.pm_driver.specs.RailLeads.{IsLed, RailsLead, begun_by, end_of, end_read, jobs_of, jobs_read}
-use Rattle.pm_driver.proofs.Composed.{leads-compose, leads-nothing}
+use Rattle.pm_driver.proofs.Composed.{composed-events, leads-compose, leads-nothing, nothing-events}
 
 -- nothing done
 led-nothing : {B : Type 0} (gives : B → Call → B → Type 0) (held : B → Held) (restarts : B → ℕ) (d : Driven B) →
     IsLed gives held restarts [] None [] d d
-unfolding leads-nothing
-led-nothing gives held restarts d = record { leads = leads-nothing gives held restarts d; by = refl }
+led-nothing gives held restarts d = record { leads = leads-nothing gives held restarts d; by = nothing-events gives held restarts d }
 
 -- one job more
 led-on : {B : Type 0} (gives : B → Call → B → Type 0) (held : B → Held) (restarts : B → ℕ) (asked : List Act) (earlier : Option JobEnd)
     (events : List Event) (job : Job) (end : JobEnd) (a b c : Driven B) → IsLed gives held restarts asked earlier events a b →
     (leads : Leads gives held restarts (Began job ∷ []) (Some end) b c) →
     IsLed gives held restarts (Began job ∷ asked) (Some end) (leads.events ++ events) a c
-unfolding leads-compose
 led-on gives held restarts asked earlier events job end a b c before leads = record {
   leads = leads-compose gives held restarts asked (Began job ∷ []) earlier (Some end) a b c before.leads leads;
-  by = ap (λ (es : List Event). leads.events ++ es) before.by;
+  by = composed-events gives held restarts asked (Began job ∷ []) earlier (Some end) a b c before.leads leads
+      ∙ ap (λ (es : List Event). leads.events ++ es) before.by;
 }
 
 -- the same of a job as it was accepted

@@ -61,14 +61,14 @@ words-now config passes events host held lived = ap (λ (h : Converter). h.words
 
 module _ (laws : LawsOfRails) (config : Config) (passes : ℕ) (part : PartRegisters) (output : ℕ) (later before : List Event) (here : output < config.count) where
   -- what a survey has come to at a moment of a life, after these events of its own
-  record Reading (v : Survey) (guard : Guarded) (held : Converter) (es : List Event) : Type 0 where
-    lived : IsLife config passes (es ++ (later ++ before)) guard.host held
-    part_is : guard.registers ≡ part
-    own : v.output ≡ output
-    steady : list_any restarts_converter es ≡ false
-    stays : Stays config passes output (later ++ before) es
-    are : AreRead config passes v (es ++ later) before
-    none : MissingUnread config passes part output (es ++ (later ++ before))
+  pub record Reading (v : Survey) (guard : Guarded) (held : Converter) (es : List Event) : Type 0 where
+    pub lived : IsLife config passes (es ++ (later ++ before)) guard.host held
+    pub part_is : guard.registers ≡ part
+    pub own : v.output ≡ output
+    pub steady : list_any restarts_converter es ≡ false
+    pub stays : Stays config passes output (later ++ before) es
+    pub are : AreRead config passes v (es ++ later) before
+    pub none : MissingUnread config passes part output (es ++ (later ++ before))
 
   -- a job that the survey asked for
   read-on : {B : Type 0} (gives : B → Call → B → Type 0) (held : B → Converter) (restarts : B → ℕ) (v : Survey) (es : List Event)

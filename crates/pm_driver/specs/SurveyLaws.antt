@@ -49,7 +49,7 @@ pub record IsOne (band : Band) (value : Ratio) : Type 0 where
 -- that decide and that the survey hasn't read (`within`).
 pub record IsWorth (config : Config) (passes : ℕ) (v : Survey) (guard : Guarded) (held : Held) (events later before : List Event) : Type 0 where
   pub same : (newer older : List Event) → events ≡ newer ++ older →
-      commands config passes (older ++ later ++ before) v.output ≡ commanded_in config held v.output
+      commands config passes (older ++ (later ++ before)) v.output ≡ commanded_in config held v.output
   pub read : AreRead config passes v (events ++ later) before
   pub one : is_surveyed_in v guard ≡ true →
       IsSomeAnd (band_at guard.registers guard.host v.output) (λ band. IsOne band (commanded_in config held v.output))

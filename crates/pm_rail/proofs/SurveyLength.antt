@@ -25,9 +25,7 @@ use Rattle.pm_host.specs.Marks.{Good}
 use Rattle.pm_host.specs.Possible.{is_possible, only}
 use Rattle.pm_host.specs.Summary.{Summary, format_at, possible_at}
 use Rattle.pm_limits.specs.declared.part_registers.PartRegisters.{PartRegisters}
-use Rattle.pm_limits.specs.Ends.{format_end}
-use Rattle.pm_limits.specs.Part.{has_register, missing_word}
-use Rattle.pm_limits.specs.declared.side.Side.TheVariants.{Lowest, Highest}
+use Rattle.pm_limits.specs.Part.{has_register}
 use Rattle.pm_host.specs.declared.standing.Standing.TheVariants.{Confirmed}
 use Rattle.pm_rail.specs.declared.survey.Reads.{Reads}
 use Rattle.pm_rail.specs.declared.survey.Survey.{Survey}
@@ -36,31 +34,32 @@ use Rattle.pm_rail.specs.Orders.{is_needed}
 use Rattle.pm_rail.specs.Registers.{Held, Wants, wants_of}
 use Rattle.pm_rail.specs.Survey.{and_read, asking, due_by, due_in, ended, has_read, is_unread, is_unsure, next_job, nothing_read, wanted_in}
 use Rattle.pm_rail.specs.SurveyLength.{Answered, SurveysAreShort, checked, learned, nothing, reads_in, surprise}
-use Rattle.pm_rail.specs.Lemmas.Surveyed.{found}
+use Rattle.pm_rail.specs.Lemmas.Steps.{first-of, second-of, un-not}
+use Rattle.pm_rail.specs.Lemmas.Surveyed.{found, has-none}
 
 -- ---- The cells of an output, and how many of them pass a test ----
 
 -- a cell of an output: one of its registers, or WRITE_PROTECT
-cell_of : ℕ → Option Reg → Cell
+abbrev pub cell_of : ℕ → Option Reg → Cell
 cell_of output (Some register) = Out output register
 cell_of output None = Protect
 
-same_place : Option Reg → Option Reg → Bool
+abbrev same_place : Option Reg → Option Reg → Bool
 same_place (Some register) (Some other) = same_register register other
 same_place None None = true
 same_place place other = false
 
 -- the registers of a list, and WRITE_PROTECT
-with_protect : List Reg → List (Option Reg)
+abbrev pub with_protect : List Reg → List (Option Reg)
 with_protect [] = None ∷ []
 with_protect (register ∷ listed) = Some register ∷ with_protect listed
 
 -- how many pass a test
-tally : (Option Reg → Bool) → List (Option Reg) → ℕ
+abbrev pub tally : (Option Reg → Bool) → List (Option Reg) → ℕ
 tally test [] = 0
 tally test (place ∷ listed) = cond (test place) (1 + tally test listed) (tally test listed)
 
-total : (Option Reg → Bool) → ℕ
+pub total : (Option Reg → Bool) → ℕ
 total test = tally test (with_protect registers)
 
 -- a place is itself alone
@@ -89,25 +88,22 @@ once None = refl
 more-in : (p q : Option Reg → Bool) (at : Option Reg) → ((x : Option Reg) → same_place at x ≡ false → q x ≡ p x) →
     p at ≡ false → q at ≡ true → (xs : List (Option Reg)) → tally q xs ≡ tally (same_place at) xs + tally p xs
 more-in p q at others off on [] = refl
-more-in p q at others off on (x ∷ xs) = go (same_place at x) refl where
-  rest : tally q xs ≡ tally (same_place at) xs + tally p xs
-  rest = more-in p q at others off on xs
-
-  alike : (a b : Bool) → b ≡ a →
+more-in p q at others off on (x ∷ xs) = go (more-in p q at others off on xs) (same_place at x) refl where
+  equal : tally q xs ≡ tally (same_place at) xs + tally p xs → (a b : Bool) → b ≡ a →
       cond b (1 + tally q xs) (tally q xs) ≡ tally (same_place at) xs + cond a (1 + tally p xs) (tally p xs)
-  alike true true e = omega arith
-  alike true false e = cc
-  alike false true e = cc
-  alike false false e = rest
+  equal rest true true e = omega arith
+  equal rest true false e = cc
+  equal rest false true e = cc
+  equal rest false false e = rest
 
-  go : (b : Bool) → same_place at x ≡ b → cond (q x) (1 + tally q xs) (tally q xs)
+  go : tally q xs ≡ tally (same_place at) xs + tally p xs → (b : Bool) → same_place at x ≡ b → cond (q x) (1 + tally q xs) (tally q xs)
       ≡ cond b (1 + tally (same_place at) xs) (tally (same_place at) xs) + cond (p x) (1 + tally p xs) (tally p xs)
-  go true e =
+  go rest true e =
       let one = one-place at x e in
       let is_on : q x ≡ true = subst (λ (y : Option Reg). q y ≡ true) one on in
       let is_off : p x ≡ false = subst (λ (y : Option Reg). p y ≡ false) one off in
       rw (is_on, is_off) (omega arith)
-  go false e = alike (p x) (q x) (others x e)
+  go rest false e = equal rest (p x) (q x) (others x e)
 
 more : (p q : Option Reg → Bool) (at : Option Reg) → ((x : Option Reg) → same_place at x ≡ false → q x ≡ p x) →
     p at ≡ false → q at ≡ true → total q ≡ 1 + total p
@@ -118,15 +114,12 @@ more p q at others off on =
 -- no more pass than another test
 below-in : (p q : Option Reg → Bool) → ((x : Option Reg) → q x ≡ true → p x ≡ true) → (xs : List (Option Reg)) → tally q xs ≤ tally p xs
 below-in p q implies [] = omega arith
-below-in p q implies (x ∷ xs) = go (q x) (p x) (implies x) where
-  rest : tally q xs ≤ tally p xs
-  rest = below-in p q implies xs
-
-  go : (a b : Bool) → (a ≡ true → b ≡ true) → cond a (1 + tally q xs) (tally q xs) ≤ cond b (1 + tally p xs) (tally p xs)
-  go true true h = omega arith
-  go true false h = let bad = h refl in cc
-  go false true h = omega arith
-  go false false h = rest
+below-in p q implies (x ∷ xs) = go (below-in p q implies xs) (q x) (p x) (implies x) where
+  go : tally q xs ≤ tally p xs → (a b : Bool) → (a ≡ true → b ≡ true) → cond a (1 + tally q xs) (tally q xs) ≤ cond b (1 + tally p xs) (tally p xs)
+  go rest true true h = omega arith
+  go rest true false h = let bad = h refl in cc
+  go rest false true h = omega arith
+  go rest false false h = rest
 
 below : (p q : Option Reg → Bool) → ((x : Option Reg) → q x ≡ true → p x ≡ true) → total q ≤ total p
 unfolding total
@@ -145,31 +138,32 @@ none-in p off (x ∷ xs) = ap (λ (b : Bool). cond b (1 + tally p xs) (tally p x
 
 -- ---- What was read ----
 
-has_at : Reads → Option Reg → Bool
+abbrev pub has_at : Reads → Option Reg → Bool
 has_at read (Some register) = has_read read register
 has_at read None = read.protect
 
 -- the cells that were read, counted
+counted : Reads → List Reg → ℕ
+counted read [] = 0
+counted read (x ∷ xs) = cond (has_read read x) (1 + counted read xs) (counted read xs)
+
+split : (read : Reads) (xs : List Reg) → tally (has_at read) (with_protect xs) ≡ counted read xs + cond read.protect 1 0
+unfolding counted
+split read [] = last read.protect where
+  last : (b : Bool) → cond b (1 + 0) 0 ≡ 0 + cond b 1 0
+  last true = refl
+  last false = refl
+split read (x ∷ xs) = one (split read xs) (has_read read x) where
+  one : tally (has_at read) (with_protect xs) ≡ counted read xs + cond read.protect 1 0 → (b : Bool) →
+      cond b (1 + tally (has_at read) (with_protect xs)) (tally (has_at read) (with_protect xs))
+      ≡ cond b (1 + counted read xs) (counted read xs) + cond read.protect 1 0
+  one rest true = omega arith
+  one rest false = rest
+
 reads-are : (read : Reads) → total (has_at read) ≡ reads_in read
-unfolding total
-reads-are read = go registers where
-  counted : (xs : List Reg) → ℕ
-  counted [] = 0
-  counted (x ∷ xs) = cond (has_read read x) (1 + counted xs) (counted xs)
-
-  split : (xs : List Reg) → tally (has_at read) (with_protect xs) ≡ counted xs + cond read.protect 1 0
-  split [] = last read.protect where
-    last : (b : Bool) → cond b (1 + 0) 0 ≡ 0 + cond b 1 0
-    last true = refl
-    last false = refl
-  split (x ∷ xs) = one (has_read read x) where
-    one : (b : Bool) → cond b (1 + tally (has_at read) (with_protect xs)) (tally (has_at read) (with_protect xs))
-        ≡ cond b (1 + counted xs) (counted xs) + cond read.protect 1 0
-    one true = let rest = split xs in omega arith
-    one false = split xs
-
-  go : (xs : List Reg) → tally (has_at read) (with_protect xs) ≡ count_by (has_read read) xs + cond read.protect 1 0
-  go xs = split xs ∙ ap (λ (n : ℕ). n + cond read.protect 1 0) (is_count_by counted (has_read read) refl (λ y ys. refl) xs)
+unfolding total counted
+reads-are read = split read registers
+    ∙ ap (λ (n : ℕ). n + cond read.protect 1 0) (is_count_by (counted read) (has_read read) refl (λ y ys. refl) registers)
 
 -- a cell that is read counts as read, and no other
 has-and : (read : Reads) (output : ℕ) (p q : Option Reg) → has_at (and_read read (cell_of output p)) q ≡ (same_place p q || has_at read q)
@@ -203,25 +197,6 @@ none-read None = refl
 
 -- ---- What a survey asks for ----
 
--- both of two tests hold
-first-on : (a b : Bool) → (a && b) ≡ true → a ≡ true
-first-on true b h = refl
-first-on false b h = cc
-
-second-on : (a b : Bool) → (a && b) ≡ true → b ≡ true
-second-on true b h = h
-second-on false b h = cc
-
-not-off : (b : Bool) → not b ≡ true → b ≡ false
-not-off true h = cc
-not-off false h = refl
-
--- a register that the part has stands at no word
-none-missing : (part : PartRegisters) (shape : Shape) (register : Reg) → has_register part register ≡ true → missing_word part shape register ≡ None
-none-missing part shape VoutMin has = ap (λ (b : Bool). cond b None (Some (format_end Lowest shape))) has
-none-missing part shape VoutMax has = ap (λ (b : Bool). cond b None (Some (format_end Highest shape))) has
-none-missing part shape register has = refl
-
 -- A survey checks a cell that it hasn't read, or one that isn't known.
 record Reason (v : Survey) (k : Known) (cell : Cell) : Type 0 where
   place : Option Reg
@@ -233,8 +208,8 @@ unread-reason : (part : PartRegisters) (v : Survey) (k : Known) (held : Held) (w
 unread-reason part v k held wants register test = record {
   place = Some register;
   is = refl;
-  lost = λ read. absurd (let no = not-off (has_read v.read register)
-      (second-on (is_needed held wants register) _ (second-on (has_register part register) _ test)) in let bad = sym read ∙ no in cc);
+  lost = λ read. absurd (let no = un-not (has_read v.read register)
+      (second-of (is_needed held wants register) _ (second-of (has_register part register) _ test)) in let bad = sym read ∙ no in cc);
 }
 
 unsure-reason : (part : PartRegisters) (v : Survey) (s : Summary) (shape : Shape) (held : Held) (wants : Wants) (register : Reg) →
@@ -244,20 +219,20 @@ unsure-reason part v s shape held wants register test = record {
   is = refl;
   lost = λ read. ap (λ (o : Option ℕ). is_none (known_word (Out v.output register)
       (option_map_or only o (possible_at s (Out v.output register)))))
-      (sym (none-missing part shape register (first-on (has_register part register) _ test)))
-      ∙ second-on (is_needed held wants register) _ (second-on (has_register part register) _ test);
+      (sym (has-none part shape register (first-of (has_register part register) _ test)))
+      ∙ second-of (is_needed held wants register) _ (second-of (has_register part register) _ test);
 }
 
 protect-unread : (v : Survey) (k : Known) → (is_some v.plan && not v.read.protect) ≡ true → Reason v k Protect
 protect-unread v k test = record {
   place = None;
   is = refl;
-  lost = λ read. absurd (let bad = sym read ∙ not-off v.read.protect (second-on (is_some v.plan) _ test) in cc);
+  lost = λ read. absurd (let bad = sym read ∙ un-not v.read.protect (second-of (is_some v.plan) _ test) in cc);
 }
 
 protect-unsure : (v : Survey) (s : Summary) → (is_some v.plan && is_none (known_word Protect (possible_at s Protect))) ≡ true →
     Reason v s.known Protect
-protect-unsure v s test = record { place = None; is = refl; lost = λ read. second-on (is_some v.plan) _ test }
+protect-unsure v s test = record { place = None; is = refl; lost = λ read. second-of (is_some v.plan) _ test }
 
 -- why a check is asked for
 reason-in : (part : PartRegisters) (v : Survey) (s : Summary) (shape : Shape) (cell : Cell) →
@@ -314,7 +289,7 @@ there output None h = tt
 
 -- the cells of an output are told apart
 two-places : CellsAreToldApart → (output : ℕ) (p q : Option Reg) → cell_of output p ≡ cell_of output q → same_place p q ≡ true
-two-places apart output (Some r) (Some x) e = second-on (output == output) _ ((apart (Out output r) (Out output x)).1 e)
+two-places apart output (Some r) (Some x) e = second-of (output == output) _ ((apart (Out output r) (Out output x)).1 e)
 two-places apart output (Some r) None e = (apart (Out output r) Protect).1 e
 two-places apart output None (Some x) e = (apart Protect (Out output x)).1 e
 two-places apart output None None e = refl
@@ -365,15 +340,15 @@ is-known cell word possible taken is = ap (λ (p : Possible). is_none (known_wor
 -- ---- The count ----
 
 -- a cell was read, and isn't known
-lost_at : Known → ℕ → Reads → Option Reg → Bool
+pub lost_at : Known → ℕ → Reads → Option Reg → Bool
 lost_at k output read p = has_at read p && is_none (known_word (cell_of output p) (known_possible k (cell_of output p)))
 
 -- What holds of a survey on its way. Where no answer surprised, each check read a cell more, and all are known; where one
 -- did, the checks and the cells that are to be read again are less than two for each cell.
-record Way (output : ℕ) (checks surprises : ℕ) (read : Reads) (k : Known) : Type 0 where
-  whole : HasPlaces k
-  calm : surprises ≡ 0 → (checks ≡ total (has_at read)) × ((p : Option Reg) → lost_at k output read p ≡ false)
-  short : surprises ≡ 1 → checks + total (lost_at k output read) + 1 ≤ 2 * total (has_at read)
+pub record Way (output : ℕ) (checks surprises : ℕ) (read : Reads) (k : Known) : Type 0 where
+  pub whole : HasPlaces k
+  pub calm : surprises ≡ 0 → (checks ≡ total (has_at read)) × ((p : Option Reg) → lost_at k output read p ≡ false)
+  pub short : surprises ≡ 1 → checks + total (lost_at k output read) + 1 ≤ 2 * total (has_at read)
 
 -- what holds of a place and of each other one holds of all
 each-place : (P : Option Reg → Type 0) (p : Option Reg) → P p → ((q : Option Reg) → same_place p q ≡ false → P q) → (q : Option Reg) → P q
@@ -387,11 +362,9 @@ module _ (apart : CellsAreToldApart) (law : CellsHavePlaces) (output : ℕ) (sma
     (lost : has_at read p ≡ true → is_none (known_word (cell_of output p) (known_possible k (cell_of output p))) ≡ true) where
   -- what was read, and what is known, behind the answer
   now_read : Reads
-  unfolding now_read
   now_read = and_read read (cell_of output p)
 
   now_known : Known
-  unfolding now_known
   now_known = known_after k (Good (cell_of output p) word)
 
   here : has_at now_read p ≡ true
@@ -433,6 +406,7 @@ module _ (apart : CellsAreToldApart) (law : CellsHavePlaces) (output : ℕ) (sma
     go false e = refl
 
   expected-step : is_possible word (known_possible k (cell_of output p)) ≡ true → Way output (checks + 1) (surprises + 0) now_read now_known
+  unfolding now_known
   expected-step expected = record {
     whole = whole';
     calm = λ none.
@@ -447,7 +421,6 @@ module _ (apart : CellsAreToldApart) (law : CellsHavePlaces) (output : ℕ) (sma
   }
     where
       whole' : HasPlaces now_known
-      unfolding now_known
       whole' = still-whole apart law k way.whole output small p word
 
       again : (b : Bool) → has_at read p ≡ b → checks + total (lost_at k output read) + 1 ≤ 2 * total (has_at read) →
@@ -466,6 +439,7 @@ module _ (apart : CellsAreToldApart) (law : CellsHavePlaces) (output : ℕ) (sma
           omega arith
 
   surprised-step : Way output (checks + 1) (surprises + 1) now_read now_known
+  unfolding now_known lost_at
   surprised-step = record {
     whole = whole';
     calm = λ none. absurd (omega arith);
@@ -481,12 +455,10 @@ module _ (apart : CellsAreToldApart) (law : CellsHavePlaces) (output : ℕ) (sma
   }
     where
       whole' : HasPlaces now_known
-      unfolding now_known
       whole' = still-whole apart law k way.whole output small p word
 
       was-read : (q : Option Reg) → same_place p q ≡ false → lost_at now_known output now_read q ≡ true → has_at read q ≡ true
-      unfolding lost_at
-      was-read q two on = sym (elsewhere q two) ∙ first-on (has_at now_read q) _ on
+      was-read q two on = sym (elsewhere q two) ∙ first-of (has_at now_read q) _ on
 
   step : Way output (checks + 1) (surprises + cond (not (is_possible word (known_possible k (cell_of output p)))) 1 0)
       (and_read read (cell_of output p)) (known_after k (Good (cell_of output p) word))
@@ -499,6 +471,7 @@ module _ (apart : CellsAreToldApart) (law : CellsHavePlaces) (output : ℕ) (sma
 
 -- before the first job
 begins : (output : ℕ) (read : Reads) (k : Known) → HasPlaces k → read ≡ nothing_read → Way output 0 0 read k
+unfolding lost_at total
 begins output read k whole none = record {
   whole = whole;
   calm = λ s. (sym (none-in (has_at read) off (with_protect registers)), off-lost);
@@ -509,7 +482,6 @@ begins output read k whole none = record {
     off p = ap (λ (r : Reads). has_at r p) none ∙ none-read p
 
     off-lost : (p : Option Reg) → lost_at k output read p ≡ false
-    unfolding lost_at
     off-lost p = ap (λ (b : Bool). b && is_none (known_word (cell_of output p) (known_possible k (cell_of output p)))) (off p)
 
 -- a learn reads no cell

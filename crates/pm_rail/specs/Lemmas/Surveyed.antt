@@ -2,7 +2,7 @@
 use Rattle.std.specs.Prelude.{◌≡◌, ◌<◌, ◌+◌, ◌==◌, ℕ, Bool, true, false, not, ◌&&◌, ◌||◌, if◌then◌else◌, refl, find, List, [], ◌∷◌, Option, Some, None, is_none, is_some, option_map}
 use Rattle.std.specs.Option.{option_or}
 use Rattle.std.specs.List.{list_any}
-use Rattle.std.proofs.Common.{subst, arith}
+use Rattle.std.proofs.Common.{ap, cond, subst, arith}
 use Rattle.std.proofs.lemmas.Bool.Decides.{nat_tests}
 use Rattle.pm_table.specs.declared.cell.Cell.TheVariants.{Out, Protect}
 use Rattle.pm_table.specs.declared.reg.Reg.{Reg}
@@ -14,7 +14,9 @@ use Rattle.pm_host.specs.declared.job.Job.TheVariants.{Check, Learn}
 use Rattle.pm_num.specs.AnyFormat.{Shape}
 use Rattle.pm_host.specs.Summary.{Summary, format_at, possible_at}
 use Rattle.pm_limits.specs.declared.part_registers.PartRegisters.{PartRegisters}
-use Rattle.pm_limits.specs.Part.{all_registers, has_register}
+use Rattle.pm_limits.specs.declared.side.Side.TheVariants.{Lowest, Highest}
+use Rattle.pm_limits.specs.Ends.{format_end}
+use Rattle.pm_limits.specs.Part.{all_registers, has_register, missing_word}
 use Rattle.pm_rail.specs.declared.survey.Survey.{Survey}
 use Rattle.pm_rail.specs.Known.{Cells, cells_of, known_at, known_of, known_word}
 use Rattle.pm_rail.specs.Orders.{is_needed}
@@ -38,6 +40,13 @@ both-true false b h = cc
 off-not : (b : Bool) → not b ≡ true → b ≡ false
 off-not true h = cc
 off-not false h = refl
+
+-- a register that the part has stands at no word of a missing one
+pub has-none : (part : PartRegisters) (shape : Shape) (register : Reg) → has_register part register ≡ true →
+    missing_word part shape register ≡ None
+has-none part shape VoutMin has = ap (λ (b : Bool). cond b None (Some (format_end Lowest shape))) has
+has-none part shape VoutMax has = ap (λ (b : Bool). cond b None (Some (format_end Highest shape))) has
+has-none part shape register has = refl
 
 -- no register is lacking where none of the list is
 none-lacking : (test : Reg → Bool) → list_any test registers ≡ false → (register : Reg) → test register ≡ false
