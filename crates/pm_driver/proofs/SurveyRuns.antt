@@ -227,8 +227,9 @@ module _ (laws : LawsOfRails) (config : Config) (passes : ℕ) (part : PartRegis
 
   -- what it is worth
   pub is-worth : (v : Survey) (guard : Guarded) (held : Converter) (es : List Event) →
-      Reading laws config passes part output later before here v guard held es → IsWorth config passes v guard held es later before
+      Reading laws config passes part output later before here v guard held es → IsWorth config passes output v guard held es later before
   is-worth v guard held es way = record {
+    own = way.own;
     same = λ newer older is. subst (λ (o : ℕ). commands config passes (older ++ (later ++ before)) o ≡ commanded_in config held o) (sym way.own)
         (same-commands config passes output (older ++ (later ++ before)) (es ++ (later ++ before)) (fun_ext (λ (r : Reg). way.stays newer older r is
         ∙ sym (way.stays [] es r refl))) ∙ ends output);

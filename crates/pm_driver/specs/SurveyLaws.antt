@@ -42,12 +42,13 @@ pub record IsOne (band : Band) (value : Ratio) : Type 0 where
   pub least : band.least ≡ value
   pub greatest : band.greatest ≡ value
 
--- What is true of a survey of these events, over a life. At each moment of it the output commanded what it does at its end
+-- What is true of a survey of this output by these events, over a life. At each moment of it the output commanded what it does at its end
 -- (`same`), and what the survey counts as read was read since it began (`read`), so that it may go on. Where it has ended by
 -- its own rule the output has a band of one value, which is what the output commands (`one`). Otherwise what it commands
 -- lies in the band, where the converter didn't restart, by the life's earlier events, since the answers for the registers
 -- that decide and that the survey hasn't read (`within`).
-pub record IsWorth (config : Config) (passes : ℕ) (v : Survey) (guard : Guarded) (held : Held) (events later before : List Event) : Type 0 where
+pub record IsWorth (config : Config) (passes output : ℕ) (v : Survey) (guard : Guarded) (held : Held) (events later before : List Event) : Type 0 where
+  pub own : v.output ≡ output
   pub same : (newer older : List Event) → events ≡ newer ++ older →
       commands config passes (older ++ (later ++ before)) v.output ≡ commanded_in config held v.output
   pub read : AreRead config passes v (events ++ later) before
@@ -72,4 +73,4 @@ SurveysAreTrue {B = B} gives held restarts = (begun v : Survey) (old new : Drivi
     AreRead config passes begun later before → list_any restarts_converter later ≡ false →
     HoldsMissing old.guard.registers config (held old.bus).words begun.output →
     MissingUnread config passes old.guard.registers begun.output (later ++ before) →
-    IsWorth config passes v new.guard (held new.bus) (events_read runs) later before
+    IsWorth config passes begun.output v new.guard (held new.bus) (events_read runs) later before
