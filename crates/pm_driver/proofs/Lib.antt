@@ -2,6 +2,8 @@ mod BegunJobs
 mod Composed
 mod EndedJobs
 mod Grown
+mod Latched
+mod Looked
 mod OpenJobs
 mod ReadBack
 mod SentFrames

@@ -38,7 +38,7 @@ use Rattle.pm_world.specs.Legal.{is_legal_hearing, is_legal_return}
 use Rattle.pm_world.specs.Life.{life}
 use Rattle.pm_world.specs.Setup.{setup_of}
 use Rattle.pm_world.specs.WholeFrames.{WholeFramesAreUndisturbed}
-use Rattle.pm_driver.specs.Acts.{Act, AreCalls, AreDone, Began, Call, Called, MayDo, Read, Renewed, Wrote, asked_in, host_by, told_all}
+use Rattle.pm_driver.specs.Acts.{Act, AreCalls, AreDone, Began, Call, Called, Looked, MayDo, Read, Renewed, Wrote, asked_in, host_by, told_all}
 use Rattle.pm_driver.specs.Bus.{IsAsked, IsSent, answer_of}
 use Rattle.pm_driver.specs.Driven.{HasLife, driven}
 use Rattle.pm_driver.specs.Lives.{Leads}
@@ -217,6 +217,7 @@ idle-acts host idle (Called call ∷ before) none done =
     absurd (not-idle host call idle (subst (λ (l : List Act). MayDo (host_by host l) (Called call)) earlier done.0))
 idle-acts host idle (Began job ∷ before) none done = cc
 idle-acts host idle (Renewed ∷ before) none done = cc
+idle-acts host idle (Looked request room came ∷ before) none done = cc
 
 -- a host that doesn't refuse an order is idle
 idle-so : (host : Summary) (cell : Cell) (word : ℕ) → order_fault host cell word ≡ None → is_busy host ≡ false
@@ -303,6 +304,7 @@ came-so host cell word entries setup gives held is_so all old so quiet goes (Beg
     let at : old ≡ new = subst (λ (l : List Act). AreCalls gives old l new) none calls in
     (begun (ap₂ (λ j l. Began j ∷ l) same none) (ap held at), subst (λ b. is_so b ≡ true) at so)
 came-so host cell word entries setup gives held is_so all old so quiet goes (Renewed ∷ before) new asks done calls = cc
+came-so host cell word entries setup gives held is_so all old so quiet goes (Looked request room came ∷ before) new asks done calls = cc
 
 -- an order over a bus whose calls nothing disturbs is done, and its word is held
 pub undisturbed-orders : LawsOfLives → GoodFramesEndJobs → WholeFramesAreUndisturbed → CallsGo → {B : Type 0} →

@@ -35,7 +35,7 @@ use Rattle.pm_world.specs.Life.{now}
 use Rattle.pm_world.specs.Limited.{OrdersWithin, OwnWithin, StartsWithin, WordWithin}
 use Rattle.pm_world.specs.State.{asked, tells}
 use Rattle.pm_world.specs.Uncertainty.{job_event}
-use Rattle.pm_driver.specs.Acts.{Act, Began, Call, Called, Renewed, asked_in}
+use Rattle.pm_driver.specs.Acts.{Act, Began, Call, Called, Looked, Renewed, asked_in}
 use Rattle.pm_driver.specs.Driven.{AreAsNarrow, Driving, HasLife, HasLifeWithin, HasNoRestartSince, MayBegin, Runs, driven}
 use Rattle.pm_driver.specs.Ends.{EndSays, cell_read}
 use Rattle.pm_driver.specs.Laws.{EndsAreTrue, LawsOfLives, LeadsCompose, NewConvertersAreWithin}
@@ -199,6 +199,7 @@ asked-begun [] = refl
 asked-begun (Called call ∷ acts) = asked-begun acts
 asked-begun (Began job ∷ acts) = ap (with_job (asked_by (job_event job))) (asked-begun acts)
 asked-begun (Renewed ∷ acts) = asked-begun acts
+asked-begun (Looked request room came ∷ acts) = asked-begun acts
 
 -- of a job that began the word is within
 begun-within : (config : Config) (output : ℕ) (bounds : Bounds) (begun : host.Job) →
@@ -280,14 +281,15 @@ runs-by laws law gives held restarts jobs compose asked end old new middle has f
       stays (Some begun) e is output bounds narrow lived =
           job-within laws gives held restarts old.guard asked begun end old.bus (driven new) free e is output bounds narrow lived
 
--- a restart
-pub restart-within : LawsOfLives → {B : Type 0} (gives : B → Call → B → Type 0) (held : B → Held) (restarts : B → ℕ) (old new : Driven B) →
-    Leads gives held restarts (Renewed ∷ []) None old new → (output : ℕ) (bounds : Bounds) →
+-- what asks for no job
+pub jobless-within : LawsOfLives → {B : Type 0} (gives : B → Call → B → Type 0) (held : B → Held) (restarts : B → ℕ) (asked : List Act)
+    (old new : Driven B) → jobs_begun asked ≡ [] →
+    Leads gives held restarts asked None old new → (output : ℕ) (bounds : Bounds) →
     HasLifeWithin output bounds old.host (held old.bus) → HasLifeWithin output bounds new.host (held new.bus)
-restart-within laws gives held restarts old new leads output bounds lived =
-    led-within laws gives held restarts (Renewed ∷ []) None old new output bounds lived leads
+jobless-within laws gives held restarts asked old new none leads output bounds lived =
+    led-within laws gives held restarts asked None old new output bounds lived leads
     (subst (JobsWithin lived.has.config output bounds)
-    (sym (leads.orders ∙ (asked-begun leads.acts ∙ ap jobs_begun leads.asks))) tt)
+    (sym (leads.orders ∙ (asked-begun leads.acts ∙ (ap jobs_begun leads.asks ∙ none)))) tt)
 
 -- ---- the beginning
 

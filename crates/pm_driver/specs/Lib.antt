@@ -5,6 +5,7 @@ pub mod Acts
 pub mod Lives
 pub mod Ends
 pub mod Driven
+pub mod Looks
 pub mod Laws
 pub mod Undisturbed
 -- How it is kept.

@@ -119,7 +119,7 @@ impl<B: Bus> Driver<B> {
             match asked.next(self.guard()) {
                 None => return Ok(survey.is_done(self.guard())),
                 Some(job) => {
-                    let end = self.read(survey, job);
+                    let end = self.run_read(survey, job);
                     asked.told(end);
                     *survey = asked;
                 }
@@ -193,7 +193,7 @@ impl<B: Bus> Driver<B> {
         }
         let mut asked = course.survey;
         if let Some(job) = asked.next(self.guard()) {
-            let end = self.read(&course.survey, job);
+            let end = self.run_read(&course.survey, job);
             asked.told(end);
             course.survey = asked;
             return None;
@@ -298,7 +298,7 @@ impl<B: Bus> Driver<B> {
     }
 
     // Carries out a job that a survey asks for.
-    fn read(&mut self, survey: &Survey, job: Job) -> JobEnd
+    fn run_read(&mut self, survey: &Survey, job: Job) -> JobEnd
         requires idle { spec_is_busy self.old.guard.host ≡ false }
         requires there { survey.now.output < self.old.guard.host.setup.outputs }
         requires asked { asks_in survey.now self.old.guard ≡ Some job }
@@ -315,7 +315,7 @@ impl<B: Bus> Driver<B> {
     }
 
     // Whether a job is open.
-    fn is_busy(&self) -> bool
+    pub(crate) fn is_busy(&self) -> bool
         ensures { result ≡ spec_is_busy self.now.guard.host }
     {
         self.host().stage().is_some()
