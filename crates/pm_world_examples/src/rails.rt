@@ -5,6 +5,7 @@ ghost use Rattle.pm_limits.specs.Part.{all_registers};
 ghost use Rattle.pm_world_examples.specs.Rails.{CommandsTheOne, CommandsWanted};
 
 use pm_driver::{ApplyEnd, Bus, Driver, reached_plans_are_commanded, surveys_are_true};
+use pm_limits::whole_parts_miss_nothing;
 use pm_rail::{Survey, Wanted};
 use pm_world::{plans_hold_in_lives, surveys_hold_in_lives};
 
@@ -17,6 +18,7 @@ pub fn surveyed_rail<B: Bus>(driver: &mut Driver<B>, output: u8, tries: u16) -> 
     // law: what a survey is worth
     surveys_are_true::<B>();
     plans_hold_in_lives();
+    whole_parts_miss_nothing();
     surveys_hold_in_lives();
     let mut survey = Survey::new(output, None, tries);
     match driver.survey(&mut survey) {
@@ -39,5 +41,6 @@ pub fn applied_rail<B: Bus>(
     // law: what an output commands once a plan was carried out
     reached_plans_are_commanded::<B>();
     plans_hold_in_lives();
+    whole_parts_miss_nothing();
     driver.apply(output, wanted, tries)
 }

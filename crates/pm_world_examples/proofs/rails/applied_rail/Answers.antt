@@ -12,4 +12,4 @@ returns g c = λ reached same led here.
     same led.config led.passes led.events led.spelled here led.life
     (whole-holds c.plans_hold_in_lives.ensures c.args.driver.now.guard.registers c.requires.whole led.config
     (g.B.Bus.held c.args.driver.now.bus).words c.args.output)
-    (whole-unread c.args.driver.now.guard.registers c.requires.whole led.config led.passes c.args.output led.events)
+    (whole-unread c.whole_parts_miss_nothing.ensures c.args.driver.now.guard.registers c.requires.whole led.config led.passes c.args.output led.events)

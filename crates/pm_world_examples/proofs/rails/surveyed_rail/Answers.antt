@@ -21,7 +21,7 @@ returns-in-Ok g c = λ is same led here.
     ((c.surveys_hold_in_lives.ensures.follows led.config led.passes led.events led.life.lived).begins begun
     (ap (λ (x : Survey). x.read) c.new-survey.ensures)) refl
     (whole-holds c.plans_hold_in_lives.ensures old.guard.registers c.requires.whole led.config (g.B.Bus.held old.bus).words begun.output)
-    (whole-unread old.guard.registers c.requires.whole led.config led.passes begun.output led.events) in
+    (whole-unread c.whole_parts_miss_nothing.ensures old.guard.registers c.requires.whole led.config led.passes begun.output led.events) in
     let done : c.in-Ok.done ≡ true = cc in
     let surveyed : is_surveyed_in v new.guard ≡ true = sym surveys.3 ∙ done in
     subst (λ (o : ℕ). IsSomeAnd (band_at new.guard.registers new.guard.host o)
