@@ -111,3 +111,15 @@ leads-nothing gives held restarts d = record {
   orders = refl;
   lives = λ config passes before life. stays life;
 }
+
+-- by the events of both, and by none
+pub composed-events : {B : Type 0} (gives : B → Call → B → Type 0) (held : B → Held) (restarts : B → ℕ) (first second : List Act)
+    (middle end : Option JobEnd) (a b c : Driven B) (one : Leads gives held restarts first middle a b) (two : Leads gives held restarts second end b c) →
+    (leads-compose gives held restarts first second middle end a b c one two).events ≡ two.events ++ one.events
+unfolding leads-compose
+composed-events gives held restarts first second middle end a b c one two = refl
+
+pub nothing-events : {B : Type 0} (gives : B → Call → B → Type 0) (held : B → Held) (restarts : B → ℕ) (d : Driven B) →
+    (leads-nothing gives held restarts d).events ≡ []
+unfolding leads-nothing
+nothing-events gives held restarts d = refl

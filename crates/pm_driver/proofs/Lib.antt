@@ -15,7 +15,12 @@ mod Idle
 mod Surveyed
 mod Followed
 mod Chains
+mod PlanOrders
+mod CarriedOut
 mod RailLives
+mod SurveyRuns
+mod ReachedPlans
+mod RailLeads
 mod Parts
 mod Patience
 mod Plan

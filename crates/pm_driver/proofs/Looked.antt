@@ -4,7 +4,7 @@ use Rattle.std.proofs.Common.{refl, sym, ◌∙◌, ap, subst}
 use Rattle.std.specs.Option.{option_or}
 use Rattle.std.specs.Prelude.{◌≢◌, nat_lt}
 use Rattle.std.proofs.lemmas.Bool.{eqb-true, lt-ltb}
-use Rattle.std.proofs.lemmas.List.{take-append-drop}
+use Rattle.std.proofs.lemmas.List.{length-take, take-append-drop}
 use Rattle.pm_table.specs.Codes as command
 use Rattle.pm_table.specs.Commands.{is_written, line_of, payload_length}
 use Rattle.pm_table.specs.Rules.{rule}
@@ -17,7 +17,6 @@ use Rattle.pm_device.specs.Held.{Held}
 use Rattle.pm_frame.specs.Fault.{address_fault, length_fault, opening_fault, pec_fault, plain_fault, request_fault, size_fault, write_fault}
 use Rattle.pm_frame.specs.Laws.{DamageIsRefused, RequestsAreExact}
 use Rattle.pm_frame.specs.Layout.{IsRequest, is_plain_write, write_address}
-use Rattle.pm_frame.specs.PlainRead.{code_request}
 use Rattle.pm_host.specs.declared.fault.HostFault.TheVariants.{Busy}
 use Rattle.pm_host.specs.Refusals.{is_busy}
 use Rattle.pm_host.specs.Summary.{Summary}
@@ -141,10 +140,10 @@ pair-short start code = go (is_plain_write code) where
       (some-so _ (Short 2) (ap (λ b. rule b (Short 2)) (lt-ltb 2 (payload_length code + 3) (omega arith))))
   go false = some-so (Some (Short 2)) (Short 2) refl
 
-pair-no-write : (addr own code : ℕ) → write_fault addr (code_request own code) ≢ None
+two-short : (addr start code : ℕ) → write_fault addr (start ∷ code ∷ []) ≢ None
 unfolding write_fault
-pair-no-write addr own code =
-    second-so (opening_fault (write_address addr) (code_request own code)) _ (first-so _ _ (pair-short (write_address own) code))
+two-short addr start code =
+    second-so (opening_fault (write_address addr) (start ∷ code ∷ [])) _ (first-so _ _ (pair-short start code))
 
 -- no byte, and one
 none-short : (addr : ℕ) → write_fault addr [] ≢ None
@@ -155,12 +154,16 @@ one-short : (addr start : ℕ) → write_fault addr (start ∷ []) ≢ None
 unfolding write_fault opening_fault address_fault
 one-short addr start = first-so _ _ (second-so (address_fault (write_address addr) (start ∷ [])) _ (some-so _ (Short 1) refl))
 
--- the request of a plain read or a block read
-code-no-write : (addr own code count : ℕ) → write_fault addr (take count (code_request own code)) ≢ None
-code-no-write addr own code zero = none-short addr
-code-no-write addr own code (suc zero) = one-short addr (write_address own)
-code-no-write addr own code (suc (suc zero)) = pair-no-write addr own code
-code-no-write addr own code (suc (suc (suc count))) = pair-no-write addr own code
+-- so up to two bytes are no write
+few-short : (addr : ℕ) (bytes : List ℕ) → length bytes ≤ 2 → write_fault addr bytes ≢ None
+few-short addr [] few = none-short addr
+few-short addr (start ∷ []) few = one-short addr start
+few-short addr (start ∷ code ∷ []) few = two-short addr start code
+few-short addr (start ∷ code ∷ third ∷ rest) few = absurd (omega arith)
+
+-- wherever they are cut
+short-no-write : (addr : ℕ) (bytes : List ℕ) → length bytes ≤ 2 → IsNoWrite addr bytes
+short-no-write addr bytes few = record { cut = λ count. few-short addr (take count bytes) (omega (arith, length-take count bytes)) }
 
 -- of two faults the second, where the first doesn't come
 other-so : (first : Bool) (one other : Option FrameFault) → (first ≡ true → ⊥) → other ≢ None → cond first one other ≢ None
@@ -194,7 +197,7 @@ message-no-write exact damage addr own request bytes is = record {
 
 pub no-writes : RequestsAreExact → DamageIsRefused → RequestsAreNoWrites
 no-writes exact damage = record {
-  code = λ addr own code bytes is. subst (IsNoWrite addr) (sym is) (record { cut = code-no-write addr own code });
+  short = short-no-write;
   unwritten = λ addr start code rest bytes is unwritten.
       subst (IsNoWrite addr) (sym is) (record { cut = unwritten-no-write addr start code rest unwritten });
   message = message-no-write exact damage;

@@ -239,27 +239,26 @@ job-within laws gives held restarts g asked begun end bus new free is leads outp
 
 -- ---- what a call does
 
--- a job that is carried out
-pub runs-so : LawsOfLives → EndsAreTrue → {B : Type 0} (gives : B → Call → B → Type 0) (held : B → Held) (restarts : B → ℕ) →
+-- a job that is carried out, which nothing refused and which its guard began
+pub runs-by : LawsOfLives → EndsAreTrue → {B : Type 0} (gives : B → Call → B → Type 0) (held : B → Held) (restarts : B → ℕ) →
     JobsLead gives held restarts → LeadsCompose gives held restarts → (asked : Job) (end : JobEnd) (old new : Driving B) (middle : Guarded) →
-    HasLife old.guard.host (held old.bus) → LetsBegin old.guard asked (Ok tt) middle →
+    HasLife old.guard.host (held old.bus) → guard_fault old.guard asked ≡ None → IsBegun old.guard.host asked middle.host →
     Leads gives held restarts [] (Some end) (record { host = middle.host; bus = old.bus }) (driven new) → frames_left new.guard.host ≡ 0 →
-    new.guard.limits ≡ middle.limits → new.guard.registers ≡ middle.registers → new.guard.host.setup ≡ middle.host.setup →
+    new.guard.limits ≡ old.guard.limits → new.guard.registers ≡ old.guard.registers → new.guard.host.setup ≡ old.guard.host.setup →
     Runs gives held restarts asked old (Ok end) new
-runs-so laws law gives held restarts jobs compose asked end old new middle has begins leads over limits registers kept =
-    let led = job-leads gives held restarts jobs compose asked end (driven old) (driven new) middle.host
-    (guard-begun old.guard middle asked begins) leads in
+runs-by laws law gives held restarts jobs compose asked end old new middle has free begun leads over limits registers kept =
+    let led = job-leads gives held restarts jobs compose asked end (driven old) (driven new) middle.host begun leads in
     record {
-      fault = begins.fault;
+      fault = sym free;
       leads = led;
       says = says (accepted_job old.guard.host asked) led;
       read = read (accepted_job old.guard.host asked) led;
       stays = job-since gives held restarts (accepted_job old.guard.host asked) end (driven old) (driven new) led;
       over = over;
       err = tt;
-      limits = limits ∙ begins.limits;
-      registers = registers ∙ begins.registers;
-      kept = kept ∙ begins.kept;
+      limits = limits;
+      registers = registers;
+      kept = kept;
       within = λ output bounds narrow lived. stays (accepted_job old.guard.host asked) refl led output bounds narrow lived;
     } where
       says : (o : Option host.Job) →
@@ -280,7 +279,7 @@ runs-so laws law gives held restarts jobs compose asked end old new middle has b
           HasLifeWithin output bounds old.guard.host (held old.bus) → HasLifeWithin output bounds new.guard.host (held new.bus)
       stays None e is output bounds narrow lived = absurd is
       stays (Some begun) e is output bounds narrow lived =
-          job-within laws gives held restarts old.guard asked begun end old.bus (driven new) (sym begins.fault) e is output bounds narrow lived
+          job-within laws gives held restarts old.guard asked begun end old.bus (driven new) free e is output bounds narrow lived
 
 -- what asks for no job
 pub jobless-within : LawsOfLives → {B : Type 0} (gives : B → Call → B → Type 0) (held : B → Held) (restarts : B → ℕ) (asked : List Act)
@@ -342,3 +341,14 @@ new-within laws config passes output bounds sound spelled made starts = record {
   };
   within = starts-own config passes output bounds starts;
 }
+
+-- one that its guard let begin
+pub runs-so : LawsOfLives → EndsAreTrue → {B : Type 0} (gives : B → Call → B → Type 0) (held : B → Held) (restarts : B → ℕ) →
+    JobsLead gives held restarts → LeadsCompose gives held restarts → (asked : Job) (end : JobEnd) (old new : Driving B) (middle : Guarded) →
+    HasLife old.guard.host (held old.bus) → LetsBegin old.guard asked (Ok tt) middle →
+    Leads gives held restarts [] (Some end) (record { host = middle.host; bus = old.bus }) (driven new) → frames_left new.guard.host ≡ 0 →
+    new.guard.limits ≡ middle.limits → new.guard.registers ≡ middle.registers → new.guard.host.setup ≡ middle.host.setup →
+    Runs gives held restarts asked old (Ok end) new
+runs-so laws law gives held restarts jobs compose asked end old new middle has begins leads over limits registers kept =
+    runs-by laws law gives held restarts jobs compose asked end old new middle has (sym begins.fault)
+    (guard-begun old.guard middle asked begins) leads over (limits ∙ begins.limits) (registers ∙ begins.registers) (kept ∙ begins.kept)

@@ -22,3 +22,6 @@ pub mod PlanEnds
 -- Rails.
 pub mod Rails
 pub mod RailLaws
+pub mod SurveyLaws
+pub mod Reached
+pub mod RailLeads

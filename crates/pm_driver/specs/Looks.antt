@@ -6,7 +6,6 @@ use Rattle.pm_table.specs.Commands.{is_written}
 use Rattle.pm_table.specs.Rules.{rule}
 use Rattle.pm_frame.specs.declared.message.Message.{Message}
 use Rattle.pm_frame.specs.Layout.{IsRequest}
-use Rattle.pm_frame.specs.PlainRead.{code_request}
 use Rattle.pm_device.specs.Held.{Held}
 use Rattle.pm_host.specs.declared.fault.HostFault.{HostFault}
 use Rattle.pm_host.specs.declared.fault.HostFault.TheVariants.{Busy}
@@ -34,11 +33,11 @@ pub record Looks {B : Type 0} (gives : B → Call → B → Type 0) (held : B �
   pub within : (output : ℕ) (bounds : Bounds) → HasLifeWithin output bounds old.guard.host (held old.bus) →
       HasLifeWithin output bounds new.guard.host (held new.bus)
 
--- No beginning is a write to any address: of the request of a plain read or a block read of any code (`code`), of any bytes
--- whose code isn't written (`unwritten`), as PAGE_PLUS_READ of any page and code, and of the request of a message that reads
--- (`message`).
+-- No beginning is a write to any address: of up to two bytes, which the request of a plain read or a block read of any code
+-- has (`short`), of bytes whose code isn't written (`unwritten`), as PAGE_PLUS_READ of any page and code, and of the request of a
+-- message that reads (`message`).
 pub record RequestsAreNoWrites : Type 0 where
-  pub code : (addr own code : ℕ) (bytes : List ℕ) → bytes ≡ code_request own code → IsNoWrite addr bytes
+  pub short : (addr : ℕ) (bytes : List ℕ) → length bytes ≤ 2 → IsNoWrite addr bytes
   pub unwritten : (addr start code : ℕ) (rest bytes : List ℕ) → bytes ≡ start ∷ code ∷ rest → is_written code ≡ false →
       IsNoWrite addr bytes
   pub message : (addr own : ℕ) (request : Message) (bytes : List ℕ) → IsRequest own request bytes → IsNoWrite addr bytes

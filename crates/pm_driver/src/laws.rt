@@ -53,8 +53,8 @@ pub fn ends_are_true()
     laws_of_lives();
 }
 
-/// No beginning of a request is a write: of a plain read or a block read of any code, of bytes whose code isn't written, and
-/// of a message that reads. What
+/// No beginning of a request is a write: of up to two bytes, as a plain read or a block read of any code sends, of bytes whose
+/// code isn't written, and of a message that reads. What
 /// [`Driver::read`](crate::Driver::read) asks of its request.
 pub fn requests_are_no_writes()
     ensures { RequestsAreNoWrites }

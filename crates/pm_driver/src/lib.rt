@@ -16,7 +16,9 @@
 //!
 //! [`Driver::survey`] reads what decides what an output commands, and [`Driver::apply`] carries a plan out: while the bus
 //! counts no restart, the output commands at each moment what it commanded before or what is wanted
-//! ([`applied_plans_keep_rails`], [`applied_plans_come_true`]).
+//! ([`applied_plans_keep_rails`]), and what is wanted once all is reached ([`applied_plans_come_true`],
+//! [`reached_plans_are_commanded`]); what it commands is in the band that a survey ends with, which has one value then
+//! ([`surveys_are_true`]).
 //!
 //! It has no clock and no memory: a bus decides how long it waits, and whether it tries a write again. There is one host
 //! and one converter; a second master on the bus is no part of it. Of its own buses a
@@ -78,4 +80,7 @@ pub use laws::{
     requests_are_no_writes, restarts_are_counted, undisturbed_orders_are_done,
     whole_frames_are_legal,
 };
-pub use rail_laws::{applied_plans_come_true, applied_plans_keep_rails};
+pub use rail_laws::{
+    applied_plans_come_true, applied_plans_keep_rails, rails_lead, reached_plans_are_commanded,
+    surveys_are_true,
+};

@@ -12,6 +12,7 @@ use Rattle.pm_host.specs.declared.job.Job.TheVariants.{Order, Check}
 use Rattle.pm_host.specs.Possible.{is_possible}
 use Rattle.pm_host.specs.Summary.{Summary, format_at, possible_at}
 use Rattle.pm_limits.specs.declared.part_registers.PartRegisters.{PartRegisters}
+use Rattle.pm_limits.specs.Band.{band_at}
 use Rattle.pm_limits.specs.Bounds.{Bounds}
 use Rattle.pm_limits.specs.Guard.{Guarded, guard_fault, limits_at}
 use Rattle.pm_limits.specs.Part.{all_registers, has_register}
@@ -106,6 +107,7 @@ PlansAreAccepted = (g : Guarded) (output : ℕ) (wants : Wants) (register : Reg)
 -- WRITE_PROTECT was read and is known too (`protection`). Where it has tries left it asks as long as this isn't so, and
 -- each job takes one (`asks`), unless it is stuck at a register that is needed and that the part doesn't have; a part
 -- with every register never is the reason (`whole`). It never asks for a register that the part doesn't have (`unread`).
+-- Where it has ended by its own rule the output has a band (`band`).
 pub record SurveysEndKnown : Type 0 where
   pub format : (part : PartRegisters) (v : Survey) (s : Summary) → is_surveyed part v s ≡ true →
       (v.learned ≡ true) × (is_none (format_at s v.output) ≡ false)
@@ -123,3 +125,5 @@ pub record SurveysEndKnown : Type 0 where
   pub whole : (v : Survey) (s : Summary) → is_stuck all_registers v s ≡ false
   pub unread : (part : PartRegisters) (v : Survey) (s : Summary) (output : ℕ) (register : Reg) →
       next_job part v s ≡ Some (Check (Out output register)) → has_register part register ≡ true
+  pub band : (part : PartRegisters) (v : Survey) (s : Summary) → is_surveyed part v s ≡ true →
+      is_none (band_at part s v.output) ≡ false

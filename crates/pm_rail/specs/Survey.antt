@@ -21,11 +21,7 @@ use Rattle.pm_rail.specs.declared.survey.Survey.{Survey}
 use Rattle.pm_rail.specs.declared.wanted.Wanted.{Wanted}
 use Rattle.pm_rail.specs.Known.{Cells, cells_of, known_at, known_of}
 use Rattle.pm_rail.specs.Orders.{is_needed, is_unknown}
-use Rattle.pm_rail.specs.Registers.{Held, Wants, wants_of}
-
--- no word is wanted
-abbrev pub nothing : Wanted
-nothing = record { command = None; max = None; margin_high = None; margin_low = None; min = None }
+use Rattle.pm_rail.specs.Registers.{Held, Wants, nothing, wants_of}
 
 -- the words that are wanted by the plan that a survey is for; none where it is for no plan
 abbrev pub wanted_in : Option Wanted → Wanted

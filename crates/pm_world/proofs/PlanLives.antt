@@ -275,6 +275,11 @@ module _ (laws : Below) (plans : Plans) (config : Config) (passes : ℕ) (part :
       HoldsMissing part config (now config passes (later ++ before)).device.words output
   missing-later later lived follows = (later-holds later lived follows).missing
 
+  pub goal-later : (later : List Event) → IsLived config passes (later ++ before) → Follows config passes part output wants later before →
+      (register : Reg) →
+      goal_of (held_at config passes (later ++ before) output) wants register ≡ goal_of (held_at config passes before output) wants register
+  goal-later later lived follows register = ap (λ (h : Held). h register) (later-holds later lived follows).goal
+
   pub read-later : (later : List Event) → IsLived config passes (later ++ before) → Follows config passes part output wants later before →
       IsReadSince config passes output wants (later ++ before)
   read-later later lived follows = since-all later follows (later-holds later lived follows)
@@ -306,6 +311,11 @@ keeps-plans laws plans config passes events lived spelled = record {
       subst (λ (es : List Event). IsReadSince config passes output wants es) (sym is)
       (read-later laws plans config passes part output wants before spelled here none idle since missing later
       (subst (λ (es : List Event). IsLived config passes es) is lived) follows);
+  goal = λ part output wants register later before is here none idle since missing follows.
+      subst (λ (es : List Event). goal_of (held_at config passes es output) wants register
+      ≡ goal_of (held_at config passes before output) wants register) (sym is)
+      (goal-later laws plans config passes part output wants before spelled here none idle since missing later
+      (subst (λ (es : List Event). IsLived config passes es) is lived) follows register);
   missing = λ part output wants later before is here none idle since missing follows.
       subst (λ (es : List Event). HoldsMissing part config (now config passes es).device.words output) (sym is)
       (missing-later laws plans config passes part output wants before spelled here none idle since missing later

@@ -3,7 +3,7 @@ use Rattle.std.specs.Prelude.{◌≡◌, ◌<◌, ◌+◌, ◌==◌, ℕ, Bool, 
 use Rattle.std.specs.Prelude.{Some, None, is_none, is_some, option_map}
 use Rattle.std.specs.Option.{option_or}
 use Rattle.std.specs.List.{list_any}
-use Rattle.std.proofs.Common.{subst, arith}
+use Rattle.std.proofs.Common.{ap, cond, subst, arith}
 use Rattle.std.proofs.lemmas.Bool.Decides.{nat_tests}
 use Rattle.std.proofs.lemmas.Bool.{and_parts, not-false, not-true}
 use Rattle.pm_table.specs.declared.cell.Cell.TheVariants.{Out, Protect}
@@ -17,7 +17,9 @@ use Rattle.pm_host.specs.declared.job.Job.TheVariants.{Check, Learn}
 use Rattle.pm_num.specs.AnyFormat.{Shape}
 use Rattle.pm_host.specs.Summary.{Summary, format_at, possible_at}
 use Rattle.pm_limits.specs.declared.part_registers.PartRegisters.{PartRegisters}
-use Rattle.pm_limits.specs.Part.{all_registers, has_register}
+use Rattle.pm_limits.specs.declared.side.Side.TheVariants.{Lowest, Highest}
+use Rattle.pm_limits.specs.Ends.{format_end}
+use Rattle.pm_limits.specs.Part.{all_registers, has_register, missing_word}
 use Rattle.pm_rail.specs.declared.survey.Survey.{Survey}
 use Rattle.pm_rail.specs.Known.{Cells, cells_of, known_at, known_of, known_word}
 use Rattle.pm_rail.specs.Orders.{is_needed}
@@ -29,6 +31,13 @@ use Rattle.pm_rail.specs.Lemmas.Known.{all-off, not-second}
 is-none : {A : Type 0} (o : Option A) → is_none o ≡ true → o ≡ None
 is-none None h = refl
 is-none (Some a) h = cc
+
+-- a register that the part has stands at no word of a missing one
+pub has-none : (part : PartRegisters) (shape : Shape) (register : Reg) → has_register part register ≡ true →
+    missing_word part shape register ≡ None
+has-none part shape VoutMin has = ap (λ (b : Bool). cond b None (Some (format_end Lowest shape))) has
+has-none part shape VoutMax has = ap (λ (b : Bool). cond b None (Some (format_end Highest shape))) has
+has-none part shape register has = refl
 
 -- no register is lacking where none of the list is
 none-lacking : (test : Reg → Bool) → list_any test registers ≡ false → (register : Reg) → test register ≡ false
