@@ -1,8 +1,9 @@
 /* How long an order takes over the static library, and how much stack its calls take; beside it an order by
  * plain code: the frame and its PEC, the answer judged, no words kept. bench/c_order.sh runs it. With arguments it does
- * one thing alone and ends, so that its instructions are counted: `loop`, orders; `guard`, orders within limits; `bands`,
- * bands of outputs whose registers list as many words as they can. The second says the format, `linear` or `direct`, and
- * the third how often. It prints how many orders were done, or how many listed words were looked at. */
+ * one thing alone and ends, so that its instructions are counted: `loop`, orders; `guard`, orders within limits; `plan`,
+ * orders within limits that a plan gives, and `asked`, plans that are asked for their next order alone; `bands`, bands of
+ * outputs whose registers list as many words as they can. The second says the format, `linear` or `direct`, and the third
+ * how often. It prints how many orders were done, or how many listed words were looked at. */
 #include "pm.h"
 #include <stdio.h>
 #include <stdlib.h>
@@ -27,6 +28,25 @@ static int order(pm_host *host, const uint8_t *answer, uint16_t word) {
     return pm_host_got(host, answer, 5).kind == PM_DONE;
 }
 
+/* The same of an order that a plan gives. */
+static int planned(pm_host *host, const uint8_t *answer, uint16_t word) {
+    const pm_wanted wanted = {.command = {1, word}};
+    pm_plan_order next;
+    pm_sending frame;
+    if (pm_host_next(host, 0, &wanted, &next) || pm_host_sending(host, &frame))
+        return 0;
+    pm_host_finished(host, 1);
+    pm_host_sending(host, &frame);
+    return pm_host_got(host, answer, 5).kind == PM_DONE;
+}
+
+/* A plan is asked for its next order, which isn't begun. */
+static int asked(const pm_host *host, uint16_t word) {
+    const pm_wanted wanted = {.command = {1, word}};
+    pm_plan_order next;
+    return pm_host_plan(host, 0, &wanted, &next) == PM_OK;
+}
+
 /* Answers the request that is being sent by these bytes. */
 static void answer(pm_host *host, const uint8_t *payload, uint8_t count) {
     uint8_t bytes[24];
@@ -47,6 +67,18 @@ static void learn(pm_host *host, uint8_t output, int is_direct) {
     answer(host, is_direct ? (const uint8_t[]){0x40} : (const uint8_t[]){0x14}, 1);
     if (is_direct)
         answer(host, (const uint8_t[]){0x99, 0x01, 0x02, 0x00, 0x01}, 5);
+}
+
+/* The host reads what a plan of an output needs. */
+static void read_for_a_plan(pm_host *host) {
+    static const uint8_t codes[] = {PM_OPERATION, PM_VOUT_COMMAND, PM_VOUT_MAX, PM_VOUT_MIN};
+    static const uint8_t words[4][2] = {{0x80}, {0xCE, 0x34}, {0x00, 0x40}, {0x00, 0x00}};
+    for (size_t i = 0; i < sizeof codes; i++) {
+        pm_host_check(host, 0, codes[i]);
+        answer(host, words[i], i ? 2 : 1);
+    }
+    pm_host_check(host, 0, PM_WRITE_PROTECT);
+    pm_host_got(host, (const uint8_t[]){0xB1, 0x00, 0x60}, 3);
 }
 
 /* Orders words for an output's registers whose answers are all lost. How many words they list then. */
@@ -153,13 +185,18 @@ int main(int count, char **arguments) {
             learn(&host, 0, is_direct);
             learn(&host, 1, is_direct);
         }
-        if (!strcmp(arguments[1], "guard"))
+        int is_plan = !strcmp(arguments[1], "plan"), is_asked = !strcmp(arguments[1], "asked");
+        if (is_plan || is_asked || !strcmp(arguments[1], "guard"))
             pm_host_narrow(&host, 0, 3200000, 3400000);
+        if (is_plan || is_asked)
+            read_for_a_plan(&host);
         if (!strcmp(arguments[1], "bands"))
             done = bands(&host, all);
         else
             for (long i = 0; i < all; i++)
-                done += order(&host, answers[i & 1], (uint16_t)(0x34CD + (i & 1)));
+                done += is_asked  ? asked(&host, (uint16_t)(0x34D0 + (i & 1)))
+                        : is_plan ? planned(&host, answers[i & 1], (uint16_t)(0x34CD + (i & 1)))
+                                  : order(&host, answers[i & 1], (uint16_t)(0x34CD + (i & 1)));
         printf("%ld\n", done);
         return 0;
     }

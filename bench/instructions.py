@@ -39,10 +39,15 @@ def an_order(name, orders, folder):
     measured.row(name, "instructions", counts)
 
 
+# What bench/c_order.c does alone, by its first argument.
+OVER_C = {"loop": "an order over pm_host_c", "guard": "one within limits", "plan": "one within limits that a plan gives",
+          "asked": "a plan that is asked for its next order"}
+
+
 def c_orders(folder):
     """The programs of bench/c_order.c over the archives that the arguments name."""
     archives = {"this": measured.value_behind("--archive"), "earlier": measured.value_behind("--earlier-archive")}
-    return {which: [measured.over_archive(path, os.path.join(folder, which)), "loop", "linear"] for which, path in archives.items() if path}
+    return {which: measured.over_archive(path, os.path.join(folder, which)) for which, path in archives.items() if path}
 
 
 def main():
@@ -55,7 +60,9 @@ def main():
         texts(folder, measured.value_behind("--by"))
         if measured.value_behind("--archive"):
             if shutil.which("gcc"):
-                an_order("an order over pm_host_c", c_orders(folder), folder)
+                programs = c_orders(folder)
+                for kind, name in OVER_C.items():
+                    an_order(name, {which: [path, kind, "linear"] for which, path in programs.items()}, folder)
             else:
                 measured.lacks("gcc", "an order over pm_host_c")
         driver = measured.value_behind("--driver")

@@ -106,6 +106,11 @@ class Part:
             return reply if isinstance(reply, list) else None
         return None if reply == "silent" else []
 
+    def hear_stranger(self, frame, ending):
+        """What it answers to a frame that arrives at another address: nothing, where it is as it should be."""
+        reply = self.converter.hear(frame, ending)
+        return None if reply == "silent" else reply
+
     def word(self):
         """What output 0 holds."""
         return f"{self.converter.cells[0, COMMAND]:04X}"

@@ -29,6 +29,10 @@ class Proved:
         frame = bytes(frame)
         return self.asked(frame) if ending == "restart" else self.written(frame)
 
+    def hear_stranger(self, frame, ending):
+        """What it answers to a frame that arrives at another address: nothing."""
+        return list(self.part.hear(bytes(frame), ending == "restart")) or None
+
     def asked(self, request):
         """The answer to a request."""
         try:
@@ -248,3 +252,58 @@ class Protected(Proved):
     def __init__(self):
         super().__init__()
         self.part = Part(ADDRESS, [Output(command=word) for word in self.commands], protect=0x80)
+
+
+class Telemetry(Proved):
+    """Readings and status registers of all kinds, those of the command table and others: by PAGE_PLUS of output 0, and of the device."""
+
+    # Words by command code, of one byte where the code is below READ_VIN.
+    by_page = {0x7B: 0xA0, 0x7C: 0x08, 0x7D: 0x49, 0x7F: 0x21, 0x80: 0x5A, 0x89: 0xBA00, 0x94: 0xF864, 0x95: 0x0A58, 0x96: 0xE850, 0x97: 0xF00C}
+    by_device = {0x7C: 0x80, 0x89: 0xC280, 0x8E: 0xE64C}
+    readings = (("READ_VOUT", 0x34CD), ("READ_IOUT", 0xD320)), (("READ_VIN", 0xD300), ("READ_TEMPERATURE_1", 0xE64C))
+
+    def __init__(self, address=ADDRESS):
+        super().__init__(address)
+        for output, them in zip((0, None), self.readings):
+            for name, word in them:
+                self.part.set_reading(output, name, word)
+
+    def asked(self, request):
+        found = None
+        if request[1] == PAGE_PLUS_READ and request[3] == 0 and request[4] in self.by_page:
+            payload = self.bytes_of(request[4], self.by_page)
+            found = [len(payload), *payload]
+        elif len(request) == 2 and request[1] in self.by_device:
+            found = self.bytes_of(request[1], self.by_device)
+        return super().asked(request) if found is None else self.answer(request, found)
+
+    @staticmethod
+    def bytes_of(code, words):
+        return words[code].to_bytes(1 if code < 0x88 else 2, "little")
+
+
+class DirectTelemetry(Telemetry):
+    """Its outputs are DIRECT, and COEFFICIENTS answers for READ_IOUT with others; for READ_TEMPERATURE_1 with a slope of 0."""
+
+    def __init__(self, address=ADDRESS):
+        super().__init__(address)
+        self.part = Part(address, [Output(0x40, command=0x0FA0, max=0x2710, high=0x1000, low=0x0F00, min=0)], (1000, 0, 0))
+        for name, word in (("READ_VOUT", 0x0CE4), ("READ_IOUT", 0x04E2)):
+            self.part.set_reading(0, name, word)
+        for name, word in (("READ_VIN", 0x2EE0), ("READ_TEMPERATURE_1", 0x00FF)):
+            self.part.set_reading(None, name, word)
+
+    def asked(self, request):
+        if request[1:2] == b"\x30" and request[3:] in (b"\x8C\x01", b"\x8D\x01"):
+            return self.answer(request, [5, *(b"\x64\x00\x00\x00\x00" if request[3] == 0x8C else b"\x00\x00\x01\x00\x00")])
+        return super().asked(request)
+
+
+class WrongTelemetry(Telemetry):
+    """Of codes that aren't in the command table one byte too few comes, or a wrong packet error code, or a wrong count."""
+
+    def asked(self, request):
+        found = super().asked(request)
+        if request[-1] == 0x89:
+            return found[:-1] if len(request) == 2 else [*found[:1], 3, *found[2:]]
+        return [*found[:-1], found[-1] ^ 1] if found and request[-1] in (0x7C, 0x96) else found

@@ -6,11 +6,12 @@ A file has a block for each run, a blank line between them. The lines of a block
     mishaps: M M ..      what befalls the transfers (kernel.py)
     part: KIND [M M ..] [coefficients m b R]     the kind of part, and VOUT_MODEs in hexadecimal; `odd.KIND` of odd_parts.py,
                          `busy.KIND` of busy.py
-    cell: O REG WORD     a word that the part holds at first
+    board: BUS ADDRESS KIND ..                   one of several parts (board_kernel.py), in the place of `part`
+    cell: O REG WORD     a word that the part holds at first; of one of several parts with its address in front
     fault: WHAT ERRNO    the kernel's error for `open`, `slave` or `lock`
     functions: HEX       the adapter's functions
-    held: WORD           what VOUT_COMMAND of output 0 holds behind the run, 1000 if left out
-    writes: N            how many writes the part heard, 0 if left out
+    held: WORD           what VOUT_COMMAND of output 0 holds behind the run, 1000 if left out; of several parts that of each
+    writes: N            how many writes the part heard, 0 if left out; of several parts those of each
     comment: TEXT        a line of the trace
     toml: TEXT           a line of the file of rails
     status: N            the status
@@ -32,6 +33,7 @@ from pmhost.bus.linux import I2C_FUNC_I2C, I2C_SLAVE
 from pmhost.values import CODES
 
 from . import kernel
+from .board_kernel import BoardKernel
 
 
 class Clock:
@@ -61,11 +63,12 @@ class Run:
     words: str = ""
     mishaps: str = ""
     part: str = "Part"
+    board: list = field(default_factory=list)
     cells: list = field(default_factory=list)
     faults: dict = field(default_factory=dict)
     functions: int = I2C_FUNC_I2C
     held: str = "1000"
-    writes: int = 0
+    writes: str = "0"
     comments: list = field(default_factory=list)
     toml: list = field(default_factory=list)
     status: int = 0
@@ -74,12 +77,12 @@ class Run:
 
     def take(self, key, text):
         """A line of the block."""
-        if key in ("words", "mishaps", "part", "held"):
+        if key in ("words", "mishaps", "part", "held", "writes"):
             setattr(self, key, text)
         elif key in ("out", "err"):
             setattr(self, key, f"{getattr(self, key)}{text}\n")
-        elif key in ("status", "writes"):
-            setattr(self, key, int(text))
+        elif key == "status":
+            self.status = int(text)
         elif key == "functions":
             self.functions = int(text, 16)
         elif key == "fault":
@@ -88,22 +91,47 @@ class Run:
         elif key == "cell":
             self.cells.append(text.split())
         else:
-            {"comment": self.comments, "toml": self.toml}[key].append(text)
+            {"comment": self.comments, "toml": self.toml, "board": self.board}[key].append(text)
+
+    def made_parts(self):
+        """The parts of the run with their words, by bus and address."""
+        parts = {(7, 0x58): made(self.part)}
+        if self.board:
+            places = [line.split(None, 2) for line in self.board]
+            parts = {(int(bus), int(address, 16)): made(kind, address=int(address, 16)) for bus, address, kind in places}
+        for *place, output, register, word in self.cells:
+            part = next(part for (_, address), part in parts.items() if not place or address == int(place[0], 16))
+            part.converter.set((None if output == "None" else int(output), CODES[register]), int(word, 16))
+        return parts
+
+    def over(self, parts):
+        """The stand-in for the kernel."""
+        if not self.board:
+            return kernel.FakeKernel(parts[7, 0x58], self.mishaps.split(), self.faults, self.functions)
+        buses = {bus: {address: part for (other, address), part in parts.items() if other == bus} for bus, _ in parts}
+        return BoardKernel(buses, self.mishaps.split(), faults=self.faults)
 
     def made_part(self):
-        """The part of the run, with its words."""
-        kind, *rest = self.part.split()
-        made = {}
-        if "coefficients" in rest:
-            at = rest.index("coefficients")
-            made["coefficients"], rest = tuple(int(each) for each in rest[at + 1:at + 4]), rest[:at]
-        if rest:
-            made["modes"] = tuple(int(each, 16) for each in rest)
-        module = "kernel" if "." not in kind else {"odd": "odd_parts", "busy": "busy"}[kind.partition(".")[0]]
-        part = getattr(importlib.import_module(f".{module}", __package__), kind.rpartition(".")[2])(**made)
-        for output, register, word in self.cells:
-            part.converter.set((None if output == "None" else int(output), CODES[register]), int(word, 16))
-        return part
+        """The one part of a run without several."""
+        return self.made_parts()[7, 0x58]
+
+    @property
+    def wanted(self):
+        """What the parts hold behind the run, and how many writes they heard: one word is that of each part."""
+        many = max(len(self.board), 1)
+        return tuple(words if " " in words else " ".join([words] * many) for words in (self.held, self.writes))
+
+
+def made(words, **more):
+    """A part of its words."""
+    kind, *rest = words.split()
+    if "coefficients" in rest:
+        at = rest.index("coefficients")
+        more["coefficients"], rest = tuple(int(each) for each in rest[at + 1:at + 4]), rest[:at]
+    if rest:
+        more["modes"] = tuple(int(each, 16) for each in rest)
+    module = "kernel" if "." not in kind else {"odd": "odd_parts", "busy": "busy"}[kind.partition(".")[0]]
+    return getattr(importlib.import_module(f".{module}", __package__), kind.rpartition(".")[2])(**more)
 
 
 def blocks(name):
@@ -139,8 +167,14 @@ class Ran:
     out: str
     err: str
     part: object
+    parts: list
     kernel: object
     trace: str
+
+    @property
+    def found(self):
+        """What the parts hold, and how many writes they heard."""
+        return " ".join(part.word() for part in self.parts), " ".join(str(writes(part)) for part in self.parts)
 
 
 def writes(part):
@@ -150,16 +184,16 @@ def writes(part):
 
 def ran(run, folder):
     """Carries a run out, with a trace in a folder."""
-    part, path, rails = run.made_part(), os.path.join(folder, "trace"), os.path.join(folder, "rails.toml")
+    parts, path, rails = run.made_parts(), os.path.join(folder, "trace"), os.path.join(folder, "rails.toml")
     with open(rails, "w", encoding="utf-8") as file:
         file.write("\n".join(run.toml))
     with contextlib.suppress(FileNotFoundError):
         os.remove(path)
-    over = kernel.FakeKernel(part, run.mishaps.split(), run.faults, run.functions)
+    over, found = run.over(parts), list(parts.values())
     words = [rails if word == "FILE" else word for word in shlex.split(run.words)]
     status, out, err = called([*words, *([] if "--trace" in words else ["--trace", path])], over)
     trace = ""
     if os.path.exists(path):
         with open(path, encoding="ascii") as file:
             trace = file.read()
-    return Ran(status, out.replace(rails, "FILE"), err.replace(rails, "FILE"), part, over, trace)
+    return Ran(status, out.replace(rails, "FILE"), err.replace(rails, "FILE"), found[0], found, over, trace)

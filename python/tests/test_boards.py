@@ -15,6 +15,8 @@ from . import kernel
 from .runs import called
 
 BOARDS = int(os.environ.get("PMHOST_BOARDS", "100"))
+# Of boards with several parts a third of that.
+PART_BOARDS = max(BOARDS // 3, 1)
 KEYS = ("min", "margin_low", "volts", "margin_high", "max")
 FATES = ("ok",) * 60 + ("lost", "deaf", "false", "damaged", "empty", "short0", "short0h", "twice", "hung")
 # Of ULINEAR16 with the exponent -12, and of DIRECT with a negative slope, in which a greater word is a lower voltage.
@@ -31,8 +33,8 @@ LAST = 20
 class Watched(kernel.Part):
     """A part that looks behind each frame whether an output commands something else than what it may. A restart ends that."""
 
-    def __init__(self):
-        super().__init__(MODES, COEFFICIENTS)
+    def __init__(self, modes=MODES, address=0x58):
+        super().__init__(modes, COEFFICIENTS, address)
         self.may, self.wrong, self.has_restarted = {}, [], False
 
     def commands(self, output):
@@ -51,23 +53,25 @@ class Watched(kernel.Part):
 
 
 class Rail:
-    """The words that an output has at first, by the keys of a file, those that are wanted, and the byte of OPERATION."""
+    """The words that an output of a format has at first, by the keys of a file, those that are wanted, and the byte of OPERATION; its
+    name, and in a board file the name of its part."""
 
-    def __init__(self, draw, output):
-        self.value = VALUES[MODES[output]]
-        self.old, self.operation = dict(zip(KEYS, self.drawn(draw, output))), draw.choice(OPERATIONS)
+    def __init__(self, draw, output, mode, name=None, part=None):
+        self.output, self.mode, self.value, self.name = output, mode, VALUES[mode], name or f"r{output}"
+        self.old, self.operation = dict(zip(KEYS, self.drawn(draw))), draw.choice(OPERATIONS)
         if draw.random() < 0.5:
             self.old = dict(zip(KEYS, draw.sample(list(self.old.values()), 5)))
-        goal = dict(zip(KEYS, self.drawn(draw, output)))
+        goal = dict(zip(KEYS, self.drawn(draw)))
         share = 1 if draw.random() < 0.6 else 0.7
         self.new = {key: goal[key] for key in KEYS if key == "volts" or draw.random() < share}
         values = [self.value(word) for word in goal.values()]
-        self.text = "\n".join([f"[rails.r{output}]", f"output = {output}", f'limits = ["{self.micro(values[0], math.floor)}", '
-                               f'"{self.micro(values[-1], math.ceil)}"]', *(self.line(key, word) for key, word in self.new.items())])
+        self.text = "\n".join([f"[rails.{self.name}]", *([f'part = "{part}"'] if part else []), f"output = {output}",
+                               f'limits = ["{self.micro(values[0], math.floor)}", "{self.micro(values[-1], math.ceil)}"]',
+                               *(self.line(key, word) for key, word in self.new.items())])
 
-    def drawn(self, draw, output):
+    def drawn(self, draw):
         """Five words, the lowest voltage first."""
-        return sorted(draw.sample(DRAWN[MODES[output]], 5), key=self.value)
+        return sorted(draw.sample(DRAWN[self.mode], 5), key=self.value)
 
     @staticmethod
     def micro(value, rounded=round):
@@ -99,15 +103,20 @@ class Rail:
         return self.operation == 0x80
 
 
+    def given_to(self, part):
+        """The part holds its words at first, and watches what it may command."""
+        for key, word in self.old.items():
+            part.converter.set((self.output, CODES[SETTINGS[key]]), word)
+        part.converter.set((self.output, CODES["OPERATION"]), self.operation)
+        part.may[self.output] = {self.commands(self.old), self.commands(self.goal())}
+        assert part.commands(self.output) == self.commands(self.old)
+
+
 class Board:
     def __init__(self, draw):
-        self.part, self.rails = Watched(), [Rail(draw, output) for output in range(2)]
-        for output, rail in enumerate(self.rails):
-            for key, word in rail.old.items():
-                self.part.converter.set((output, CODES[SETTINGS[key]]), word)
-            self.part.converter.set((output, CODES["OPERATION"]), rail.operation)
-            self.part.may[output] = {rail.commands(rail.old), rail.commands(rail.goal())}
-            assert self.part.commands(output) == rail.commands(rail.old)
+        self.part, self.rails = Watched(), [Rail(draw, output, mode) for output, mode in enumerate(MODES)]
+        for rail in self.rails:
+            rail.given_to(self.part)
 
     def held(self, output, register):
         return self.part.converter.cells[output, CODES[register]]

@@ -39,6 +39,20 @@ class Rows(Blocks):
     def test_what_probe_says(self):
         self.carry_out("probe.txt")
 
+    def test_each_part_that_is_not_as_it_should_be_has_a_row(self):
+        """What the row of a part says, and its status."""
+        wanted = {
+            "odd.PageBlind": ("the part doesn't look at the page", 1), "odd.WithoutPec": ("no PEC (PMBUS_REVISION gave", 1),
+            "odd.PecOptional": ("this host can't drive the part: a write without a PEC is taken", 1),
+            "odd.AnyPec": ("this host can't drive the part: a write with a wrong PEC is taken", 1),
+            "odd.WithoutMinimum": ("--without VOUT_MIN", 0), "odd.Vid": ("1 VID (VOUT_MODE 21)", 1),
+            "odd.Late": ("answered at a second or third try alone: the part is busy, or the bus loses transfers", 0),
+            "odd.High": ("nothing but FFh, which counts as none", 0)}
+        for part, (words, status) in wanted.items():
+            rows = [run for run in runs.blocks("probe.txt") if run.part == part]
+            with self.subTest(part=part):
+                self.assertTrue(any(words in run.out and run.status == status for run in rows), [run.out for run in rows])
+
 
 class Page(unittest.TestCase):
     """What docs/board.md says of probe."""

@@ -1,7 +1,7 @@
 #!/usr/bin/env python3
 """Tries `pmbhost` as a coprocess: an order, a lost answer, a false acknowledgement, a restart of either end, a restore,
-limits, and LINES lines of random sessions, of which most have limits, against the plain host of python/tests/plain. Each answer must come before the next line is
-said, and in 10 seconds. How the program ends is tried too: its status and what it says, for faulty options and failed
+limits, surveys and plans, and LINES lines of random sessions, of which most have limits and some parts lack registers, against the
+plain host of python/tests/plain. Each answer must come before the next line is said, and in 10 seconds. How the program ends is tried too: its status and what it says, for faulty options and failed
 streams. What is wrong is printed, and the status is then 1.
 
     trials/programs/try_sessions.py [SEED [LINES]]
@@ -19,7 +19,8 @@ sys.path.insert(0, os.path.dirname(os.path.dirname(os.path.abspath(__file__))))
 
 import paths  # noqa: E402, F401
 from plain.converter import Converter  # noqa: E402
-from plain.packets import name_of, pec  # noqa: E402
+from plain.packets import CODES, name_of, pec  # noqa: E402
+from plain.rail import plan  # noqa: E402
 from plain.session import PlainSession, in_hex  # noqa: E402
 from pmhost.programs import HostProgram, NoAnswer, path_of  # noqa: E402
 from program import seed_and_count  # noqa: E402
@@ -57,6 +58,21 @@ STORIES = {
         ("narrow 0 3200000 3465001", "refused L6 LimitsWidened"), ("narrow 0 3465000 3200000", "refused L1 LimitsInverted"),
         ORDER, ("finished ack", REQUEST), (NEW, "ended done")],
 }
+STORIES["a survey and a plan"] = [
+    ("rail 0", "rail any"), ("plan 0 VOUT_COMMAND=3000", "refused P1 FormatUnknown"), ("survey 0", LEARN[1]), FORMAT,
+    ("survey 0", "send B0 06 02 00 01 read 3"), ("survey 0", "refused H3 Busy"), ("got B1 01 80 73", "ended done"), ("survey 0", REQUEST),
+    (NEW, "ended done"), ("survey 0", "send B0 06 02 00 24 read 4"), ("got B1 02 00 40 1B", "ended done"),
+    ("survey 0", "send B0 06 02 00 2B read 4"), ("got B1 02 00 00 EC", "ended done"), ("survey 0", "survey done"),
+    ("rail 0", "rail on 3300048 3300049 yes"), ("plan 0 VOUT_COMMAND=3000", "refused P4 NotKnown WRITE_PROTECT"),
+    ("plan 0 VOUT_MARGIN_LOW=3000", "refused P4 NotKnown VOUT_MARGIN_LOW"), ("plan 0 VOUT_COMMAND=34CD", "plan done"),
+    ("check - WRITE_PROTECT", "send B0 10 read 2"), ("got B1 00 60", "ended done"),
+    ("plan 0 VOUT_COMMAND=5000", "refused P6 AboveMax VOUT_COMMAND"),
+    ("plan 0 VOUT_COMMAND=5000 VOUT_MAX=5000", "plan VOUT_MAX 5000"), ("next 0 VOUT_COMMAND=3000", "send B0 05 04 00 21 00 30 42"),
+    ("plan 0 VOUT_COMMAND=3000", "refused H3 Busy"), ("finished ack", REQUEST), ("got B1 02 00 30 A1", "ended done"),
+    ("next 0 VOUT_COMMAND=3000", "plan done"), ("rail 0", "rail on 3000000 3000000 yes")]
+STORIES["limits beside an open order"] = [
+    LEARN, FORMAT, ORDER, ("narrow 0 0 3200000", "refused H3 Busy"), ("narrow 0 0 3400000", "narrowed"), ("finished ack", REQUEST),
+    (NEW, "ended done"), ("narrow 0 0 3200000", "narrowed")]
 # How many words may be possible of a cell before an order is refused.
 MOST_WORDS = 16
 # Options, standard input, and the status and what is said.
@@ -81,15 +97,21 @@ ENDS = [
     (["--address=58", "--outputs=2", "--passes=2", "--limit=0:1:2", "--limit=0:1:2"], b"seen\n", 2, b"", "pmbhost: bad limit\n"),
     (["--address=58", "--outputs=2", "--passes=2", "--limit=0:1"], b"seen\n", 2, b"", "pmbhost: bad limit\n"),
     (["--address=58", "--outputs=9", "--passes=2", "--limit=x"], b"seen\n", 1, b"", "pmbhost: H1 OutputCount\n"),
+    (["--address=58", "--outputs=1", "--passes=2", "--without=VOUT_MIN"], b"check 0 VOUT_MIN\nplan 0 VOUT_MIN=0001\n", 0,
+     b"refused L7 MissingRegister\nrefused L7 MissingRegister VOUT_MIN\n", ""),
+    (["--address=58", "--outputs=1", "--passes=2", "--without=VOUT_COMMAND"], b"seen\n", 2, b"", "pmbhost: bad without\n"),
 ]
 NAMES = [name_of(code) for code in (0x01, 0x21, 0x24, 0x25, 0x26, 0x2B)]
+VOLTAGES = NAMES[1:]
+MISSABLE = [name for name in VOLTAGES if name != "VOUT_COMMAND"]
 OPERATIONS = ["80", "94", "A4", "00", "B0", "8f"]
 NOISE = ["", "#", "# order 0 VOUT_COMMAND 34CD", "hello", "order", "order 0", "order 0 VOUT_COMMAND", "order 0 VOUT_COMMAND 34C",
          "order 0 VOUT_COMMAND 34CD 1", "order - VOUT_COMMAND 34CD", "order 256 OPERATION 80", "finished", "finished yes",
          "finish ack", "got B", "got GG", "got B1 " + "00" * 16, "state", "state 0", "state 0 VOUT_MODE", "seen yes",
          "restart host", "Sending", "band", "band 256", "band 0 0", "limits x", "limits", "narrow 0 1", "narrow 0 1 2 3", "narrow -1 1 2",
          "narrow 0 +1 2", f"narrow 0 0 {2**63}", f"narrow 0 0 {10**15 + 1}", f"narrow 0 {-2**63} 0", "volts - WRITE_PROTECT 1", "volts 0 VOUT_COMMAND +1", "check 0 READ_VOUT",
-         "deliver whole", "learn -1", "store 0", "restore all", "got " + "B1 " * 5, "x" * 256, "x" * 257, "seen" + " " * 252, "seen" + " " * 253]
+         "deliver whole", "learn -1", "rail", "rail 0 0", "rail 256", "plan 0", "plan 0 VOUT_COMMAND", "plan 0 VOUT_COMMAND=34C", "plan 0 OPERATION=80",
+         "plan 0 VOUT_MAX=34CD VOUT_MAX=34CD", "next 0", "next VOUT_MAX=34CD", "survey", "survey 0 VOUT_MAX=", "survey 256", "plan 0 =34CD", "store 0", "restore all", "got " + "B1 " * 5, "x" * 256, "x" * 257, "seen" + " " * 252, "seen" + " " * 253]
 
 
 def uncertain_story():
@@ -154,11 +176,50 @@ def job_line(dice, outputs):
         f"volts {dice.randrange(outputs)} VOUT_COMMAND {dice.choice([3300000, 1000000, -1, 10**16, dice.randrange(20000000)])}"])
 
 
-def limits_line(dice, outputs):
-    """Limits about the voltages that are ordered, which narrow them, widen them or are inverted."""
+def limits_line(dice, outputs, output=None):
+    """Limits about the voltages that are ordered, which narrow them, widen them or are inverted; of an output where one is given."""
     least = dice.choice([0, 900000, 900001, 1000000, 3200000, dice.randrange(-10**6, 4 * 10**6)])
     most = dice.choice([3465000, 3300048, 3300049, 7000000, 16 * 10**6, dice.randrange(-10**6, 2 * 10**7)])
-    return f"narrow {dice.randrange(outputs + (dice.random() < 0.05))} {least} {most}"
+    return f"narrow {dice.randrange(outputs + (dice.random() < 0.05)) if output is None else output} {least} {most}"
+
+
+def rail_line(dice, outputs):
+    """A question about a rail, or a step of a survey or a plan, mostly on towards words that can be reached."""
+    output = dice.randrange(outputs + (dice.random() < 0.05))
+    words = {name: word_of(dice, 4) if dice.random() < 0.6 else {"VOUT_MAX": "6000", "VOUT_MIN": "0800"}.get(name, "1000")
+             for name in dice.sample(VOLTAGES, dice.choice([1, 1, 2, 5]))}
+    wishes = "".join(f" {name}={word}" for name, word in words.items())
+    return dice.choice([f"rail {output}", f"plan {output}{wishes}", f"next {output}{wishes}", f"survey {output}", f"survey {output}{wishes}"])
+
+
+class Course:
+    """What is wanted of an output: it is surveyed, and its plan goes on, until it is done or refused."""
+
+    def __init__(self, dice, plain):
+        self.output, names = dice.randrange(plain.host.outputs), dice.sample(VOLTAGES, dice.choice([1, 1, 2, 3, 5]))
+        words = {"VOUT_MAX": [0x2000, 0x1800, 0x1100], "VOUT_MIN": [0x0000, 0x0800, 0x0F00]}
+        self.wanted = {CODES[name]: dice.choice(words.get(name, [0x1000, 0x0FFF, 0x1100, 0x0F00])) for name in names}
+
+    def line(self, dice, plain):
+        """The next line of it; None where it has come to its end."""
+        found = plan(plain.host, plain.limits, plain.missing, self.output, self.wanted)
+        wishes = "".join(f" {name_of(register)}={word:04X}" for register, word in self.wanted.items())
+        if found is None or isinstance(found, str) and found[:2] not in ("P1", "P4"):
+            return None
+        if isinstance(found, str):
+            return f"survey {self.output}{wishes}"
+        return f"{dice.choice(['next', 'next', 'next', 'plan'])} {self.output}{wishes}"
+
+
+def course_line(dice, plain):
+    """A line of the course that is under way, or its last one and another course."""
+    course = getattr(plain, "course", None) or Course(dice, plain)
+    plain.course, line = course, course.line(dice, plain)
+    if line is None:
+        wishes = "".join(f" {name_of(register)}={word:04X}" for register, word in course.wanted.items())
+        plain.course, line = None, f"{dice.choice(['plan', 'rail'])} {course.output}"
+        line += wishes if line.startswith("plan") else ""
+    return line
 
 
 def told_line(dice, plain, device):
@@ -195,15 +256,22 @@ def any_line(dice, plain, device, outputs):
     if chance < 0.205:
         return f"band {dice.randrange(outputs + (dice.random() < 0.05))}"
     if chance < 0.25:
-        return dice.choice(["finished ack", "got", job_line(dice, outputs)])
-    return job_line(dice, outputs) if plain.host.sending() is None else told_line(dice, plain, device)
+        return dice.choice(["finished ack", "got", job_line(dice, outputs), rail_line(dice, outputs), limits_line(dice, outputs)])
+    if plain.host.sending() is not None:
+        job = plain.host.last_job()[0]
+        if job[0] == "order" and job[1][0] is not None and dice.random() < 0.05:
+            return limits_line(dice, outputs, job[1][0])
+        return told_line(dice, plain, device)
+    if chance < 0.8:
+        return course_line(dice, plain)
+    return dice.choice([job_line, rail_line])(dice, outputs)
 
 
 def setup_of(dice, outputs):
     """A configuration with formats of both kinds."""
     words = {0x01: 0x80, 0x21: 0x1000, 0x24: 0x7000, 0x25: 0x1100, 0x26: 0x0F00, 0x2B: 0x0000}
     return {"address": 0x58, "count": outputs, "outputs": [(dice.choice([0x14, 0x17, 0x40]), words) for _ in range(outputs)],
-            "protect": 0x00, "coefficients": (1000, 0, 0), "version": 2}
+            "protect": dice.choice([0x00] * 9 + [0x40]), "coefficients": (1000, 0, 0), "version": 2}
 
 
 def random_faults(dice, wanted):
@@ -214,8 +282,9 @@ def random_faults(dice, wanted):
         setup = setup_of(dice, outputs)
         limits = [f"{output}:{dice.choice([0, 900000, 1000000])}:{dice.choice([3465000, 7000000, 16 * 10**6])}"
                   for output in range(outputs) if dice.random() < 0.5]
-        device, plain = Converter(setup), PlainSession(0x58, outputs, passes)
-        host = HostProgram(0x58, outputs, passes, limits)
+        without = dice.sample(MISSABLE, dice.choice([0, 0, 1, 2]))
+        device, plain = Converter(setup), PlainSession(0x58, outputs, passes, [CODES[name] for name in without])
+        host = HostProgram(0x58, outputs, passes, limits, without=without)
         for limit in limits:
             plain.answer(b"narrow " + limit.replace(":", " ").encode())
         for _ in range(min(200, wanted - said)):

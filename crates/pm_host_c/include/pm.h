@@ -432,6 +432,18 @@ typedef struct {
 uint8_t pm_packet_read_answer(uint8_t address, const pm_packet *request, const uint8_t *bytes, uint64_t count,
                               pm_payload *payload);
 
+/* The payload of a read that is no packet, without its count and its PEC. */
+typedef struct {
+    uint8_t length;    /* at most 32 */
+    uint8_t bytes[32]; /* 0 after the payload */
+} pm_block;
+
+/* What came back for a read of any code, whose request is the address byte and the code; the read address first. A block has a
+ * count, at most 32; of a plain read so many bytes were asked for, at most 32. PM_NO_ADDRESS, PM_NO_PACKET where more were asked
+ * for, F1 to F5; then nothing is written. */
+uint8_t pm_read_block(uint8_t address, uint8_t code, const uint8_t *bytes, uint64_t count, pm_block *block);
+uint8_t pm_read_plain(uint8_t address, uint8_t code, uint8_t size, const uint8_t *bytes, uint64_t count, pm_block *block);
+
 /* ---- The loop of a driver ---- */
 
 #if defined __cplusplus || (defined __STDC_VERSION__ && __STDC_VERSION__ >= 199901L)

@@ -10,8 +10,10 @@ use Rattle.pm_frame.specs.declared.payload.Payload.TheVariants.{Empty, Byte, Wor
 use Rattle.pm_frame.specs.Fault.{answer_fault}
 use Rattle.pm_frame.specs.FaultWords.{frame_fault_number}
 use Rattle.pm_frame.specs.Layout.{fits_layout, is_read_message}
+use Rattle.pm_frame.specs.PlainRead.{most_read, plain_read_fault}
 use Rattle.pm_host.specs.Refusals.{is_within}
 use Rattle.pm_host_c.specs.declared.answer.PayloadImage.{PayloadImage}
+use Rattle.pm_host_c.specs.declared.other_read.BlockImage.{BlockImage}
 use Rattle.pm_host_c.specs.declared.packet.Packet.{Packet}
 use Rattle.pm_host_c.specs.Numbers.{accepted, no_address, no_packet}
 
@@ -71,3 +73,15 @@ payload_of payload = take payload.length payload.bytes
 -- A payload has the word that its first two bytes are, the low one first.
 abbrev pub HasPayload : PayloadImage → Type 0
 HasPayload payload = payload.word ≡ slice_index payload.bytes 0 + 256 * slice_index payload.bytes 1
+
+-- the payload of a block read and of a plain read
+abbrev pub block_of : BlockImage → List ℕ
+block_of block = take block.length block.bytes
+
+-- so many bytes of a code are read: at most 32 are asked for
+abbrev pub plain_read_number : ℕ → ℕ → ℕ → List ℕ → ℕ
+plain_read_number address code size bytes =
+    if is_within 0x08 0x77 address
+    then (if nat_lt most_read size then no_packet
+    else option_map_or frame_fault_number (plain_read_fault address code size bytes) accepted)
+    else no_address

@@ -32,6 +32,7 @@ mod limits;
 mod name_image;
 mod names;
 mod numbers;
+mod other_read;
 mod packet;
 mod plan;
 mod rail;

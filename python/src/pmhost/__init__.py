@@ -13,7 +13,7 @@ from .bus import DeskBus, LinuxBus, NoBus, NoTransfer, PatientBus, Smbus2Bus
 from .errors import (Differs, FrameRefused, HostRefused, LimitRefused, MemoryRefused, NotDone, NumberRefused, PartRefused,
                      PlanRefused, PmhostError, Refused, SetupRefused, Unknown)
 from .host import Bus, Host, Known, Limits, Sending, Step
-from .packets import Packet, pec, read_answer, read_request, read_write
+from .packets import Packet, code_request, pec, read_answer, read_block, read_plain, read_request, read_write
 from .part import Output, Part, PartBus
 from .plans import Band, PlanOrder, RailEnd, RailState, Survey, Wanted
 from .pmbus import Pmbus
@@ -25,5 +25,6 @@ __all__ = [
     "LimitRefused", "Limits", "LinuxBus", "MemoryRefused", "NoBus", "NoTransfer", "NotDone", "NumberRefused", "Output", "Packet",
     "Part", "PartBus", "PartRefused", "PatientBus", "PlanOrder", "PlanRefused", "PmhostError",
     "Pmbus", "RailEnd", "RailState", "Refused", "Sending", "SetupRefused", "Smbus2Bus", "Step", "Survey",
-    "Transfers", "Unknown", "Wanted", "__version__", "pec", "read_answer", "read_request", "read_write",
+    "Transfers", "Unknown", "Wanted", "__version__", "code_request", "pec", "read_answer", "read_block", "read_plain", "read_request",
+    "read_write",
 ]

@@ -113,6 +113,10 @@ class PayloadImage(c.Structure):
     _fields_ = [("length", c.c_uint8), ("bytes", c.c_uint8 * 5), ("word", c.c_uint16)]
 
 
+class BlockImage(c.Structure):
+    _fields_ = [("length", c.c_uint8), ("bytes", c.c_uint8 * 32)]
+
+
 class OutputImage(c.Structure):
     _fields_ = [("mode", c.c_uint8), ("unused", c.c_uint8)] + [
         (name, c.c_uint16) for name in ("operation", "command", "max", "high", "low", "min")]
@@ -183,6 +187,8 @@ CALLS = {
     "pm_packet_read_write": (_u8, [_u8, _bytes, _u64, _at(PacketImage)]),
     "pm_packet_read_request": (_u8, [_u8, _bytes, _u64, _at(PacketImage)]),
     "pm_packet_read_answer": (_u8, [_u8, _at(PacketImage), _bytes, _u64, _at(PayloadImage)]),
+    "pm_read_block": (_u8, [_u8, _u8, _bytes, _u64, _at(BlockImage)]),
+    "pm_read_plain": (_u8, [_u8, _u8, _u8, _bytes, _u64, _at(BlockImage)]),
     "pm_part_size": (_u64, []),
     "pm_part_new": (_u8, [_part, _at(ConfigImage)]),
     "pm_part_hear": (_u8, [_part, _bytes, _u64, _u8, _at(ReplyImage)]),

@@ -1,8 +1,9 @@
-"""Brings a part to the settings of a file of rails, and tells rail by rail what became of it.
+"""Brings the parts of a board to the settings of a file of rails, and tells rail by rail what became of it.
 
-Everything is read and judged before the first write: each rail is surveyed, and its plan asked whether it goes. Then order after
-order is taken from the plan, rail by rail, and each rail ends by a survey. What comes next, and what isn't ordered at all, is said
-by the library alone: no rail commands anything on its way but what it commanded and what is wanted.
+Everything is read and judged before the first write: each part of a board file has to answer and to be the model that the file says,
+each rail is surveyed, and its plan asked whether it goes. Then order after order is taken from the plan, rail by rail in the file's
+order, and each rail ends by a survey. What comes next, and what isn't ordered at all, is said by the library alone: no rail commands
+anything on its way but what it commanded and what is wanted.
 """
 from __future__ import annotations
 
@@ -11,9 +12,11 @@ from typing import Callable
 
 from . import probe, voltages
 from .errors import PlanRefused, Refused
+from .parts import BoardPart
 from .plans import PlanOrder, Wanted
 from .pmbus import Pmbus
 from .rails import SETTINGS, WORDS, Rail
+from .reads import Reads
 from .rounded import is_near
 from .survey import Commanded, commanded, only_word, survey
 from .values import Format
@@ -24,7 +27,11 @@ MOST_ORDERS = 16
 
 
 class Stopped(Exception):
-    """Why no further frame is sent."""
+    """Why no further frame is sent; behind a job that ended badly with the part, and the output where the job was about one."""
+
+    def __init__(self, why: str, part: str | None = None, output: int | None = None) -> None:
+        super().__init__(why)
+        self.part, self.output = part, output
 
 
 @dataclass(eq=False)
@@ -50,11 +57,15 @@ class Setting:
 
 @dataclass
 class Board:
-    """The rails of a file at a part. `accept` is how near a word has to be that a part makes of an ordered one, in microvolts;
-    `before_order` is told of each order before its first frame, `after_order` of each that is confirmed."""
+    """The rails of a file, and the parts that have them, by their names. `described` has what a board file says of its parts; why a
+    part doesn't answer is said by `unanswered`, with nothing where it answers. `accept` is how near a word has to be that a part makes
+    of an ordered one, in microvolts; `before_order` is told of each order before its first frame, `after_order` of each that is
+    confirmed."""
 
-    part: Pmbus
+    parts: dict[str, Pmbus]
     rails: list[Rail]
+    described: dict[str, BoardPart] = field(default_factory=dict)
+    unanswered: Callable[[str], str] = lambda name: ""
     accept: int | None = None
     wants_store: bool = False
     before_order: Callable[[Setting], None] = lambda setting: None
@@ -64,17 +75,48 @@ class Board:
     orders: int = 0
     # How many orders there had been when a rail was surveyed last.
     surveyed_at: dict[str, int] = field(default_factory=dict)
-    had_restarted: bool = False
+    # The parts of which a restart had been seen before, or is looked for no more.
+    had_restarted: set[str] = field(default_factory=set)
+
+    def on(self, rail: Rail) -> Pmbus:
+        """The part that has a rail."""
+        return self.parts[rail.part]
+
+    def having_rails(self) -> dict[str, Pmbus]:
+        """The parts that have rails."""
+        return {name: part for name, part in self.parts.items() if any(rail.part == name for rail in self.rails)}
+
+    # ---- Who is there ----
+
+    def identify(self) -> None:
+        """Stops where parts of a board file don't answer, or aren't of the model that it says; says so of each."""
+        faults = [why for name, part in self.described.items() if (why := self.why_not_there(name, part))]
+        if faults:
+            raise Stopped("; ".join(faults))
+
+    def why_not_there(self, name: str, part: BoardPart) -> str:
+        """Why a part isn't the one that the file says: nothing where it is."""
+        if why := self.unanswered(name):
+            return f"{name}: no part answers at {part.place}: {why}"
+        if not part.model:
+            return ""
+        read = Reads(self.parts[name].bus, part.address).block(probe.MFR_BLOCKS["MFR_MODEL"])
+        if read.payload is None:
+            return f"{name}: MFR_MODEL gave no good answer ({read.why}), and has to begin with \"{part.model}\""
+        if not read.payload.startswith(part.model.encode("ascii")):
+            return f"{name}: MFR_MODEL is {probe.block_words(read.payload)}, and has to begin with \"{part.model}\""
+        return ""
 
     # ---- What is wanted ----
 
     def learn(self) -> None:
         """Learns each rail's format, and finds the words."""
-        self.had_restarted = self.part.restart_seen
+        self.had_restarted = {name for name, part in self.parts.items() if part.restart_seen}
         for rail in self.rails:
-            self.part.host.learn(rail.output)
-            if self.part.carried_out().kind != "learned":
-                raise Stopped(f"{rail.name}: its format isn't known: {probe.why_not_learned(self.part, rail.output)}")
+            part = self.on(rail)
+            part.host.learn(rail.output)
+            if part.carried_out().kind != "learned":
+                raise Stopped(f"{rail.name}: its format isn't known: {probe.why_not_learned(part, rail.output)}", rail.part, rail.output)
         for rail in self.rails:
             words = {key: self.word(rail, key) for key in SETTINGS if key in rail.settings}
             self.settings += [Setting(rail, key, word, word) for key, word in words.items()]
@@ -91,7 +133,7 @@ class Board:
             raise Stopped(f"{rail.name}.{key}: {voltages.shown(micro)}: {fault.letter} {fault.name}, in the rail's format") from None
 
     def format(self, rail: Rail) -> Format:
-        found = self.part.host.format(rail.output)
+        found = self.on(rail).host.format(rail.output)
         assert found is not None
         return found
 
@@ -111,21 +153,25 @@ class Board:
 
     def survey(self, rail: Rail) -> None:
         """Surveys a rail for its plan. Stops where a register gives no good answer, or a restart was seen."""
-        found = self.surveys[rail.name] = survey(self.part, rail.output, self.wanted(rail))
+        found = self.surveys[rail.name] = survey(self.on(rail), rail.output, self.wanted(rail))
         self.surveyed_at[rail.name] = self.orders
-        self.look()
+        self.look(rail)
         for register, why in found.missing.items():
-            raise Stopped(f"{self.name_of(rail, register)}: no good answer{': ' * bool(why)}{why}")
+            raise Stopped(f"{self.name_of(rail, register)}: no good answer{': ' * bool(why)}{why}", rail.part, rail.output)
 
-    def look(self) -> None:
-        """Stops where the part restarted: what was read before isn't known any more."""
-        if self.part.restart_seen and not self.had_restarted:
-            raise Stopped("the part restarted meanwhile: nothing that was read before holds: run this again")
+    def has_restarted(self, rail: Rail) -> bool:
+        """Whether a restart of a rail's part was seen meanwhile."""
+        return self.on(rail).restart_seen and rail.part not in self.had_restarted
+
+    def look(self, rail: Rail) -> None:
+        """Stops where a rail's part restarted: what was read before isn't known any more."""
+        if self.has_restarted(rail):
+            raise Stopped(f"{rail.part or 'the part'} restarted meanwhile: nothing that was read before holds: run this again")
 
     def judge(self, rail: Rail) -> None:
         """Stops where the plan of a rail refuses."""
         try:
-            self.part.host.plan(rail.output, self.wanted(rail))
+            self.on(rail).host.plan(rail.output, self.wanted(rail))
         except PlanRefused as fault:
             raise self.refused(rail, fault) from None
 
@@ -134,7 +180,7 @@ class Board:
         first. Stops where the plan refuses."""
         for has_surveyed in (False, True):
             try:
-                return self.part.host.next(rail.output, self.wanted(rail))
+                return self.on(rail).host.next(rail.output, self.wanted(rail))
             except PlanRefused as fault:
                 if fault.letter != "P4" or has_surveyed:
                     raise self.refused(rail, fault) from None
@@ -143,16 +189,16 @@ class Board:
 
     def bring(self, rail: Rail) -> None:
         """Gives the orders of a rail's plan, one after another, and surveys it behind them."""
-        differed: set[str] = set()
+        part, differed = self.on(rail), set[str]()
         for _ in range(MOST_ORDERS):
-            held = {it.register: self.part.host.possible(rail.output, it.register) for it in self.of(rail)}
+            held = {it.register: part.host.possible(rail.output, it.register) for it in self.of(rail)}
             order = self.next_order(rail)
             if order is None:
                 break
             it = next(each for each in self.of(rail) if each.register == order.register)
             self.before_order(it)
             it.is_ordered, self.orders = True, self.orders + 1
-            step = self.part.carried_out()
+            step = part.carried_out()
             if step.kind == "differs":
                 self.differs(it, step.word, held[it.register], differed)
             elif step.kind == "done":
@@ -167,42 +213,56 @@ class Board:
     def differs(self, it: Setting, word: int | None, held: tuple[int, ...] | None, differed: set[str]) -> None:
         """Another word was read back than was ordered. One that is near enough, and that the part made of the ordered one, takes
         its place in the plan; otherwise the order is given once more. `differed` has the registers of which it was."""
-        is_taken = self.accept is not None and is_near(self.part, it.rail.output, it.register, it.rail.settings[it.key], self.accept,
-                                                       held, word)
+        part = self.on(it.rail)
+        is_taken = self.accept is not None and is_near(part, it.rail.output, it.register, it.rail.settings[it.key], self.accept, held, word)
         if is_taken and word is not None:
             # What wasn't possible before looks like a restart: what was read before isn't known any more.
-            it.wanted, self.had_restarted = word, True
+            it.wanted = word
+            self.had_restarted.add(it.rail.part)
             self.survey(it.rail)
             return
-        seen = self.part.restart_seen and not self.had_restarted
+        seen = self.has_restarted(it.rail)
         if not seen and it.register not in differed:
             differed.add(it.register)
             return
-        why = "it restarted, or rounds: --accept takes a word that is near" if seen else self.part.transfers.why()
-        raise Stopped(f"{it.name}: {self.shown(it, it.wanted)} isn't confirmed: the part holds {word:04X}{': ' * bool(why)}{why}")
+        why = "it restarted, or rounds: --accept takes a word that is near" if seen else part.transfers.why()
+        raise Stopped(f"{it.name}: {self.shown(it, it.wanted)} isn't confirmed: the part holds {word:04X}{': ' * bool(why)}{why}",
+                      it.rail.part, it.rail.output)
 
     def survey_behind(self, it: Setting) -> None:
         """Surveys a rail behind an order of which no good answer came."""
-        why = self.part.transfers.why()
+        why = self.on(it.rail).transfers.why()
         try:
             self.survey(it.rail)
         except Stopped:
-            self.look()
-            raise Stopped(f"{it.name}: {self.shown(it, it.wanted)} isn't confirmed: no good answer{': ' * bool(why)}{why}") from None
+            self.look(it.rail)
+            raise Stopped(f"{it.name}: {self.shown(it, it.wanted)} isn't confirmed: no good answer{': ' * bool(why)}{why}",
+                          it.rail.part, it.rail.output) from None
 
     # ---- The whole ----
 
-    def prepare(self) -> None:
-        """Reads and judges everything, and writes nothing."""
+    def read(self) -> None:
+        """Looks whether the parts are there, and reads all that their rails need."""
+        self.identify()
         self.learn()
         for rail in self.rails:
             self.survey(rail)
+
+    def prepare(self) -> None:
+        """Reads and judges everything, and writes nothing."""
+        self.read()
         for rail in self.rails:
             self.judge(rail)
-        protect = only_word(self.part, 0, PROTECT)
-        if self.wants_store and protect != 0:
-            held = "not known" if protect is None else f"{protect:02X}"
-            raise Stopped(f"{PROTECT} is {held}: a store wants 00: order it by word - {PROTECT} 00")
+        if self.wants_store:
+            self.judge_store()
+
+    def judge_store(self) -> None:
+        """Stops where WRITE_PROTECT of a part isn't known to let it store."""
+        for name, part in self.having_rails().items():
+            protect = only_word(part, 0, PROTECT)
+            if protect != 0:
+                held = "not known" if protect is None else f"{protect:02X}"
+                raise Stopped(f"{f'{name}: ' * bool(name)}{PROTECT} is {held}: a store wants 00: order it by word - {PROTECT} 00")
 
     def apply(self) -> None:
         """Orders what differs, and surveys each rail. Stopped."""
@@ -216,9 +276,7 @@ class Board:
 
     def verify(self) -> None:
         """Surveys each rail, and orders nothing. Stopped."""
-        self.learn()
-        for rail in self.rails:
-            self.survey(rail)
+        self.read()
         self.finish()
 
     def finish(self) -> None:
@@ -247,24 +305,26 @@ class Board:
             return "the output isn't known to command its voltage"
         return ""
 
-    def store(self) -> None:
-        """Sends STORE_USER_ALL, once. Stopped."""
-        self.part.host.store()
-        if self.part.carried_out().kind != "done":
-            raise Stopped(f"store: it may have been carried out or not: {self.part.transfers.why() or 'no good answer'}")
+    def store(self, name: str) -> None:
+        """Sends STORE_USER_ALL to a part, once. Stopped."""
+        part = self.parts[name]
+        part.host.store()
+        if part.carried_out().kind != "done":
+            raise Stopped(f"{f'{name}: ' * bool(name)}store: it may have been carried out or not: {part.transfers.why() or 'no good answer'}",
+                          name)
 
     # ---- What is told ----
 
     def state(self, rail: Rail) -> Commanded:
         """What a rail commands, by what is known now, and what its last survey missed."""
-        found, last = commanded(self.part, rail.output), self.surveys.get(rail.name, Commanded())
+        found, last = commanded(self.on(rail), rail.output), self.surveys.get(rail.name, Commanded())
         found.missing, found.unended = last.missing, last.unended
         return found
 
     def take(self) -> None:
         """What is known of each setting: the only word that is possible."""
         for it in self.settings:
-            it.last = only_word(self.part, it.rail.output, it.register)
+            it.last = only_word(self.on(it.rail), it.rail.output, it.register)
             if it.last is None:
                 it.state = "unknown" if it.is_ordered or it.rail.name in self.surveys else "not read"
             elif it.last != it.wanted:
@@ -282,7 +342,7 @@ class Board:
         if fault.letter in ("P1", "P4"):
             return f"{name if fault.register else rail.name}: what it holds isn't known"
         if fault.letter == "P7":
-            return f"{name}: {PROTECT} is {only_word(self.part, 0, PROTECT):02X}, and the part refuses to write it"
+            return f"{name}: {PROTECT} is {only_word(self.on(rail), 0, PROTECT):02X}, and the part refuses to write it"
         wanted = self.wanted(rail)
         said = voltages.shown(self.value(rail, wanted, fault.register))
         if fault.letter in ("P2", "P3"):
@@ -295,7 +355,7 @@ class Board:
     def value(self, rail: Rail, wanted: Wanted, register: str | None) -> int:
         """The microvolts of a register as it is to be, rounded down."""
         assert register is not None
-        word = wanted.get(register, only_word(self.part, rail.output, register))
+        word = wanted.get(register, only_word(self.on(rail), rail.output, register))
         return self.format(rail).microvolts(word or 0)
 
     def changed(self) -> list[str]:
@@ -314,7 +374,7 @@ class Board:
         """Whether what is known of a setting lies outside the rail's limits, as these judge an order: on a copy of the host."""
         if it.last is None:
             return False
-        judge = self.part.host.copy()
+        judge = self.on(it.rail).host.copy()
         try:
             judge.narrow(it.rail.output, *it.rail.limits)
             judge.order(it.rail.output, it.register, it.last)

@@ -4,7 +4,7 @@ from __future__ import annotations
 import ctypes
 from dataclasses import dataclass
 
-from ._library import PacketImage, PayloadImage, SendingImage, library
+from ._library import BlockImage, PacketImage, PayloadImage, SendingImage, library
 from .errors import accepted
 from .values import frame_bytes, whole
 
@@ -85,4 +85,25 @@ def read_answer(address: int, request: Packet, data: bytes) -> bytes:
     taken, found = frame_bytes(data, MOST), PayloadImage()
     address, asked = whole(address, 0, 255, "address"), request._image()
     accepted(library.pm_packet_read_answer(address, ctypes.byref(asked), taken, len(taken), ctypes.byref(found)))
+    return bytes(found.bytes[: found.length])
+
+
+def code_request(address: int, code: int) -> bytes:
+    """The bytes before the repeated start of a read of any code, for a block or for some bytes."""
+    return bytes([whole(address, 0x08, 0x77, "address") << 1, whole(code, 0, 255, "code")])
+
+
+def read_block(address: int, code: int, data: bytes) -> bytes:
+    """The payload of what came back for a block of any code, the read address first, then the count, at most 32. F1 to F5."""
+    taken, found = frame_bytes(data, MOST), BlockImage()
+    address, code = whole(address, 0, 255, "address"), whole(code, 0, 255, "code")
+    accepted(library.pm_read_block(address, code, taken, len(taken), ctypes.byref(found)))
+    return bytes(found.bytes[: found.length])
+
+
+def read_plain(address: int, code: int, size: int, data: bytes) -> bytes:
+    """The payload of what came back for so many bytes of any code, at most 32, the read address first. F1 to F3, F5."""
+    taken, found = frame_bytes(data, MOST), BlockImage()
+    address, code, size = whole(address, 0, 255, "address"), whole(code, 0, 255, "code"), whole(size, 0, 32, "size")
+    accepted(library.pm_read_plain(address, code, size, taken, len(taken), ctypes.byref(found)))
     return bytes(found.bytes[: found.length])

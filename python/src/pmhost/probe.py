@@ -142,7 +142,7 @@ class Probe:
                 output.missing[register] = why
             else:
                 output.words[register] = word
-        output.on_off = self.reads.byte(number, ON_OFF_CONFIG)
+        output.on_off = self.reads.of_page(number, ON_OFF_CONFIG, 1)
         return output, transfers
 
     def _word(self, number: int, register: str) -> tuple[int | None, str]:
@@ -242,6 +242,18 @@ def unfit_words(reads: Reads, revision: Read, first: Transfers) -> str:
 
 def spaced(data: bytes) -> str:
     return data.hex(" ").upper()
+
+
+def text_of(payload: bytes) -> str | None:
+    """A block that is a text of ASCII, without the blanks and zeros behind it."""
+    kept = payload.rstrip(b" \0")
+    return kept.decode("ascii") if kept and all(0x20 <= byte < 0x7F for byte in kept) else None
+
+
+def block_words(payload: bytes) -> str:
+    """A block in words: as a text where it is one."""
+    text = text_of(payload)
+    return f'"{text}"' if text else spaced(payload) or "empty"
 
 
 def format_words(form: Format) -> str:

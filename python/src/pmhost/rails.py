@@ -10,58 +10,67 @@
     max = "0.94V"
     on = true
 
-A rail has an output, its volts and its limits; margins, min and max (VOUT_MIN, VOUT_MAX) only where they are to be set. It is on, unless `on = false` says that it is off.
-`without = ["VOUT_MIN"]` above the first rail names registers that the part doesn't have.
-Voltages are texts with their unit, exactly as they are written, to a whole microvolt. A file without `outputs = N` means a
-part with as many outputs as the highest that it names.
+A rail has an output, its volts and its limits; margins, min and max (VOUT_MIN, VOUT_MAX) only where they are to be set. It is on,
+unless `on = false` says that it is off. Voltages are texts with their unit, exactly as they are written, to a whole microvolt.
+
+A board with several parts has a table for each (`parts`), and `part = "u12"` in each rail. Without them the file is of one part, whose
+place is given on the command line: `without = ["VOUT_MIN"]` above the first rail names registers that it doesn't have, and without
+`outputs = N` it has as many outputs as the highest that the file names.
 """
 from __future__ import annotations
 
-import re
 import tomllib
 from dataclasses import dataclass, field
 from decimal import Decimal
+from typing import Callable, TypeVar
 
 from . import voltages
+from .parts import MOST_OUTPUTS, NAME, BadRails, BoardPart, is_whole, part_of, without_of
 
 # The settings of a rail, by their registers.
 SETTINGS = {"volts": "VOUT_COMMAND", "margin_high": "VOUT_MARGIN_HIGH", "margin_low": "VOUT_MARGIN_LOW", "max": "VOUT_MAX",
             "min": "VOUT_MIN"}
 WORDS = ("volts", "margin_low", "margin_high")
-# The registers that a part may be without.
-MISSABLE = ("VOUT_MAX", "VOUT_MARGIN_HIGH", "VOUT_MARGIN_LOW", "VOUT_MIN")
 KEYS = ("output", "limits", "on", *SETTINGS)
-NAME = re.compile(r"[A-Za-z0-9_.+-]{1,32}\Z")
 MOST_BYTES = 1 << 20
 LIMITS_EXAMPLE = '["0.85V", "0.95V"]'
+# The one part of a file that has no table of parts.
+ONLY = ""
 
-
-class BadRails(Exception):
-    """What is wrong in the file, and what to give."""
+Made = TypeVar("Made")
 
 
 @dataclass
 class Rail:
-    """A rail: its limits and its settings in whole microvolts, by their names, and whether it is on."""
+    """A rail: its output of a part, its limits and its settings in whole microvolts, by their names, and whether it is on."""
 
     name: str
     output: int
     limits: tuple[int, int]
     settings: dict[str, int] = field(default_factory=dict)
     is_on: bool = True
+    part: str = ONLY
 
 
 @dataclass
 class Rails:
-    """The rails of a file, how many outputs the part has, and which registers it doesn't."""
+    """The rails of a file, and the parts that have them, by their names."""
 
-    outputs: int
     rails: list[Rail]
-    without: tuple[str, ...] = ()
+    parts: dict[str, BoardPart]
 
-    def part(self) -> tuple[int, dict[int, tuple[int, int]], tuple[str, ...]]:
-        """What a host is made for: the outputs, their limits, and the registers that are missing."""
-        return self.outputs, {rail.output: rail.limits for rail in self.rails}, self.without
+    @property
+    def is_board(self) -> bool:
+        """Whether the file says where its parts are."""
+        return ONLY not in self.parts
+
+    def limits(self, part: str) -> dict[int, tuple[int, int]]:
+        """The limits of a part's outputs."""
+        return {rail.output: rail.limits for rail in self.rails if rail.part == part}
+
+    def made_for(self) -> list[tuple[BoardPart, dict[int, tuple[int, int]]]]:
+        """What hosts are made for: each part, and the limits of its outputs."""
+        return [(part, self.limits(name)) for name, part in self.parts.items()]
 
 
 def read(path: str) -> Rails:
@@ -86,65 +95,121 @@ def read(path: str) -> Rails:
 
 
 def judged(found: dict[str, object]) -> Rails:
-    """The rails of a table."""
+    """The rails of a table. A BadRails has what is wrong in all of its parts and rails."""
+    faults: list[str] = []
     for key in found:
-        if key not in ("outputs", "without", "rails"):
-            raise BadRails(f"{key}: there are `outputs`, `without` and `[rails.NAME]`")
-    tables = found.get("rails")
+        if key not in ("outputs", "without", "parts", "rails"):
+            raise BadRails(f"{key}: there are `outputs`, `without`, `[parts.NAME]` and `[rails.NAME]`")
+    parts = all_of("parts", found, part_of, "no parts: give a table for each, as [parts.u12]", faults) if "parts" in found else None
+    rails = all_of("rails", found, lambda name, table: rail_of(name, table, parts is not None),
+                   "no rails: give a table for each, as [rails.core]", faults)
+    if parts is None:
+        parts = only_part(found, list(rails.values()), faults)
+    else:
+        faults += [f"{key}: with `[parts.NAME]` it stands in each part" for key in ("outputs", "without") if key in found]
+        faults += places_of(list(parts.values()))
+    tables = found.get("parts")
+    faults += outputs_of(list(rails.values()), parts, set(tables) if isinstance(tables, dict) else set())
+    if faults:
+        raise BadRails("; ".join(faults))
+    return Rails(list(rails.values()), parts)
+
+
+def all_of(key: str, found: dict[str, object], made: Callable[[str, object], Made], none: str, faults: list[str]) -> dict[str, Made]:
+    """What is made of each table below a key. What is wrong goes to the faults."""
+    tables, good = found.get(key), dict[str, Made]()
     if not isinstance(tables, dict) or not tables:
-        raise BadRails("no rails: give a table for each, as [rails.core]")
-    rails = [rail_of(name, table) for name, table in tables.items()]
-    owners: dict[int, str] = {}
+        faults.append(none)
+        return good
+    for name, table in tables.items():
+        try:
+            good[name] = made(name, table)
+        except BadRails as fault:
+            faults.append(str(fault))
+    return good
+
+
+def only_part(found: dict[str, object], rails: list[Rail], faults: list[str]) -> dict[str, BoardPart]:
+    """The one part of a file without tables of parts. What is wrong goes to the faults."""
+    least = max((rail.output for rail in rails), default=0) + 1
+    outputs = found.get("outputs", least)
+    if not is_whole(outputs) or not least <= outputs <= MOST_OUTPUTS:
+        faults.append(f"outputs: give a whole number from {least} to {MOST_OUTPUTS}")
+        return {}
+    try:
+        return {ONLY: BoardPart(ONLY, "", 0, outputs, "", without_of("without", found.get("without", [])))}
+    except BadRails as fault:
+        faults.append(str(fault))
+        return {}
+
+
+def places_of(parts: list[BoardPart]) -> list[str]:
+    """What is wrong with the places of parts: two at one address of a bus."""
+    owners, faults = dict[str, str](), []
+    for part in parts:
+        owner = owners.setdefault(part.place, part.name)
+        if owner != part.name:
+            faults.append(f"parts.{part.name}: address {part.address:02X} of bus {part.bus} is {owner}'s already")
+    return faults
+
+
+def outputs_of(rails: list[Rail], parts: dict[str, BoardPart], named: set[str]) -> list[str]:
+    """What is wrong with the outputs of rails: a part that there isn't, among those that are named; an output that the part doesn't
+    have, or that is another rail's; a setting of a register that the part doesn't have."""
+    owners, faults = dict[tuple[str, int], str](), []
     for rail in rails:
-        if rail.output in owners:
-            raise BadRails(f"rails.{rail.name}: output {rail.output} is {owners[rail.output]}'s already")
-        owners[rail.output] = rail.name
-    outputs = found.get("outputs", max(owners) + 1)
-    if not is_whole(outputs) or not max(owners) < outputs <= 8:  # type: ignore[operator]
-        raise BadRails(f"outputs: give a whole number from {max(owners) + 1} to 8")
-    return Rails(outputs, rails, without_of(found.get("without", []), rails))  # type: ignore[arg-type]
+        at, part = f"rails.{rail.name}", parts.get(rail.part)
+        if rail.part != ONLY and rail.part not in named:
+            faults.append(f"{at}.part: there is no [parts.{rail.part}]")
+            continue
+        owner = owners.setdefault((rail.part, rail.output), rail.name)
+        if owner != rail.name:
+            faults.append(f"{at}: output {rail.output}{f' of {rail.part}' * bool(rail.part)} is {owner}'s already")
+        if part is None:
+            continue
+        if rail.output >= part.outputs:
+            faults.append(f"{at}.output: {rail.part} has {part.outputs} output{'s' * (part.outputs > 1)}, from 0")
+        whose = f"parts.{rail.part}.without" if rail.part else "`without`"
+        faults += [f"{at}.{key}: {whose} says that the part has no {SETTINGS[key]}" for key in rail.settings
+                   if SETTINGS[key] in part.without]
+    return faults
 
 
-def without_of(names: object, rails: list[Rail]) -> tuple[str, ...]:
-    """The registers that the part doesn't have, of which no rail has a setting."""
-    if not isinstance(names, list) or any(name not in MISSABLE for name in names):
-        raise BadRails(f"without: give a list of {', '.join(MISSABLE)}")
-    for rail in rails:
-        for key in rail.settings:
-            if SETTINGS[key] in names:
-                raise BadRails(f"rails.{rail.name}.{key}: `without` says that the part has no {SETTINGS[key]}")
-    return tuple(names)
-
-
-def is_whole(number: object) -> bool:
-    return isinstance(number, int) and not isinstance(number, bool)
-
-
-def rail_of(name: str, table: object) -> Rail:
+def rail_of(name: str, table: object, has_parts: bool) -> Rail:
+    """A rail of its table. BadRails."""
     at = f"rails.{name}"
     if not NAME.match(name):
         raise BadRails(f"{at!r}: a name has letters, digits and _ . + -, at most 32")
     if not isinstance(table, dict):
         raise BadRails(f"{at}: give a table, as [{at}]")
-    for key in table:
-        if key not in KEYS:
-            raise BadRails(f"{at}.{key}: there are {', '.join(KEYS)}")
-    for key in ("output", "volts", "limits"):
-        if key not in table:
-            raise BadRails(f"{at}: {key} is missing")
-    output, pair = table["output"], table["limits"]
-    if not is_whole(output) or not 0 <= output <= 7:
-        raise BadRails(f"{at}.output: give a whole number from 0 to 7")
+    judge_keys(at, table, has_parts)
+    output, pair, part, is_on = table["output"], table["limits"], table.get("part", ONLY), table.get("on", True)
+    if has_parts and not isinstance(part, str):
+        raise BadRails(f'{at}.part: give the name of a part, as "u12"')
+    if not is_whole(output) or not 0 <= output < MOST_OUTPUTS:
+        raise BadRails(f"{at}.output: give a whole number from 0 to {MOST_OUTPUTS - 1}")
     if not isinstance(pair, list) or len(pair) != 2:
         raise BadRails(f"{at}.limits: give the least and the most, as {LIMITS_EXAMPLE}")
-    is_on = table.get("on", True)
     if not isinstance(is_on, bool):
         raise BadRails(f"{at}.on: give true or false")
     least, most = (microvolts(f"{at}.limits", each) for each in pair)
     settings = {key: microvolts(f"{at}.{key}", table[key]) for key in SETTINGS if key in table}
-    rail = Rail(name, output, (least, most), settings, is_on)
+    rail = Rail(name, output, (least, most), settings, is_on, part)
     judge(at, rail)
     return rail
+
+
+def judge_keys(at: str, table: dict[str, object], has_parts: bool) -> None:
+    """A rail has the keys that it needs, and no others."""
+    wanted = ("part",) * has_parts
+    for key in table:
+        if key == "part" and not has_parts:
+            raise BadRails(f"{at}.part: the file has no [parts.NAME]")
+        if key not in (*wanted, *KEYS):
+            raise BadRails(f"{at}.{key}: there are {', '.join((*wanted, *KEYS))}")
+    for key in (*wanted, "output", "volts", "limits"):
+        if key not in table:
+            raise BadRails(f"{at}: {key} is missing")
 
 
 def microvolts(at: str, text: object) -> int:

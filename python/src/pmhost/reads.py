@@ -10,9 +10,9 @@ from typing import Callable
 
 from . import clock
 from .bus.ones import NOBODY, NoAnswer, is_ones
-from .errors import FrameRefused
+from .errors import FrameRefused, Refused
 from .host import Bus
-from .packets import Packet, pec, read_answer
+from .packets import Packet, code_request, pec, read_answer, read_block, read_plain
 
 TRIES = 3
 # Seconds before a request is sent again, since the part may be busy.
@@ -36,6 +36,15 @@ class Read:
 
 class NotGood(Exception):
     """What is wrong with an answer."""
+
+
+def is_known(asked: Packet) -> bool:
+    """Whether the library has the packet."""
+    try:
+        asked.frame(0x58)
+    except Refused:
+        return False
+    return True
 
 
 class Reads:
@@ -75,23 +84,36 @@ class Reads:
 
     def packet(self, asked: Packet) -> Read:
         """A packet of the library's table."""
-        def payload(came: bytes) -> bytes:
-            try:
-                return read_answer(self.address, asked, self._read_address() + came)
-            except FrameRefused as wrong:
-                raise NotGood(f"{wrong.letter} {wrong.name}") from None
+        return self._tried(asked.frame(self.address), asked.answer, lambda came: read_answer(self.address, asked, came))
 
-        return self._tried(asked.frame(self.address), asked.answer, payload)
+    def coefficients(self, code: int, side: int) -> Read:
+        """m, b and R of a code of the library's table, as COEFFICIENTS answers them; of another code none."""
+        asked = Packet("COEFFICIENTS", code, page=side)
+        return self.packet(asked) if is_known(asked) else Read(None)
 
-    def byte(self, page: int, code: int) -> Read:
-        """A byte of a page by PAGE_PLUS, of any code."""
+    def code(self, code: int, size: int, page: int | None) -> Read:
+        """One or two bytes of any code, of a page by PAGE_PLUS or of the device: by a packet of the library's table where it has the
+        code."""
+        asked = Packet("read", code) if page is None else Packet("PAGE_PLUS_READ", code, page=page)
+        if is_known(asked):
+            return self.packet(asked)
+        return self.plain(code, size) if page is None else self.of_page(page, code, size)
+
+    def of_page(self, page: int, code: int, size: int) -> Read:
+        """So many bytes of a page by PAGE_PLUS, of any code."""
         request = bytes([self.address << 1, PAGE_PLUS_READ, 2, page, code])
-        return self._tried(request, 3, lambda came: self._counted(request, came, 1))
+        return self._tried(request, size + 2, lambda came: self._counted(request, came, size))
+
+    def plain(self, code: int, size: int) -> Read:
+        """So many bytes of the device, of any code."""
+        return self._tried(code_request(self.address, code), size + 1, lambda came: read_plain(self.address, code, size, came))
 
     def block(self, code: int) -> Read:
-        """A block of at most 32 bytes, of any code."""
-        request = bytes([self.address << 1, code])
-        return self._tried(request, MOST_BLOCK + 2, lambda came: self._counted(request, came, None))
+        """A block of at most 32 bytes, of any code. What was read behind its packet error code is nothing."""
+        def payload(came: bytes) -> bytes:
+            return read_block(self.address, code, came[:came[1] + 3] if came[1] <= MOST_BLOCK else came)
+
+        return self._tried(code_request(self.address, code), MOST_BLOCK + 2, payload)
 
     def with_pec(self, request: bytes, came: bytes) -> bytes:
         """Bytes that came, with the packet error code that they should have in their last place."""
@@ -100,18 +122,19 @@ class Reads:
     def _read_address(self) -> bytes:
         return bytes([self.address << 1 | 1])
 
-    def _counted(self, request: bytes, came: bytes, count: int | None) -> bytes:
-        """The payload of an answer that begins with its count. What was read behind its packet error code is nothing."""
-        if came[0] > MOST_BLOCK or count is not None and came[0] != count:
+    def _counted(self, request: bytes, came: bytes, size: int) -> bytes:
+        """The payload of an answer by PAGE_PLUS to a code outside the command table, which the library doesn't read: so many bytes behind
+        their count."""
+        if came[1] != size:
             raise NotGood("F4 WrongCount")
-        answer = came[:came[0] + 2]
-        if len(answer) < came[0] + 2:
+        if len(came) < size + 3:
             raise NotGood("F2 Short")
-        if answer != self.with_pec(request, answer):
+        if came[1:] != self.with_pec(request, came[1:]):
             raise NotGood("F5 WrongPec")
-        return answer[1:-1]
+        return came[2:-1]
 
     def _tried(self, request: bytes, count: int, payload: Callable[[bytes], bytes]) -> Read:
+        """What three tries give; `payload` judges what came behind the read address, which stands in front."""
         last, why = b"", ""
         for _ in range(TRIES):
             try:
@@ -123,7 +146,9 @@ class Reads:
                 why = "no answer"
                 continue
             try:
-                return Read(payload(came), came)
+                return Read(payload(self._read_address() + came), came)
+            except FrameRefused as wrong:
+                last, why = came, f"{wrong.letter} {wrong.name}"
             except NotGood as wrong:
                 last, why = came, str(wrong)
         return Read(None, last, why)

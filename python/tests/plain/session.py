@@ -1,15 +1,16 @@
 """The answers of a host that is spoken to in lines, by the plain host and its limits."""
 import re
-from math import ceil, floor
 
 from .host import ANY, Host
-from .limits import band, narrow_refusal, refusal
+from .limits import band, narrow_refusal, open_refusal, refusal
 from .line_answers import LineAnswers, Refused
 from .lines import words_of
-from .packets import answer_shape, length_of
+from .packets import answer_shape, length_of, name_of
+from .rail import VOLTAGES, Survey, in_microvolts, plan, rail
 from .scenario import Words, read_event
 
-MOST_BACK = 16
+MOST_BACK, SURVEY_TRIES = 16, 16
+NAMES = {name_of(code).encode(): code for code in VOLTAGES}
 JOBS = (b"order", b"volts", b"check", b"learn", b"clear", b"store", b"restore")
 
 
@@ -18,9 +19,11 @@ def in_hex(frame):
 
 
 class PlainSession(LineAnswers):
-    def __init__(self, address, outputs, passes):
+    """`missing` has the registers that the part doesn't have."""
+
+    def __init__(self, address, outputs, passes, missing=()):
         self.host = Host(address, outputs, passes)
-        self.limits = [None] * outputs
+        self.limits, self.missing, self.open_survey = [None] * outputs, missing, None
 
     def answered(self, line):
         first, *rest = words_of(line) or [b""]
@@ -38,7 +41,12 @@ class PlainSession(LineAnswers):
             cell = words.cell(2)
             words.end()
             return self.state(cell)
-        of_output = {b"band": self.band, b"limits": self.limits_of, b"narrow": self.narrow}
+        if first in (b"plan", b"next", b"survey"):
+            output, wanted = Words(b" ".join(rest)).number(0, 255), self.wishes(rest[1:])
+            if not wanted and first != b"survey":
+                raise Refused("X1 Syntax")
+            return {b"plan": self.plan, b"next": self.next, b"survey": self.survey}[first](output, wanted or None)
+        of_output = {b"band": self.band, b"limits": self.limits_of, b"narrow": self.narrow, b"rail": self.rail}
         if first in of_output:
             words = Words(b" ".join(rest))
             numbers = [words.number(0, 255)]
@@ -60,9 +68,11 @@ class PlainSession(LineAnswers):
 
     def begun(self, kind, what):
         call = {"volts": self.host.order_micro}.get(kind) or getattr(self.host, kind)
-        fault = refusal(self.host, self.limits, (kind, *what)) or call(*what)
+        fault = refusal(self.host, self.limits, (kind, *what), self.missing) or call(*what)
         if fault:
             raise Refused(fault)
+        if kind in ("order", "volts", "restore"):
+            self.open_survey = None
         return self.sending()
 
     def told(self, entry):
@@ -71,7 +81,11 @@ class PlainSession(LineAnswers):
         if self.host.sending_reads() != (entry[0] == "got"):
             raise Refused("S3 WrongKind")
         self.host.told(entry)
-        return f"ended {self.host.job()}" if self.host.sending() is None else self.sending()
+        if self.host.sending() is not None:
+            return self.sending()
+        if self.open_survey:
+            self.open_survey.told(self.host.job())
+        return f"ended {self.host.job()}"
 
     def sending(self):
         message = self.host.sending()
@@ -82,6 +96,7 @@ class PlainSession(LineAnswers):
 
     def restart(self):
         self.host.restart()
+        self.open_survey = None
         return "restarted"
 
     def seen(self):
@@ -93,8 +108,15 @@ class PlainSession(LineAnswers):
 
     def band(self, output):
         self.needs(output)
-        found = band(self.host, output)
-        return "band unknown" if found is None else f"band {floor(found[0] * 10**6)} {ceil(found[1] * 10**6)}"
+        found = band(self.host, output, missing=self.missing)
+        return "band unknown" if found is None else "band {} {}".format(*in_microvolts(found))
+
+    def rail(self, output):
+        self.needs(output)
+        found = rail(self.host, self.limits, self.missing, output)
+        if found is None:
+            return "rail any"
+        return "rail {} {} {} {}".format(found[0], *in_microvolts(found[1]), found[2].replace("unknown", "any"))
 
     def limits_of(self, output):
         self.needs(output)
@@ -102,11 +124,58 @@ class PlainSession(LineAnswers):
         return "limits none" if own is None else f"limits {own[0]} {own[1]}"
 
     def narrow(self, output, least, most):
-        fault = narrow_refusal(self.limits, self.host.outputs, output, least, most)
+        fault = (narrow_refusal(self.limits, self.host.outputs, output, least, most)
+                 or open_refusal(self.host, (least, most), output, self.missing))
         if fault:
             raise Refused(fault)
         self.limits[output] = (least, most)
         return "narrowed"
+
+    def wishes(self, words):
+        """The wanted words: each register once, with four digits."""
+        wanted = {}
+        for word in words:
+            name, _, digits = word.partition(b"=")
+            if NAMES.get(name) is None or NAMES[name] in wanted or b"=" not in word:
+                raise Refused("X1 Syntax")
+            if not re.fullmatch(rb"[0-9A-Fa-f]{4}", digits):
+                raise Refused("X2 BadHex")
+            wanted[NAMES[name]] = int(digits, 16)
+        return wanted
+
+    def needs_idle(self, output):
+        if self.host.sending() is not None:
+            raise Refused("H3 Busy")
+        self.needs(output)
+
+    def planned(self, output, wanted):
+        """The next order, None where there is none."""
+        self.needs_idle(output)
+        found = plan(self.host, self.limits, self.missing, output, wanted)
+        if isinstance(found, str):
+            raise Refused(found)
+        return found
+
+    def plan(self, output, wanted):
+        order = self.planned(output, wanted)
+        return "plan done" if order is None else f"plan {name_of(order[0])} {order[1]:04X}"
+
+    def next(self, output, wanted):
+        order = self.planned(output, wanted)
+        return "plan done" if order is None else self.begun("order", ((output, order[0]), order[1]))
+
+    def survey(self, output, wanted):
+        self.needs_idle(output)
+        if self.open_survey is None or self.open_survey.output != output:
+            self.open_survey = Survey(output, wanted, SURVEY_TRIES)
+        self.open_survey.wanted = wanted
+        job = self.open_survey.next(self.host, self.missing)
+        if isinstance(job, str):
+            self.open_survey = None
+            return f"survey {job}"
+        survey, answer = self.open_survey, self.begun(*job[:1], job[1:])
+        self.open_survey = survey
+        return answer
 
     def state(self, cell):
         if cell[0] is not None and cell[0] >= self.host.outputs:

@@ -11,6 +11,7 @@ use crate::known_cells::{KnownCell, KnownCells, pm_host_known};
 use crate::limits::{BandImage, pm_host_band, pm_host_limits, pm_host_narrow, pm_host_within};
 use crate::name_image::NameImage;
 use crate::names::{pm_end_name, pm_refusal_name};
+use crate::other_read::{BlockImage, pm_read_block, pm_read_plain};
 use crate::packet::{Packet, pm_packet_read_request, pm_packet_read_write, pm_packet_write};
 use crate::plan::{PlanOrderImage, pm_host_next, pm_host_plan};
 use crate::rail::{RailImage, pm_host_rail};
@@ -251,6 +252,26 @@ pub(super) fn answer(address: u8, request: (u8, u8, u8), bytes: &[u8]) -> (u8, u
     };
     let number = pm_packet_read_answer(address, &request, bytes, &mut payload);
     (number, payload.length, payload.word, payload.bytes)
+}
+
+// What came back for a block read of a code, or for a read of so many bytes of it: the number, and the payload's length and
+// first four bytes.
+pub(super) fn other_read(
+    address: u8,
+    code: u8,
+    size: Option<u8>,
+    bytes: &[u8],
+) -> (u8, u8, [u8; 4]) {
+    let mut block = BlockImage {
+        length: 7,
+        bytes: [7; 32],
+    };
+    let number = match size {
+        None => pm_read_block(address, code, bytes, &mut block),
+        Some(size) => pm_read_plain(address, code, size, bytes, &mut block),
+    };
+    let [first, second, third, fourth, ..] = block.bytes;
+    (number, block.length, [first, second, third, fourth])
 }
 
 pub(super) fn known(image: &GuardImage) -> (u8, KnownCells) {

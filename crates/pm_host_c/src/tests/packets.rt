@@ -1,6 +1,6 @@
 //! Packets that need no host.
 
-use super::calls::{PACKET, answer, read_request, read_write, written};
+use super::calls::{PACKET, answer, other_read, read_request, read_write, written};
 use super::checks::{equal, is_true};
 use crate::packet::{Packet, pm_pec};
 
@@ -168,5 +168,110 @@ static ANSWERS: [(u8, (u8, u8, u8), &[u8], (u8, u8, u16, [u8; 5])); 13] = [
 fn an_answer_is_read(rt: HostRuntime) {
     for (number, (address, request, bytes, wanted)) in ANSWERS.iter().enumerate() {
         equal(&rt, &answer(*address, *request, bytes), wanted, &number);
+    }
+}
+
+// A block read of MFR_ID, which is `LTC`, and of an empty one; reads of STATUS_WORD and of no byte; and what is wrong with
+// such answers. The address, the code, how many bytes are asked for where it is no block, what came, and what is said.
+static OTHER_READS: [(u8, u8, Option<u8>, &[u8], (u8, u8, [u8; 4])); 16] = [
+    (
+        0x58,
+        0x99,
+        None,
+        &[0xB1, 0x03, 0x4C, 0x54, 0x43, 0x9F],
+        (0, 3, [0x4C, 0x54, 0x43, 0x00]),
+    ),
+    (0x58, 0x99, None, &[0xB1, 0x00, 0x51], (0, 0, [0; 4])),
+    (
+        0x58,
+        0x99,
+        None,
+        &[0xB1, 0x03, 0x4C, 0x54, 0x43, 0x9E],
+        (0x35, 7, [7; 4]),
+    ),
+    (
+        0x58,
+        0x9A,
+        None,
+        &[0xB1, 0x03, 0x4C, 0x54, 0x43, 0x9F],
+        (0x35, 7, [7; 4]),
+    ),
+    (0x58, 0x99, None, &[0xB1, 0x21, 0x4C], (0x34, 7, [7; 4])),
+    (
+        0x58,
+        0x99,
+        None,
+        &[0xB1, 0x03, 0x4C, 0x54, 0x43],
+        (0x32, 7, [7; 4]),
+    ),
+    (
+        0x58,
+        0x99,
+        None,
+        &[0xB1, 0x03, 0x4C, 0x54, 0x43, 0x9F, 0xFF],
+        (0x33, 7, [7; 4]),
+    ),
+    (0x58, 0x99, None, &[], (0x31, 7, [7; 4])),
+    (0x07, 0x99, None, &[0xB1, 0x00, 0x51], (0xE3, 7, [7; 4])),
+    (
+        0x58,
+        0x79,
+        Some(2),
+        &[0xB1, 0x40, 0x00, 0x8F],
+        (0, 2, [0x40, 0x00, 0x00, 0x00]),
+    ),
+    (
+        0x58,
+        0x79,
+        Some(2),
+        &[0xB1, 0x40, 0x00, 0x8E],
+        (0x35, 7, [7; 4]),
+    ),
+    (
+        0x58,
+        0x79,
+        Some(1),
+        &[0xB1, 0x40, 0x00, 0x8F],
+        (0x33, 7, [7; 4]),
+    ),
+    (
+        0x58,
+        0x79,
+        Some(3),
+        &[0xB1, 0x40, 0x00, 0x8F],
+        (0x32, 7, [7; 4]),
+    ),
+    (
+        0x58,
+        0x79,
+        Some(2),
+        &[0xB3, 0x40, 0x00, 0x8F],
+        (0x31, 7, [7; 4]),
+    ),
+    (
+        0x58,
+        0x79,
+        Some(33),
+        &[0xB1, 0x40, 0x00, 0x8F],
+        (0xE4, 7, [7; 4]),
+    ),
+    (
+        0x78,
+        0x79,
+        Some(2),
+        &[0xB1, 0x40, 0x00, 0x8F],
+        (0xE3, 7, [7; 4]),
+    ),
+];
+
+#[test]
+fn a_read_of_any_code_is_judged(rt: HostRuntime) {
+    for (number, (address, code, size, bytes, wanted)) in OTHER_READS.iter().enumerate() {
+        equal(
+            &rt,
+            &other_read(*address, *code, *size, bytes),
+            wanted,
+            &number,
+        );
     }
 }

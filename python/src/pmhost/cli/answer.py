@@ -9,12 +9,16 @@ from dataclasses import dataclass, field
 from decimal import Decimal
 
 from .. import voltages
+from ..readings import KINDS
 from ..survey import Commanded
 
 GREEN, RED, PLAIN = "\033[32m", "\033[31m", "\033[0m"
 # The words that a terminal shows in a colour.
 GOOD = re.compile(r"\b(confirmed|acknowledged|learned|within)\b")
 BAD = re.compile(r"\b(CUT|OUTSIDE|differs|unknown|refused|restart seen: yes)\b")
+
+# The registers of one byte.
+ONE_BYTE = {"OPERATION", "WRITE_PROTECT", *(name for name, kind in KINDS.items() if kind.size == 1)}
 
 
 @dataclass
@@ -62,7 +66,7 @@ def number(microvolts: int | None) -> float | None:
 
 def in_digits(register: str | None, word: int | None) -> str | None:
     """A word in two or four hexadecimal digits, as its register has them."""
-    return None if word is None else f"{word:02X}" if register in ("OPERATION", "WRITE_PROTECT") else f"{word:04X}"
+    return None if word is None else f"{word:02X}" if register in ONE_BYTE else f"{word:04X}"
 
 
 def between(least: int, greatest: int) -> str:

@@ -1,4 +1,4 @@
-"""What the commands of one call share: its options, the host with what it knows, and the part on its bus."""
+"""What the commands of one call share: its options, and its parts, each on its bus with a host that knows of it."""
 from __future__ import annotations
 
 import argparse
@@ -7,20 +7,20 @@ import signal
 import sys
 from typing import Any, Iterator
 
-from .. import clock
-from ..bus import DeskBus, LinuxBus, NoBus, PatientBus, Trace
-from ..bus.linux import ENDING, Calls
-from ..bus.patient import STEP, patience_of
+from ..bus import DeskBus, PatientBus, Trace
+from ..bus.linux import ENDING, BusTrace, Calls
+from ..parts import DESK, BoardPart
 from ..pmbus import Pmbus
-from ..rails import Rails
-from ..transfers import Transfers
+from ..rails import ONLY, Rails
 from . import streams
 from .answer import Answer, coloured
-from .parser import BEHIND, DESK, OPTIONS, BadCall
+from .parser import BEHIND, OPTIONS, BadCall
+from .place import Options, Place
 
 DESK_ADDRESS, DESK_OUTPUTS, PASSES = 0x58, 2, 3
 NOTHING = "nothing was written"
-HELD_LOW = "a line is held low: address 02, which no part may have, acknowledges: clock SCL nine times and send a stop, cycle the supply last"
+# The options that say where the one part is, and what it has: a board file has them for each part.
+OF_ONE_PART = ("bus", "address", "outputs", "limit", "no_limit", "without")
 
 
 class Interrupted(BaseException):
@@ -65,15 +65,16 @@ def complain(words: str) -> None:
 
 
 class Call:
-    """The options of a call, which stand before or behind any of its commands, and the one part that they share.
+    """The options of a call, which stand before or behind any of its commands, and the parts that they share: one, or those of a
+    board file.
 
     `maybe` says what the part may hold if the job under way is broken off once it has written, and `settled` what is certain
     of the command all the same."""
 
     def __init__(self, commands: list[argparse.Namespace], kernel: Calls | None = None) -> None:
         self.commands, self.kernel = commands, kernel
-        self._bus: DeskBus | LinuxBus | None = None
-        self._part: Pmbus | None = None
+        self._places: dict[str, Place] = {}
+        self._trace: Trace | None = None
         self._rails: Rails | None = None
         self.under_way = self.maybe = self.unsaid = ""
         self.settled = NOTHING
@@ -118,7 +119,7 @@ class Call:
 
     def judge(self) -> None:
         """The options agree with one another. BadCall."""
-        if not self.has_bus:
+        if not self.has_bus or self._rails is not None and self._rails.is_board:
             return
         if self.bus is None:
             raise BadCall("give a bus, as -b 1 for /dev/i2c-1, or -b desk for a model part")
@@ -134,15 +135,23 @@ class Call:
                 raise BadCall(f"{said(each)}: output {named}: give {counted}, with --outputs {self.outputs}")
 
     def take_rails(self, arguments: argparse.Namespace, found: Rails) -> None:
-        """What the part has and the limits are, by a file of rails, is so of the whole call. BadCall."""
-        for name in ("outputs", "limit", "no_limit", "without"):
+        """What the parts have, and the limits, by a file of rails, is so of the whole call; a board file says where the parts are,
+        too. BadCall."""
+        for name in OF_ONE_PART if found.is_board else OF_ONE_PART[2:]:
             if self._all(name):
-                what = "it stands" if name == "without" else "outputs and limits stand"
+                what = {"without": "it stands", "bus": "buses and addresses stand", "address": "buses and addresses stand"}.get(
+                    name, "outputs and limits stand")
                 raise BadCall(f"{OPTIONS[name][0][-1]}: {what} in the file of {arguments.command}")
-        if self._rails is not None and found.part() != self._rails.part():
-            raise BadCall(f"{said(arguments)}: another file of this call has other outputs or limits")
+        if self._rails is not None and found.made_for() != self._rails.made_for():
+            raise BadCall(f"{said(arguments)}: another file of this call has other {'parts, ' * found.is_board}outputs or limits")
+        if found.is_board:
+            for each in self.commands:
+                if not hasattr(each, "judge_file"):
+                    raise BadCall(f"{said(each)}: it is for one part, and {arguments.command} has a file of a board: give it in a "
+                                  "call of its own")
+        else:
+            self.outputs, self.limits, self.without = found.parts[ONLY].outputs, found.limits(ONLY), found.parts[ONLY].without
         self._rails = found
-        self.outputs, self.limits, self.without = found.part()
 
     def judge_write(self, arguments: argparse.Namespace) -> None:
         """What is written goes to a part of a known number of outputs."""
@@ -158,88 +167,57 @@ class Call:
             raise BadCall(f"{said(arguments)}: give --limit {output}:LEAST:MOST, what the load tolerates, as "
                           f"--limit {output}:3.135V:3.465V, or --no-limit; `probe` tells the outputs for --outputs")
 
-    # ---- The part ----
+    # ---- The parts ----
 
     def counted(self) -> int:
         """How many outputs the host is made for: what was given, or those up to the highest that is named."""
         named = [getattr(each, "output", None) or 0 for each in self.commands]
         return self.outputs or max([*named, *self.limits]) + 1
 
-    def opened(self) -> DeskBus | LinuxBus:
-        """The bus, opened at its first use. NoBus, too, where a line is held low."""
-        if self._bus is None:
-            trace = Trace(self.trace_path)
-            try:
-                self._bus = self._made(trace)
-            except BaseException:
-                trace.close()
-                raise
-            if self.is_held_low():
-                raise NoBus(HELD_LOW)
-        return self._bus
+    def places(self) -> dict[str, Place]:
+        """The parts of the call by their names, none of which was opened before its first use."""
+        if not self._places:
+            options = Options(self.passes, self.settle, self.patience, self.is_forced, self.is_shared, self.kernel)
+            self._trace = Trace(self.trace_path)
+            if self._rails is not None and self._rails.is_board:
+                self._places = {part.name: Place(part, limits, options, BusTrace(self._trace, part.bus))
+                                for part, limits in self._rails.made_for()}
+            else:
+                only = BoardPart(ONLY, self.bus or "", self.address or DESK_ADDRESS, self.counted(), "", self.without)
+                self._places = {ONLY: Place(only, self.limits, options, self._trace, self.outputs or max(DESK_OUTPUTS, self.counted()))}
+        return self._places
 
-    def is_held_low(self) -> bool:
-        """Whether the open bus acknowledges an address that no part may have."""
-        return isinstance(self._bus, LinuxBus) and self._bus.is_held_low()
-
-    def patient(self, patience: int | None = None) -> DeskBus | PatientBus:
-        """The bus that waits for a busy part, which one on a desk never is; without a patience that of the call."""
-        bus = self.opened()
-        return PatientBus(bus, self.settle, self.patience if patience is None else patience) if isinstance(bus, LinuxBus) else bus
-
-    def _made(self, trace: Trace) -> DeskBus | LinuxBus:
-        if self.bus == DESK:
-            return DeskBus(self.address or DESK_ADDRESS, self.outputs or max(DESK_OUTPUTS, self.counted()), trace)
-        assert self.bus is not None and self.address is not None
-        return LinuxBus(self.bus, self.address, self.is_forced, trace, self.kernel, self.is_shared)
+    def only(self) -> Place:
+        """The one part of a call that has no board file."""
+        return self.places()[ONLY]
 
     def part(self) -> Pmbus:
-        """The part on the bus, through the one host of the call."""
-        if self._part is None:
-            bus = self.patient()
-            self._part = Pmbus(bus, self.address or DESK_ADDRESS, self.counted(), self.passes, without=self.without)
-            for output, (least, most) in self.limits.items():
-                self._part.host.narrow(output, least, most)
-        return self._part
+        """The same, through the one host of the call."""
+        return self.only().pmbus()
 
-    def unanswered(self, is_long: bool = False) -> str:
-        """A check of OPERATION of output 0, again and again within the patience, which is long behind a store and a restore.
-        Nothing where a good answer came, otherwise why none did. The transfers of the job before stay those of the part."""
-        part, deadline = self.part(), clock.until() + patience_of(self.patience, is_long) / 1000
-        while True:
-            transfers = Transfers()
-            part.host.check(0, "OPERATION")
-            if part.host.run(part.bus, transfers).kind == "done":
-                return ""
-            now = clock.until()
-            if now + STEP >= deadline:
-                return transfers.why() or "no good answer"
-            clock.until(now + STEP)
+    def patient(self, patience: int | None = None) -> DeskBus | PatientBus:
+        """The bus of the one part, which waits for it where it is busy."""
+        return self.only().patient(patience)
 
     def no_part(self, arguments: argparse.Namespace) -> int:
         """Before the first command that orders something the part has to answer. 0, or the status where it doesn't: nothing was
-        ordered."""
-        if self._has_answered or not getattr(arguments, "is_order", False) or getattr(arguments, "dry_run", False):
+        ordered. Those of a board file are looked for by its own command."""
+        is_board = self._rails is not None and self._rails.is_board
+        if is_board or self._has_answered or not getattr(arguments, "is_order", False) or getattr(arguments, "dry_run", False):
             return 0
-        why = self.unanswered()
+        why = self.only().unanswered()
         if why:
             return self.say(Answer(said(arguments), "no part", "no part answers, nothing was ordered", 1, why,
                                    getattr(arguments, "output", None)))
         self._has_answered = True
         return 0
 
-    def unsure_of_last(self, is_long: bool) -> tuple[int, str]:
-        """Behind a command that nothing reads back: whether a line is held low, and whether the part answers. The status, 0 where
-        all is well, and why not."""
-        if self.is_held_low():
-            return 2, HELD_LOW
-        why = self.unanswered(is_long)
-        return (1, f"OPERATION of output 0 behind it: {why}") if why else (0, "")
-
     def close(self) -> None:
-        if self._bus is not None:
-            with contextlib.suppress(OSError):
-                self._bus.close()
+        """Closes the buses that were opened."""
+        for each in self._places.values():
+            each.close()
+        if self._trace is not None:
+            self._trace.close()
 
     # ---- What is said ----
 
@@ -254,8 +232,8 @@ class Call:
         self.say_lines(lines)
         if answer.why:
             complain(f"{answer.command}: {answer.why}")
-        if self._bus is not None:
-            self._bus.trace.raise_fault()
+        if self._trace is not None:
+            self._trace.raise_fault()
         return answer.status
 
     def say_lines(self, lines: list[str]) -> None:
@@ -266,7 +244,7 @@ class Call:
 
     def unsure(self) -> str:
         """What is unknown of the command under way."""
-        has_written = self._part is not None and self._part.transfers.has_written
+        has_written = any(each.has_written for each in self._places.values())
         return self.maybe if self.maybe and has_written else self.settled
 
 

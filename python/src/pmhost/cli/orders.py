@@ -9,8 +9,10 @@ from typing import Any, Callable
 from .. import probe, voltages
 from ..errors import Refused
 from ..pmbus import Pmbus
+from ..readings import KINDS
 from ..rounded import is_near
 from ..survey import read as read_register, survey
+from . import readings
 from .answer import Answer, in_digits
 from .call import Call, said
 from .completion import completed_by
@@ -87,10 +89,10 @@ def add(commands: Any) -> None:
     found = command("learn", learn, "learns the format of an output's voltages")
     found.add_argument("output", **output)
     bus_options(found)
-    found = command("read", read, "reads a register, and tells its word and its volts", judge_read)
+    found = command("read", read, "reads a register, a reading or a status register, and tells what it says", judge_read)
     found.add_argument("output", **device)
-    completed_by(found.add_argument("register", metavar="REG", nargs="?", type=register_of((*REGISTERS, DEVICE)),
-                                    help="VOUT_COMMAND if left out"), (*REGISTERS, DEVICE))
+    completed_by(found.add_argument("register", metavar="REG", nargs="?", type=register_of((*REGISTERS, DEVICE, *KINDS)),
+                                    help="VOUT_COMMAND if left out"), (*REGISTERS, DEVICE, *KINDS))
     bus_options(found)
     found = command("survey", survey_output, "reads what decides what an output commands, and tells that")
     found.add_argument("output", **output)
@@ -152,17 +154,18 @@ def judge_order(arguments: argparse.Namespace) -> None:
     arguments.call.judge_order(arguments)
 
 
-def judge_device(arguments: argparse.Namespace) -> None:
+def judge_device(arguments: argparse.Namespace, more: str = " alone") -> None:
     """- stands for the device, whose only register is WRITE_PROTECT."""
     if (arguments.output is None) != (arguments.register == DEVICE):
-        give = f"{DEVICE} is the device's: give -" if arguments.register == DEVICE else f"- is for {DEVICE} alone"
+        give = f"{DEVICE} is the device's: give -" if arguments.register == DEVICE else f"- is for {DEVICE}{more}"
         raise BadCall(f"{said(arguments)}: {give}")
 
 
 def judge_read(arguments: argparse.Namespace) -> None:
     if arguments.register is None:
         arguments.register = DEVICE if arguments.output is None else "VOUT_COMMAND"
-    judge_device(arguments)
+    if arguments.register not in KINDS:
+        judge_device(arguments, ", readings and status registers")
 
 
 def judge_word(arguments: argparse.Namespace) -> None:
@@ -197,12 +200,15 @@ def learn(arguments: argparse.Namespace) -> int:
     if step.kind == "learned" and form is not None:
         found.text = f"learned {probe.format_words(form)}"
     else:
-        found.status, found.text, found.why = 1, "unknown", probe.why_not_learned(part, arguments.output)
+        found.status, found.text = 1, "unknown"
+        found.why = probe.why_not_learned(part, arguments.output) + readings.noted(part, arguments.output)
     return call.say(found)
 
 
 def read(arguments: argparse.Namespace) -> int:
     """A register's word, as it was just read."""
+    if arguments.register in KINDS:
+        return readings.tell(arguments)
     call: Call = arguments.call
     part, register = call.part(), arguments.register
     if register in VOLTAGES:
@@ -238,7 +244,7 @@ def survey_output(arguments: argparse.Namespace) -> int:
 def doubt(call: Call, part: Pmbus, register: str) -> str:
     """Before and behind a check of WRITE_PROTECT where zeros are a good answer to it: why OPERATION gave none, and nothing where
     it gave one."""
-    return call.unanswered() if register == DEVICE and part.host.address == ZEROS_ADDRESS else ""
+    return call.only().unanswered() if register == DEVICE and part.host.address == ZEROS_ADDRESS else ""
 
 
 def not_told(arguments: argparse.Namespace, part: Pmbus, why: str) -> Answer:
@@ -290,7 +296,7 @@ def set_voltage(arguments: argparse.Namespace) -> int:
     output, register = arguments.output, arguments.register
     if not learned(part, output):
         found = answer_of(arguments, part, register, "unknown", status=1, text="its format isn't known, nothing was ordered",
-                          why=probe.why_not_learned(part, output))
+                          why=probe.why_not_learned(part, output) + readings.noted(part, output))
         return int(arguments.call.say(found))
     return carried_out(arguments, register, lambda: part.host.order_micro(output, register, arguments.microvolts),
                        None if arguments.accept is None else arguments.microvolts)
@@ -335,9 +341,10 @@ def acknowledged(arguments: argparse.Namespace) -> int:
     step = part.carried_out()
     found = answer_of(arguments, part, None, step.kind)
     if step.kind != "done":
-        found.status, found.text, found.why = 1, "unknown", part.transfers.why() or "no good answer"
+        found.status, found.text = 1, "unknown"
+        found.why = (part.transfers.why() or "no good answer") + readings.noted(part, output)
         return call.say(found)
-    status, why = call.unsure_of_last(arguments.command != "clear")
+    status, why = call.only().unsure_of_last(arguments.command != "clear")
     found = answer_of(arguments, part, None, "unknown" if status else "acknowledged", status=status, why=why)
     found.text = found.end
     return call.say(found)

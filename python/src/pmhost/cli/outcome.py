@@ -12,6 +12,7 @@ from ..survey import FORMAT, Commanded, commanded, selection, survey
 from ..values import CODES
 from .answer import Answer, between, in_digits
 from .call import said
+from .readings import noted
 
 DEVICE = "WRITE_PROTECT"
 REGISTERS = tuple(name for name in CODES if name != DEVICE)
@@ -73,6 +74,7 @@ def ended_badly(arguments: argparse.Namespace, part: Pmbus, register: str, step:
                      f"{with_why(part)}")
     else:
         found.text, found.why = possible_words(found), part.transfers.why() or "no good answer"
+    found.why += noted(part, arguments.output)
     return found
 
 

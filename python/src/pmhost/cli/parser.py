@@ -7,13 +7,11 @@ import ast
 import re
 from typing import Any, Callable, NoReturn
 
-from .. import voltages
-from ..rails import MISSABLE
+from .. import parts, voltages
+from ..parts import DESK, MISSABLE
 from .completion import FILES, completed_by
 
-ADDRESS = re.compile(r"(?:0[xX])?([0-9A-Fa-f]{2})[hH]?\Z")
 BUS = re.compile(r"(?:/dev/i2c-|i2c-)?([0-9]{1,9})\Z")
-DESK = "desk"
 LIMIT_EXAMPLE = "0:3.135V:3.465V"
 
 
@@ -87,18 +85,10 @@ def bus_of(word: str) -> str:
 
 def address_of(word: str) -> int:
     """An address of seven bits, in hexadecimal digits: 58 and 0x58 are one."""
-    found, wire = ADDRESS.match(word), None
-    address = int(found[1], 16) if found else None
-    if found is None and re.fullmatch("[0-9]{3}", word) and 0x80 <= int(word) <= 0xEF:
-        wire = int(word)
-    if address is not None and 0x80 <= address <= 0xEF:
-        wire = address
-    if wire is not None:
-        raise argparse.ArgumentTypeError(
-            f"address {word}: give one from 08 to 77, in hexadecimal: on the wire {wire:02X} is {wire >> 1:02X}h")
-    if address is None or not 0x08 <= address <= 0x77:
-        raise argparse.ArgumentTypeError(f"address {shown(word)}: give one from 08 to 77, in hexadecimal, as 58")
-    return address
+    try:
+        return parts.address_of(word)
+    except ValueError as fault:
+        raise argparse.ArgumentTypeError(f"address {fault}") from None
 
 
 def limit_of(word: str) -> tuple[int, int, int]:

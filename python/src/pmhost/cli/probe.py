@@ -4,12 +4,12 @@ from __future__ import annotations
 import argparse
 from typing import Any
 
-from ..probe import REGISTERS, UNFIT, Found, FoundOutput, Probe, spaced
-from ..rails import MISSABLE
+from ..parts import DESK, MISSABLE
+from ..probe import REGISTERS, UNFIT, Found, FoundOutput, Probe, block_words, spaced, text_of
 from ..reads import Read
 from .answer import Answer, in_digits
 from .call import DESK_ADDRESS, Call, complain, said
-from .parser import DESK, bus_options
+from .parser import bus_options
 
 MAY_NOTE = "the part may note in STATUS_CML that it was asked for what it lacks, and pull SMBALERT#"
 CLEARS = "--writes sends CLEAR_FAULTS, which clears the part's latched faults"
@@ -89,18 +89,11 @@ def revision_words(revision: int | None) -> str:
     return f"PMBUS_REVISION {revision:02X}{f', Part II {named}' if named else ''}"
 
 
-def text_of(payload: bytes) -> str | None:
-    """A block that is a text of ASCII, without the blanks and zeros behind it."""
-    kept = payload.rstrip(b" \0")
-    return kept.decode("ascii") if kept and all(0x20 <= byte < 0x7F for byte in kept) else None
-
-
 def text_words(name: str, read: Read) -> str:
     """A block, as a text where it is one."""
     if read.payload is None:
         return f"no good {name} ({read.why})"
-    text = text_of(read.payload)
-    return f"{name} {f'{chr(34)}{text}{chr(34)}' if text else spaced(read.payload) or 'empty'}"
+    return f"{name} {block_words(read.payload)}"
 
 
 def protect_words(read: Read) -> str:

@@ -6,18 +6,21 @@ from typing import Any
 
 from .. import rails
 from ..apply import Board, Setting, Stopped
+from ..parts import BadRails
+from ..rails import Rail
 from .answer import Answer, in_digits, number
 from .call import Call, said
 from .completion import FILES, completed_by
 from .orders import ACCEPT, STORES
 from .outcome import rail_words
 from .parser import BadCall, bus_options, file_of
+from .readings import noted
 
 
 def add(commands: Any) -> None:
     """Adds the subparsers."""
-    for name, run, help in (("apply", apply, "brings the part to the settings of a file of rails"),
-                            ("verify", verify, "compares the part with a file of rails, and orders nothing")):
+    for name, run, help in (("apply", apply, "brings a part, or the parts of a board, to the settings of a file of rails"),
+                            ("verify", verify, "compares them with a file of rails, and orders nothing")):
         found = commands.add_parser(name, help=help, description=help[0].upper() + help[1:] + ".")
         completed_by(found.add_argument("file", metavar="FILE", type=file_of, help="settings of a board's rails, in TOML"), FILES)
         found.set_defaults(run=run, judge_file=judge_file, dry_run=False, is_order=name == "apply")
@@ -34,7 +37,7 @@ def judge_file(arguments: argparse.Namespace) -> None:
     call: Call = arguments.call
     try:
         found = arguments.rails = rails.read(arguments.file)
-    except rails.BadRails as bad:
+    except BadRails as bad:
         raise BadCall(str(bad)) from bad
     call.take_rails(arguments, found)
 
@@ -54,10 +57,12 @@ def verify(arguments: argparse.Namespace) -> int:
 
 def board_of(arguments: argparse.Namespace) -> Board:
     call: Call = arguments.call
-    board = Board(call.part(), arguments.rails.rails)
+    places, file = call.places(), arguments.rails
+    parts = {name: place.pmbus() for name, place in places.items()}
+    board = Board(parts, file.rails, file.parts if file.is_board else {}, lambda name: places[name].unanswered())
 
     def before(it: Setting) -> None:
-        call.maybe = f"output {it.rail.output} {it.register} may hold the old or the ordered word{written(it)}"
+        call.maybe = f"{output_of(it.rail)} {it.register} may hold the old or the ordered word{written(it)}"
 
     def after(it: Setting) -> None:
         call.maybe, call.settled = "", f"written and confirmed: {', '.join(board.changed())}"
@@ -70,6 +75,11 @@ def board_of(arguments: argparse.Namespace) -> Board:
     return board
 
 
+def output_of(rail: Rail) -> str:
+    """An output, and the part that has it."""
+    return f"output {rail.output}{f' of {rail.part}' * bool(rail.part)}"
+
+
 def told(arguments: argparse.Namespace, board: Board, run: Any) -> int:
     """Carries it out, and says what became of it."""
     call: Call = arguments.call
@@ -77,7 +87,7 @@ def told(arguments: argparse.Namespace, board: Board, run: Any) -> int:
     try:
         run()
     except Stopped as stopped:
-        why = str(stopped)
+        why = told_of(board, stopped)
     call.maybe, is_dry = "", arguments.dry_run
     board.take()
     if why and arguments.command == "apply" and not is_dry:
@@ -89,20 +99,32 @@ def told(arguments: argparse.Namespace, board: Board, run: Any) -> int:
         call.say_lines([*table(board, is_dry), *(f"{rail.name}: {rail_words(board.state(rail))}" for rail in surveyed)])
     if board.wants_store and not found.status and not is_dry:
         store(call, board, found)
-    found.restart_seen = board.part.restart_seen
+    found.restart_seen = any(part.restart_seen for part in board.parts.values())
     return call.say(found)
 
 
 def store(call: Call, board: Board, found: Answer) -> None:
-    """Has the part store its settings: acknowledged, and no more than that."""
-    call.maybe = STORES
-    try:
-        board.store()
-        found.status, found.why = call.unsure_of_last(True)
-    except Stopped as stopped:
-        found.status, found.why = 1, str(stopped)
+    """Has each part that has rails store its settings: acknowledged, and no more than that."""
+    stored: list[str] = []
+    for name in board.having_rails():
+        call.maybe = f"{f'{name}: ' * bool(name)}{STORES}{f'; stored before: ' * bool(stored)}{', '.join(stored)}"
+        try:
+            board.store(name)
+            found.status, found.why = call.places()[name].unsure_of_last(True)
+        except Stopped as stopped:
+            found.status, found.why = 1, told_of(board, stopped)
+        if found.status:
+            break
+        stored.append(name)
     found.end = "unknown" if found.status else "acknowledged"
     found.text = f"store {found.end}" + ("" if found.status else "; a restart loads what was stored, where no pin overrides it")
+    if found.status and stored:
+        found.why += f"; stored before: {', '.join(stored)}"
+
+
+def told_of(board: Board, stopped: Stopped) -> str:
+    """Why no further frame was sent, and what the part noted of a job that ended badly."""
+    return str(stopped) + ("" if stopped.part is None else noted(board.parts[stopped.part], stopped.output))
 
 
 def after_a_stop(board: Board) -> str:
@@ -124,12 +146,13 @@ def state_of(board: Board, it: Setting, is_dry: bool) -> str:
 
 
 def table(board: Board, is_dry: bool) -> list[str]:
-    """The lines: rail, setting, wanted, read back, and confirmed or what else."""
-    lines = [("rail", "setting", "wanted", "read back", "")]
-    lines += [(it.rail.name, it.register, board.shown(it, it.asked), board.shown(it, it.last), state_of(board, it, is_dry))
+    """The lines: the part of a board, rail, setting, wanted, read back, and confirmed or what else."""
+    lines = [("part", "rail", "setting", "wanted", "read back", "")]
+    lines += [(it.rail.part, it.rail.name, it.register, board.shown(it, it.asked), board.shown(it, it.last), state_of(board, it, is_dry))
               for it in board.settings]
-    wide = [max(len(line[at]) for line in lines) for at in range(4)]
-    return ["  ".join([*(each.ljust(width) for each, width in zip(line, wide)), line[4]]).rstrip() for line in lines]
+    columns = range(0 if board.described else 1, 5)
+    wide = {at: max(len(line[at]) for line in lines) for at in columns}
+    return ["  ".join([*(line[at].ljust(wide[at]) for at in columns), line[5]]).rstrip() for line in lines]
 
 
 def volts(board: Board, it: Setting, word: int | None) -> float | None:
@@ -143,7 +166,7 @@ def rows(board: Board, is_dry: bool) -> list[dict[str, object]]:
     for rail in board.rails:
         known = board.state(rail) if rail.name in board.surveys else None
         found.append({
-            "rail": rail.name, "output": rail.output, "limits": [number(each) for each in rail.limits],
+            "rail": rail.name, "part": rail.part or None, "output": rail.output, "limits": [number(each) for each in rail.limits],
             "selected": known and known.selected, "on": None if known is None else known.is_on,
             "commands": None if known is None or known.least is None else [number(known.least), number(known.greatest)],
             "within": None if known is None else known.within,

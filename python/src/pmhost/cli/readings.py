@@ -1,0 +1,42 @@
+"""What `read` tells of readings and status registers, and what the part noted behind a job that ended badly."""
+from __future__ import annotations
+
+import argparse
+
+from .. import readings
+from ..pmbus import Pmbus
+from ..readings import KINDS
+from ..status import BITS
+from .answer import Answer
+from .call import Call, said
+
+
+def tell(arguments: argparse.Namespace) -> int:
+    """A reading with its unit, or a status register with the names of its bits. The host is told of nothing but the format of the
+    output's voltages, which is learned where a reading's unit rests on it."""
+    call: Call = arguments.call
+    part, name, output = call.part(), arguments.register, arguments.output
+    form = None
+    if name not in BITS:
+        form = part.host.format(output or 0)
+        if form is None:
+            part.host.learn(output or 0)
+            part.carried_out()
+            form = part.host.format(output or 0)
+    found = readings.read(part.bus, part.host.address, output, name, form)
+    row = {"register": name, "word": digits_of(found), "value": None if found.value is None else float(found.value),
+           "unit": KINDS[name].unit or None, "bits": found.bits if found.is_status else None}
+    is_good = found.word is not None
+    return call.say(Answer(said(arguments), "done" if is_good else "unknown", found.words, 0 if is_good else 1, found.why, output, name,
+                           found.word, rows=[row], restart_seen=part.host.restart_seen))
+
+
+def digits_of(found: readings.Reading) -> str | None:
+    """The word in two or four hexadecimal digits."""
+    return None if found.word is None else f"{found.word:0{2 * KINDS[found.name].size}X}"
+
+
+def noted(part: Pmbus, output: int | None) -> str:
+    """What the part noted behind a job that ended badly, for the end of a line; nothing where it gives no good answer."""
+    words = readings.noted(part.bus, part.host.address, output)
+    return f"; {words}" if words else ""

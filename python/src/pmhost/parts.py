@@ -1,0 +1,104 @@
+"""The parts of a board file: where each one is, and what it has.
+
+    [parts.u12]
+    bus = 1                   # /dev/i2c-1; "desk" for a model part
+    address = "4F"
+    outputs = 2
+    model = "LTC3880"         # MFR_MODEL has to begin with this
+    without = ["VOUT_MIN"]    # registers that the part doesn't have
+
+A multiplexer that the kernel drives is part of the adapter: each of its channels is a bus with a number of its own.
+"""
+from __future__ import annotations
+
+import re
+from dataclasses import dataclass
+from typing import TypeGuard
+
+ADDRESS = re.compile(r"(?:0[xX])?([0-9A-Fa-f]{2})[hH]?\Z")
+NAME = re.compile(r"[A-Za-z0-9_.+-]{1,32}\Z")
+DESK = "desk"
+# The registers that a part may be without.
+MISSABLE = ("VOUT_MAX", "VOUT_MARGIN_HIGH", "VOUT_MARGIN_LOW", "VOUT_MIN")
+KEYS = ("bus", "address", "outputs", "model", "without")
+MODEL = re.compile(r"[ -~]{1,32}\Z")
+MOST_BUS, MOST_OUTPUTS = 10**9 - 1, 8
+
+
+class BadRails(Exception):
+    """What is wrong in the file, and what to give."""
+
+
+@dataclass(frozen=True)
+class BoardPart:
+    """A part: its bus, `desk` or the number of one of Linux, and its address, which are empty and 0 where the command line has them;
+    how many outputs it has, what its MFR_MODEL begins with, and the registers that it doesn't have."""
+
+    name: str
+    bus: str
+    address: int
+    outputs: int
+    model: str = ""
+    without: tuple[str, ...] = ()
+
+    @property
+    def place(self) -> str:
+        """Its bus and its address, as the kernel names them."""
+        return f"{self.bus}-{self.address:04x}"
+
+
+def address_of(word: str) -> int:
+    """An address of seven bits, in hexadecimal digits: 58 and 0x58 are one. A ValueError says what to give."""
+    found, wire = ADDRESS.match(word), None
+    address = int(found[1], 16) if found else None
+    if found is None and re.fullmatch("[0-9]{3}", word) and 0x80 <= int(word) <= 0xEF:
+        wire = int(word)
+    if address is not None and 0x80 <= address <= 0xEF:
+        wire = address
+    shown = word if word.isprintable() and word.isascii() and word else repr(word)
+    if wire is not None:
+        raise ValueError(f"{shown}: give one from 08 to 77, in hexadecimal: on the wire {wire:02X} is {wire >> 1:02X}h")
+    if address is None or not 0x08 <= address <= 0x77:
+        raise ValueError(f"{shown}: give one from 08 to 77, in hexadecimal, as 58")
+    return address
+
+
+def is_whole(number: object) -> TypeGuard[int]:
+    """Whether it is a whole number, which true and false aren't."""
+    return isinstance(number, int) and not isinstance(number, bool)
+
+
+def without_of(at: str, names: object) -> tuple[str, ...]:
+    """The registers that a part doesn't have."""
+    if not isinstance(names, list) or any(name not in MISSABLE for name in names):
+        raise BadRails(f"{at}: give a list of {', '.join(MISSABLE)}")
+    return tuple(names)
+
+
+def part_of(name: str, table: object) -> BoardPart:
+    """A part of its table. BadRails."""
+    at = f"parts.{name}"
+    if not NAME.match(name):
+        raise BadRails(f"{at!r}: a name has letters, digits and _ . + -, at most 32")
+    if not isinstance(table, dict):
+        raise BadRails(f"{at}: give a table, as [{at}]")
+    for key in table:
+        if key not in KEYS:
+            raise BadRails(f"{at}.{key}: there are {', '.join(KEYS)}")
+    for key in ("bus", "address", "outputs"):
+        if key not in table:
+            raise BadRails(f"{at}: {key} is missing")
+    bus, address, outputs, model = table["bus"], table["address"], table["outputs"], table.get("model", "")
+    if bus != DESK and not (is_whole(bus) and 0 <= bus <= MOST_BUS):
+        raise BadRails(f'{at}.bus: give the number of /dev/i2c-N, as 1, or "{DESK}"')
+    if not isinstance(address, str):
+        raise BadRails(f'{at}.address: {address}: give a text of hexadecimal digits, as "4F"')
+    try:
+        found = address_of(address)
+    except ValueError as fault:
+        raise BadRails(f"{at}.address: {fault}") from None
+    if not is_whole(outputs) or not 1 <= outputs <= MOST_OUTPUTS:
+        raise BadRails(f"{at}.outputs: give a whole number from 1 to {MOST_OUTPUTS}")
+    if "model" in table and (not isinstance(model, str) or not MODEL.match(model)):
+        raise BadRails(f'{at}.model: give what MFR_MODEL begins with, as "LTC3880"')
+    return BoardPart(name, str(bus), found, outputs, model, without_of(f"{at}.without", table.get("without", [])))

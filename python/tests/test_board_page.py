@@ -1,0 +1,134 @@
+"""The commands of docs/board.md and what it says that they print, and the cases in which a register holds a word that its rail doesn't
+command."""
+import re
+import shlex
+import tempfile
+import unittest
+from fractions import Fraction
+
+from pmhost.values import CODES
+
+from . import kernel, odd_parts
+from .board_kernel import BoardKernel
+from .running import ROOT, stored
+from .runs import called
+from .test_boards import Watched
+
+BUS = ["-b", "7", "-a", "58", "--outputs", "2", "--limit", "0:3.135V:3.465V"]
+RAILS = '[rails.io]\noutput = 0\nvolts = "3.3V"\nlimits = ["3.135V", "3.465V"]\n'
+
+
+def section(name):
+    """What stands below a heading of the page."""
+    return re.search(rf"\n##+ {re.escape(name)}\n(.*?)(?=\n##+ |\Z)", stored(ROOT, "docs", "board.md"), re.S)[1]
+
+
+def blocks(text, kind):
+    return re.findall(rf"```{kind}\n(.*?)```", text, re.S)
+
+
+class Examples(unittest.TestCase):
+    def test_the_margin_test(self):
+        text = section("A margin test")
+        alias, *lines = blocks(text, "sh")[0].splitlines()
+        words = shlex.split(re.fullmatch("alias rail='pmhost (.*)'", alias)[1].replace("-b 1", "-b 7"))
+        part, said = kernel.Part(), ""
+        part.converter.set((0, CODES["VOUT_COMMAND"]), 0x34CD)
+        for line in lines:
+            status, out, err = called([*words, *shlex.split(line, comments=True)[1:]], kernel.FakeKernel(part))
+            self.assertEqual((status, err), (0, ""), line)
+            said += out
+        self.assertEqual(said, blocks(text, "text")[0])
+        self.assertEqual(part.converter.commanded(0)[0] * 4096 // part.converter.commanded(0)[1], 0x34CD)
+
+    def test_a_margin_that_is_cut(self):
+        part = kernel.Part()
+        for register, word in (("VOUT_COMMAND", 0x34CD), ("VOUT_MARGIN_HIGH", 0x3666), ("VOUT_MAX", 0x3500)):
+            part.converter.set((0, CODES[register]), word)
+        status, out, err = called([*BUS, "margin", "0", "high"], kernel.FakeKernel(part))
+        self.assertEqual((status, out), (1, "margin 0: OPERATION A8 on, margin high confirmed; CUT: the output commands 3.3125V, within "
+                                            "3.135V to 3.465V\n"))
+
+    def test_the_board_with_several_parts(self):
+        text = section("A board with several parts")
+        over = BoardKernel({1: {0x4F: odd_parts.Named(0x4F)}, 2: {0x4F: kernel.Part((0x14,), address=0x4F)}})
+        with tempfile.NamedTemporaryFile("w", suffix=".toml") as file:
+            file.write(blocks(text, "toml")[0])
+            file.flush()
+            self.assertEqual(called(["apply", file.name], over), (0, blocks(text, "text")[0], ""))
+
+    def test_the_readings(self):
+        text = section("Readings and status")
+        part = odd_parts.Telemetry()
+        part.hear([0xB0, 0x03, 0x00], "stop")
+        words = re.search("`pmhost -b 1 -a 58 (.*?)`", text)[1].split()
+        self.assertEqual(called(["-b", "7", "-a", "58", *words], kernel.FakeKernel(part)), (0, blocks(text, "text")[0], ""))
+
+
+class Cases(unittest.TestCase):
+    """A register holds the ordered word, and the rail commands another voltage, or none: no status is 0."""
+
+    def part(self, **words):
+        part = kernel.Part()
+        for register, word in words.items():
+            part.converter.set((0, CODES[register]), word)
+        return part
+
+    def ran(self, part, *words):
+        """The status of a command, and what it prints; FILE is a file of rails."""
+        with tempfile.NamedTemporaryFile("w", suffix=".toml") as file:
+            file.write(RAILS)
+            file.flush()
+            bus = BUS[:4] if "FILE" in words else BUS
+            status, out, err = called([*bus, *(file.name if word == "FILE" else word for word in words)], kernel.FakeKernel(part))
+            return status, out.splitlines()[-1], err.replace(file.name, "FILE").removeprefix("pmhost: ").rstrip("\n")
+
+    def test_a_part_on_margin_high(self):
+        words = {"OPERATION": 0xA8, "VOUT_MARGIN_HIGH": 0x4000}
+        self.assertEqual(self.ran(self.part(**words), "set", "0", "3.3V"), (
+            1, "set 0: VOUT_COMMAND 34CD 3.300048V confirmed; OPERATION selects VOUT_MARGIN_HIGH: the output commands 4V, OUTSIDE 3.135V to "
+            "3.465V", "set 0 3.3V: the output commands a voltage outside its limits"))
+        for command, more in (("apply", "; stays changed, or may be: io.volts"), ("verify", "")):
+            part = self.part(**words, **({} if command == "apply" else {"VOUT_COMMAND": 0x34CD}))
+            self.assertEqual(self.ran(part, command, "FILE"), (
+                1, "io: OPERATION selects VOUT_MARGIN_HIGH: the output commands 4V, OUTSIDE 3.135V to 3.465V",
+                f"{command} FILE: io: the output commands a voltage outside its limits{more}"))
+
+    def test_a_maximum_below_the_word(self):
+        self.assertEqual(self.ran(self.part(VOUT_MAX=0x2800), "set", "0", "3.3V"), (
+            1, "set 0: VOUT_COMMAND 34CD 3.300048V confirmed; CUT: the output commands 2.5V, OUTSIDE 3.135V to 3.465V",
+            "set 0 3.3V: the output commands a voltage outside its limits"))
+        self.assertEqual(self.ran(self.part(VOUT_MAX=0x2800), "apply", "FILE"), (
+            1, "io: the output commands 1V, OUTSIDE 3.135V to 3.465V",
+            "apply FILE: io.volts: 3.300048V is above VOUT_MAX, which is 2.5V, and not in the file: P6 AboveMax; nothing was ordered of io"))
+        self.assertEqual(self.ran(self.part(VOUT_MAX=0x2800, VOUT_COMMAND=0x34CD), "verify", "FILE"), (
+            1, "io: CUT: the output commands 2.5V, OUTSIDE 3.135V to 3.465V",
+            "verify FILE: io: the output commands a voltage outside its limits"))
+
+    def test_an_output_that_is_off(self):
+        self.assertEqual(self.ran(self.part(OPERATION=0x00), "set", "0", "3.3V"), (
+            0, "set 0: VOUT_COMMAND 34CD 3.300048V confirmed; the output is off, and would command 3.300048V, within 3.135V to 3.465V", ""))
+        for command, more in (("apply", "; stays changed, or may be: io.volts"), ("verify", "")):
+            part = self.part(OPERATION=0x00, **({} if command == "apply" else {"VOUT_COMMAND": 0x34CD}))
+            self.assertEqual(self.ran(part, command, "FILE"), (
+                1, "io: the output is off, and would command 3.300048V, within 3.135V to 3.465V",
+                f"{command} FILE: io: the output is off, and is to be on{more}"))
+
+    def test_apply_does_not_step_over_its_goal(self):
+        """From 3.55 V that VOUT_MAX cuts to 3.3 V the way to 3.35 V has no third voltage."""
+        part, text = Watched((0x14, 0x14)), RAILS.replace('"3.3V"', '"3.35V"') + 'max = "3.4V"\n'
+        for register, word in (("VOUT_COMMAND", 0x38CD), ("VOUT_MAX", 0x34CD)):
+            part.converter.set((0, CODES[register]), word)
+        part.may[0] = {Fraction(0x34CD, 4096), Fraction(0x359A, 4096)}
+        self.assertEqual(part.commands(0), Fraction(0x34CD, 4096))
+        with tempfile.NamedTemporaryFile("w", suffix=".toml") as file:
+            file.write(text)
+            file.flush()
+            status, out, err = called([*BUS[:4], "apply", file.name], kernel.FakeKernel(part))
+        self.assertEqual((status, err, part.wrong, part.commands(0)), (0, "", [], Fraction(0x359A, 4096)))
+        written = [line.split()[4] for line in part.lines if line.startswith("B0 05")]
+        self.assertEqual(written, ["21", "24"], "the word comes before the bound that cuts")
+
+
+if __name__ == "__main__":
+    unittest.main()

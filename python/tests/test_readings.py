@@ -1,0 +1,160 @@
+"""Readings and status registers: what `read` tells of them, and what is told behind a job that ended badly."""
+import unittest
+from decimal import Decimal
+
+from pmhost import (Format, FrameRefused, MemoryRefused, Output, Part, PartBus, Pmbus, code_request, pec, read_block, read_plain, readings)
+from pmhost.readings import KINDS, Reading
+from pmhost.reads import Reads
+from pmhost.status import BITS, names_of
+
+from .fixtures import Recorded
+from .odd_parts import DirectTelemetry, Telemetry
+from .running import ROOT, stored
+from .test_runs import Blocks
+
+# By hand, of PMBus 1.3 Part II: the bits of a register from the highest one, `-` where it is reserved.
+BY_HAND = {
+    "STATUS_BYTE": "BUSY OFF VOUT_OV_FAULT IOUT_OC_FAULT VIN_UV_FAULT TEMPERATURE CML NONE_OF_THE_ABOVE",
+    "STATUS_WORD": "VOUT IOUT_POUT INPUT MFR_SPECIFIC POWER_NOT_GOOD FANS OTHER UNKNOWN "
+                   "BUSY OFF VOUT_OV_FAULT IOUT_OC_FAULT VIN_UV_FAULT TEMPERATURE CML NONE_OF_THE_ABOVE",
+    "STATUS_VOUT": "OV_FAULT OV_WARNING UV_WARNING UV_FAULT MAX_WARNING TON_MAX_FAULT TOFF_MAX_WARNING TRACKING_ERROR",
+    "STATUS_IOUT": "OC_FAULT OC_LV_FAULT OC_WARNING UC_FAULT CURRENT_SHARE_FAULT POWER_LIMITING POUT_OP_FAULT POUT_OP_WARNING",
+    "STATUS_INPUT": "VIN_OV_FAULT VIN_OV_WARNING VIN_UV_WARNING VIN_UV_FAULT OFF_FOR_LOW_INPUT IIN_OC_FAULT IIN_OC_WARNING PIN_OP_WARNING",
+    "STATUS_TEMPERATURE": "OT_FAULT OT_WARNING UT_WARNING UT_FAULT - - - -",
+    "STATUS_CML": "COMMAND DATA PEC MEMORY PROCESSOR - OTHER_COMMUNICATION OTHER",
+    "STATUS_OTHER": "- - INPUT_A_FUSE INPUT_B_FUSE INPUT_A_ORING INPUT_B_ORING OUTPUT_ORING FIRST_TO_ASSERT_SMBALERT",
+    "STATUS_MFR_SPECIFIC": "- - - - - - - -",
+}
+CODES = {
+    "READ_VIN": 0x88, "READ_IIN": 0x89, "READ_VOUT": 0x8B, "READ_IOUT": 0x8C, "READ_TEMPERATURE_1": 0x8D, "READ_TEMPERATURE_2": 0x8E,
+    "READ_TEMPERATURE_3": 0x8F, "READ_DUTY_CYCLE": 0x94, "READ_FREQUENCY": 0x95, "READ_POUT": 0x96, "READ_PIN": 0x97, "STATUS_BYTE": 0x78,
+    "STATUS_WORD": 0x79, "STATUS_VOUT": 0x7A, "STATUS_IOUT": 0x7B, "STATUS_INPUT": 0x7C, "STATUS_TEMPERATURE": 0x7D, "STATUS_CML": 0x7E,
+    "STATUS_OTHER": 0x7F, "STATUS_MFR_SPECIFIC": 0x80,
+}
+
+
+class Bits(unittest.TestCase):
+    def test_each_bit_has_its_name(self):
+        self.assertEqual(set(BITS), set(BY_HAND))
+        for register, words in BY_HAND.items():
+            names = words.split()
+            for place, name in zip(reversed(range(len(names))), names):
+                with self.subTest(register=register, place=place):
+                    self.assertEqual(names_of(register, 1 << place), [f"bit {place}" if name == "-" else name])
+            every = [f"bit {place}" if name == "-" else name for place, name in zip(reversed(range(len(names))), names)]
+            self.assertEqual(names_of(register, (1 << len(names)) - 1), every)
+
+    def test_codes_and_lengths(self):
+        self.assertEqual({name: kind.code for name, kind in KINDS.items()}, CODES)
+        self.assertEqual({name for name, kind in KINDS.items() if kind.size == 1}, {name for name in BY_HAND if name != "STATUS_WORD"})
+        self.assertEqual({name for name, kind in KINDS.items() if not kind.unit}, set(BY_HAND))
+
+
+class Odd(PartBus):
+    """The bus of an odd part."""
+
+    def __init__(self, part):
+        self.odd = part
+
+    def write(self, frame):
+        return self.odd.hear(list(frame), "stop") is not None
+
+    def read(self, request, count):
+        return bytes(self.odd.hear(list(request), "restart") or [])[1:count + 1]
+
+
+class Values(unittest.TestCase):
+    def test_a_reading_by_the_format_of_its_output(self):
+        linear, direct = Format("ULINEAR16", -12), Format("DIRECT", 0, 1000, 0)
+        for part, name, form, value in (
+                (Telemetry(), "READ_VOUT", linear, "3.300048"), (Telemetry(), "READ_IOUT", linear, "12.5"),
+                (Telemetry(), "READ_VOUT", None, None), (Telemetry(), "READ_IOUT", None, None),
+                (DirectTelemetry(), "READ_VOUT", direct, "3.3"), (DirectTelemetry(), "READ_IOUT", direct, "12.5"),
+                (DirectTelemetry(), "READ_TEMPERATURE_1", direct, None), (DirectTelemetry(), "READ_VIN", direct, None),
+                (DirectTelemetry(), "READ_IIN", direct, None)):
+            with self.subTest(name=name, form=form):
+                found = readings.read(Odd(part), 0x58, 0, name, form)
+                self.assertEqual(found.value, None if value is None else Decimal(value))
+                self.assertIsNotNone(found.word)
+
+    def test_an_output_is_asked_by_its_page_and_the_device_by_the_code_alone(self):
+        part = Telemetry()
+        for output, name in ((0, "READ_VOUT"), (0, "READ_IIN"), (None, "READ_IIN"), (None, "READ_VIN")):
+            readings.read(Odd(part), 0x58, output, name, None)
+        self.assertEqual(part.lines, ["B0 06 02 00 8B /", "B0 06 02 00 89 /", "B0 89 /", "B0 88 /"])
+
+    def test_the_host_is_told_of_nothing(self):
+        pmbus = Pmbus(PartBus(Part(0x58, [Output()])), 0x58)
+        before = pmbus.host.save()
+        self.assertEqual(readings.read(pmbus.bus, 0x58, 0, "STATUS_VOUT", None), Reading("STATUS_VOUT", 0))
+        self.assertEqual(readings.noted(pmbus.bus, 0x58, 0), "STATUS_CML 00, STATUS_VOUT 00")
+        self.assertEqual(pmbus.host.save(), before)
+
+    def test_what_the_part_noted(self):
+        part = Part(0x58, [Output()], protect=0x80)
+        bus = PartBus(part)
+        pmbus = Pmbus(bus, 0x58, passes=1)
+        pmbus.host.order(0, "VOUT_COMMAND", 0x34CD)
+        pmbus.carried_out()
+        self.assertEqual(readings.noted(bus, 0x58, 0), "STATUS_CML 80 COMMAND, STATUS_VOUT 00")
+        self.assertEqual(readings.noted(bus, 0x58, None), "STATUS_CML 80 COMMAND")
+        silent = Recorded(part)
+        self.assertEqual(readings.noted(silent, 0x59, 0), "")
+        self.assertEqual(silent.frames, [bytes.fromhex("B27E")] * 3, "STATUS_VOUT of a part that doesn't answer")
+
+
+class OtherReads(unittest.TestCase):
+    """Reads of any code, which are no packets of the table."""
+
+    def test_blocks(self):
+        self.assertEqual(code_request(0x58, 0x99), bytes.fromhex("B099"))
+        self.assertEqual(read_block(0x58, 0x99, bytes.fromhex("B1 03 4C 54 43 9F")), b"LTC")
+        self.assertEqual(read_block(0x58, 0x99, bytes.fromhex("B1 00 51")), b"")
+        whole = bytes.fromhex("B1 20") + bytes(range(32))
+        self.assertEqual(read_block(0x58, 0x99, whole + bytes([pec(b"\xB0\x99" + whole)])), bytes(range(32)))
+        for data, letter in (("B1034C54439E", "F5"), ("B1034C5443", "F2"), ("B1034C54439FFF", "F3"), ("B121", "F4"), ("B3034C54439F", "F1"), ("", "F1")):
+            with self.subTest(data), self.assertRaises(FrameRefused) as it:
+                read_block(0x58, 0x99, bytes.fromhex(data))
+            self.assertEqual(it.exception.letter, letter)
+
+    def test_some_bytes(self):
+        self.assertEqual(read_plain(0x58, 0x79, 2, bytes.fromhex("B140008F")), b"\x40\x00")
+        for size, data, letter in ((2, "B140008E", "F5"), (3, "B140008F", "F2"), (1, "B140008F", "F3"), (2, "B340008F", "F1")):
+            with self.subTest(data), self.assertRaises(FrameRefused) as it:
+                read_plain(0x58, 0x79, size, bytes.fromhex(data))
+            self.assertEqual(it.exception.letter, letter)
+        for call in (lambda: read_plain(0x58, 0x79, 33, b""), lambda: code_request(0x78, 0), lambda: code_request(0x58, 256)):
+            with self.assertRaises(ValueError):
+                call()
+        with self.assertRaises(MemoryRefused):
+            read_block(0x78, 0x99, b"")
+
+    def test_a_block_is_cut_at_its_end(self):
+        """An adapter reads 34 bytes: what stands behind a block's packet error code is nothing."""
+        class Long(PartBus):
+            def read(self, request, count):
+                found = {0x99: "034C54439F", 0x9A: "0050", 0x9B: "21"}[request[1]]
+                return (bytes.fromhex(found) + b"\xFF" * 40)[:count]
+
+        reads = Reads(Long(Part(0x58, [Output()])), 0x58)
+        self.assertEqual((reads.block(0x99).payload, reads.block(0x9A).why, reads.block(0x9B).why), (b"LTC", "F5 WrongPec", "F4 WrongCount"))
+
+
+class Rows(Blocks):
+    def look_at(self, trace, mishaps, part):
+        """Codes outside the command table aren't the library's packets."""
+
+    def test_readings(self):
+        self.carry_out("readings.txt")
+
+
+class Page(unittest.TestCase):
+    def test_the_page_names_each(self):
+        part = stored(ROOT, "docs", "board.md").partition("\n## Readings and status\n")[2].partition("\n## ")[0]
+        for name in KINDS:
+            short = name.removeprefix("STATUS_") if name.startswith("STATUS_") else name
+            self.assertTrue(short in part or name[:-1] in part, name)
+
+
+if __name__ == "__main__":
+    unittest.main()
