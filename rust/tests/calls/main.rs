@@ -144,6 +144,17 @@ fn packets_stand_alone() {
 
 // The first that applies of V1 to V5.
 #[test]
+fn reads_of_any_code_are_judged() {
+    let word = [0xB1, 0x02, 0x20];
+    let mut came = [0xB1, 0x02, 0x20, pec(&[&[0xB0, 0x79], &word[..]].concat())];
+    assert_eq!(Block::read_plain(0x58, 0x79, 2, &came).as_deref(), Ok(&[0x02, 0x20][..]));
+    assert_eq!(Block::read_plain(0x58, 0x79, 33, &came), Err(Refusal::NoPacket));
+    came[1] ^= 1;
+    assert_eq!(Block::read_plain(0x58, 0x79, 2, &came), Err(Refusal::F5WrongPec));
+    assert_eq!(Block::read(0x58, 0x99, &[0xB1, 33, 0, 0]), Err(Refusal::F4WrongCount));
+}
+
+#[test]
 fn what_no_part_starts_with_is_refused() {
     let good = Output::default();
     let bad = Output { mode: 0xFF, ..good };
