@@ -142,7 +142,6 @@ fn packets_stand_alone() {
     assert_eq!(Format::Direct { m: 1, b: 0, r: 3 }.nearest_word(3_300_000), Ok(0x0CE4));
 }
 
-// The first that applies of V1 to V5.
 #[test]
 fn reads_of_any_code_are_judged() {
     let word = [0xB1, 0x02, 0x20];
@@ -154,6 +153,7 @@ fn reads_of_any_code_are_judged() {
     assert_eq!(Block::read(0x58, 0x99, &[0xB1, 33, 0, 0]), Err(Refusal::F4WrongCount));
 }
 
+// The first that applies of V1 to V5.
 #[test]
 fn what_no_part_starts_with_is_refused() {
     let good = Output::default();
