@@ -19,6 +19,7 @@ It prints a line for each finding, and has status 1 if there is one. With --plac
     page       a refusal of a type isn't in docs/refusals.md, or one of the page or of a help is in no type
     example    an example of a comment stands in no test, word for word
     claims     a law doesn't stand on its crate's page of docs/claims/, or on another one's too
+    path       a path that a page, a script or a source names isn't there
     edit       a text that a planted bug replaces doesn't stand once in its file
 
 Tests are left out.
@@ -26,6 +27,7 @@ Tests are left out.
 import glob
 import os
 import re
+import subprocess
 import sys
 
 import house
@@ -251,6 +253,27 @@ def unreadable(crates, proofs):
             yield path, number, "long", "over %d characters" % MOST
 
 
+# What may name a path of the repository, and the form of one; a word in capitals stands for many.
+NAMING = re.compile(r"(tools|trials|packaging|python|bench|examples|rust|\.ci|docs|README|CHANGELOG|crates/\w+/(src|include))")
+UNNAMING = re.compile(r"results/|\.svg$|captures/|timelines/|Cargo.lock")
+PLACE = re.compile(r"(?<![\w./$}~-])((?:crates|tools|trials|packaging|python|rust|mutants|docs|examples|bench)/[\w./-]*\w)(?![\w{%*$<])")
+
+
+def lost_paths():
+    """Paths that a page, a script or a source names, and that aren't there: from the top, or from where the file stands."""
+    names = subprocess.run(["git", "ls-files"], capture_output=True, text=True).stdout.split("\n")
+    for name in names:
+        if not NAMING.match(name) or UNNAMING.search(name) or not os.path.isfile(name):
+            continue
+        with open(name, encoding="utf-8", errors="replace") as file:
+            for number, line in enumerate(file, 1):
+                for path in PLACE.findall(line):
+                    if "/out" in path or re.search(r"\b(NAME|CRATE|X|FOLDER|FILE)\b", path):
+                        continue
+                    if not any(os.path.exists(os.path.join(home, path)) for home in ("", os.path.dirname(name), "python", "rust")):
+                        yield name, number, "path", "there is no %s" % path
+
+
 LAW = re.compile(r"^pub fn (\w+)(?:<[^\n]*>)?\(\)(?: *$| *\{)", re.M)
 
 
@@ -323,6 +346,7 @@ def findings(crates):
     yield from unreadable(crates, specs + proofs)
     yield from unrun(crates)
     yield from unclaimed(crates)
+    yield from lost_paths() if "pmb" in crates else ()
     yield from planted.findings(crates)
 
 
