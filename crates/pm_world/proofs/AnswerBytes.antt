@@ -1,14 +1,12 @@
 -- What a converter answers are bytes, where what it holds are numbers of a program.
 use Rattle.std.proofs.Common.{arith, lit<, ◌≡◌, ℕ, zero, suc, ◌+◌, ◌*◌, ◌/◌, ◌%◌, ◌-◌, ◌^◌, ◌<◌, ◌≤◌, ℤ, pos, negsuc, Bool, true}
 use Rattle.std.proofs.Common.{false, cond, eqb, ltb, List, [], ◌∷◌, length, take, Option, Some, None, option_map, refl, sym, ◌∙◌, ap, ap₂}
-use Rattle.std.proofs.Common.{subst, inl, inr, mod-lt}
+use Rattle.std.proofs.Common.{subst, inl, inr}
 use mir.Val.{sel}
 use Rattle.std.specs.Prelude.{nat_lt}
-use Rattle.std.specs.Int.{bit_at, cast_signed, cast_unsigned, w8, w16}
+use Rattle.std.specs.Int.{cast_signed, cast_unsigned, w8, w16}
 use Rattle.std.specs.Option.{option_map_or}
 use Rattle.std.proofs.lemmas.Bool.{cases_Bool, cond-false, ltb-true}
-use Rattle.std.proofs.lemmas.Nat.{xor_lt, pow_pos}
-use Rattle.std.proofs.lemmas.Nat.Bits.{bit_at-lt}
 use Rattle.pm_table.specs.declared.cell.Cell.{Cell}
 use Rattle.pm_table.specs.declared.cell.Cell.TheVariants.{Out, Protect}
 use Rattle.pm_table.specs.declared.coefficients.Coefficients.{Coefficients}
@@ -22,7 +20,7 @@ use Rattle.pm_frame.specs.declared.message.Message.TheVariants.{SendByte, WriteB
 use Rattle.pm_frame.specs.declared.message.Message.TheVariants.{ReadCoefficients}
 use Rattle.pm_frame.specs.Laws.{RequestsAreExact}
 use Rattle.pm_frame.specs.Layout.{AreBytes, IsRequest, answered, has_count, read_address}
-use Rattle.pm_frame.specs.Pec.{doubled, pec_of, residue, residues_of}
+use Rattle.pm_frame.specs.Pec.{pec_of}
 use Rattle.pm_frame.specs.Lemmas.{bytes-more, pec_of-lt}
 use Rattle.pm_model.specs.Settings.{word_at}
 use Rattle.pm_device.specs.declared.fault.DeviceFault.TheVariants.{BadPage, UnsupportedData}

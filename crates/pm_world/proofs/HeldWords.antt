@@ -32,7 +32,7 @@ use Rattle.pm_host.specs.Sound.{IsOrdering, IsStage}
 use Rattle.pm_host.specs.Standing.{standing_of}
 use Rattle.pm_host.specs.Summary.{Summary, sending_in, stage_message, possible_at, standing_at}
 use Rattle.pm_host.specs.Transcript as host
-use Rattle.pm_host.specs.Lemmas.{reads_cell}
+use Rattle.pm_host.specs.Lemmas.{reads_cell as is-request}
 use Rattle.pm_world.specs.Below.{Below}
 use Rattle.pm_world.specs.declared.arrival.Arrival.{Arrival}
 use Rattle.pm_world.specs.declared.back.Back.{Back}
@@ -100,7 +100,7 @@ good-read laws {s = s} {word = word} arrival back read knows asked free good =
     let bytes = back_bytes (answer_to s.device s.host.setup.addr (cell_read read) arrival) back in
     let payload = from_some word_in (good_payload s.device.config.addr (cell_read read) bytes) word good in
     let same = good-same laws s arrival back (cell_read read) bytes
-    (record { addr = knows.sends.addr; reads = reads_cell read; free = free; is = refl }) payload.1 in
+    (record { addr = knows.sends.addr; reads = is-request read; free = free; is = refl }) payload.1 in
     same_Some (word_at s.device.words read) word
     (sym (read-word laws s.device read asks.1 (knows.accepted read asks.1) (knows.sends.fits (cell_read read) asks.0))
     ∙ (ap (good_word s.device.config.addr read) (sym same) ∙ good))

@@ -1,6 +1,6 @@
 -- A format has a nearest word for each number, whatever it was made from: of all words, one comes before all others.
 use Rattle.std.proofs.Common.{◌≡◌, ℕ, zero, suc, ◌*◌, ◌^◌, ◌<◌, ◌≤◌, ◌⊎◌, inl, inr, ℤ, pos, negsuc, ◌*ℤ◌, ◌≤ℤ◌, Bool, true, false, not}
-use Rattle.std.proofs.Common.{cond, Some, refl, sym, ◌∙◌, ap, ap₂, subst, arith, lit<, T}
+use Rattle.std.proofs.Common.{cond, Some, refl, sym, ◌∙◌, ap, ap₂, subst, arith, lit<}
 use Rattle.std.specs.Prelude.{◌||◌, ◌&&◌, nat_le, IsSome}
 use Rattle.std.proofs.Math.Nat.{mul-le-mul_right, le_of_mul-le-mul_right}
 use Rattle.std.proofs.lemmas.Bool.{cases_lt, leb-true, le-leb}

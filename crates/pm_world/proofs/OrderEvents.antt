@@ -3,7 +3,7 @@ use Rattle.std.proofs.Common.{◌≡◌, inl, inr, ℕ, Bool, true, false, not, 
 use Rattle.std.proofs.Common.{cond, sym, ◌∙◌, ap, ap₂, subst}
 use Rattle.std.specs.Prelude.{bytes_eq, nat_lt}
 use Rattle.std.specs.Option.{option_and_then, option_or, option_map}
-use Rattle.std.proofs.lemmas.Bool.{and_parts, lt-ltb, ltb-true}
+use Rattle.std.proofs.lemmas.Bool.{and_parts, lt-ltb}
 use Rattle.std.proofs.lemmas.Slice.Eq.{bytes_eq-Decides}
 use Rattle.pm_table.specs.declared.cell.Cell.{Cell}
 use Rattle.pm_table.specs.declared.cell.Cell.TheVariants.{Out, Protect}
@@ -27,8 +27,6 @@ use Rattle.pm_device.specs.Effect.{Hearing, Kept, kept_in, kept_after}
 use Rattle.pm_device.specs.History.{next as device_next}
 use Rattle.pm_host.specs.declared.command.Command.{Command}
 use Rattle.pm_host.specs.declared.command.Command.TheVariants.{ClearFaults, StoreUserAll, RestoreUserAll}
-use Rattle.pm_host.specs.declared.question.Question.{Question}
-use Rattle.pm_host.specs.declared.question.Question.TheVariants.{Word}
 use Rattle.pm_host.specs.declared.stage.Stage.{Stage}
 use Rattle.pm_host.specs.declared.stage.Stage.TheVariants.{Writes, Reads, Asks, Sends}
 use Rattle.pm_host.specs.Messages.{cell_read, cell_write, command_message, register_payload}

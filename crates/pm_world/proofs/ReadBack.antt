@@ -4,7 +4,7 @@ use Rattle.pm_table.specs.declared.cell.Cell.{Cell}
 use Rattle.pm_table.specs.declared.cell.Cell.TheVariants.{Out, Protect}
 use Rattle.pm_table.specs.Cell.{cell_accepts, cell_code, register_code, IsCell}
 use Rattle.pm_frame.specs.declared.message.Message.{Message}
-use Rattle.pm_frame.specs.Layout.{IsRequest, IsAnswer, fits_layout, is_read_message}
+use Rattle.pm_frame.specs.Layout.{IsRequest, IsAnswer, fits_layout}
 use Rattle.pm_frame.specs.View.{answer_payload, payload_in}
 use Rattle.pm_model.specs.Settings.{word_at}
 use Rattle.pm_device.specs.declared.ending.Ending.TheVariants.{Restart}

@@ -1,5 +1,5 @@
 -- What holds of the register of each number holds of any.
-use Rattle.std.proofs.Common.{arith, ◌≡◌, ℕ, ◌<◌, subst}
+use Rattle.std.proofs.Common.{ℕ, ◌<◌, subst}
 use Rattle.pm_table.specs.declared.reg.Reg.{Reg}
 use Rattle.pm_table.specs.Cell.{register_at, register_count, register_number}
 use Rattle.pm_table.specs.Lemmas.{register_at-number, register_number-below}
