@@ -37,7 +37,7 @@ use Rattle.pm_driver.specs.Ends.{EndSays}
 use Rattle.pm_driver.specs.Laws.{EndsAreTrue, LawsOfLives, LeadsCompose, NewConvertersMayBegin}
 use Rattle.pm_driver.specs.Lives.{Driven, Goes, IsLife, Leads}
 use Rattle.pm_driver.specs.Steps.{JobsLead, RenewalsLead}
-use Rattle.pm_driver.proofs.EndedJobs.{now-config}
+use Rattle.pm_world.specs.Lemmas.{now-config}
 use Rattle.pm_driver.proofs.Composed.{tells-append}
 use Rattle.pm_driver.proofs.Grown.{IsGrown, grown, of-life}
 use Rattle.pm_driver.proofs.Latched.{same-of}

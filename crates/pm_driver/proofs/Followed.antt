@@ -40,7 +40,7 @@ use Rattle.pm_world.specs.Retelling.{open_pending, pending_of}
 use Rattle.pm_world.specs.Setup.{setup_of}
 use Rattle.pm_world.specs.State.{State, asked, share_beside, share_of, tells}
 use Rattle.pm_world.specs.Uncertainty.{job_event}
-use Rattle.pm_driver.proofs.Grown.{entries-more}
+use Rattle.pm_world.specs.Lemmas.{entries-more}
 use Rattle.pm_driver.proofs.UndisturbedOrders.{not-idle}
 use Rattle.pm_driver.specs.Lives.{jobs_asked, jobs_begun, with_job}
 use Rattle.pm_frame.specs.declared.message.Message.{Message}

@@ -8,6 +8,7 @@ use Rattle.pm_device.specs.History.{next as device_next}
 use Rattle.pm_host.specs.declared.job_end.JobEnd.{JobEnd}
 use Rattle.pm_host.specs.Summary.{Summary}
 use Rattle.pm_host.specs.Transcript.{Entry}
+use Rattle.pm_world.specs.Lemmas.{entries-more}
 use Rattle.pm_world.specs.declared.event.Event.{Event}
 use Rattle.pm_world.specs.declared.event.Event.TheVariants.{RestartDevice, Reading}
 use Rattle.pm_world.specs.Life.{life, now}
@@ -26,13 +27,6 @@ pub record IsGrown (config : Config) (passes : ℕ) (before : List Event) (event
   pub told : (life config passes (event ∷ before)).entries
       ≡ option_to_list share.told ++ (life config passes before).entries
   pub ended : (now config passes (event ∷ before)).end ≡ end_after host (now config passes before).end share.told
-
--- what the host was told after one more event
-pub entries-more : (config : Config) (passes : ℕ) (before : List Event) (event : Event) →
-    (life config passes (event ∷ before)).entries
-    ≡ option_to_list (share_of (now config passes before) event).told ++ (life config passes before).entries
-unfolding life now
-entries-more config passes before event = refl
 
 -- an event without a cause against it
 pub grown : LawsOfLives → {config : Config} {passes : ℕ} {before : List Event} {host : Summary} {held : Held} →

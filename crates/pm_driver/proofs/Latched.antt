@@ -172,7 +172,7 @@ reply-alike exact held faults host message request sending is = go (request_faul
   go (Some fault) = faulty-alike held faults fault
   go None = so
 
--- so the bytes that answer it are the same
+-- Converters that are the same but for latched bits answer a request of the host by the same bytes.
 pub own-same : RequestsAreExact → (one other : Held) (host : Summary) (message : Message) (request : List ℕ) → IsSameButFaults one other →
     sending_in host ≡ Some message → IsRequest host.setup.addr message request →
     answer_in (reply_of one request Restart) ≡ answer_in (reply_of other request Restart)

@@ -31,7 +31,7 @@ use Rattle.pm_driver.specs.Lives.{Driven, Goes, IsLife, IsSameButFaults, Leads}
 use Rattle.pm_driver.specs.Looks.{Looks, RequestsAreNoWrites}
 use Rattle.pm_driver.specs.Steps.{LooksLead}
 use Rattle.pm_driver.proofs.BegunJobs.{life-setup}
-use Rattle.pm_driver.proofs.EndedJobs.{now-config}
+use Rattle.pm_world.specs.Lemmas.{now-config}
 use Rattle.pm_driver.proofs.Grown.{beside-one, quiet}
 use Rattle.pm_driver.proofs.Latched.{hears-same, same-on}
 use Rattle.pm_driver.proofs.NoRestarts.{leads-since}
@@ -98,7 +98,7 @@ pub looked-leads : {B : Type 0} (gives : B → Call → B → Type 0) (held : B 
 looked-leads gives held restarts lead {request = request} {room = room} {answer = answer} {count = count} {old = old} {bus = bus} is =
     lead request room (take count answer) old.guard.host old.bus bus (is.idle, is.plain) is.asked is.once
 
--- so it does what is said of it
+-- A read that is no job does what is said of it.
 pub looks-so : LawsOfLives → {B : Type 0} (gives : B → Call → B → Type 0) (held : B → Held) (restarts : B → ℕ) → LooksLead gives held restarts →
     {request room answer : List ℕ} {count : ℕ} {old : Driving B} {bus : B} → IsLooked gives held restarts request room answer count old bus →
     Looks gives held restarts request room old (Ok count) answer (record { guard = old.guard; bus = bus })
@@ -154,7 +154,7 @@ one-short : (addr start : ℕ) → write_fault addr (start ∷ []) ≢ None
 unfolding write_fault opening_fault address_fault
 one-short addr start = first-so _ _ (second-so (address_fault (write_address addr) (start ∷ [])) _ (some-so _ (Short 1) refl))
 
--- so up to two bytes are no write
+-- Up to two bytes are no write.
 few-short : (addr : ℕ) (bytes : List ℕ) → length bytes ≤ 2 → write_fault addr bytes ≢ None
 few-short addr [] few = none-short addr
 few-short addr (start ∷ []) few = one-short addr start

@@ -71,7 +71,7 @@ never-stays law job old new result runs never =
     (so-none old.bus.plan.now never.none) in
     record { none = none-so new.bus.plan.now all.0; since = λ cell. all.1 cell (never.since cell) }
 
--- and with each read that is no job
+-- Each read that is no job keeps a plan without restarts one.
 pub reads-stay : ReadsRestartNothing gives_so device_in restarts_so → ReadsKeepNeverRestarts
 reads-stay law request room answer old new result looks never =
     let all = law (λ bus. none_in bus.plan.now) (λ call old new none gave. count-stays old new gave.turn none) request room answer old new

@@ -28,6 +28,7 @@ use Rattle.pm_limits.specs.Bounds.{Bounds, IsWithin, is_wider}
 use Rattle.pm_limits.specs.Guard.{Guarded, LetsBegin, guard_fault, guarded_order, judged, limits_at, missing_cell, missing_ordered, of_host, word_fault}
 use Rattle.pm_limits.specs.Lemmas.Guarded.{guarded-voltage}
 use Rattle.pm_num.specs.Lemmas.Over.{at_most-trans}
+use Rattle.pm_world.specs.Lemmas.{in-format}
 use Rattle.pm_world.specs.declared.event.Event.{Event}
 use Rattle.pm_world.specs.declared.event.Event.TheVariants.{RestartHost}
 use Rattle.pm_world.specs.Job.{asked_by}
@@ -130,14 +131,6 @@ all-narrower : (limits : Option Bounds) (bounds : Bounds) (shape : Option Shape)
 all-narrower None bounds shape word narrow within = absurd narrow
 all-narrower (Some own) bounds None word narrow within = absurd (within own refl)
 all-narrower (Some own) bounds (Some shape) word narrow within = narrower own bounds (shape_value shape word) narrow (within own refl)
-
--- a word within limits in the format that a host knows lies within them in the output's own, which is the same
-in-format : (known : Option Shape) (own : Shape) (word : ℕ) (bounds : Bounds) →
-    ((shape : Shape) → known ≡ Some shape → shape ≡ own) →
-    IsSomeAnd known (λ shape. IsWithin bounds (shape_value shape word)) → IsWithin bounds (shape_value own word)
-in-format None own word bounds agree within = absurd within
-in-format (Some shape) own word bounds agree within =
-    subst (λ (s : Shape). IsWithin bounds (shape_value s word)) (agree shape refl) within
 
 -- whatever host takes the job as an order of a voltage of the output, the word has a value within these limits
 abbrev JobWithin : Config → ℕ → Bounds → Job → Type 0

@@ -20,7 +20,7 @@ lacks-none law register lacks =
     let has = unruled (not (has_register all_registers register)) MissingRegister (law.checked (Out 0 register)) in
     let bad = sym has ∙ ap not lacks in cc
 
--- so it was told nothing of a missing one, and no missing one has a word of its own
+-- The host of a part with every register was told nothing of a missing one, and no missing one has a word of its own.
 pub whole-unread : WholePartsMissNothing → (part : PartRegisters) → part ≡ all_registers → (config : Config) (passes output : ℕ) (events : List Event) →
     MissingUnread config passes part output events
 whole-unread law part whole config passes output events register lacks =
