@@ -12,7 +12,6 @@ use Rattle.pm_table.specs.Laws.{CellsAreToldApart}
 use Rattle.pm_frame.specs.declared.message.Message.{Message}
 use Rattle.pm_device.specs.declared.config.Config.{Config}
 use Rattle.pm_device.specs.Held.{shape_for}
-use Rattle.pm_device.specs.History.{now as device_now}
 use Rattle.pm_host.specs.declared.job_end.JobEnd.{JobEnd}
 use Rattle.pm_host.specs.declared.job_end.JobEnd.TheVariants.{Done, Differs, Unknown, Learned}
 use Rattle.pm_host.specs.declared.standing.Standing.TheVariants.{Confirmed}

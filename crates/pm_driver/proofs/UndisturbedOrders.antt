@@ -9,7 +9,7 @@ use Rattle.std.proofs.lemmas.Bool.{eq-eqb}
 use Rattle.std.proofs.lemmas.List.{length-replicate}
 use Rattle.std.proofs.lemmas.Slice.Eq.{bytes_eq-Decides}
 use Rattle.pm_table.specs.declared.cell.Cell.{Cell}
-use Rattle.pm_table.specs.declared.cell.Cell.TheVariants.{Out, Protect}
+use Rattle.pm_table.specs.declared.cell.Cell.TheVariants.{Protect}
 use Rattle.pm_table.specs.Cell.{cell_code}
 use Rattle.pm_table.specs.Protection.{is_allowed}
 use Rattle.pm_frame.specs.Betrayal.{is_betrayed}
@@ -23,7 +23,7 @@ use Rattle.pm_host.specs.declared.job_end.JobEnd.TheVariants.{Done, Differs}
 use Rattle.pm_host.specs.Lemmas.{reads_cell, writes_cell}
 use Rattle.pm_host.specs.Answers.{good_payload, good_word, word_in}
 use Rattle.pm_host.specs.Marks.{Good}
-use Rattle.pm_host.specs.Messages.{cell_read, cell_write}
+use Rattle.pm_host.specs.Messages.{cell_read}
 use Rattle.pm_host.specs.Refusals.{cell_fault, is_busy, job_fault, order_fault}
 use Rattle.pm_host.specs.Summary.{Summary, ends, idle, marked, next as host_next, read_back, writes as writes_again}
 use Rattle.pm_host.specs.Transcript.{Accepted, Entry, Finished, Got, Order, Setup, end_of}
