@@ -235,15 +235,10 @@ def foreign(crates):
         yield path, number, "proofs", "a lemma of %s belongs in its specs/Lemmas" % name
 
 
-# Lemmas of pm_driver that stand below too: each that goes leaves this list, and none comes to it.
-TWICE = {"writes-so", "reads-so", "entries-more", "now-config", "bytes-self", "request-legal", "whole-legal", "in-format", "long-so"}
-
-
 def twins(crates):
     """Lemmas that are proved a second time."""
     for _, those in house.doubled_lemmas(crates):
-        new = [it for it in those if not (it[0].startswith("crates/pm_driver/") and it[2] in TWICE)]
-        for path, number, name in new if len(new) > 1 else ():
+        for path, number, name in those:
             yield path, number, "lemma", "%s stands %d times: %s" % (name, len(those), ", ".join(sorted({it[0] for it in those})))
 
 
