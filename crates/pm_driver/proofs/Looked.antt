@@ -1,5 +1,6 @@
 -- A read that is no job, as the events of a life.
-use Rattle.std.proofs.Common.{◌≡◌, ◌+◌, ◌≤◌, ℕ, zero, suc, Bool, true, false, not, cond, eqb, arith, List, [], ◌∷◌, ◌++◌, Option, Some, None, Ok, length, take, drop}
+use Rattle.std.proofs.Common.{◌≡◌, ◌+◌, ◌≤◌, ℕ, zero, suc, Bool, true, false, not, cond, eqb, arith}
+use Rattle.std.proofs.Common.{List, [], ◌∷◌, ◌++◌, Option, Some, None, Ok, length, take, drop}
 use Rattle.std.proofs.Common.{refl, sym, ◌∙◌, ap, subst}
 use Rattle.std.specs.Option.{option_or}
 use Rattle.std.specs.Prelude.{◌≢◌, nat_lt}
@@ -12,6 +13,9 @@ use Rattle.pm_frame.specs.declared.fault.FrameFault.{FrameFault}
 use Rattle.pm_frame.specs.declared.fault.FrameFault.TheVariants.{NotOurs, Short, WrongDirection}
 use Rattle.pm_frame.specs.declared.message.Message.{Message}
 use Rattle.pm_device.specs.declared.ending.Ending.TheVariants.{Restart}
+use Rattle.pm_device.specs.Effect as device
+use Rattle.pm_device.specs.Effect.{kept_in}
+use Rattle.pm_device.specs.History.{after, next as device_next}
 use Rattle.pm_device.specs.declared.config.Config.{Config}
 use Rattle.pm_device.specs.Held.{Held}
 use Rattle.pm_frame.specs.Fault.{address_fault, length_fault, opening_fault, pec_fault, plain_fault, request_fault, size_fault, write_fault}
@@ -21,11 +25,12 @@ use Rattle.pm_host.specs.declared.fault.HostFault.TheVariants.{Busy}
 use Rattle.pm_host.specs.Refusals.{is_busy}
 use Rattle.pm_host.specs.Summary.{Summary}
 use Rattle.pm_world.specs.declared.event.Event.{Event}
+use Rattle.pm_world.specs.declared.event.Event.TheVariants.{Reading, RestartDevice}
 use Rattle.pm_world.specs.Legal.{ending_of, heard_bytes}
 use Rattle.pm_world.specs.Life.{now}
 use Rattle.pm_driver.specs.Acts.{Call, IsNoWrite, Looked, Read}
-use Rattle.pm_driver.specs.Bus.{IsAsked, held_after, is_beside}
-use Rattle.pm_driver.specs.Driven.{Driving, driven}
+use Rattle.pm_driver.specs.Bus.{AreAll, IsAsked, held_after, is_beside, restarts_in}
+use Rattle.pm_driver.specs.Driven.{Driving, HasLife, driven}
 use Rattle.pm_driver.specs.Laws.{LawsOfLives}
 use Rattle.pm_driver.specs.Lives.{Driven, Goes, IsLife, IsSameButFaults, Leads}
 use Rattle.pm_driver.specs.Looks.{Looks, RequestsAreNoWrites}
@@ -39,10 +44,22 @@ use Rattle.pm_driver.proofs.SentFrames.{beside-none, none-asked}
 use Rattle.pm_driver.proofs.WithinLimits.{jobless-within}
 
 -- the host of a life sends to its converter's address
-own-address : {config : Config} {passes : ℕ} {events : List Event} {host : Summary} {held : Held} → IsLife config passes events host held →
-    host.setup.addr ≡ held.config.addr
+own-address : {config : Config} {passes : ℕ} {events : List Event} {host : Summary} {held : Held} →
+    IsLife config passes events host held → host.setup.addr ≡ held.config.addr
 own-address {config = config} {passes = passes} {events = events} is =
-    ap (λ s. s.addr) (life-setup is) ∙ ap (λ (c : Config). c.addr) (sym (now-config config passes events) ∙ ap (λ (d : Held). d.config) is.held_is)
+    ap (λ s. s.addr) (life-setup is)
+    ∙ ap (λ (c : Config). c.addr) (sym (now-config config passes events) ∙ ap (λ (d : Held). d.config) is.held_is)
+
+-- the converter then holds what it held behind the events beside the bus, but for latched bits
+look-latches : LawsOfLives → (request room came : List ℕ) (host : Summary) (old : Held) (was : ℕ) (new : Held) (count : ℕ) →
+    IsNoWrite host.setup.addr request → (is : IsAsked request (length room) old was came new count) →
+    {config : Config} {passes : ℕ} {before : List Event} → IsLife config passes before host (held_after request old is.before) →
+    IsSameButFaults new (held_after request old is.before)
+look-latches laws request room came host old was new count plain is lived =
+    let middle = held_after request old is.before in
+    subst (λ d. IsSameButFaults d middle) is.after
+    (hears-same laws.betrayal laws.latch middle request (heard_bytes request is.arrival) (ending_of Restart is.arrival)
+    (subst (λ a. IsNoWrite a request) (own-address lived) plain) is.legal)
 
 -- a life goes on by what happened beside the bus, and the read latches bits at most
 look-goes : LawsOfLives → (request room came : List ℕ) (host : Summary) (old : Held) (was : ℕ) (new : Held) (count : ℕ) →
@@ -52,21 +69,44 @@ look-goes : LawsOfLives → (request room came : List ℕ) (host : Summary) (old
 look-goes laws request room came host old was new count plain is config passes before life =
     let beside = quiet request is_beside (beside-one laws request) is.before is.beside_before life in
     let lived = beside.is_life in
-    let middle = held_after request old is.before in
-    let latched = hears-same laws.betrayal laws.latch middle request (heard_bytes request is.arrival) (ending_of Restart is.arrival)
-    (subst (λ a. IsNoWrite a request) (own-address lived) plain) is.legal in
     record {
       is_life = record {
         lived = lived.lived;
         host_is = lived.host_is;
-        held_is = same-on (now config passes (is.before ++ before)).device middle new lived.held_is (subst (λ d. IsSameButFaults d middle) is.after latched);
+        held_is = same-on (now config passes (is.before ++ before)).device (held_after request old is.before) new lived.held_is
+            (look-latches laws request room came host old was new count plain is lived);
       };
       told = beside.told;
       ended = tt;
     }
 
+-- a reading changes no setting
+reading-kept : (held : Held) (output code word : ℕ) → kept_in (device_next held (device.Reading output code word)) ≡ kept_in held
+unfolding device_next after
+reading-kept held output code word = refl
+
+-- Events beside the bus without a restart move no setting either.
+beside-kept : (request : List ℕ) (held : Held) (events : List Event) → AreAll is_beside events → restarts_in events ≡ 0 →
+    kept_in (held_after request held events) ≡ kept_in held
+beside-kept request held [] all none = refl
+beside-kept request held (RestartDevice ∷ events) all none = absurd (omega arith)
+beside-kept request held (Reading output code word ∷ events) all none =
+    reading-kept (held_after request held events) output code.0 word ∙ beside-kept request held events all.1 (omega arith)
+beside-kept request held (event ∷ events) all none = let is = all.0 in cc
+
+-- Settings, store and PAGE stay where the count of restarts does.
+settings-so : LawsOfLives → (request room came : List ℕ) (host : Summary) (old : Held) (was : ℕ) (new : Held) (count : ℕ) →
+    IsNoWrite host.setup.addr request → IsAsked request (length room) old was came new count → HasLife host old → count ≡ was →
+    kept_in new ≡ kept_in old
+settings-so laws request room came host old was new count plain is has same =
+    let beside = quiet request is_beside (beside-one laws request) is.before is.beside_before has.life in
+    let rose = is.count in
+    ap kept_in (look-latches laws request room came host old was new count plain is beside.is_life)
+    ∙ beside-kept request old is.before is.beside_before (omega arith)
+
 -- a read that is no job leads on
-pub looks-lead : LawsOfLives → {B : Type 0} → (gives : B → Call → B → Type 0) → (held : B → Held) → (restarts : B → ℕ) → LooksLead gives held restarts
+pub looks-lead : LawsOfLives → {B : Type 0} → (gives : B → Call → B → Type 0) → (held : B → Held) → (restarts : B → ℕ) →
+    LooksLead gives held restarts
 looks-lead laws gives held restarts request room came host old new may is so = record {
   acts = Looked request room came ∷ [];
   events = is.before;
@@ -83,24 +123,29 @@ looks-lead laws gives held restarts request room came host old new may is so = r
 -- ---- what the call does
 
 -- a read while no job is open
-pub record IsLooked {B : Type 0} (gives : B → Call → B → Type 0) (held : B → Held) (restarts : B → ℕ) (request room answer : List ℕ) (count : ℕ)
+pub record IsLooked {B : Type 0} (gives : B → Call → B → Type 0) (held : B → Held) (restarts : B →
+    ℕ) (request room answer : List ℕ) (count : ℕ)
     (old : Driving B) (bus : B) : Type 0 where
   pub idle : is_busy old.guard.host ≡ false
   pub plain : IsNoWrite old.guard.host.setup.addr request
   pub fits : count ≤ length answer
   pub asked : IsAsked request (length room) (held old.bus) (restarts old.bus) (take count answer) (held bus) (restarts bus)
   pub once : gives old.bus (Read request room (take count answer)) bus
+  pub has : HasLife old.guard.host (held old.bus)
 
 -- it leads on
 pub looked-leads : {B : Type 0} (gives : B → Call → B → Type 0) (held : B → Held) (restarts : B → ℕ) → LooksLead gives held restarts →
-    {request room answer : List ℕ} {count : ℕ} {old : Driving B} {bus : B} → IsLooked gives held restarts request room answer count old bus →
+    {request room answer : List ℕ} {count : ℕ} {old : Driving B} {bus : B} →
+    IsLooked gives held restarts request room answer count old bus →
     Leads gives held restarts (Looked request room (take count answer) ∷ []) None (driven old) (record { host = old.guard.host; bus = bus })
 looked-leads gives held restarts lead {request = request} {room = room} {answer = answer} {count = count} {old = old} {bus = bus} is =
     lead request room (take count answer) old.guard.host old.bus bus (is.idle, is.plain) is.asked is.once
 
 -- A read that is no job does what is said of it.
-pub looks-so : LawsOfLives → {B : Type 0} (gives : B → Call → B → Type 0) (held : B → Held) (restarts : B → ℕ) → LooksLead gives held restarts →
-    {request room answer : List ℕ} {count : ℕ} {old : Driving B} {bus : B} → IsLooked gives held restarts request room answer count old bus →
+pub looks-so : LawsOfLives → {B : Type 0} (gives : B → Call → B → Type 0) (held : B → Held) (restarts : B → ℕ) →
+    LooksLead gives held restarts →
+    {request room answer : List ℕ} {count : ℕ} {old : Driving B} {bus : B} →
+    IsLooked gives held restarts request room answer count old bus →
     Looks gives held restarts request room old (Ok count) answer (record { guard = old.guard; bus = bus })
 looks-so laws gives held restarts lead {request = request} {room = room} {answer = answer} {count = count} {old = old} {bus = bus} is =
     let leads = looked-leads gives held restarts lead is in
@@ -113,6 +158,8 @@ looks-so laws gives held restarts lead {request = request} {room = room} {answer
       leads = leads;
       err = tt;
       guard = refl;
+      settings = settings-so laws request room (take count answer) old.guard.host (held old.bus) (restarts old.bus) (held bus)
+          (restarts bus) is.plain is.asked is.has;
       stays = λ same cell since. leads-since gives held restarts (act ∷ []) None (driven old) new cell leads same since;
       within = λ output bounds lived. jobless-within laws gives held restarts (act ∷ []) (driven old) new refl leads output bounds lived;
     }

@@ -18,6 +18,7 @@ invariant_of-self g c =
       fits = c.read.ensures.fits;
       asked = c.read.ensures.asked;
       once = c.read.ensures.gives;
+      has = c.self.invariant;
     } in
     leads-lived g.B.Bus.gives g.B.Bus.held g.B.Bus.restarts
     (Looked c.args.request.now c.args.answer.now (take c.read.result c.read.new.answer) ∷ []) None (driven old)
@@ -35,6 +36,7 @@ returns g c =
       fits = c.read.ensures.fits;
       asked = c.read.ensures.asked;
       once = c.read.ensures.gives;
+      has = c.self.invariant;
     } in
     subst (λ d. Looks g.B.Bus.gives g.B.Bus.held g.B.Bus.restarts c.args.request.now c.args.answer.now d (Ok c.read.result)
     c.read.new.answer new) c.self.view_is
