@@ -3,6 +3,7 @@ use Rattle.std.specs.Prelude.{◌≡◌, ◌≢◌, ◌≤◌, ◌<◌, ◌+◌,
 use Rattle.std.specs.Option.{option_map_or, option_or}
 use Rattle.std.specs.List.{count_by}
 use Rattle.std.proofs.Common.{arith, sym, ◌∙◌, ap, ap₂, subst, inl, inr}
+use Rattle.std.proofs.lemmas.Bool.{not-true}
 use Rattle.std.proofs.lemmas.Bool.Decides.{nat_tests}
 use Rattle.std.proofs.lemmas.List.{get_or-set_other, get_or-set_same, length-replicate, length-set}
 use Rattle.std.proofs.lemmas.List.Recursion.{is_count_by}
@@ -34,7 +35,7 @@ use Rattle.pm_rail.specs.Orders.{is_needed}
 use Rattle.pm_rail.specs.Registers.{Held, Wants, wants_of}
 use Rattle.pm_rail.specs.Survey.{and_read, asking, due_by, due_in, ended, has_read, is_unread, is_unsure, next_job, nothing_read, wanted_in}
 use Rattle.pm_rail.specs.SurveyLength.{Answered, SurveysAreShort, checked, learned, nothing, reads_in, surprise}
-use Rattle.pm_rail.specs.Lemmas.Steps.{first-of, second-of, un-not}
+use Rattle.pm_rail.specs.Lemmas.Steps.{first-of, second-of}
 use Rattle.pm_rail.specs.Lemmas.Surveyed.{found, has-none}
 
 -- ---- The cells of an output, and how many of them pass a test ----
@@ -208,7 +209,7 @@ unread-reason : (part : PartRegisters) (v : Survey) (k : Known) (held : Held) (w
 unread-reason part v k held wants register test = record {
   place = Some register;
   is = refl;
-  lost = λ read. absurd (let no = un-not (has_read v.read register)
+  lost = λ read. absurd (let no = not-true (has_read v.read register)
       (second-of (is_needed held wants register) _ (second-of (has_register part register) _ test)) in let bad = sym read ∙ no in cc);
 }
 
@@ -227,7 +228,7 @@ protect-unread : (v : Survey) (k : Known) → (is_some v.plan && not v.read.prot
 protect-unread v k test = record {
   place = None;
   is = refl;
-  lost = λ read. absurd (let bad = sym read ∙ un-not v.read.protect (second-of (is_some v.plan) _ test) in cc);
+  lost = λ read. absurd (let bad = sym read ∙ not-true v.read.protect (second-of (is_some v.plan) _ test) in cc);
 }
 
 protect-unsure : (v : Survey) (s : Summary) → (is_some v.plan && is_none (known_word Protect (possible_at s Protect))) ≡ true →

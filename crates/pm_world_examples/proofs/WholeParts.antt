@@ -3,13 +3,13 @@ use Rattle.std.specs.Prelude.{◌≡◌, ℕ, false, not, List}
 use Rattle.std.proofs.Common.{◌∙◌, ap, subst, sym}
 use Rattle.pm_table.specs.declared.cell.Cell.TheVariants.{Out}
 use Rattle.pm_table.specs.declared.reg.Reg.{Reg}
+use Rattle.pm_table.specs.RuleLemmas.{rule-none}
 use Rattle.pm_model.specs.Settings.{Words}
 use Rattle.pm_device.specs.declared.config.Config.{Config}
 use Rattle.pm_limits.specs.declared.fault.LimitFault.TheVariants.{MissingRegister}
 use Rattle.pm_limits.specs.declared.part_registers.PartRegisters.{PartRegisters}
 use Rattle.pm_limits.specs.Laws.{WholePartsMissNothing}
 use Rattle.pm_limits.specs.Part.{all_registers, has_register}
-use Rattle.pm_rail.specs.Lemmas.Known.{unruled}
 use Rattle.pm_world.specs.declared.event.Event.{Event}
 use Rattle.pm_world.specs.Bands.{HoldsMissing}
 use Rattle.pm_world.specs.Plans.{PlansHoldInLives}
@@ -17,7 +17,7 @@ use Rattle.pm_world.specs.Surveys.{MissingUnread}
 
 lacks-none : WholePartsMissNothing → (register : Reg) → has_register all_registers register ≡ false → ⊥
 lacks-none law register lacks =
-    let has = unruled (not (has_register all_registers register)) MissingRegister (law.checked (Out 0 register)) in
+    let has = rule-none (not (has_register all_registers register)) MissingRegister (law.checked (Out 0 register)) in
     let bad = sym has ∙ ap not lacks in cc
 
 -- The host of a part with every register was told nothing of a missing one, and no missing one has a word of its own.
