@@ -226,7 +226,8 @@ def kind_of(kind):
 
 def structs():
     for name, (own, path) in STRUCTS.items():
-        image = {"HostStep": "StepImage", "FormatNumbers": "FormatImage", "KnownCell": "CellImage", "KnownCells": "KnownImage", "Packet": "PacketImage"}.get(own, own)
+        image = {"HostStep": "StepImage", "FormatNumbers": "FormatImage", "KnownCell": "CellImage", "KnownCells": "KnownImage",
+                 "Packet": "PacketImage"}.get(own, own)
         text = without_comments(read("crates", path)).replace("OUTPUTS", "8")
         layers = {"pm.h": fields_of_c(name), "python": fields_of_python(image), "rust": fields_of_rust(RUST, image)}
         plain = {layer: [(field, kind_of(kind), count) for field, kind, count in found] for layer, found in layers.items()}

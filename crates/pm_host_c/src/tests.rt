@@ -6,9 +6,9 @@ mod packets;
 mod rails;
 
 use self::calls::{
-    at_least, at_most, band, check, clear, finished, format, got, host, learn, limits, microvolts,
-    narrow, nearest, new, order, order_micro, possible, restart, restart_seen, restore, shown,
-    standing, store, within,
+    at_least, at_most, band, check, clear, finished, format, got, host, kept, learn, limits,
+    microvolts, narrow, nearest, new, order, order_micro, possible, restart, restart_seen, restore,
+    shown, standing, store, within,
 };
 use self::checks::{equal, is_true};
 use crate::format_numbers::FormatNumbers;
@@ -242,6 +242,39 @@ fn damaged_memory_says_what_can_be_read(rt: HostRuntime) {
     equal(&rt, &possible(&image, 1, 0x21), &(0, 0, 0), &1);
     equal(&rt, &standing(&image, 1, 0x21), &(0, 0, 0), &2);
     equal(&rt, &format(&image, 1), &(0, 0, 0), &3);
+}
+
+// A host's memory has the byte of VOUT_MODE and the five bytes of COEFFICIENTS as they were answered, FFh where there is
+// none; a caller is told numbers, here of ULINEAR16 with -12 and of DIRECT with R 1.
+#[test]
+fn a_format_is_kept_as_it_was_learned(rt: HostRuntime) {
+    let mut image = host(1);
+    equal(&rt, &kept(&image, 1), &(0xFF, [0xFF; 5]), &1);
+    equal(&rt, &learn(&mut image, 0), &0, &2);
+    equal(
+        &rt,
+        &got(&mut image, &[0xB1, 0x01, 0x14, 0x4E]),
+        &(4, 0),
+        &3,
+    );
+    equal(&rt, &kept(&image, 0), &(0x14, [0xFF; 5]), &4);
+    equal(&rt, &format(&image, 0), &(0, 1, -12), &5);
+    equal(&rt, &learn(&mut image, 1), &0, &6);
+    equal(
+        &rt,
+        &got(&mut image, &[0xB1, 0x01, 0x40, 0x87]),
+        &(0, 0),
+        &7,
+    );
+    let answer = [0xB1, 0x05, 0x99, 0x01, 0x02, 0x00, 0x01, 0x19];
+    equal(&rt, &got(&mut image, &answer), &(4, 0), &8);
+    equal(
+        &rt,
+        &kept(&image, 1),
+        &(0x40, [0x99, 0x01, 0x02, 0x00, 0x01]),
+        &9,
+    );
+    equal(&rt, &format(&image, 1), &(0, 2, 1), &10);
 }
 
 #[test]

@@ -1,6 +1,7 @@
 //! The calls, with no contract of their own: what a test says is run, and the prover needn't carry it.
 
 use crate::answer::{PayloadImage, pm_packet_read_answer};
+use crate::format_numbers::FormatNumbers;
 use crate::guard_image::{GuardImage, LimitsImage, RegistersImage};
 use crate::host::{
     pm_host_check, pm_host_clear, pm_host_learn, pm_host_new, pm_host_new_with, pm_host_order,
@@ -142,6 +143,13 @@ pub(super) fn format(image: &GuardImage, output: u8) -> (u8, u8, i8) {
     };
     let number = pm_host_format(image, output, &mut format);
     (number, format.kind, format.exponent)
+}
+
+// What memory keeps of the format of output 0 or 1.
+pub(super) fn kept(image: &GuardImage, output: u8) -> (u8, [u8; 5]) {
+    let [first, second, ..] = image.host.state.formats;
+    let format = if output == 0 { first } else { second };
+    (format.mode, format.coefficients)
 }
 
 pub(super) fn restart_seen(image: &GuardImage) -> u8 {
