@@ -13,7 +13,7 @@
 set -eu
 case " $* " in *" --help "* | *" -h "*) sed -n '2,/^[^#]/s/^# \{0,1\}//p' "$0"; exit 0 ;; esac
 cd "$(dirname "$0")/.."
-PMB=$(python3 scripts/program.py)
+PMB=$(python3 tools/program.py)
 export PMB
 folder=$(mktemp -d)
 trap 'rm -rf "$folder"' EXIT

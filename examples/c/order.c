@@ -1,5 +1,5 @@
 /* An order over a scripted bus: the write's acknowledgement is lost, and the answer shows that the device
- * has the word. It prints each frame; scripts/c/run.sh compares that with order.expected. */
+ * has the word. It prints each frame; trials/c/run.sh compares that with order.expected. */
 #include "pm.h"
 #include <stdio.h>
 

@@ -1,25 +1,22 @@
-"""The plain model of scripts/plain under a scenario's events, which tests hold pictures to: what both ends are at after each
+"""The plain model of tests/plain under a scenario's events, which tests hold pictures to: what both ends are at after each
 event, and what came of each event on the bus."""
-import os
 from math import ceil, floor
 
 from pmhost.picture.life import Belief, State
 from pmhost.scenario import Cell
 
-from .plain_model import SCRIPTS
+from . import plain_model  # noqa: F401
 
-IS_THERE = os.path.isdir(os.path.join(SCRIPTS, "plain"))
-if IS_THERE:
-    from plain.converter import MAX, MIN, PROTECT, REGISTERS, format_of
-    from plain.host import ANY
-    from plain.limits import band
-    from plain.numbers import millionths, value_of
-    from plain.packets import name_of
-    from plain.report import report
-    from plain.scenario import read_scenario
-    from plain.world import World
+from plain.converter import MAX, MIN, PROTECT, REGISTERS, format_of
+from plain.host import ANY
+from plain.limits import band
+from plain.numbers import millionths, value_of
+from plain.packets import name_of
+from plain.report import report
+from plain.scenario import read_scenario
+from plain.world import World
 
-    __all__ = ["ANY", "IS_THERE", "Plain", "name_of"]
+__all__ = ["ANY", "Plain", "name_of"]
 
 
 class Plain:

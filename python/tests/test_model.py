@@ -1,4 +1,4 @@
-"""Ten thousand random events beside the plain host of scripts/plain: the two say the same after each."""
+"""Ten thousand random events beside the plain host of python/tests/plain: the two say the same after each."""
 import random
 import unittest
 

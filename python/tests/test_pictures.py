@@ -21,17 +21,13 @@ from pmhost.picture.timeline import facts
 from pmhost.picture.told import OF_TEXTS, Words
 from pmhost.texts import lines_of, numbered
 
-from . import oracle, running
+from . import oracle, picture_faults, running
 from .data.picture_rows import (BANDS, EIGHT, GOOD, IN_THREE, LIVES, MARKS, RAILS, THREE, TOLD_OF_THREE, WRONG)
+from .drawn import Drawn
 from .running import DATA, EXAMPLES, ROOT, called, needs, pmhost, stored
-
-if oracle.IS_THERE:
-    from . import picture_faults
-    from .drawn import Drawn
 
 STORED = ("answer-lost", "restart-noticed")
 SECONDS, EVENTS = 30, 5000
-needs_oracle = unittest.skipUnless(oracle.IS_THERE, "scripts/plain isn't beside this folder")
 
 
 def example(name):
@@ -81,7 +77,6 @@ def picture_of(text, name="it", rails=None):
 
 
 @needs("pmb")
-@needs_oracle
 class Scenarios(unittest.TestCase):
     """Each scenario, beside the plain model."""
 
@@ -185,7 +180,6 @@ class ByHand(unittest.TestCase):
         for name, marks in MARKS.items():
             self.assertEqual([row.mark[1] for row in Seen(lived(example(name))).rows[1:]], marks, name)
 
-    @needs_oracle
     def test_words_of_a_picture(self):
         drawn = Drawn(picture_of(THREE))
         self.assertEqual(IN_THREE - {it.words for it in drawn.texts}, set())
@@ -205,14 +199,12 @@ class ByHand(unittest.TestCase):
                 found = "".join(f"{line}\n" for line in timeline(lived(written.get(name) or example(name))))
                 self.assertEqual(found, stored(DATA, "timelines", f"{name}.txt"))
 
-    @needs_oracle
     def test_a_shift_of_34_millivolts_is_seen(self):
         """Of a rail of 0.85 V, beside one of 5 V."""
         drawn = Drawn(picture_of(eight_rails(LIVES)))
         at = [it[0] for (output, _), it in sorted(drawn.upright(drawing.LINE, 3).items()) if output == 0]
         self.assertGreaterEqual(max(at) - min(at), 8)
 
-    @needs_oracle
     def test_limits_of_rails_are_drawn(self):
         rails = {0: (950000, 3465000), 1: (-2000000, 5000000)}
         drawn = Drawn(picture_of(BANDS, "bands", rails))
@@ -224,7 +216,6 @@ class ByHand(unittest.TestCase):
             found = pmhost("picture", path, "--limit=0:0.95V:3465mV", "--limit=1:-2000000uV:5V")
         self.assertEqual(found, (0, picture_of(BANDS, "bands", rails), ""))
 
-    @needs_oracle
     def test_colours_can_be_read(self):
         self.assertEqual([*picture_faults.colour_faults()], [])
 

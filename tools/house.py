@@ -1,0 +1,189 @@
+#!/usr/bin/env python3
+"""Prints the counts by which the house is judged, a line each.
+
+    tools/house            the counts
+    tools/house --pairs    the laws that are stated twice and the lemmas that are proved twice, a pair a line
+    tools/house --middles  the comments of proofs that begin in the middle of a sentence
+
+Run it at the top of the repository. It reads files, and changes nothing.
+"""
+import collections
+import glob
+import os
+import re
+import sys
+
+from crate_copy import crates_below, read
+from program import answer_help
+from proof_text import files_of, lemmas_of
+
+# A comment that begins so hangs on the line before it.
+MIDDLE = re.compile(r"(and|so|or|nor)\b", re.I)
+PROOFS = re.compile(r"\b(pm\w*_\w+)(?:\.|::)proofs\b")
+
+
+def own_crates():
+    return sorted(name for name in crates_below() if os.path.isdir(os.path.join("crates", name)))
+
+
+def statement(lemma):
+    """The type of a lemma, its bound variables named in the order in which they are bound."""
+    return renamed(re.sub(r"\s+", " ", lemma.head.split(" : ", 1)[1]).strip(), {})
+
+
+def renamed(text, names):
+    """A type with its bound variables named in the order in which they are bound, behind those that have names."""
+    for group in re.findall(r"[({]([^(){}:→]+) : ", text):
+        for name in group.split():
+            names.setdefault(name, "v%d" % len(names))
+    return re.sub(r"[^\s(){}.,⟨⟩]+", lambda word: names.get(word.group(), word.group()), text)
+
+
+def doubled_lemmas(crates):
+    """Lemmas of proofs that state the same: (statement, [(path, line, name), ..])."""
+    places = collections.defaultdict(list)
+    for crate in crates:
+        home = os.path.join("crates", crate)
+        for name in files_of(home):
+            path = os.path.join(home, name)
+            for lemma in lemmas_of(read(path)):
+                if not lemma.is_goal() and not is_short(lemma):
+                    places[statement(lemma)].append((path, lemma.number, lemma.name))
+    return sorted((text, those) for text, those in places.items() if len(those) > 1)
+
+
+LAW = re.compile(r"^abbrev pub (\w+) : ([^\n]*)Type 0\n\1 ?([^=\n]*)=(.*?)(?=\n\n|\Z)", re.M | re.S)
+
+
+def doubled_laws(crates):
+    """Statements of laws that stand twice, under whatever names: of definitions that are types with a premise or a variable, the
+    names and what they state. (statement, [(path, name), ..])."""
+    places = collections.defaultdict(list)
+    for crate in crates:
+        for path in sorted(glob.glob(os.path.join("crates", crate, "specs", "**", "*.antt"), recursive=True)):
+            for name, taken, given, text in LAW.findall(read(path)):
+                if "→" in text and text.count(" ") > 12:
+                    names = {word: "g%d" % at for at, word in enumerate(re.findall(r"\w+", given))}
+                    places[taken, renamed(re.sub(r"\s+", " ", text).strip(), names)].append((path, name))
+    return sorted((text, those) for (_, text), those in places.items() if len(those) > 1)
+
+
+DATA = re.compile(r"(Type 0|ℕ|Bool|(List|Option) \S+)$")
+
+
+def is_short(lemma):
+    """Whether a head states nothing: that of a definition, of a function to types or to data, or of a constant."""
+    is_definition = re.match(r"(pub )?(abbrev|unfoldable) ", lemma.text)
+    return bool(is_definition or DATA.search(lemma.head)) or "→" not in lemma.head and "≡" not in lemma.head
+
+
+def comments(crates):
+    """Each comment of a proof that stands on lines of its own: (path, line, text)."""
+    for crate in crates:
+        for path in sorted(glob.glob(os.path.join("crates", crate, "proofs", "**", "*.antt"), recursive=True)):
+            before = ""
+            for number, line in enumerate(read(path).split("\n"), 1):
+                text = line.strip()
+                if text.startswith("--") and not before.startswith("--"):
+                    yield path, number, re.sub(r"^-+ ?", "", text)
+                before = text
+
+
+def middles(crates):
+    return [(path, number, text) for path, number, text in comments(crates) if MIDDLE.match(text)]
+
+
+def lower_proofs(crates):
+    """Where a crate names the proofs of another."""
+    found = []
+    for crate in crates:
+        for path in sorted(glob.glob(os.path.join("crates", crate, "**", "*"), recursive=True)):
+            if path.endswith((".rt", ".antt")) and "/out/" not in path:
+                for number, line in enumerate(read(path).split("\n"), 1):
+                    found += [(path, number, name) for name in foreign_proofs(crate, line)]
+    return found
+
+
+def foreign_proofs(crate, line):
+    """The other crates whose proofs a line of a crate names."""
+    return [name for name in PROOFS.findall(line) if name != crate]
+
+
+def engines():
+    """The loops that write a trace's text: each function `.._pieces` of a crate that reads pieces of a trace."""
+    found = []
+    for path in glob.glob("crates/pm_*/src/**/*.rt", recursive=True):
+        if re.search(r"fn \w+_pieces<", read(path)) and re.search(r"trace|capture|decode|telling", path):
+            found.append(path)
+    return found
+
+
+def twin_laws():
+    """Fields of records of laws that state one law of taken events and again of legal ones."""
+    count, text = 0, "\n".join(read(path) for path in glob.glob("crates/pm_world/specs/*.antt"))
+    for block in re.findall(r"^pub record (\w+)[^\n]*where\n((?:(?:    |--)[^\n]*\n|\n)+)", text, re.M):
+        count += len(re.findall(r"AreLegal\b", block[1])) if "AreTaken" in text else 0
+    return count
+
+
+def with_example(crates):
+    """Libraries whose root file has an example."""
+    return [name for name in crates if "```" in root_comment(name)]
+
+
+def root_comment(name):
+    path = os.path.join("crates", name, "src", "lib.rt")
+    return "\n".join(line for line in read(path).split("\n") if line.startswith("//!")) if os.path.exists(path) else ""
+
+
+def importing_oracle():
+    """Modules that people run and that import the plain model."""
+    found = []
+    for path in sorted(glob.glob("python/src/**/*.py", recursive=True) + glob.glob("examples/**/*.py", recursive=True)):
+        if re.search(r"^\s*(from|import) plain\b", read(path), re.M):
+            found.append(path)
+    return found
+
+
+def lines_of(pattern):
+    return sum(read(path).count("\n") for path in glob.glob(pattern, recursive=True) if "/out/" not in path)
+
+
+def main():
+    answer_help(__doc__)
+    crates = own_crates()
+    if "--pairs" in sys.argv[1:]:
+        for _, those in doubled_laws(crates):
+            print(" ~ ".join("%s %s" % it for it in those))
+        for _, those in doubled_lemmas(crates):
+            print(" ~ ".join("%s:%d %s" % it for it in those))
+        return
+    if "--middles" in sys.argv[1:]:
+        for it in middles(crates):
+            print("%s:%d: %s" % it)
+        return
+    libraries = [name for name in crates if os.path.exists("crates/%s/src/lib.rt" % name)]
+    shipped = [name for name in libraries if not name.endswith("_tests") and name not in ("pm_test_streams", "pm_world_examples")]
+    rows = [
+        ("crates", len(crates)),
+        ("engines that write a trace's text", len(engines())),
+        ("laws stated twice", sum(len(those) - 1 for _, those in doubled_laws(crates))),
+        ("lemmas proved twice", sum(len(those) - 1 for _, those in doubled_lemmas(crates))),
+        ("names of another crate's proofs", len(lower_proofs(crates))),
+        ("comments of proofs that begin in the middle", len(middles(crates))),
+        ("libraries with an example at their root", "%d of %d" % (len(with_example(shipped)), len(shipped))),
+        ("modules that people run and that import the plain model", len(importing_oracle())),
+        ("lines of code", lines_of("crates/*/src/**/*.rt")),
+        ("lines of definitions", lines_of("crates/*/specs/**/*.antt")),
+        ("lines of proofs", lines_of("crates/*/proofs/**/*.antt")),
+    ]
+    for folder in ("tools", "trials", "packaging", "mutants", "docs", "examples", "python", "rust", "bench", "crates"):
+        if os.path.isdir(folder):
+            rows.append(("names at the top of %s/" % folder, len(os.listdir(folder))))
+    width = max(len(name) for name, _ in rows)
+    for name, count in rows:
+        print("%-*s  %s" % (width, name, count))
+
+
+if __name__ == "__main__":
+    main()

@@ -1,0 +1,120 @@
+#!/usr/bin/env bash
+# Tries what stands above the proof over the proved libraries: the C programs by gcc (trials/c/run.sh --gcc), the Rust crate
+# (cargo test) and the Python package (unittest).
+#
+#   tools/packages.sh [--after-ci | --built FOLDER]
+#
+# `rt ci` proves crates/pm_host_c and crates/pm_device_c, and leaves no archive of them; it leaves the libraries that they stand on.
+# With --after-ci these are taken as they are, so that the two crates alone are proved once more as they are built: give it
+# where `rt ci` has just passed, and nothing was edited since. With --built the archives of that folder are taken:
+# libpm_host_c.a and libpm_device_c.a. With neither, `rt lib` makes them over what it kept.
+#
+# A tool that isn't on this machine is named in a line; it is a failure where PACKAGES_REQUIRED=1 is set. The last line says
+# how many tests passed and failed.
+set -u
+case " $* " in *" --help "* | *" -h "*) sed -n '2,/^[^#]/s/^# \{0,1\}//p' "$0"; exit 0 ;; esac
+cd "$(dirname "$0")/.."
+built='' after_ci=''
+case ${1-} in
+    '') ;;
+    --after-ci) after_ci=yes ;;
+    --built) built=$(realpath "${2-}") || exit 2 ;;
+    *) echo "packages.sh: '$1': give --after-ci, --built FOLDER, or nothing" >&2; exit 2 ;;
+esac
+folder=$(mktemp -d)
+trap 'rm -rf "$folder"' EXIT
+. tools/tally.sh
+
+# counted NAME PASSED FAILED STATUS: a part's tests; one that ends badly without a test that failed has failed once
+counted() {
+    local bad=$3
+    if [ "$4" != 0 ] && [ "$bad" = 0 ]; then bad=1; fi
+    passed=$((passed + $2)) failed=$((failed + bad))
+    echo "$1: $2 passed, $bad failed"
+    [ "$bad" = 0 ] || tail -40 "$folder/log"
+}
+
+# lacks NAME TOOL: a part that can't be tried
+lacks() {
+    echo "$1: no $2 on this machine"
+    [ "${PACKAGES_REQUIRED-}" != 1 ] || tell 1
+}
+
+ended() {
+    times > "$folder/times" # (of this shell's own children: no pipe)
+    awk -F'[ms ]+' 'NR == 2 {printf "%.0f processor seconds\n", $1 * 60 + $2 + $3 * 60 + $4}' "$folder/times"
+    end_tally; exit
+}
+
+# left_by_ci NAME: the archive of a crate over the libraries that `rt ci` left, or a failure where one isn't there
+left_by_ci() {
+    local kit at words=() each
+    kit=$(dirname "$(dirname "$(readlink -f "$(command -v rt)")")") || return 1
+    for each in $(sed -n "s/^$1 staticlib: //p" crates.txt); do
+        at=$PWD/crates/$each/out/rlib
+        # (one with a stamp is of an earlier `rt check` here, which may be older than the sources)
+        { [ -d "$at/$each.rlib" ] && [ ! -e "$at/stamp" ]; } || return 1
+        words+=(--extern "$each=$at/$each.rlib" -L "dependency=$at")
+    done
+    (cd "crates/$1" && "$kit/bin/rattle" build --crate-name "$1" src/lib.rt --crate-type staticlib \
+        --extern "std=$kit/rlibs/std.rlib" -L "dependency=$kit/rlibs" "${words[@]}" --links "$1=" --jobs 1 \
+        --antt-project "$kit/rattle/logic/antt-project.json" --logic-built "$kit/logic_built" --toolchain "$kit/toolchain" \
+        --backend rattle -o "$built/lib$1.a")
+}
+
+if [ -z "$built" ]; then
+    built=$folder/built
+    mkdir "$built"
+    for each in pm_host_c pm_device_c; do
+        if [ -n "$after_ci" ] && left_by_ci "$each" > "$folder/log" 2>&1; then
+            echo "lib$each.a: proved and built over the libraries that rt ci left"
+        elif (cd "crates/$each" && rt lib --backend rattle > "$folder/log" 2>&1); then
+            cp "crates/$each/out/lib$each.a" "$built/"
+            echo "lib$each.a: by rt lib"
+        else
+            counted "lib$each.a" 0 0 1
+            ended
+        fi
+    done
+fi
+
+if command -v gcc > /dev/null; then
+    trials/c/run.sh --built "$built" --gcc > "$folder/log" 2>&1
+    status=$?
+    read -r good bad < <(sed -n 's/^\([0-9]*\) passed, \([0-9]*\) failed$/\1 \2/p' "$folder/log" | tail -1)
+    counted "C, by gcc" "${good:-0}" "${bad:-0}" $status
+else
+    lacks "C" gcc
+fi
+
+if command -v cargo > /dev/null; then
+    PM_ARCHIVES=$built CARGO_TARGET_DIR=$folder/cargo cargo test --offline --manifest-path rust/Cargo.toml > "$folder/log" 2>&1
+    status=$?
+    read -r good bad < <(awk '/^test result: / {good += $4; bad += $6} END {print good + 0, bad + 0}' "$folder/log")
+    counted "Rust" "$good" "$bad" $status
+else
+    lacks "Rust" cargo
+fi
+
+if ! command -v python3 > /dev/null || ! python3 -c 'import sys; sys.exit(sys.version_info < (3, 11))'; then
+    lacks "Python" "python3 (3.11)"
+elif ! command -v gcc > /dev/null; then
+    lacks "Python" gcc
+elif ! gcc -shared -Wl,--whole-archive "$built/libpm_host_c.a" "$built/libpm_device_c.a" -Wl,--no-whole-archive -Wl,-z,noexecstack \
+    -o "$folder/libpmhost.so" > "$folder/log" 2>&1; then
+    counted "Python" 0 0 1
+else
+    PMHOST_LIBRARY=$folder/libpmhost.so PYTHONPATH=python/src python3 -B -m unittest discover -s python/tests -t python \
+        > "$folder/log" 2>&1 < /dev/null
+    status=$?
+    # (a test that was skipped is neither)
+    read -r good bad < <(awk '/^Ran [0-9]+ tests?/ {ran = $2} {line = $0} END {
+        bad = 0; skipped = 0
+        while (match(line, /[a-z ]+=[0-9]+/)) {
+            split(substr(line, RSTART, RLENGTH), pair, "="); line = substr(line, RSTART + RLENGTH)
+            if (pair[1] ~ /skipped/) skipped += pair[2]; else if (pair[1] ~ /failures|errors|unexpected/) bad += pair[2]
+        }
+        print ran - bad - skipped, bad}' "$folder/log")
+    counted "Python" "$good" "$bad" $status
+fi
+ended

@@ -1,0 +1,27 @@
+#!/usr/bin/env bash
+# Builds pmb and pmbhost for aarch64 Linux into a folder, linked statically: for a Raspberry Pi, a BMC.
+#
+#   trials/aarch64/build.sh FOLDER
+#
+# The toolchain proves each program and compiles it for aarch64; linking is by gcc-aarch64-linux-gnu, with
+# trials/aarch64/runtime.c in the place of the toolchain's own C code, which is for x86-64 alone: trusted, as that is. Many
+# processor minutes from nothing. What is built for x86-64 in crates/NAME/out stays.
+set -eu
+case " $* " in *" --help "* | *" -h "*) sed -n '2,/^[^#]/s/^# \{0,1\}//p' "$0"; exit 0 ;; esac
+[ $# = 1 ] || { echo "build.sh: give a folder" >&2; exit 2; }
+command -v aarch64-linux-gnu-gcc > /dev/null || { echo "aarch64-linux-gnu-gcc: not on this machine: gcc-aarch64-linux-gnu" >&2; exit 1; }
+[ -f /usr/aarch64-linux-gnu/lib/libc.a ] || { echo "a C library for aarch64: not on this machine: libc6-dev-arm64-cross" >&2; exit 1; }
+mkdir -p "$1"
+folder=$(realpath "$1")
+cd "$(dirname "$0")/../.."
+for name in pmb pmbhost; do
+    rm -f "crates/$name/out/$name.o"
+    # The toolchain links and runs for x86-64 alone: it stops there, with the object made.
+    (cd "crates/$name" && rt run --target aarch64-unknown-linux-gnu > "$folder/$name.log" 2>&1 < /dev/null) || true
+    if ! [ -s "crates/$name/out/$name.o" ] || ! grep -q '^logic=proved .*target=aarch64-unknown-linux-gnu' "$folder/$name.log"; then
+        tail -3 "$folder/$name.log" >&2; echo "build.sh: $name isn't proved or built for aarch64" >&2; exit 1
+    fi
+    mv "crates/$name/out/$name.o" "$folder/$name.o"
+    aarch64-linux-gnu-gcc -O2 -Wall -Wextra -Werror -static trials/aarch64/runtime.c "$folder/$name.o" -o "$folder/$name"
+    echo "$folder/$name: $(stat -c %s "$folder/$name") bytes"
+done

@@ -1,0 +1,25 @@
+/* ORDERS whole orders and nothing else: begun, written, acknowledged, read back. trials/c/targets.sh counts the
+ * instructions of two counts of orders, and takes the difference. */
+#include "pm.h"
+
+#ifndef ORDERS
+#define ORDERS 1
+#endif
+
+int main(void) {
+    static pm_host host;
+    static const uint8_t answer[] = {0xB1, 0x02, 0xCD, 0x34, 0xB9};
+    pm_sending frame;
+    int done = 0;
+    if (pm_host_new(&host, 0x58, 2, 3) != PM_OK)
+        return 1;
+    for (int i = 0; i < ORDERS; i++) {
+        if (pm_host_order(&host, 0, PM_VOUT_COMMAND, 0x34CD) != PM_OK)
+            return 1;
+        pm_host_sending(&host, &frame);
+        pm_host_finished(&host, 1);
+        pm_host_sending(&host, &frame);
+        done += pm_host_got(&host, answer, sizeof answer).kind == PM_DONE;
+    }
+    return done != ORDERS;
+}

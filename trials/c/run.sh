@@ -1,0 +1,457 @@
+#!/usr/bin/env bash
+# Builds the static libraries of crates/pm_host_c and crates/pm_device_c and, with each compiler of this machine, the programs of
+# examples/c and examples/firmware over them; runs them and compares what they write. So it does with the packages rust/ and
+# python/, and their tests.
+#
+#   trials/c/run.sh [--built FOLDER] [--gcc]
+#
+# With --built the archives of that folder are taken, and nothing is built: libpm_host_c.a and libpm_device_c.a of Rattle's own
+# compiler, and llvm_pm_c.a and llvm_pm_part.a of LLVM, if they are there. With --gcc only the programs run, built by gcc:
+# no other compiler, no sanitizer, no package, and not the command pmhost.
+#
+# The examples build with no warning. A program that drops an answer that must be asked builds with one. Random calls of every
+# export (trials/c/same.c) over the archives of Rattle's own compiler and over LLVM's answer and write the same. Programs
+# of gcc and clang are run once more with their sanitizers, where they have them. The order over a Linux bus runs over a
+# stand-in for the kernel, with all that a user or a bus does wrong, and so does the command pmhost, where there is a Python.
+# The stack that the archive says it needs must be what the header promises. Says a line for each program, what isn't on this
+# machine, and last how many passed and failed.
+set -u
+case " $* " in *" --help "* | *" -h "*) sed -n '2,/^[^#]/s/^# \{0,1\}//p' "$0"; exit 0 ;; esac
+cd "$(dirname "$0")/../.."
+ulimit -c 0
+built='' only_gcc=''
+while [ $# != 0 ]; do
+    case $1 in
+        --built) built=$(realpath "${2-}") || exit 2; shift 2 ;;
+        --gcc) only_gcc=yes; shift ;;
+        *) echo "run.sh: '$1': give --built FOLDER, --gcc, or nothing" >&2; exit 2 ;;
+    esac
+done
+folder=$(mktemp -d)
+trap 'rm -rf "$folder"' EXIT
+if [ -z "$built" ]; then
+    built=$folder/built
+    mkdir "$built"
+    for each in pm_host_c pm_device_c; do
+        (cd crates/$each && rt lib --backend llvm > "$folder/log" 2>&1) || { tail -20 "$folder/log"; exit 1; }
+        cp crates/$each/out/lib$each.a "$built/llvm_$each.a"
+        (cd crates/$each && rt lib --backend rattle > "$folder/log" 2>&1) || { tail -20 "$folder/log"; exit 1; }
+        echo "$each $(grep -o 'frame-bytes=[0-9]* stack-bytes=[0-9]*' "$folder/log")"
+        cp crates/$each/out/lib$each.a "$built/"
+    done
+fi
+archives=("$built/libpm_host_c.a" "$built/libpm_device_c.a") llvm=()
+[ -f "$built/llvm_pm_c.a" ] && [ -f "$built/llvm_pm_part.a" ] && llvm=("$built/llvm_pm_c.a" "$built/llvm_pm_part.a")
+. tools/tally.sh
+
+# told NAME STATUS: the line of a program, whose output is in $folder/out and wanted in $folder/wanted
+told() {
+    if [ "$2" = 0 ] && cmp -s "$folder/wanted" "$folder/out"; then
+        tell 0; echo "$1: ok"
+    else
+        tell 1; echo "$1: FAILED (status $2)"; head -5 "$folder/log" "$folder/out"
+    fi
+}
+
+# bound OBJECT: the stack that it says it needs is at most what the header promises
+bound() {
+    local most=PM_STACK needed promised
+    if nm "$1" | grep -q ' T pm_part_'; then most=PM_PART_STACK; fi
+    needed=$(readelf -p .comment "$1" | grep -o 'stack-bytes=[0-9]*' | cut -d= -f2)
+    promised=$(sed -n "s/^#define $most \([0-9]*\)$/\1/p" crates/pm_host_c/include/pm.h crates/pm_device_c/include/pm_part.h)
+    if [ "${needed:-none}" != none ] && [ "$needed" -le "$promised" ]; then
+        tell 0; echo "$(basename "$1") stack: ok, $needed of $most, $promised"
+    else
+        tell 1; echo "$(basename "$1") stack: FAILED, ${needed:-no stack-bytes} of $most, $promised"
+    fi
+}
+
+# What becomes of orders over the Linux bus: the mishaps of the transfers, the arguments in a shell's words, the
+# status, and what is written on standard output and on standard error.
+bus_rows() {
+    cat << 'END'
+lost ok ok lost ok ok|/dev/i2c-1 58 0 3300000|0|ended done, confirmed 34CD, 3300048 uV|
+|/dev/i2c-1 0x58 0 3300000|0|ended done, confirmed 34CD, 3300048 uV|
+|/dev/i2c-1 58 0 0|0|ended done, confirmed 0000, 0 uV|
+||2||give BUS ADDRESS OUTPUT MICROVOLTS, as /dev/i2c-1 58 0 3300000, or BUS ADDRESS store
+|/dev/i2c-1 58 0|2||give BUS ADDRESS OUTPUT MICROVOLTS, as /dev/i2c-1 58 0 3300000, or BUS ADDRESS store
+|/dev/i2c-1 58 0 3.3|2||microvolts '3.3': give a whole number, as 3300000 for 3.3 V
+|/dev/i2c-1 58 0 3,3|2||microvolts '3,3': give a whole number, as 3300000 for 3.3 V
+|/dev/i2c-1 58 0 abc|2||microvolts 'abc': give a whole number, as 3300000 for 3.3 V
+|/dev/i2c-1 58 0 3300mV|2||microvolts '3300mV': give a whole number, as 3300000 for 3.3 V
+|/dev/i2c-1 58 0 ''|2||microvolts '': give a whole number, as 3300000 for 3.3 V
+|/dev/i2c-1 58 0 ' 5'|2||microvolts ' 5': give a whole number, as 3300000 for 3.3 V
+|/dev/i2c-1 58 0 '5 '|2||microvolts '5 ': give a whole number, as 3300000 for 3.3 V
+|/dev/i2c-1 58 0 +5|2||microvolts '+5': give a whole number, as 3300000 for 3.3 V
+|/dev/i2c-1 58 0 9223372036854775808|2||microvolts '9223372036854775808': give a whole number, as 3300000 for 3.3 V
+|/dev/i2c-1 78 0 3300000|2||address '78': give 08 to 77, in hexadecimal
+|/dev/i2c-1 07 0 3300000|2||address '07': give 08 to 77, in hexadecimal
+|/dev/i2c-1 158 0 3300000|2||address '158': give 08 to 77, in hexadecimal
+|/dev/i2c-1 5G 0 3300000|2||address '5G': give 08 to 77, in hexadecimal
+|/dev/i2c-1 -58 0 3300000|2||address '-58': give 08 to 77, in hexadecimal
+|/dev/i2c-1 '' 0 3300000|2||address '': give 08 to 77, in hexadecimal
+|/dev/i2c-1 58 9 3300000|2||output '9': give 0 to 7
+|/dev/i2c-1 58 -1 3300000|2||output '-1': give 0 to 7
+|/dev/i2c-1 58 256 3300000|2||output '256': give 0 to 7
+|/dev/i2c-1 58 0x 3300000|2||output '0x': give 0 to 7
+|/dev/i2c-2 58 0 3300000|2||/dev/i2c-2, address 58: Device or resource busy: unbind its driver, echo 2-0058 > /sys/bus/i2c/devices/2-0058/driver/unbind
+|/dev/i2c-3 58 0 3300000|2||/dev/i2c-3, address 58: Permission denied
+|/dev/i2c-4 58 0 3300000|2||/dev/i2c-4, address 58: Inappropriate ioctl for device
+|/dev/i2c-9 58 0 3300000|2||/dev/i2c-9, address 58: No such file or directory
+|/dev/i2c-5 58 0 3300000|2||another program drives 5-0058: fuser /dev/i2c-5 names who has the bus open
+|/dev/i2c-5 0x58 store|2||another program drives 5-0058: fuser /dev/i2c-5 names who has the bus open
+count|--share-bus /dev/i2c-5 58 0 3300000|0|ended done, confirmed 34CD, 3300048 uV\n4 transfers, 0 ms|
+|/dev/i2c-5 59 0 3300000|1||learn: 3 of 3 transfers failed, the last: Remote I/O error
+|/dev/i2c-5 57 0 3300000|1||learn: 3 of 3 transfers failed, the last: Remote I/O error
+|/dev/i2c-6 58 0 3300000|2||a line is held low: address 02, which no part may have, acknowledges
+|/dev/i2c-6 58 store|2||a line is held low: address 02, which no part may have, acknowledges
+|--patience=x /dev/i2c-1 58 0 3300000|2||patience 'x': give milliseconds, 0 to 60000
+|--patience=-1 /dev/i2c-1 58 0 3300000|2||patience '-1': give milliseconds, 0 to 60000
+count ok ok deaf*40|/dev/i2c-1 58 0 3300000|0|ended done, confirmed 34CD, 3300048 uV\n43 transfers, 195 ms|
+count ok ok ones*40|/dev/i2c-1 58 0 3300000|0|ended done, confirmed 34CD, 3300048 uV\n43 transfers, 195 ms|
+count ok ok nacked*3|/dev/i2c-1 58 0 3300000|0|ended done, confirmed 34CD, 3300048 uV\n7 transfers, 15 ms|
+count ok deaf*40 deaf ones*2|/dev/i2c-1 58 0 3300000|0|ended done, confirmed 34CD, 3300048 uV\n46 transfers, 195 ms|
+count ok deaf|/dev/i2c-1 58 0 3300000|0|ended done, confirmed 34CD, 3300048 uV\n5 transfers, 5 ms|
+count ok nacked ok ok|/dev/i2c-1 58 0 3300000|0|ended done, confirmed 34CD, 3300048 uV\n7 transfers, 0 ms|
+count|--patience=0 /dev/i2c-1 58 0 3300000|0|ended done, confirmed 34CD, 3300048 uV\n3 transfers, 0 ms|
+count ok deaf ok deaf ok deaf|--patience=0 /dev/i2c-1 58 0 3300000|1|ended differs, confirmed 1000, 1000000 uV\n7 transfers, 0 ms|order: 3 of 6 transfers failed, the last: No such device or address; the write was lost, or the part refused, limited or rounded the word
+count ok ok deaf*8|--patience=30 /dev/i2c-1 58 0 3300000|0|ended done, confirmed 34CD, 3300048 uV\n13 transfers, 30 ms|
+ok ok ones*3 ok ones ok ok ones ok ok ones|/dev/i2c-1 58 0 3300000|1|ended unknown, the output may hold the old or the ordered word|order: 3 of 6 transfers failed, the last: nothing but FFh; no answer was good
+ones*3|/dev/i2c-1 58 0 3300000|1||learn: 3 of 3 transfers failed, the last: nothing but FFh
+count|/dev/i2c-1 58 store|0|store acknowledged\n2 transfers, 0 ms|
+count ok deaf*300|/dev/i2c-1 58 store|0|store acknowledged\n201 transfers, 995 ms|
+count deaf|/dev/i2c-1 58 store|1|store unknown\n2 transfers, 0 ms|store: 1 of 1 transfers failed, the last: No such device or address
+count nacked ones*2|/dev/i2c-1 58 store|1|store unknown\n4 transfers, 10 ms|store: 1 of 1 transfers failed, the last: Remote I/O error
+deaf deaf deaf|/dev/i2c-1 58 0 3300000|1||learn: 3 of 3 transfers failed, the last: No such device or address
+|/dev/i2c-1 59 0 3300000|1||learn: 3 of 3 transfers failed, the last: Remote I/O error
+|/dev/i2c-1 58 1 3300000|1||learn: 3 of 3 transfers failed, the last: Remote I/O error
+damaged empty damaged|/dev/i2c-1 58 0 3300000|1||learn: the last answer: F4 WrongCount
+damaged deaf damaged|/dev/i2c-1 58 0 3300000|1||learn: 1 of 3 transfers failed, the last: No such device or address; the last answer: F4 WrongCount
+damaged damaged deaf|/dev/i2c-1 58 0 3300000|1||learn: 1 of 3 transfers failed, the last: No such device or address; no answer was good, or its format is neither ULINEAR16 nor DIRECT
+short0 short1 short0|/dev/i2c-1 58 0 3300000|1||learn: 3 of 3 transfers failed, the last: 0 of 2 messages went
+short0 short0 short1|/dev/i2c-1 58 0 3300000|1||learn: 3 of 3 transfers failed, the last: 1 of 2 messages went
+|/dev/i2c-1 58 0 99000000|1||refused: N4 AboveGreatest: above all values of the format
+|/dev/i2c-1 58 0 -1|1||refused: N3 BelowLeast: below all values of the format
+|/dev/i2c-1 58 0 9223372036854775807|1||refused: N5 TooLarge: beyond 10^15 microvolts
+ok short0 ok short0h ok|/dev/i2c-1 58 0 3300000|0|ended done, confirmed 34CD, 3300048 uV|
+ok short0 ok short0 ok short0|--patience=0 /dev/i2c-1 58 0 3300000|1|ended differs, confirmed 1000, 1000000 uV|order: 3 of 6 transfers failed, the last: 0 of 1 message went; the write was lost, or the part refused, limited or rounded the word
+ok false ok false ok false|--patience=0 /dev/i2c-1 58 0 3300000|1|ended differs, confirmed 1000, 1000000 uV|order: the write was lost, or the part refused, limited or rounded the word
+ok int|/dev/i2c-1 58 0 3300000|130|transfer 2 went on|
+ok ok term|/dev/i2c-1 58 0 3300000|143|transfer 3 went on|
+quit|/dev/i2c-1 58 0 3300000|131|transfer 1 went on|
+ok hup|/dev/i2c-1 58 0 3300000|129|transfer 2 went on|
+ok ok int|/dev/i2c-1 58 0 3300000|130|transfer 3 went on|
+ok short0 short1 short0 short0 short0 short1|--patience=0 /dev/i2c-1 58 0 3300000|1|ended unknown, the output may hold the old or the ordered word|order: 6 of 6 transfers failed, the last: 1 of 2 messages went
+ok false ok false ok false empty|--patience=0 /dev/i2c-1 58 0 3300000|1|ended unknown, the output may hold the old or the ordered word|order: the last answer: F4 WrongCount
+ok ok deaf ok damaged ok deaf|--patience=0 /dev/i2c-1 58 0 3300000|1|ended unknown, the output may hold the old or the ordered word|order: 2 of 6 transfers failed, the last: No such device or address; no answer was good
+ok ok empty ok empty ok damaged|--patience=0 /dev/i2c-1 58 0 3300000|1|ended unknown, the output may hold the old or the ordered word|order: the last answer: F4 WrongCount
+END
+}
+
+# The same of the command pmhost, which makes its own calls of the kernel; \n parts the lines.
+command_rows() {
+    cat << 'END'
+ok short1 ok short0 short0 ok ok|-b 1 -a 58 --outputs 1 --no-limit --patience 0 set 0 3.3V|0|set 0: VOUT_COMMAND 34CD 3.300048V confirmed; the output commands 3.300048V, without limits|
+ok short0 short0 short0|-b 1 -a 58 --outputs 1 --patience 0 clear 0|1|clear 0: unknown|clear 0: 3 transfers failed, the last: 0 of 1 message went
+deaf deaf deaf|-b 1 -a 58 learn 0|1|learn 0: unknown|learn 0: 3 transfers failed, the last: No such device or address
+damaged empty damaged|-b 1 -a 58 learn 0|1|learn 0: unknown|learn 0: 3 answers weren't good: F4 WrongCount
+ok deaf deaf ok deaf ok|-b 1 -a 58 --outputs 1 --passes 1 clear 0|0|clear 0: acknowledged|
+|-b 1 -a 58 probe|0|probe: PEC yes, PAGE_PLUS yes, 1 output: 0 ULINEAR16 -12\nprobe: the part looks at the page: page 1F doesn't answer\nprobe: PMBUS_REVISION 33, Part II 1.3, no good MFR_ID (Remote I/O error), no good MFR_MODEL (Remote I/O error), no good MFR_REVISION (Remote I/O error)\nprobe: WRITE_PROTECT 00\nprobe: output 0: OPERATION 80, VOUT_COMMAND 1000, VOUT_MAX 4000, VOUT_MARGIN_HIGH 1100, VOUT_MARGIN_LOW 0F00, VOUT_MIN 0000\nprobe: output 0: no good ON_OFF_CONFIG (Remote I/O error): whether OPERATION is listened to isn't known\nprobe: whether the part refuses a write without a PEC, or with a wrong one, wasn't tried: probe --writes tries it\npmhost -b 1 -a 58 --outputs 1 --limit 0:LEAST:MOST|probe: the part may note in STATUS_CML that it was asked for what it lacks, and pull SMBALERT#
+|-b 2 -a 58 probe|2||2-0058 is held by a driver of the kernel: unbind it, echo 2-0058 > /sys/bus/i2c/devices/2-0058/driver/unbind, or give --force
+|-b 3 -a 58 probe|2||/dev/i2c-3: Permission denied: be root, or ask for leave to open it (ls -l /dev/i2c-3)
+|-b 4 -a 58 probe|2||/dev/i2c-4: Inappropriate ioctl for device: it is no I2C bus
+|-b 5 -a 58 probe|2||another program drives 5-0058: fuser /dev/i2c-5 names who has the bus open
+|-b 6 -a 58 probe|2||a line is held low: address 02, which no part may have, acknowledges: clock SCL nine times and send a stop, cycle the supply last
+|-b 5 -a 58 --share-bus learn 0|0|learn 0: learned ULINEAR16 -12|
+count ok ok deaf*40|-b 1 -a 58 --outputs 1 clear 0|0|clear 0: acknowledged\n43 transfers, 195 ms|
+|-b 9 -a 58 probe|2||/dev/i2c-9: No such file or directory: load i2c-dev (modprobe i2c-dev), and look for the bus (ls /dev/i2c-*)
+END
+}
+
+# rows NAME PREFIX PROGRAM: runs a program on each row of standard input; PREFIX begins what it says on standard error
+rows() {
+    local row=0 mishaps arguments status out err ended
+    while IFS='|' read -r mishaps arguments status out err; do
+        row=$((row + 1))
+        printf '%b' "${out:+$out\n}${err:+$2: $err\n}" > "$folder/wanted"
+        # (what the shell itself says of a program that a signal ended is not heard)
+        { (eval "MISHAPS=\$mishaps exec timeout 60 $3 $arguments" > "$folder/out" 2> "$folder/log" < /dev/null); } 2> /dev/null
+        ended=$?
+        cat "$folder/log" >> "$folder/out"
+        if [ "$ended" = "$status" ] && cmp -s "$folder/wanted" "$folder/out"; then
+            tell 0
+        else
+            tell 1; echo "$1, $arguments with '$mishaps': FAILED (status $ended)"; cat "$folder/out"
+        fi
+    done
+    echo "$1: $row rows"
+}
+
+# bus_program NAME COMPILER: the order over the Linux bus, and each row of it
+bus_program() {
+    program "$1 Linux bus" examples/c/i2c_dev.expected "$2 $strict $wraps" examples/c/i2c_dev.c examples/c/stand_in.c \
+        -- /dev/i2c-1 58 0 3300000
+    bus_rows > "$folder/rows"
+    rows "$1 Linux bus" i2c_dev "$folder/program" < "$folder/rows"
+    locked "$1 Linux bus" "$folder/program"
+}
+
+# locked NAME PROGRAM: the kernel's own lock, over a plain file: another program has locked the byte of an address
+locked() {
+    command -v python3 > /dev/null || { echo "$1, locks: no python3 here"; return; }
+    : > "$folder/locks"
+    echo 'i2c_dev: another program drives 1-0058: fuser /dev/i2c-1 names who has the bus open' > "$folder/wanted"
+    python3 -B - "$folder/locks" $2 /dev/i2c-1 58 0 3300000 > "$folder/out" 2> "$folder/log" << 'END'
+import fcntl, os, struct, subprocess, sys
+
+def run(place):
+    """What the program says where the byte at a place of the file is locked, and its status."""
+    file = os.open(sys.argv[1], os.O_RDWR)
+    fcntl.fcntl(file, 37, struct.pack("hhqqi0q", fcntl.F_WRLCK, os.SEEK_SET, place, 1, 0))
+    ran = subprocess.run(sys.argv[2:], env={**os.environ, "LOCKS": sys.argv[1]}, capture_output=True, text=True, timeout=60)
+    os.close(file)
+    return ran.stdout + ran.stderr, ran.returncode
+
+well = "ended done, confirmed 34CD, 3300048 uV\n", 0
+if run(0x57) != well or run(0x59) != well:
+    sys.exit("a lock of another address counts")
+said, status = run(0x58)
+print(said, end="")
+sys.exit(status != 2)
+END
+    told "$1, locks" $?
+}
+
+# preloaded: the stand-in as a shared object for programs that are there already, where gcc is
+preloaded() {
+    command -v gcc > /dev/null || { echo "the stand-in below programs: no gcc here"; return 1; }
+    [ -f "$folder/preload.so" ] || gcc -O2 -Wall -Wextra -Werror -shared -fPIC $headers trials/c/preload.c "${archives[@]}" \
+        -o "$folder/preload.so" -ldl > "$folder/log" 2>&1 || { told "the stand-in below programs" build; return 1; }
+}
+
+# bus_command: the command pmhost over the stand-in, where Python is there
+bus_command() {
+    command -v python3 > /dev/null || { echo "pmhost: no python3 here"; return; }
+    preloaded || return
+    if ! gcc -shared -Wl,--whole-archive "${archives[@]}" -Wl,--no-whole-archive -Wl,-z,noexecstack \
+        -o "$folder/libpmhost.so" > "$folder/log" 2>&1; then
+        told pmhost build; return
+    fi
+    command_rows > "$folder/rows"
+    rows pmhost pmhost "env PMHOST_LIBRARY=$folder/libpmhost.so PYTHONPATH=$PWD/python/src LD_PRELOAD=$folder/preload.so python3 -m pmhost" \
+        < "$folder/rows"
+}
+
+# rust_bus: the order of the Rust crate over the stand-in; why the host refuses stands in the C program in more words
+rust_bus() {
+    preloaded || return
+    if ! cargo build -q --offline --manifest-path rust/Cargo.toml --features linux --example i2c_dev > "$folder/log" 2>&1; then
+        told "Rust Linux bus" build; return
+    fi
+    bus_rows | grep -v '|refused: ' > "$folder/rows"
+    rows "Rust Linux bus" i2c_dev "env LD_PRELOAD=$folder/preload.so $CARGO_TARGET_DIR/debug/examples/i2c_dev" < "$folder/rows"
+    locked "Rust Linux bus" "env LD_PRELOAD=$folder/preload.so $CARGO_TARGET_DIR/debug/examples/i2c_dev"
+}
+
+# program NAME WANTED COMPILER SOURCES .. -- ARGUMENTS ..
+program() {
+    local name=$1 wanted=$2 compiler=$3; shift 3
+    local sources=()
+    while [ "$1" != -- ]; do sources+=("$1"); shift; done
+    shift
+    cp "$wanted" "$folder/wanted"; : > "$folder/out"
+    if ! $compiler $headers "${sources[@]}" "${archives[@]}" -o "$folder/program" > "$folder/log" 2>&1; then
+        told "$name" build; return
+    fi
+    timeout 300 "$folder/program" "$@" > "$folder/out" 2> "$folder/log"
+    told "$name" $?
+}
+
+# The calls whose answer must be asked.
+asked_calls() {
+    cat << 'END'
+pm_host_new(&host, 0x58, 1, 3)
+pm_host_narrow(&host, 0, 3135000, 3465000)
+pm_host_order(&host, 0, PM_VOUT_COMMAND, 0x34CD)
+pm_host_order_micro(&host, 0, PM_VOUT_COMMAND, 3300000)
+pm_host_check(&host, 0, PM_VOUT_COMMAND)
+pm_host_learn(&host, 0)
+pm_host_clear(&host, 0)
+pm_host_store(&host)
+pm_host_restore(&host)
+pm_host_run(&host, 0, 0, 0).kind
+pm_host_plan(&host, 0, &wanted, &next)
+pm_host_next(&host, 0, &wanted, &next)
+pm_survey_new(&survey, 0, 8)
+pm_survey_for(&survey, 0, &wanted, 8)
+pm_host_survey(&host, &survey)
+pm_host_run_survey(&host, &survey, 0, 0, 0).kind
+pm_host_run_apply(&host, 0, &wanted, 8, 0, 0, 0).kind
+END
+}
+
+# dropped NAME COMPILER: of each call, a program that drops its answer is refused for that, and one that asks it isn't
+dropped() {
+    local call before='#include "pm.h"
+static pm_host host;
+static pm_wanted wanted;
+static pm_plan_order next;
+static pm_survey survey;
+int main(void) { (void)wanted; (void)next; (void)survey;' row=0
+    while read -r call; do
+        row=$((row + 1))
+        echo "$before return $call; }" > "$folder/asks.c"
+        echo "$before ${call%.kind}; return 0; }" > "$folder/drops.c"
+        if $2 $headers -Werror=unused-result -c "$folder/asks.c" -o "$folder/object" > "$folder/log" 2>&1 &&
+            ! $2 $headers -Werror=unused-result -c "$folder/drops.c" -o "$folder/object" > "$folder/log" 2>&1 &&
+            grep -q 'unused-result' "$folder/log"; then
+            tell 0
+        else
+            tell 1; echo "$1, a dropped ${call%%(*}: FAILED, no warning"; cat "$folder/log"
+        fi
+    done < <(asked_calls)
+    echo "$1, dropped answers: $row rows"
+}
+
+# snippets NAME COMPILER: the C of docs/c.md builds with no warning
+snippets() {
+    {
+        printf '#include "pm_patient.h"\n#include <stddef.h>\nextern pm_host host;\nvoid log_line(const char *line);\n'
+        printf 'uint32_t milliseconds(void *context);\nvoid wait_for(void *context, uint32_t milliseconds);\n'
+        printf 'uint8_t write_to_bus(void *context, const uint8_t *bytes, uint64_t count);\n'
+        printf 'uint64_t read_from_bus(void *context, const uint8_t *request, uint64_t count, uint8_t *answer, uint64_t room);\n'
+        awk '/^```c$/ {print "int snippet_" ++count "(void);\nint snippet_" count "(void) {"; within = 1; next}
+            /^```$/ && within {print "return 1; }"; within = 0}
+            within {print}' docs/c.md
+    } > "$folder/snippets.c"
+    : > "$folder/wanted"; : > "$folder/out"
+    grep -q pm_host_run "$folder/snippets.c" &&
+        $2 $headers -Wall -Wextra -Wconversion -Wpedantic -Werror -c "$folder/snippets.c" \
+        -o "$folder/object" > "$folder/log" 2>&1
+    told "$1 docs/c.md" $?
+}
+
+mkdir "$folder/objects"
+for each in "${archives[@]}"; do
+    size -t "$each" | awk -v name="$(basename "$each")" 'END {print name ": " $1 " bytes of text"}'
+    (cd "$folder/objects" && ar x "$each")
+done
+headers="-Icrates/pm_host_c/include -Icrates/pm_device_c/include"
+for object in "$folder"/objects/*; do bound "$object"; done
+[ -n "$only_gcc" ] || bus_command
+[ -n "$only_gcc" ] || [ ${#llvm[@]} != 0 ] || echo "LLVM's archives: --built FOLDER has none to compare"
+printf 'first' > "$folder/same.wanted"
+wraps="-Wl,--wrap=open,--wrap=ioctl,--wrap=close,--wrap=fcntl,--wrap=clock_gettime,--wrap=nanosleep"
+strict="-Wconversion -Wpedantic"
+firmware="examples/firmware/main.c examples/firmware/simulated_bus.c examples/firmware/hosted.c"
+compilers="gcc clang g++ clang++"
+[ -z "$only_gcc" ] || compilers=gcc
+for each in $compilers; do
+    command -v $each > /dev/null || { echo "$each: not on this machine"; continue; }
+    case $each in *++) flags="-x c++ -std=c++17" rest="-x none" ;; *) flags=-std=c11 rest= ;; esac
+    options=("-O2 -Wall -Wextra -Werror")
+    case $each$only_gcc in gcc | clang)
+        sanitizers="-g -fsanitize=address,undefined -fno-sanitize-recover=all"
+        if echo 'int main(void){return 0;}' | $each -x c $sanitizers - -o "$folder/probe" 2> /dev/null; then
+            options+=("-O1 $sanitizers")
+        else
+            echo "$each: no sanitizers"
+        fi ;;
+    esac
+    dropped $each "$each $flags"
+    snippets $each "$each $flags"
+    for option in "${options[@]}"; do
+        compiler="$each $option $flags"
+        name=$each; case $option in *sanitize*) name="$each, sanitized" ;; esac
+        program "$name order" examples/c/order.expected "$compiler $strict" examples/c/order.c $rest --
+        program "$name part" examples/c/part.expected "$compiler $strict" examples/c/part.c $rest --
+        program "$name pm_host_run" examples/c/run_rows.expected "$compiler $strict" examples/c/run_rows.c $rest --
+        program "$name pm_patient_run" examples/c/patient_rows.expected "$compiler $strict" examples/c/patient_rows.c $rest --
+        program "$name both ends" examples/c/faults.expected "$compiler $strict" examples/c/faults.c $rest --
+        program "$name HAL" examples/c/hal_bus.expected "$compiler $strict" examples/c/hal_bus.c $rest --
+        program "$name rail" examples/c/rail.expected "$compiler $strict" examples/c/rail.c $rest --
+        case $each in gcc | clang)
+            program "$name firmware" examples/firmware/console.expected "$compiler $strict -Iexamples/firmware" $firmware -- ;;
+        esac
+        # Random calls over the archive of either compiler write one line, whoever compiled them.
+        if [ "$(cat "$folder/same.wanted")" = first ]; then
+            $compiler $headers trials/c/same.c $rest "${archives[@]}" -o "$folder/program" > "$folder/log" 2>&1
+            "$folder/program" 1 2 > "$folder/same.wanted" && cat "$folder/same.wanted"
+        fi
+        program "$name random calls" "$folder/same.wanted" "$compiler" trials/c/same.c $rest -- 1 2
+        if [ ${#llvm[@]} != 0 ]; then
+            kept=("${archives[@]}"); archives=("${llvm[@]}")
+            program "$name random calls, LLVM" "$folder/same.wanted" "$compiler" trials/c/same.c $rest -- 1 2
+            archives=("${kept[@]}")
+        fi
+        case $each in gcc | clang)
+            bus_program "$name" "$compiler" ;;
+        esac
+    done
+done
+if [ -n "$only_gcc" ]; then
+    end_tally; exit
+fi
+
+# installed NAME WANTED SOURCE WORDS ..: a program over what packaging/install.sh installs, found by pkg-config
+installed() {
+    local name="installed $1" wanted=$2 source=$3; shift 3
+    cp "$wanted" "$folder/wanted"; : > "$folder/out"
+    if ! gcc -O2 -Wall -Wextra -Werror "$source" "$@" -o "$folder/program" > "$folder/log" 2>&1; then
+        told "$name" build; return
+    fi
+    LD_LIBRARY_PATH=$folder/prefix/lib "$folder/program" > "$folder/out" 2> "$folder/log"
+    told "$name" $?
+}
+
+if command -v pkg-config > /dev/null && command -v gcc > /dev/null; then
+    packaging/install.sh "$folder/prefix" --library --archives "$built" > "$folder/log" 2>&1 || told "installed" install
+    export PKG_CONFIG_PATH=$folder/prefix/lib/pkgconfig
+    order="examples/c/order.expected examples/c/order.c" part="examples/c/part.expected examples/c/part.c"
+    ends="examples/c/faults.expected examples/c/faults.c"
+    installed "order, shared" $order $(pkg-config --cflags --libs pm_host)
+    installed "order, static" $order $(pkg-config --cflags pm_host) "$folder/prefix/lib/libpm_host_c.a"
+    installed "part, shared" $part $(pkg-config --cflags --libs pm_part)
+    installed "part, static" $part $(pkg-config --cflags pm_part) "$folder/prefix/lib/libpm_device_c.a"
+    installed "both ends, shared" $ends $(pkg-config --cflags --libs pm_host pm_part)
+    installed "both ends, static" $ends $(pkg-config --cflags pm_host pm_part) "$folder/prefix/lib/libpm_host_c.a" "$folder/prefix/lib/libpm_device_c.a"
+else
+    echo "pkg-config: not on this machine"
+fi
+
+# packaged NAME WORDS ..: a package's own tests, which say how it ended by their status
+packaged() {
+    local name=$1; shift
+    : > "$folder/wanted"; : > "$folder/out"
+    "$@" > "$folder/log" 2>&1
+    told "$name" $?
+}
+
+if command -v cargo > /dev/null; then
+    export PM_ARCHIVES=$built CARGO_TARGET_DIR=$folder/cargo
+    packaged "Rust package" cargo test --offline --manifest-path rust/Cargo.toml --all-features
+    if cargo clippy --version > /dev/null 2>&1 && cargo fmt --version > /dev/null 2>&1; then
+        packaged "Rust lints" cargo clippy --offline --manifest-path rust/Cargo.toml --all-targets --all-features -- -D warnings
+        packaged "Rust lints, no_std" cargo clippy --offline --manifest-path rust/Cargo.toml --all-targets -- -D warnings
+        packaged "Rust layout" cargo fmt --manifest-path rust/Cargo.toml --check
+    else
+        echo "cargo clippy and cargo fmt: not on this machine"
+    fi
+    cp examples/c/order.expected "$folder/wanted"
+    cargo run -q --offline --manifest-path rust/Cargo.toml --example order > "$folder/out" 2> "$folder/log"
+    told "Rust order" $?
+    rust_bus
+else
+    echo "cargo: not on this machine"
+fi
+if command -v python3 > /dev/null && python3 -c 'import venv, ensurepip' 2> /dev/null; then
+    packaged "Python package, installed" sh -c "python3 -m venv '$folder/venv' && cp -r python '$folder/python' &&
+        PMHOST_ARCHIVES='$built' '$folder/venv/bin/pip' install --no-index '$folder/python' &&
+        cp '$folder'/venv/lib/python3*/site-packages/pmhost/libpmhost.so '$folder/venv/'"
+    packaged "Python package, its command" sh -c "cd '$folder' && venv/bin/pmhost -b desk --outputs 1 --no-limit set 0 3.3V"
+    packaged "Python package" env PMHOST_LIBRARY="$folder/venv/libpmhost.so" PYTHONPATH=python/src \
+        python3 -B -m unittest discover -s python/tests -t python
+else
+    echo "python3 with venv: not on this machine"
+fi
+end_tally

@@ -1,0 +1,128 @@
+"""The commands of docs/board.md and docs/captures.md, word for word, over a bus of the guest: commands BUS.
+
+The page's bus is 1; over another its number stands in the commands in the place of that. A command that the page doesn't
+have is a fault. Beside them: pmhost capture i2ctransfer with i2c-tools where transfers fail, and what the page says of a
+driver that holds the part.
+"""
+import os
+import re
+import subprocess
+
+from guest_bus import Bench, root_file
+from rows import bound, read
+from tally import Tally
+
+PLACE = "/run/commands"
+PROBE = "PEC yes, PAGE_PLUS yes, 2 outputs: 0 ULINEAR16 -12, 1 DIRECT 1 0 3\n"
+# What probe tells behind its first line, and says before.
+FURTHER, BEFORE = "(probe: .*\n)+pmhost -b 1 .*\n", "pmhost: probe: the part may note .*\n"
+ORDER = "pmhost -b 1 -a 58 --outputs 2 --limit 0:3.135V:3.465V --trace bus.trace set 0 3.3V"
+ORDERED = "set 0: VOUT_COMMAND 34CD 3.300048V confirmed; the output commands 3.300048V, within 3.135V to 3.465V\n"
+FRAMES = r"printf 'B0 19 /\nB0 06 02 00 20 /\n' | pmhost capture i2ctransfer 1"
+# OPERATION is read before the first order, and CAPABILITY behind each write, until the part is ready.
+LEARNED = """1 58 page 0 OPERATION read 80
+2 58 page 0 VOUT_MODE read 14
+3 58 page 0 VOUT_COMMAND write 34CD
+4 58 CAPABILITY read 80
+5 58 page 0 VOUT_COMMAND read 34CD
+"""
+TRACED = "echo > /sys/kernel/tracing/trace", "echo 1 > /sys/kernel/tracing/events/i2c/enable", "cat /sys/kernel/tracing/trace"
+PAGES = ("board", "captures", "tried")
+
+
+class Page:
+    """The page, its commands over a bus, and what they must print."""
+
+    def __init__(self, number):
+        self.number, self.bench, self.tally = number, Bench(number), Tally()
+        self.text = "".join(read(root_file(f"docs/{page}.md")) for page in PAGES)
+        os.makedirs(PLACE, exist_ok=True)
+        os.chdir(PLACE)
+        for folder in ("tools", "trials"):
+            os.symlink(root_file(folder), folder)
+        os.symlink(os.environ["PMB"], "pmb")
+        with open("pmhost", "w", encoding="utf-8") as file:
+            file.write(f"#!/bin/sh\nPYTHONPATH={root_file('python/src')} exec python3 -m pmhost \"$@\"\n")
+        os.chmod("pmhost", 0o755)
+
+    def command(self, words):
+        """A command of the page, for this bus."""
+        words = words.replace("-b 1 ", f"-b {self.number} ")
+        words = words.replace("i2ctransfer 1", f"i2ctransfer {self.number}")
+        return words.replace("1-0058", f"{self.number}-0058").replace("i2cdetect -F 1", f"i2cdetect -F {self.number}")
+
+    def run(self, words):
+        around = {**os.environ, "PATH": f"{PLACE}:{os.environ['PATH']}"}
+        return subprocess.run(["bash", "-c", self.command(words)], capture_output=True, text=True, env=around)
+
+    def tell(self, words, out, err="", status=0, more=(), on_page=True):
+        """Runs a command and compares; `more` are further things that are wrong."""
+        ran, faults = self.run(words), list(more)
+        if on_page and words not in self.text:
+            faults.append("no page has it")
+        found = ran.returncode, ran.stdout, ran.stderr
+        if found[0] != status or not re.fullmatch(self.command(out), found[1]) or not re.fullmatch(self.command(err), found[2]):
+            faults.append(f"it gives {found}, not {(status, out, err)}")
+        self.tally.tell(f"bus {self.number}, {words}", faults)
+        return ran
+
+
+def exactly(text):
+    return re.escape(text)
+
+
+def without_comments(trace):
+    """The packets of a trace; that address 02 was asked is a comment."""
+    return "".join(line for line in trace.splitlines(True) if not line.startswith("#"))
+
+
+def board(page):
+    """From a board to a confirmed setting, and what went over the wire."""
+    page.bench.put("modes 14 40")
+    page.tell("pmhost -b 1 -a 58 probe", exactly(f"probe: {PROBE}") + FURTHER, BEFORE, more=[] if PROBE.strip() in page.text else ["the page has another"])
+    page.bench.put("proved")
+    for words in TRACED[:2]:
+        page.tell(words, "")
+    page.tell(ORDER, exactly(ORDERED), more=[] if page.command(ORDERED) in page.text else ["the page has another answer"])
+    page.tell("pmb decode < bus.trace", exactly(LEARNED) + "(.*\n)*lines 10 accepted 10 faults 0 bad 0\n")
+    page.tell("grep failed bus.trace", "", status=1)
+    kernel = without_comments(page.run(f"{TRACED[2]} | pmhost capture linux --address=58 --bus={page.number}").stdout)
+    sent = without_comments(read("bus.trace"))
+    page.tally.tell(f"bus {page.number}, the kernel's tracepoints", [] if kernel == sent else [f"{kernel!r}, not {sent!r}"])
+
+
+def frames(page):
+    """Frames that are written by hand, over i2c-tools."""
+    number = page.number
+    page.tell(FRAMES, f"i2ctransfer -y {number} w1@0x58 0x19 r2\ni2ctransfer -y {number} w4@0x58 0x06 0x02 0x00 0x20 r3\n")
+    decoded = exactly("1 58 CAPABILITY read 80\n2 58 page 0 VOUT_MODE read 14\n") + "(.*\n)*"
+    page.tell(f"{FRAMES} --run > part.trace; pmb decode < part.trace", decoded)
+    nobody = {0: "Warning: only 0/2 messages were sent"}.get(number, "Error: Sending messages failed: No such device or address")
+    page.tell(r"printf 'B2 19 /\n' | pmhost capture i2ctransfer 1 --run", exactly(f"# failed: B2 19: {nobody}\n"),
+              status=1, on_page=False)
+    page.bench.put("proved", "lost")
+    lost = {0: "Warning: only 0/1 messages were sent", 1: "Error: Sending messages failed: Remote I/O error"}
+    said = lost.get(number, "Error: Sending messages failed: Input/output error")
+    page.tell(r"printf 'B0 03 5D\n' | pmhost capture i2ctransfer 1 --run",
+              exactly(f"# failed: B0 03 5D: {said}\n"), status=1, on_page=False)
+
+
+def drivers(page):
+    """A driver that holds the part: it is refused, unbound, and the part is free."""
+    page.bench.put("proved")
+    held = exactly(f"pmhost: {page.number}-0058 is held by a driver of the kernel: unbind it, echo ") + ".*\n"
+    with bound(page.number, "58"):
+        page.tell("pmhost -b 1 -a 58 probe", "", held, 2)
+        page.tell("pmhost -b 1 -a 58 --force probe", "probe: PEC yes.*\n" + FURTHER, BEFORE, on_page=False)
+        busy = page.run(FRAMES + " --run").stdout
+        page.tally.tell("i2ctransfer beside a driver", [] if "busy" in busy else [busy])
+        page.tell("echo 1-0058 > /sys/bus/i2c/devices/1-0058/driver/unbind", "")
+        page.tell("pmhost -b 1 -a 58 probe", "probe: PEC yes.*\n" + FURTHER, BEFORE)
+
+
+def main(words):
+    page = Page(int(words[0]))
+    board(page)
+    frames(page)
+    drivers(page)
+    return page.tally.end()

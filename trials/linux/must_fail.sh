@@ -1,0 +1,56 @@
+#!/usr/bin/env bash
+# Plants bugs into copies of the package and of the C example, each of which a trial over a whole Linux must find: a short
+# count that is taken for success, once in each of the three programs that make transfers. Prints what found them.
+#
+#   trials/linux/must_fail.sh [OPTIONS]
+#
+# The options are those of run.sh. The last line tells how many bugs were found and how many weren't.
+set -u
+case " $* " in *" --help "* | *" -h "*) sed -n '2,/^[^#]/s/^# \{0,1\}//p' "$0"; exit 0 ;; esac
+here=$(cd "$(dirname "$0")" && pwd)
+root=$(cd "$here/../.." && pwd)
+. "$here/start.sh"
+start "$@"
+built=$CACHE
+# plant NAME FILE OLD NEW: a copy of what the trials read, with one text changed, which stands there once.
+plant() {
+    mkdir -p "$work/$1/tree"
+    (cd "$root" && cp -r --parents tools trials python docs examples/c crates/pm_host_c/include "$work/$1/tree")
+    python3 - "$work/$1/tree/$2" "$3" "$4" << 'END' || refuse "$1: the text to change doesn't stand once in $2"
+import sys
+path, old, new = sys.argv[1:]
+text = open(path, encoding="utf-8").read()
+open(path, "w", encoding="utf-8").write(text.replace(old, new))
+sys.exit(text.count(old) != 1)
+END
+}
+# tried NAME TRIAL BUS: the trial on the copy.
+tried() {
+    while [ "$(jobs -rp | wc -l)" -ge "$at_once" ]; do wait -n; done
+    "$work/$1/tree/trials/linux/boot.sh" "$work/$1/guest" "$2" "$3" > "$work/$1/boot" 2>&1 &
+    guests+=($!)
+}
+plant package python/src/pmhost/bus/linux.py "if went != len(messages):" "if went < 0:"
+tried package rows 0
+plant frames python/src/pmhost/capture/i2ctransfer.py "if ran.returncode or ran.stderr or len(back) != wanted or BYTES.sub(\"\", ran.stdout).strip():" \
+    "if ran.returncode:"
+tried frames commands 0
+names="package frames"
+plant program examples/c/linux_bus.h "return went == count;" "return went >= 0;"
+mkdir "$work/cache"
+ln -s "$built/kernel" "$built/modules" "$built/libpmhost.so" "$work/cache"
+gcc -I"$root/crates/pm_host_c/include" "$work/program/tree/examples/c/i2c_dev.c" "$archive" -o "$work/cache/i2c_dev" ||
+    refuse "examples/c/i2c_dev.c doesn't build"
+CACHE=$work/cache tried program programs 0
+names="$names program"
+wait
+. "$here/../tally.sh"
+for name in $names; do
+    if grep -qE ' passed, [1-9][0-9]* failed$' "$work/$name/guest/said" 2> /dev/null; then
+        tell 0; echo "$name: found"
+        sed "s/^/    /; s/\(.\{150\}\).*/\1 ../" "$work/$name/guest/said"
+    else
+        tell 1; echo "$name: NOT FOUND"; tail -5 "$work/$name/boot" "$work/$name/guest/said"
+    fi
+done
+end_tally

@@ -1,0 +1,229 @@
+#!/usr/bin/env python3
+"""Tries the decoder for sigrok. Its tables must be those that make_tables.py makes; what it tells of random packets must be
+what `pmb decode --all --values` tells; and where sigrok-cli is installed, it must tell the stored waveforms as decode
+tells their traces, and waveforms that are drawn of the rows of trials/programs/told_rows.py as those have it by hand. What is wrong
+is printed, and the status is then 1.
+
+    trials/sigrok/try.py [--plain] [SEED [TEXTS]]
+
+It runs the built program, or the one that the environment variable PMB names; with --plain the plain model of python/tests/plain.
+Captures are read by the package of python/, whose library `pip install ./python` builds, or PMHOST_LIBRARY names.
+"""
+import os
+import random
+import re
+import shutil
+import subprocess
+import sys
+import tempfile
+
+sys.dont_write_bytecode = True
+FOLDER = os.path.dirname(os.path.abspath(__file__))
+sys.path[:0] = [FOLDER, os.path.dirname(FOLDER)]
+
+import make_tables  # noqa: E402
+import paths  # noqa: E402, F401
+import program  # noqa: E402
+import told_rows  # noqa: E402
+from plain import draw_captures  # noqa: E402
+from plain.trace import parts_of  # noqa: E402
+from pmhost.capture import trace  # noqa: E402
+from pmhost.capture.vcd import waveform  # noqa: E402
+from tally import Tally  # noqa: E402
+from try_told_captures import Plain, Program, traces, wanted_of  # noqa: E402
+
+CAPTURES = os.path.join(program.ROOT, "python/tests/data/captures")
+NAMES = ["bus", "faults", "kernel"]
+# What the decoder says of a packet that isn't good, by the fault that `decode` tells.
+WORDS = {"F1": "another address answers", "F5": "wrong PEC", "F7": "wrong direction", "F8": "PAGE_PLUS doesn't carry this code"}
+# Of the first packet of bus.vcd and of the third, what stands below its bytes, and how its PEC is.
+BYTES = ["address 58", "PAGE_PLUS_WRITE", "count", "page 0", "VOUT_COMMAND", "data", "data"]
+THIRD = ["address 58", "PAGE_PLUS_WRITE", "count", "page 1", "VOUT_COMMAND", "data", "data"]
+PECS = ["PEC right", "PEC right", "PEC 5A, 4C would be right", "PEC right", "PEC right", "PEC right", "PEC right"]
+
+
+def reader(vout=""):
+    """The part of the decoder that needs no sigrok, from its folder."""
+    import importlib.util
+    name = "pmbus"
+    if name not in sys.modules:
+        # The folder's own __init__.py needs sigrok.
+        spec = importlib.util.spec_from_loader(name, None, is_package=True)
+        package = importlib.util.module_from_spec(spec)
+        package.__path__ = [os.path.join(FOLDER, name)]
+        sys.modules[name] = package
+    return importlib.import_module(f"{name}.packets").Reader(vout)
+
+
+def wanted_words(told, write):
+    """What the decoder has to say where `decode` tells this behind a line's number."""
+    found = re.match(r"(..) (?:write|read) (F\d) ", told)
+    if not found:
+        return told
+    where, fault = found.groups()
+    if where == "--":
+        return "-- no address of a device"
+    return f"{where} {WORDS.get(fault) or ('too short' if len(write) < 2 else WORDS['F1'])}"
+
+
+def table_faults(decode):
+    try:
+        text = make_tables.text_of(make_tables.tables_of(lambda it: decode(it.encode(), make_tables.OPTIONS)[1]))
+    except make_tables.NoTables as fault:
+        yield f"no tables: {fault}"
+        return
+    if text != make_tables.stored():
+        yield "the stored tables are others: run trials/sigrok/make_tables.py"
+
+
+def random_faults(decode, seed, texts):
+    """Random packets, all but those that no bus can have."""
+    dice, count = random.Random(seed), 0
+    for _ in range(texts):
+        vout = dice.choice(["", "", *draw_captures.FORMATS])
+        lines = [draw_captures.packet_line(dice, 0) for _ in range(60)]
+        lines = [line for line in lines if not isinstance(parts_of(line), str) and parts_of(line)[0]]
+        words = ["--all", "--values", *([f"--vout={vout}"] if vout else [])]
+        told, decoder = decode(b"\n".join(lines), words)[1].splitlines(), reader(vout)
+        for number, line in enumerate(lines, 1):
+            write, read = parts_of(line)
+            found, wanted = decoder.tell(write, read).text, wanted_words(told[number - 1].partition(" ")[2] + " ", write)
+            count += 1
+            if found != wanted.rstrip(" "):
+                yield f"{line!r} with vout {vout!r} gives {found!r}, and not {wanted!r}"
+    print(f"  {count} random packets")
+
+
+def sigrok(path, options="", row="packets"):
+    """What sigrok-cli says of a waveform by the decoder."""
+    words = ["sigrok-cli", "-I", "vcd", "-i", path, "-P", f"i2c:scl=SCL:sda=SDA,pmbus{options}", "-A", f"pmbus={row}"]
+    ran = subprocess.run(words, capture_output=True, text=True, env={**os.environ, "SIGROKDECODE_DIR": FOLDER})
+    return [line.partition(": ")[2] for line in ran.stdout.splitlines()], ran.stderr
+
+
+def stored(name):
+    with open(os.path.join(CAPTURES, name), encoding="utf-8") as file:
+        return file.read()
+
+
+def waveform_faults(decode, name):
+    """A stored waveform is told as its trace is; a comment of the trace is no packet."""
+    lines = [*trace("sigrok", stored(f"{name}.sigrok").splitlines(), 0x58)]
+    told = decode("\n".join(lines).encode(), ["--all", "--values"])[1].splitlines()
+    by_line = {int(line.split(" ")[0]): line.partition(" ")[2] for line in told if line[0].isdigit()}
+    wanted = []
+    for number, line in enumerate(lines, 1):
+        if line.startswith(("# byte ", "# another device")):
+            continue
+        words = line[2:] if line.startswith("#") else wanted_words(by_line[number] + " ", line.split("/")[0].split()).rstrip(" ")
+        wanted.append(words)
+    # A packet that the capture's end cuts isn't told.
+    if wanted and wanted[-1].startswith("no stop"):
+        wanted.pop()
+    found, errors = sigrok(os.path.join(CAPTURES, f"{name}.vcd"), ":address=58")
+    if found != wanted:
+        yield f"it tells {found} {errors!r}, and not {wanted}"
+
+
+def drawn_faults():
+    """Waveforms that are drawn of rows, which were written by hand."""
+    for options, text in told_rows.GROUPS:
+        # The decoder tells values always, so rows without them serve where there is none.
+        if {*options.split()} & {"--json", "--times"} or "--values" not in options and text != told_rows.ALL:
+            continue
+        for rows in traces(text):
+            yield from drawn_fault(options, rows)
+
+
+def is_on_bus(said, parts):
+    """Whether a row is a packet that a bus can have."""
+    if said.startswith("X") or not all(parts) or int(parts[0][0], 16) & 1:
+        return False
+    return len(parts) == 1 or int(parts[1][0], 16) == int(parts[0][0], 16) + 1
+
+
+def drawn_fault(options, rows):
+    trace_text, told, _ = wanted_of(rows, options.split())
+    lines, wanted = trace_text.splitlines(), []
+    for line in told:
+        number, said = line.split(" ", 1)
+        parts = [part.split() for part in lines[int(number) - 1].split("/")]
+        if is_on_bus(said, parts) and ("--all" in options or " F" not in said):
+            wanted.append(wanted_words(said + " ", parts[0]).rstrip(" "))
+        else:
+            lines[int(number) - 1] = "# not drawn"
+    vout = re.search(r"--vout[= ](\S+)", options)
+    with tempfile.NamedTemporaryFile("w", suffix=".vcd") as file:
+        file.write(waveform("\n".join(lines)))
+        file.flush()
+        # Colons part options of sigrok-cli.
+        found, errors = sigrok(file.name, ":vout=" + vout[1].replace(":", "/") if vout else "")
+    if found != wanted:
+        yield f"{options} {rows[0]}: it tells {found} {errors!r}, and not {wanted}"
+
+
+def random_wave_faults(decode, seed):
+    """A waveform of random packets that a bus can have is told as their trace is."""
+    dice, lines = random.Random(seed), []
+    while len(lines) < 300:
+        parts = parts_of(draw_captures.packet_line(dice, 0))
+        words = [] if isinstance(parts, str) else [bytes(part).hex(" ").split() for part in parts if part is not None]
+        if words and words[0] and is_on_bus("", words):
+            lines.append(" / ".join(" ".join(part) for part in words))
+    told = decode("\n".join(lines).encode(), ["--all", "--values", "--vout=ulinear16:-12"])[1].splitlines()
+    wanted = [wanted_words(said.partition(" ")[2] + " ", line.split("/")[0].split()).rstrip(" ") for said, line in zip(told, lines)]
+    with tempfile.NamedTemporaryFile("w", suffix=".vcd") as file:
+        file.write(waveform("\n".join(lines)))
+        file.flush()
+        found, errors = sigrok(file.name, ":vout=ulinear16/-12")
+    for line, one, other in zip(lines, found, wanted):
+        if one != other:
+            yield f"{line} is told as {one!r}, and not {other!r}"
+    if len(found) != len(lines):
+        yield f"{len(found)} of {len(lines)} packets are told: {errors!r}"
+
+
+def byte_faults():
+    """What stands below the bytes of a packet, and what is said of a bad option."""
+    path = os.path.join(CAPTURES, "bus.vcd")
+    found = [line for line in sigrok(path, row="bytes")[0] if not line.startswith("PEC")]
+    pecs = [line for line in sigrok(path, row="bytes")[0] if line.startswith("PEC")]
+    if found[:7] != BYTES or found[16:23] != THIRD or pecs != PECS:
+        yield f"the bytes are {found[:23]} and {pecs}"
+    for options, said in ((":address=B0", "address: give two hexadecimal digits, as 58"),
+                          (":vout=linear16", "vout: give linear11, ulinear16/N or direct/M/B/R")):
+        found, errors = sigrok(path, options)
+        if found or said not in errors:
+            yield f"{options} gives {found[:3]}, {errors!r}"
+
+
+def checks(engine, seed, texts):
+    has_json = "--json" in engine.every
+    if not has_json:
+        print("this decode has no --json: the tables are compared with those of the plain model")
+    yield "tables", table_faults(engine.decode if has_json else Plain().decode)
+    yield "random packets", random_faults(engine.decode, seed, texts)
+    if shutil.which("sigrok-cli"):
+        for name in NAMES:
+            yield f"{name}.vcd", waveform_faults(engine.decode, name)
+        yield "drawn rows", drawn_faults()
+        yield "drawn random packets", random_wave_faults(engine.decode, seed)
+        yield "bytes", byte_faults()
+
+
+def main():
+    program.answer_help(__doc__)
+    words = [word for word in sys.argv[1:] if word != "--plain"]
+    if len(words) > 2 or not all(re.fullmatch("[0-9]{1,9}", word) for word in words):
+        sys.exit(__doc__.strip())
+    seed, texts = [*map(int, words), *[1, 60][len(words):]]
+    engine, tally = Plain() if "--plain" in sys.argv else Program(), Tally()
+    for name, found in checks(engine, seed, texts):
+        tally.tell(name, found)
+    if not shutil.which("sigrok-cli"):
+        print("no sigrok-cli here: the waveforms weren't decoded")
+    return tally.end()
+
+
+if __name__ == "__main__":
+    sys.exit(main())

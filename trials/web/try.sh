@@ -1,0 +1,48 @@
+#!/usr/bin/env bash
+# Tries examples/web: its modules under node, and its page in a headless browser, where they are on this machine.
+#
+#   trials/web/try.sh FOLDER
+#
+# FOLDER is what trials/web/build.sh left. Says what is wrong, what isn't on this machine, and last how many rows passed
+# and failed.
+set -u
+case " $* " in *" --help "* | *" -h "*) sed -n '2,/^[^#]/s/^# \{0,1\}//p' "$0"; exit 0 ;; esac
+[ -f "${1-}/pm.wasm" ] || { echo "try.sh: give the folder that trials/web/build.sh left" >&2; exit 2; }
+folder=$(realpath "$1")
+cd "$(dirname "$0")"
+work=$(mktemp -d)
+trap 'rm -rf "$work"; [ -z "${server-}" ] || kill "$server" 2> /dev/null' EXIT
+. ../tally.sh
+if command -v node > /dev/null; then
+    node --no-warnings --experimental-wasm-memory64 rows.mjs "$folder" > "$work/rows" 2> "$work/log"
+    grep -v ' passed, ' "$work/rows"
+    if tail -1 "$work/rows" | grep -qx '[0-9]* passed, [0-9]* failed'; then
+        read -r passed _ failed _ <<< "$(tail -1 "$work/rows" | tr -d ,)"
+    else
+        tell 1; echo "the rows under node end before their last line:"; grep -m 1 'Error' "$work/log"
+    fi
+else
+    echo "node: not on this machine: nodejs"
+fi
+browser=$(command -v chromium || command -v google-chrome || true)
+if [ -n "$browser" ] && command -v python3 > /dev/null; then
+    python3 -u -m http.server --bind 127.0.0.1 -d "$folder" 0 > "$work/server" 2>&1 &
+    server=$!
+    for _ in $(seq 50); do grep -q 'http://' "$work/server" && break; sleep 0.1; done
+    page=$(grep -o 'http://127.0.0.1:[0-9]*' "$work/server" | head -1)
+    timeout 60 "$browser" --headless --no-sandbox --disable-gpu --virtual-time-budget=5000 --dump-dom "$page/index.html" \
+        > "$work/page" 2> "$work/log"
+    if grep -q 'data-shown="done false true true"' "$work/page"; then
+        tell 0
+    else
+        tell 1; echo "the page doesn't show its first example:"; tail -3 "$work/log"
+    fi
+    if grep -q '<div class="verdict bad">It says: success. 3.3 V reached output 0.' "$work/page"; then
+        tell 0
+    else
+        tell 1; echo "the page doesn't say what went wrong"
+    fi
+else
+    echo "a browser: not on this machine: chromium"
+fi
+end_tally
