@@ -23,7 +23,7 @@ use Rattle.pm_values.specs.declared.formats.GivenFormats.{GivenFormats}
 use Rattle.pm_decode.specs.CaptureText.{capture_text, counts_text, line_text, lines_text, plain_counts, plain_line, totals_line}
 use Rattle.pm_decode.specs.Hearing.{HeardLines, heard_of, is_usual, other_code, told_in}
 use Rattle.pm_decode.specs.Laws.{plain_options}
-use Rattle.pm_decode.specs.Readings.{Entry, entries_of, entry_of, judged_in}
+use Rattle.pm_decode.specs.Readings.{Entry, entries_of, entry_of, judged_as, judged_in}
 
 module _ (formats : GivenFormats) (long : Bool) where
   -- a line by what it reads as
@@ -63,10 +63,15 @@ module _ (formats : GivenFormats) (long : Bool) where
   all_usual [] = refl
   all_usual (entry ∷ entries) = rw (no_code entry) (ap (λ l. entry ∷ l) (all_usual entries))
 
+  -- what a line says where packets without PEC aren't told
+  said_plain : (parts : Result TraceLine LineFault) → judged_as false parts ≡ reading_judged parts
+  said_plain (Ok parts) = refl
+  said_plain (Err fault) = refl
+
   -- what is told of the lines
   as_told : (lines : List Numbered) → map (told_in false) (map (entry_of false) lines) ≡ map told_of lines
   as_told [] = refl
-  as_told (line ∷ lines) = ap (λ l. told_of line ∷ l) (as_told lines)
+  as_told (line ∷ lines) = λ i. (line.0, said_plain (line_read line.1) i) ∷ as_told lines i
 
   heard_by : (lines : List Numbered) → (heard_of false (map (entry_of false) lines)).counts ≡ counts_of (map told_of lines)
   unfolding heard_of

@@ -73,10 +73,10 @@ entries_of times text = map (entry_of times) (unskipped_from 1 text)
 abbrev pub judged_by : Bool → TraceLine → Judged
 judged_by all parts = if all then judged_anyway parts.write parts.read else parts_judged parts.write parts.read
 
-abbrev pub anyway_judged : Result TraceLine LineFault → Judged
-anyway_judged (Ok parts) = judged_anyway parts.write parts.read
-anyway_judged (Err fault) = reading_judged (Err fault)
-
 -- what a line says of a packet
+abbrev pub judged_as : Bool → Result TraceLine LineFault → Judged
+judged_as all (Ok parts) = judged_by all parts
+judged_as all (Err fault) = reading_judged (Err fault)
+
 abbrev pub judged_in : Bool → Entry → Judged
-judged_in all entry = if all then anyway_judged entry.1.parts else reading_judged entry.1.parts
+judged_in all entry = judged_as all entry.1.parts

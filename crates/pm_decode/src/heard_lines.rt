@@ -10,8 +10,8 @@ use crate::line_text::{push_bad_line, push_packet_line};
 use crate::options::TellOptions;
 use crate::others::Others;
 use crate::timed_line::LineReading;
-use pm_trace::{LineFault, Shown, Tally, packet_shown};
 use arrayvec::ArrayVec;
+use pm_trace::{LineFault, Shown, Tally, packet_shown};
 use pm_values::{Lessons, Packet, address_otherwise, completed_part, shown_with};
 use std::alloc::{AllocError, Global};
 use std::marker::Model;
@@ -78,7 +78,7 @@ impl HeardLines {
     }
 
     // The same of a line that could be read.
-    #[tactic(auto, using(crate::proofs::HearingLemmas::heard_one))]
+    #[tactic(auto, using(crate::proofs::PecLemmas::completed_said, crate::proofs::PecLemmas::usual_said))]
     fn hear_packet(
         &mut self,
         options: &TellOptions,
@@ -97,7 +97,7 @@ impl HeardLines {
         let shown = packet_shown(packet.write, packet.read);
         match completed_if(options.all, packet, &shown) {
             Some(part) => {
-                let whole = shown_with(packet.write, packet.read.is_some(), &part);
+                let whole = shown_with(packet.write, packet.is_read(), &part);
                 self.hear_shown(options, number, time, packet, &whole, true, text)
             }
             None => self.hear_shown(options, number, time, packet, &shown, false, text),
@@ -173,17 +173,17 @@ impl HeardLines {
 }
 
 // The last part of a packet with its PEC, where it lacks nothing but that, and packets without PEC are told.
-fn completed_if(
-    all: bool,
-    packet: &Packet<'_>,
-    shown: &Shown<'_>,
-) -> Option<ArrayVec<u8, 16>>
+fn completed_if(all: bool, packet: &Packet<'_>, shown: &Shown<'_>) -> Option<ArrayVec<u8, 16>>
     requires { judged_in shown.now ≡ parts_judged packet.now.write.now (option_map (λ bytes. bytes.now) packet.now.read) }
     ensures lacks { is_some result ≡ is_without_pec all (packet_in packet.now) }
     ensures part { IfSome result (λ part.
         IsCompleted packet.now.write.now (option_map (λ bytes. bytes.now) packet.now.read) part.items) }
 {
-    if all { completed_part(packet, shown) } else { None }
+    if all {
+        completed_part(packet, shown)
+    } else {
+        None
+    }
 }
 
 // The code by which a packet is told that the table doesn't have.

@@ -16,9 +16,7 @@ use pm_frame::{FrameFault, FrameView, Message};
 use pm_lines::push_hex;
 use pm_table::{Code, Coefficients};
 use pm_trace::{Shown, answered, coefficients_in};
-use pm_values::{
-    Content, Lessons, Packet, other_value, packet_value, push_spaced, standard_name,
-};
+use pm_values::{Content, Lessons, Packet, other_value, packet_value, push_spaced, standard_name};
 use std::alloc::AllocError;
 
 /// Appends the fields of a packet as the command table has it.

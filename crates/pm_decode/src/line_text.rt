@@ -100,9 +100,13 @@ pub(crate) fn push_packet_line(
         ++ line_text options.now lessons.now (number, record { time = time; parts = Ok (packet_in packet.now) })) }
 {
     if options.json {
-        push_packet_json(text, options, lessons, number, time, packet, shown, lacks, other)
+        push_packet_json(
+            text, options, lessons, number, time, packet, shown, lacks, other,
+        )
     } else {
-        push_packet_plain(text, options, lessons, number, time, packet, shown, lacks, other)
+        push_packet_plain(
+            text, options, lessons, number, time, packet, shown, lacks, other,
+        )
     }
 }
 

@@ -58,8 +58,7 @@ has_pec write (Some read) = ends_in_pec write 1 read
 
 -- there is a byte, and each is FFh
 abbrev pub are_ones : List ℕ → Bool
-are_ones [] = false
-are_ones (byte ∷ bytes) = byte == 0xFF && list_all (λ one. one == 0xFF) bytes
+are_ones bytes = not (length bytes == 0) && list_all (λ byte. byte == 0xFF) bytes
 
 -- what was read behind the address is nothing but FFh, and no PEC of it is right
 abbrev pub is_all_ones : List ℕ → Option (List ℕ) → Bool
@@ -198,11 +197,14 @@ is_text_code code = nat_le 0x99 code && nat_le code 0x9E || (code == 0xAD || cod
 abbrev pub is_told_letter : ℕ → Bool
 is_told_letter byte = nat_le 32 byte && (nat_le byte 126 && (not (byte == 34) && not (byte == 92)))
 
--- a count, and as many letters, at least one
+-- as many letters as the count says, at least one
+abbrev pub is_counted : ℕ → List ℕ → Bool
+is_counted count letters = not (length letters == 0) && (count == length letters && list_all is_told_letter letters)
+
+-- the letters behind their count
 abbrev pub letters_in : List ℕ → Option (List ℕ)
-letters_in (count ∷ letter ∷ letters) = if count == length (letter ∷ letters) && list_all is_told_letter (letter ∷ letters)
-    then Some (letter ∷ letters) else None
-letters_in bytes = None
+letters_in [] = None
+letters_in (count ∷ letters) = if is_counted count letters then Some letters else None
 
 -- the bytes that say something: those of an answer, otherwise what was written
 abbrev pub said_bytes : ContentBytes → List ℕ

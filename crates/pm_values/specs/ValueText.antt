@@ -46,10 +46,13 @@ point_text part = if part == 0 then [] else codes "." ++ places 6 part
 abbrev pub size_text : ℕ → List ℕ
 size_text size = decimal (size / 1000000) ++ point_text (size % 1000000)
 
+unfoldable pub minus : List ℕ
+minus = codes "-"
+
 -- so many millionths as a decimal number
 abbrev pub decimal_of : ℤ → List ℕ
 decimal_of (pos size) = size_text size
-decimal_of (negsuc below) = codes "-" ++ size_text (below + 1)
+decimal_of (negsuc below) = minus ++ size_text (below + 1)
 
 -- the names of the bits that are set; each bit of a status has a name
 abbrev pub flags_text : Status → ℕ → List ℕ
@@ -61,10 +64,13 @@ speed_text byte = if bit_and byte 0x60 == 0x00 then codes "100 kHz"
     else (if bit_and byte 0x60 == 0x20 then codes "400 kHz"
     else (if bit_and byte 0x60 == 0x40 then codes "1 MHz" else codes "reserved speed"))
 
+-- whether it has PEC, its bit 7
+abbrev pub pec_text : ℕ → List ℕ
+pec_text byte = if bit_and byte 0x80 == 0 then [] else codes "PEC, "
+
 -- a byte of CAPABILITY
 unfoldable pub capability_text : ℕ → List ℕ
-capability_text byte = (if bit_and byte 0x80 == 0 then [] else codes "PEC, ")
-    ++ (speed_text byte ++ names_from (codes ", ") [] false capability_rows byte)
+capability_text byte = pec_text byte ++ (speed_text byte ++ names_from (codes ", ") [] false capability_rows byte)
 
 -- what turns an output on and off, by bits 4 to 2 of ON_OFF_CONFIG
 abbrev pub switch_text : ℕ → List ℕ
@@ -73,12 +79,16 @@ switch_text byte = if bit_and byte 0x10 == 0 then codes "always on"
     else (if bit_and byte 0x0C == 0x08 then codes "by OPERATION"
     else (if bit_and byte 0x0C == 0x04 then codes "by CONTROL" else codes "by neither")))
 
--- how CONTROL does, by its bits 1 and 0, where it does
+-- how CONTROL does, by its bits 1 and 0
+abbrev pub polarity_text : ℕ → List ℕ
+polarity_text byte = if bit_and byte 0x02 == 0 then codes ", CONTROL active low" else codes ", CONTROL active high"
+
+abbrev pub delay_text : ℕ → List ℕ
+delay_text byte = if bit_and byte 0x01 == 0 then codes ", off with delay" else codes ", off at once"
+
+-- the same, where CONTROL does
 abbrev pub control_text : ℕ → List ℕ
-control_text byte = if bit_and byte 0x14 == 0x14
-    then (if bit_and byte 0x02 == 0 then codes ", CONTROL active low" else codes ", CONTROL active high")
-    ++ (if bit_and byte 0x01 == 0 then codes ", off with delay" else codes ", off at once")
-    else []
+control_text byte = if bit_and byte 0x14 == 0x14 then polarity_text byte ++ delay_text byte else []
 
 -- a byte of ON_OFF_CONFIG
 unfoldable pub on_off_text : ℕ → List ℕ

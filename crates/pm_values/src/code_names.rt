@@ -1,48 +1,34 @@
-//! The names of the command codes as PMBus 1.3 Part II prints them.
+//! The names of the command codes as PMBus 1.3 Part II prints them, beside those that the command table has.
 ghost use Rattle.std.specs.Prelude.{◌≡◌, map};
 ghost use Rattle.pm_values.specs.CodeNames.{name_among as spec_name_among, rows_from_00, rows_from_20, rows_from_40, rows_from_60, rows_from_80, rows_from_A0, rows_near as spec_rows_near, standard_name as spec_standard_name};
+
+use pm_table::Code;
 
 /// A code and its name.
 type CodeRow = (u8, &'static str);
 
-static FROM_00: [CodeRow; 21] = [
-    (0x00, "PAGE"),
-    (0x01, "OPERATION"),
+static FROM_00: [CodeRow; 12] = [
     (0x02, "ON_OFF_CONFIG"),
-    (0x03, "CLEAR_FAULTS"),
     (0x04, "PHASE"),
-    (0x05, "PAGE_PLUS_WRITE"),
-    (0x06, "PAGE_PLUS_READ"),
     (0x07, "ZONE_CONFIG"),
     (0x08, "ZONE_ACTIVE"),
-    (0x10, "WRITE_PROTECT"),
     (0x11, "STORE_DEFAULT_ALL"),
     (0x12, "RESTORE_DEFAULT_ALL"),
     (0x13, "STORE_DEFAULT_CODE"),
     (0x14, "RESTORE_DEFAULT_CODE"),
-    (0x15, "STORE_USER_ALL"),
-    (0x16, "RESTORE_USER_ALL"),
     (0x17, "STORE_USER_CODE"),
     (0x18, "RESTORE_USER_CODE"),
-    (0x19, "CAPABILITY"),
     (0x1A, "QUERY"),
     (0x1B, "SMBALERT_MASK"),
 ];
 
-static FROM_20: [CodeRow; 28] = [
-    (0x20, "VOUT_MODE"),
-    (0x21, "VOUT_COMMAND"),
+static FROM_20: [CodeRow; 21] = [
     (0x22, "VOUT_TRIM"),
     (0x23, "VOUT_CAL_OFFSET"),
-    (0x24, "VOUT_MAX"),
-    (0x25, "VOUT_MARGIN_HIGH"),
-    (0x26, "VOUT_MARGIN_LOW"),
     (0x27, "VOUT_TRANSITION_RATE"),
     (0x28, "VOUT_DROOP"),
     (0x29, "VOUT_SCALE_LOOP"),
     (0x2A, "VOUT_SCALE_MONITOR"),
-    (0x2B, "VOUT_MIN"),
-    (0x30, "COEFFICIENTS"),
     (0x31, "POUT_MAX"),
     (0x32, "MAX_DUTY"),
     (0x33, "FREQUENCY_SWITCH"),
@@ -93,7 +79,7 @@ static FROM_40: [CodeRow; 30] = [
     (0x5F, "POWER_GOOD_OFF"),
 ];
 
-static FROM_60: [CodeRow; 19] = [
+static FROM_60: [CodeRow; 15] = [
     (0x60, "TON_DELAY"),
     (0x61, "TON_RISE"),
     (0x62, "TON_MAX_FAULT_LIMIT"),
@@ -105,17 +91,13 @@ static FROM_60: [CodeRow; 19] = [
     (0x69, "POUT_OP_FAULT_RESPONSE"),
     (0x6A, "POUT_OP_WARN_LIMIT"),
     (0x6B, "PIN_OP_WARN_LIMIT"),
-    (0x78, "STATUS_BYTE"),
-    (0x79, "STATUS_WORD"),
-    (0x7A, "STATUS_VOUT"),
     (0x7B, "STATUS_IOUT"),
     (0x7C, "STATUS_INPUT"),
     (0x7D, "STATUS_TEMPERATURE"),
-    (0x7E, "STATUS_CML"),
     (0x7F, "STATUS_OTHER"),
 ];
 
-static FROM_80: [CodeRow; 32] = [
+static FROM_80: [CodeRow; 27] = [
     (0x80, "STATUS_MFR_SPECIFIC"),
     (0x81, "STATUS_FANS_1_2"),
     (0x82, "STATUS_FANS_3_4"),
@@ -124,12 +106,8 @@ static FROM_80: [CodeRow; 32] = [
     (0x85, "READ_KWH_CONFIG"),
     (0x86, "READ_EIN"),
     (0x87, "READ_EOUT"),
-    (0x88, "READ_VIN"),
     (0x89, "READ_IIN"),
     (0x8A, "READ_VCAP"),
-    (0x8B, "READ_VOUT"),
-    (0x8C, "READ_IOUT"),
-    (0x8D, "READ_TEMPERATURE_1"),
     (0x8E, "READ_TEMPERATURE_2"),
     (0x8F, "READ_TEMPERATURE_3"),
     (0x90, "READ_FAN_SPEED_1"),
@@ -140,7 +118,6 @@ static FROM_80: [CodeRow; 32] = [
     (0x95, "READ_FREQUENCY"),
     (0x96, "READ_POUT"),
     (0x97, "READ_PIN"),
-    (0x98, "PMBUS_REVISION"),
     (0x99, "MFR_ID"),
     (0x9A, "MFR_MODEL"),
     (0x9B, "MFR_REVISION"),
@@ -193,7 +170,12 @@ static FROM_A0: [CodeRow; 36] = [
 pub fn standard_name(code: u8) -> &'static str
     ensures { result.now ≡ spec_standard_name code }
 {
-    name_among(rows_near(code), code)
+    let code = Code(code);
+    if code.is_known() {
+        code.name()
+    } else {
+        name_among(rows_near(code.0), code.0)
+    }
 }
 
 // The name of a code among these rows.

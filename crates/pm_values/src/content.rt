@@ -2,7 +2,7 @@
 ghost use Rattle.std.specs.Prelude.{◌≡◌, Some, true, option_map};
 ghost use Rattle.std.specs.List.{list_all};
 ghost use Rattle.pm_values.specs.Contents.{content_in};
-ghost use Rattle.pm_values.specs.Otherwise.{content_of, has_pec as spec_has_pec, is_text_code as spec_is_text_code, is_told_letter as spec_is_told_letter, letters_in as spec_letters_in, read_content as spec_read_content, write_content as spec_write_content};
+ghost use Rattle.pm_values.specs.Otherwise.{content_of, has_pec as spec_has_pec, is_counted as spec_is_counted, is_text_code as spec_is_text_code, is_told_letter as spec_is_told_letter, letters_in as spec_letters_in, read_content as spec_read_content, write_content as spec_write_content};
 
 use crate::packet::{Packet, shown_of};
 use pm_table::Code;
@@ -32,7 +32,11 @@ impl<'a> Packet<'a> {
         match self.read {
             None => write_content(code, shown_of(2, has_pec, self.write)),
             Some(read) => {
-                read_content(code, shown_of(2, false, self.write), shown_of(1, has_pec, read))
+                read_content(
+                    code,
+                    shown_of(2, false, self.write),
+                    shown_of(1, has_pec, read),
+                )
             }
         }
     }
@@ -44,8 +48,7 @@ fn write_content<'a>(code: u8, written: &'a [u8]) -> Content<'a>
 {
     match written {
         [count, page, carried, bytes @ ..]
-            if Code(code) == Code::PAGE_PLUS_WRITE && usize::from(*count) == bytes.len() + 2 =>
-        {
+            if Code(code) == Code::PAGE_PLUS_WRITE && usize::from(*count) == bytes.len() + 2 => {
             Content {
                 page: Some(*page),
                 code: *carried,
@@ -70,8 +73,7 @@ fn read_content<'a>(code: u8, written: &'a [u8], answer: &'a [u8]) -> Content<'a
         ([count, page, carried], [size, bytes @ ..])
             if Code(code) == Code::PAGE_PLUS_READ
                 && *count == 2
-                && usize::from(*size) == bytes.len() =>
-        {
+                && usize::from(*size) == bytes.len() => {
             Content {
                 page: Some(*page),
                 code: *carried,
@@ -120,20 +122,33 @@ fn is_text_code(code: u8) -> bool
     (0x99 <= code && code <= 0x9E) || code == 0xAD || code == 0xAE
 }
 
-// The letters that follow their count, at least one.
+// The letters behind their count.
 fn letters_in<'a>(bytes: &'a [u8]) -> Option<&'a str>
     ensures { option_map (λ letters. letters.now) result ≡ spec_letters_in bytes.entry.now }
 {
-    match bytes {
-        [count, letters @ ..]
-            if !letters.is_empty()
-                && usize::from(*count) == letters.len()
-                && letters.iter().all(|letter| is_told_letter(*letter)) =>
-        {
-            text_of(letters)
-        }
-        _ => None,
+    let [count, letters @ ..] = bytes else {
+        return None;
+    };
+    if is_counted(*count, letters) {
+        text_of(letters)
+    } else {
+        None
     }
+}
+
+// Whether there are as many letters as the count says, at least one.
+fn is_counted(count: u8, letters: &[u8]) -> bool
+    ensures counted { result ≡ spec_is_counted count letters.now }
+    ensures letters { result ≡ true → list_all spec_is_told_letter letters.now ≡ true }
+{
+    !letters.is_empty() && usize::from(count) == letters.len() && are_letters(letters)
+}
+
+// Whether each byte can stand in a text in quotation marks.
+fn are_letters(letters: &[u8]) -> bool
+    ensures { result ≡ list_all spec_is_told_letter letters.now }
+{
+    letters.iter().all(|letter| is_told_letter(*letter))
 }
 
 // Letters as a text.

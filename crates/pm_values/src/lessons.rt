@@ -2,8 +2,8 @@
 ghost use Rattle.std.specs.Prelude.{◌≡◌, slice_index};
 ghost use Rattle.pm_values.specs.Taught.{is_reading as spec_is_reading, is_voltage as spec_is_voltage, key_of as spec_key_of};
 
-use indexmap::IndexMap;
 use crate::formats::{GivenFormats, direct_only, reading_given};
+use indexmap::IndexMap;
 use pm_frame::Message;
 use pm_num::AnyFormat;
 use pm_table::{Code, Coefficients, VoutMode, cell_of, format_of};
@@ -103,7 +103,8 @@ impl Lessons {
         ensures { OnOk result (self.new ≡ coefficients_taught self.old addr code answer.now) }
     {
         if is_voltage(code) {
-            self.coefficients.insert(key_of(addr, code), coefficients_in(answer))?;
+            self.coefficients
+                .insert(key_of(addr, code), coefficients_in(answer))?;
         }
         Ok(())
     }

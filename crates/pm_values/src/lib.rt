@@ -27,15 +27,13 @@ mod status;
 mod value;
 mod value_text;
 
-pub use content::Content;
 pub use code_names::standard_name;
+pub use content::Content;
 pub use formats::{GivenFormats, ReadingFormat};
 pub use laws::microvolts_are_the_floor;
 pub use lessons::Lessons;
 pub use meaning::{other_value, packet_value};
-pub use otherwise::{
-    address_otherwise, completed_part, push_otherwise, push_spaced, shown_with,
-};
+pub use otherwise::{address_otherwise, completed_part, push_otherwise, push_spaced, shown_with};
 pub use packet::Packet;
 pub use status::{Row, Status};
 pub use value::{Unit, Value};

@@ -29,7 +29,7 @@ pub fn completed_part(packet: &Packet<'_>, shown: &Shown<'_>) -> Option<ArrayVec
         return None;
     }
     let part = packet.with_pec()?;
-    if !packet.is_all_ones() && is_good_with(packet.write, packet.read.is_some(), &part) {
+    if !packet.is_all_ones() && is_good_with(packet.write, packet.is_read(), &part) {
         Some(part)
     } else {
         None
@@ -52,7 +52,11 @@ fn is_short(shown: &Shown<'_>) -> bool
     ensures { result ≡ spec_is_short (judged_in shown.now) }
 {
     match shown {
-        Shown::Faulty { addr: _, read: _, fault } => matches!(fault, FrameFault::Short(_)),
+        Shown::Faulty {
+            addr: _,
+            read: _,
+            fault,
+        } => matches!(fault, FrameFault::Short(_)),
         _ => false,
     }
 }

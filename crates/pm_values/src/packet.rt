@@ -1,5 +1,6 @@
 //! A packet by its bytes.
-ghost use Rattle.std.specs.Prelude.{◌≡◌, ◌-◌, ◌≤◌, IfSome, is_some, length, nat_lt, option_map, slice_index, take};
+ghost use Rattle.std.specs.List.{list_all};
+ghost use Rattle.std.specs.Prelude.{◌≡◌, ◌==◌, ◌-◌, ◌≤◌, IfSome, is_some, length, nat_lt, option_map, slice_index, take};
 ghost use Rattle.pm_values.specs.Otherwise.{IsCompleted, are_ones as spec_are_ones, ends_in_pec as spec_ends_in_pec, has_pec as spec_has_pec, is_all_ones as spec_is_all_ones, last_part, shown_of as spec_shown_of, with_pec as spec_with_pec};
 
 use arrayvec::ArrayVec;
@@ -20,6 +21,13 @@ impl Packet<'_> {
         ensures { result ≡ slice_index self.now.write.now 1 }
     {
         self.write.get(1).copied().unwrap_or(0)
+    }
+
+    /// Whether there is a read part.
+    pub fn is_read(&self) -> bool
+        ensures { result ≡ is_some (option_map (λ bytes. bytes.now) self.now.read) }
+    {
+        self.read.is_some()
     }
 
     /// Whether the last byte is the PEC of all bytes before it, and stands behind the code of a write, or behind the
@@ -73,7 +81,14 @@ fn part_with_pec(before: &[u8], part: &[u8]) -> Option<ArrayVec<u8, 16>>
 fn are_ones(bytes: &[u8]) -> bool
     ensures { result ≡ spec_are_ones bytes.now }
 {
-    !bytes.is_empty() && bytes.iter().all(|byte| *byte == 0xFF)
+    !bytes.is_empty() && all_are_ones(bytes)
+}
+
+// Whether each byte is FFh.
+fn all_are_ones(bytes: &[u8]) -> bool
+    ensures { result ≡ list_all (λ byte. byte == 0xFF) bytes.now }
+{
+    bytes.iter().all(|byte| *byte == 0xFF)
 }
 
 // Whether the last byte of a part is the PEC of all bytes before it, and stands behind this many bytes of the part.

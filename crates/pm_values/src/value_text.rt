@@ -1,7 +1,7 @@
 //! The texts of values.
-ghost use Rattle.std.specs.Prelude.{◌≡◌, ◌++◌, ◌*◌, ◌/◌, ◌%◌, ◌^◌, ◌<◌, ◌≤ℤ◌, pos, neg_ℤ, unsigned_abs, OnOk, map, string_bytes};
+ghost use Rattle.std.specs.Prelude.{◌≡◌, ◌++◌, ◌*◌, ◌/◌, ◌%◌, ◌^◌, ◌<◌, ◌≤ℤ◌, ◌<ℤ◌, pos, neg_ℤ, unsigned_abs, OnOk, map, string_bytes};
 ghost use Rattle.pm_values.specs.Statuses.{names_from};
-ghost use Rattle.pm_values.specs.ValueText.{capability_text, control_text, decimal_of, flags_text, known_text, mode_text, on_off_text, operation_text, places, point_text, protection_text, size_text, speed_text, switch_text, unit_text, value_text};
+ghost use Rattle.pm_values.specs.ValueText.{capability_text, control_text, decimal_of, delay_text, flags_text, known_text, minus as minus_text, mode_text, on_off_text, operation_text, pec_text, places, point_text, polarity_text, protection_text, size_text, speed_text, switch_text, unit_text, value_text};
 ghost use Rattle.pm_values.specs.Values.{millionths as spec_millionths};
 
 use crate::status::{Row, Status, capability_rows, on_off_rows};
@@ -106,16 +106,57 @@ fn push_measured(text: &mut String, ratio: Frac, unit: Unit) -> Result<(), Alloc
 pub fn push_millionths(text: &mut String, ratio: Frac) -> Result<(), AllocError>
     ensures { OnOk result (string_bytes text.new ≡ string_bytes text.old ++ decimal_of (spec_millionths ratio)) }
 {
-    let size = millionths(ratio);
+    push_decimal_number(text, millionths(ratio))
+}
+
+// So many millionths as a decimal number.
+#[tactic(auto, using(crate::proofs::ValueLemmas::negative_text, crate::proofs::ValueLemmas::positive_text))]
+fn push_decimal_number(text: &mut String, size: i128) -> Result<(), AllocError>
+    requires least { neg_ℤ (pos (2 ^ 55 * 1000000)) ≤ℤ size }
+    requires most { size ≤ℤ pos (2 ^ 55 * 1000000) }
+    ensures { OnOk result (string_bytes text.new ≡ string_bytes text.old ++ decimal_of size) }
+{
     if size < 0 {
-        text.push_str("-")?;
-        push_size(text, -size)
+        push_negative(text, size)
     } else {
         push_size(text, size)
     }
 }
 
-// So many millionths as a decimal number.
+// So many millionths below 0, with their sign.
+#[tactic(auto, using(pm_lines::specs::Lemmas::Joins::joins))]
+fn push_negative(text: &mut String, size: i128) -> Result<(), AllocError>
+    requires least { neg_ℤ (pos (2 ^ 55 * 1000000)) ≤ℤ size }
+    requires below { size <ℤ pos 0 }
+    ensures { OnOk result (string_bytes text.new
+        ≡ string_bytes text.old ++ (minus_text ++ size_text (unsigned_abs (neg_ℤ size)))) }
+{
+    let (whole, part) = negative_parts(size);
+    text.push_str(minus())?;
+    push_decimal(text, whole)?;
+    push_point(text, part)
+}
+
+// The whole part of so many millionths below 0, without the sign, and what is left.
+fn negative_parts(size: i128) -> (u64, u64)
+    requires least { neg_ℤ (pos (2 ^ 55 * 1000000)) ≤ℤ size }
+    requires below { size <ℤ pos 0 }
+    ensures whole { result.0 ≡ unsigned_abs (neg_ℤ size) / 1000000 }
+    ensures part { result.1 ≡ unsigned_abs (neg_ℤ size) % 1000000 }
+{
+    let opposite = -size;
+    ((opposite / 1_000_000) as u64, (opposite % 1_000_000) as u64)
+}
+
+// The sign of a number below 0.
+#[tactic(auto, unfolding(crate::specs::ValueText::minus))]
+fn minus() -> &'static str
+    ensures { result.now ≡ minus_text }
+{
+    "-"
+}
+
+// So many millionths, without a sign.
 #[tactic(auto, using(pm_lines::specs::Lemmas::Joins::joins))]
 fn push_size(text: &mut String, size: i128) -> Result<(), AllocError>
     requires above { pos 0 ≤ℤ size }
@@ -187,9 +228,16 @@ fn push_flags(text: &mut String, status: Status, bits: u16) -> Result<(), AllocE
 pub fn push_capability(text: &mut String, byte: u8) -> Result<(), AllocError>
     ensures { OnOk result (string_bytes text.new ≡ string_bytes text.old ++ capability_text byte) }
 {
-    text.push_str(if byte & 0x80 == 0 { "" } else { "PEC, " })?;
+    text.push_str(pec_words(byte))?;
     text.push_str(speed_words(byte))?;
     push_names(text, ", ", "", capability_rows(), u16::from(byte), false)
+}
+
+// Whether CAPABILITY has PEC.
+fn pec_words(byte: u8) -> &'static str
+    ensures { result.now ≡ pec_text byte }
+{
+    if byte & 0x80 == 0 { "" } else { "PEC, " }
 }
 
 // The fastest bus of CAPABILITY.
@@ -245,8 +293,30 @@ fn push_control(text: &mut String, byte: u8) -> Result<(), AllocError>
     if byte & 0x14 != 0x14 {
         return Ok(());
     }
-    text.push_str(if byte & 0x02 == 0 { ", CONTROL active low" } else { ", CONTROL active high" })?;
-    text.push_str(if byte & 0x01 == 0 { ", off with delay" } else { ", off at once" })
+    text.push_str(polarity_words(byte))?;
+    text.push_str(delay_words(byte))
+}
+
+// Which level of CONTROL is active.
+fn polarity_words(byte: u8) -> &'static str
+    ensures { result.now ≡ polarity_text byte }
+{
+    if byte & 0x02 == 0 {
+        ", CONTROL active low"
+    } else {
+        ", CONTROL active high"
+    }
+}
+
+// How CONTROL turns off.
+fn delay_words(byte: u8) -> &'static str
+    ensures { result.now ≡ delay_text byte }
+{
+    if byte & 0x01 == 0 {
+        ", off with delay"
+    } else {
+        ", off at once"
+    }
 }
 
 /// Appends the names of the bits that are set to a text, with a text around each name, and one between two of them.
