@@ -119,6 +119,25 @@ class Traces(unittest.TestCase):
             with self.subTest(name):
                 self.assertEqual(decoded(capture(name))[-1:], [wanted])
 
+    @needs("pmb")
+    def test_the_driver_s_word_for_the_other_page_is_marked(self):
+        told = decoded(capture("sharpest.trace"), "--all", "--values", "--pages", "--vout=ulinear16:-12")
+        self.assertIn("20 58 page 0? VOUT_COMMAND write 1CCD 1.800048 V", told)
+        self.assertEqual([line for line in told if "VOUT_COMMAND write 3000" in line],
+                         ["46 58 VOUT_COMMAND write 3000 3 V WRONG PAGE? lines 39 and 46"])
+        marked = [line for line in told if "WRONG PAGE?" in line]
+        self.assertEqual([line.split()[0] for line in marked], ["43", "44", "45", "46"])
+        example = stored(EXAMPLES, "captures", "ltc2972.trace").splitlines(keepends=True)
+        self.assertEqual("".join(example[2:]), capture("sharpest.trace"))
+
+    @needs("pmb")
+    def test_captures_among_the_examples_are_told_as_stored(self):
+        for name in ("ltc2972", "ltc2977", "ltc3880", "raa228", "tps546d24a"):
+            with self.subTest(name):
+                text = stored(EXAMPLES, "captures", f"{name}.trace")
+                options = text.splitlines()[1].removeprefix("# pmb decode ").split()
+                self.assertEqual("".join(line + "\n" for line in decoded(text, *options)), stored(EXAMPLES, "captures", f"{name}.lines"))
+
     def test_one_bus_of_several_has_each_packet_once(self):
         both = "".join(line + "\n" + line.replace("i2c-1 ", "i2c-0 ") + "\n" for line in capture("bus.linux").splitlines()
                        if "i2c-1 " in line)
