@@ -671,7 +671,7 @@ B0 96 / B1 34 12           {"line":11,"address":"58","direction":"write","fault"
     ("--json --values", """
 B0 06 02 00 20 / B1 01 14 *   {"line":1,"address":"58","page":0,"code":"20","name":"VOUT_MODE","direction":"read","payload":"14","value":"ULINEAR16 -12"}
 B0 05 04 00 21 CD 34 5A    {"line":2,"address":"58","page":0,"code":"21","name":"VOUT_COMMAND","direction":"write","payload":"CD 34","numerator":13517,"denominator":4096,"volts":3.300048}
-B0 88 / B1 00 D3 *         {"line":3,"address":"58","code":"88","name":"READ_VIN","direction":"read","payload":"00 D3","numerator":12,"denominator":1,"volts":12}
+B0 88 / B1 00 D3 *         {"line":3,"address":"58","code":"88","name":"READ_VIN","direction":"read","payload":"00 D3","numerator":768,"denominator":64,"volts":12}
 B0 8C / B1 FB FF *         {"line":4,"address":"58","code":"8C","name":"READ_IOUT","direction":"read","payload":"FB FF","numerator":-5,"denominator":2,"amperes":-2.5}
 B0 8D / B1 19 00 *         {"line":5,"address":"58","code":"8D","name":"READ_TEMPERATURE_1","direction":"read","payload":"19 00","numerator":25,"denominator":1,"celsius":25}
 B0 01 94 *                 {"line":6,"address":"58","code":"01","name":"OPERATION","direction":"write","payload":"94","value":"on, margin low"}
@@ -740,7 +740,7 @@ B0 06 02 01 02 / B1 01 1C  {"line":4,"address":"58","page":1,"code":"02","name":
 B0 79 / B1 02 20           {"line":5,"address":"58","code":"79","name":"STATUS_WORD","direction":"read","payload":"02 20","flags":["INPUT","CML"],"pec":false}
 B0 7B / B1 FF              {"line":6,"address":"58","code":"7B","name":"STATUS_IOUT","direction":"read","payload":"FF","pec":false,"answered":false}
 B0 20 / B1 14              {"line":7,"address":"58","code":"20","name":"VOUT_MODE","direction":"read","payload":"14","value":"ULINEAR16 -12","pec":false}
-B0 88 / B1 00 D3           {"line":8,"address":"58","code":"88","name":"READ_VIN","direction":"read","payload":"00 D3","numerator":12,"denominator":1,"volts":12,"pec":false}
+B0 88 / B1 00 D3           {"line":8,"address":"58","code":"88","name":"READ_VIN","direction":"read","payload":"00 D3","numerator":768,"denominator":64,"volts":12,"pec":false}
 B0 20 14                   {"line":9,"address":"58","code":"20","name":"VOUT_MODE","direction":"write","payload":"14","pec":false}
 """),
     ("--times --json", """

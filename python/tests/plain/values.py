@@ -32,23 +32,9 @@ class Rounded(int):
         return "-" * (self < 0) + str(ones) + f".{rest:06}".rstrip("0").rstrip(".")
 
 
-def in_lowest_terms(pair):
-    """A numerator and a denominator that is a power of 2, halved while both are even."""
-    numerator, denominator = pair
-    while numerator % 2 == 0 and denominator % 2 == 0:
-        numerator, denominator = numerator // 2, denominator // 2
-    return numerator, denominator
-
-
 def number_fields(pair, measured):
-    """A value: the fraction, and its whole millionths."""
+    """A value: the fraction as it stands, and its whole millionths."""
     return {"numerator": pair[0], "denominator": pair[1], measured: Rounded(millionths(pair))}
-
-
-def reading_fields(form, word, measured):
-    """A reading's value: of LINEAR11 a fraction in lowest terms."""
-    pair = value_of(form, word)
-    return number_fields(in_lowest_terms(pair) if form[0] == "linear11" else pair, measured)
 
 
 def operation_words(byte):
@@ -87,7 +73,7 @@ def value_fields(packet, form):
     if name in STATUS_BITS:
         return {"flags": bits_of(STATUS_BITS[name], word)}
     if name in UNITS:
-        return reading_fields(form, word, UNITS[name]) if form else {}
+        return number_fields(value_of(form, word), UNITS[name]) if form else {}
     if packet["code"] in VOUT_CODES:
         return number_fields(value_of(form, word), "volts") if form else {}
     words = WORDS[name](word) if name in WORDS else None
