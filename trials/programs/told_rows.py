@@ -1006,6 +1006,9 @@ B0 21 00                                  58 code 21 VOUT_COMMAND write 00, no P
 B0 21 00 02                               58 page 1? VOUT_COMMAND write 0200 1 V, no PEC
 B0 00 / B1 00                             58 PAGE read 00, no PEC WRONG PAGE? lines 1 and 7
 B0 21 00 10                               58 page 0? VOUT_COMMAND write 1000 1 V, no PEC
+B0 96 / B1 *                              58 code 96 READ_POUT read, PEC right
+B0 96 / B1 34 12                          58 code 96 READ_POUT read 34 12, no PEC
+B0 21 00 10                               58 page 0? VOUT_COMMAND write 1000 1 V, no PEC
 B0 96 / B1                                58 code 96 READ_POUT read, no PEC
 B0 21 00 10                               58 VOUT_COMMAND write 1000 1 V, no PEC
 B0 00 01                                  58 PAGE write 01, no PEC
@@ -1013,15 +1016,15 @@ B0 8B / B1 FF FF                          58 code 8B READ_VOUT read FF FF, all o
 B0 21 00 02                               58 VOUT_COMMAND write 0200 0.125 V, no PEC
 B0 00 01                                  58 PAGE write 01, no PEC
 B0 00 / B1 FF                             58 code 00 PAGE read FF, all ones: nobody answered
-B0 21 00 02                               58 VOUT_COMMAND write 0200 0.125 V, no PEC WRONG PAGE? lines 15 and 16
-B0 00 01                                  58 PAGE write 01, no PEC
-B0 00 / B1                                58 code 00 PAGE read, no PEC
 B0 21 00 02                               58 VOUT_COMMAND write 0200 0.125 V, no PEC WRONG PAGE? lines 18 and 19
 B0 00 01                                  58 PAGE write 01, no PEC
+B0 00 / B1                                58 code 00 PAGE read, no PEC
+B0 21 00 02                               58 VOUT_COMMAND write 0200 0.125 V, no PEC WRONG PAGE? lines 21 and 22
+B0 00 01                                  58 PAGE write 01, no PEC
 B0 00 02 03 04                            58 code 00 PAGE write 02 03 04, no PEC
-B0 21 00 02                               58 page 1? VOUT_COMMAND write 0200 1 V, no PEC WRONG PAGE? lines 21 and 22
+B0 21 00 02                               58 page 1? VOUT_COMMAND write 0200 1 V, no PEC WRONG PAGE? lines 24 and 25
 B0 00                                     58 code 00 PAGE send, no PEC
-B0 8B / B1 00 02                          58 page 1? READ_VOUT read 0200 1 V, no PEC WRONG PAGE? lines 23 and 24
+B0 8B / B1 00 02                          58 page 1? READ_VOUT read 0200 1 V, no PEC WRONG PAGE? lines 26 and 27
 """),
     ("--json --pages --all", """
 B0 00 01                   {"line":1,"address":"58","code":"00","name":"PAGE","direction":"write","payload":"01","pec":false}

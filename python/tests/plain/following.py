@@ -58,9 +58,8 @@ class Pages:
         if packet["address"] is None:
             return None
         place = self.place(packet["address"])
-        if is_good_page(packet) and packet["kind"] == "read" and not self.is_unacknowledged:
-            if place.written and place.written[1] != packet["payload"][0]:
-                return [place.written[0], number]
+        if is_good_page(packet) and packet["kind"] == "read" and place.written and place.written[1] != packet["payload"][0]:
+            return [place.written[0], number]
         return [place.broken, number] if is_of_output(packet) and place.broken is not None else None
 
     def learn(self, number, packet, frame):
