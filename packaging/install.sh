@@ -1,29 +1,58 @@
 #!/usr/bin/env bash
-# Installs what a built tree has below a folder: the programs pmb, pmbhost and pmbpart with their manual pages and
-# completions for bash; for C the host and the model part, libpm_host_c and libpm_device_c, each as an archive and as a shared object
-# with its header (the host's has pm_patient.h beside it), and pm_host.pc and pm_part.pc for pkg-config.
+# Installs what a built tree has below a folder: the command pmhost with its package for Python, the programs pmb, pmbhost and
+# pmbpart, their manual pages and completions for bash; for C the host and the model part, libpm_host and libpm_device, each as an
+# archive and as a shared object with its header (the host's has pm_patient.h beside it), and pm_host.pc and pm_device.pc for
+# pkg-config; README, docs and examples; and the package as a wheel.
 #
 #   packaging/install.sh PREFIX [--library] [--archives FOLDER]
+#   packaging/install.sh PREFIX --uninstall
 #
-# With --library the libraries alone. Programs are those in crates/*/out, or those that PMB, PMBHOST and PMBPART name; one
+# With --library the libraries for C alone. Programs are those in crates/*/out, or those that PMB, PMBHOST and PMBPART name; one
 # that is named '' is left out. The archives are libpm_host_c.a and libpm_device_c.a of FOLDER, or those in crates/*/out. CC is the
-# compiler that makes the shared objects, cc if it isn't set; DESTDIR stands before PREFIX where files are put, and in no
-# file. Nothing is built but the shared objects, and nothing is removed.
+# compiler that makes the shared objects, cc if it isn't set; DESTDIR stands before PREFIX where files are put, and in no file.
+# COMPLETION is a file for pmhost's completion, where its library is made for another machine. Nothing is built but the shared
+# objects. Root without DESTDIR has ldconfig told. --uninstall takes away what the last install put below PREFIX, and just that.
 set -eu
 case " $* " in *" --help "* | *" -h "*) sed -n '2,/^[^#]/s/^# \{0,1\}//p' "$0"; exit 0 ;; esac
 root=$(cd "$(dirname "$0")/.." && pwd)
-prefix='' library='' archives=''
+prefix='' library='' archives='' uninstall=''
 die() { echo "install.sh: $*" >&2; exit 2; }
 while [ $# -gt 0 ]; do
     case $1 in
     --library) library=yes ;;
+    --uninstall) uninstall=yes ;;
     --archives) [ $# -gt 1 ] || die "--archives: give a folder"; archives=$2; shift ;;
-    -*) die "$1: there are --library and --archives FOLDER" ;;
+    -*) die "$1: there are --library, --archives FOLDER and --uninstall" ;;
     *) [ -z "$prefix" ] || die "$1: one folder is enough"; prefix=$1 ;;
     esac
     shift
 done
 case $prefix in '') die "give a folder, as packaging/install.sh /usr/local" ;; /*) ;; *) prefix=$PWD/$prefix ;; esac
+to=${DESTDIR-}$prefix
+list=$to/share/pm-host/installed
+
+# told: the linker's cache knows the libraries, where this is a system's own folder
+told() { if [ "$(id -u)" = 0 ] && [ -z "${DESTDIR-}" ] && command -v ldconfig > /dev/null; then ldconfig; fi; }
+
+# removed: what the list names is gone, and the folders that it made where they are empty
+removed() {
+    sed -n 's/^file //p' "$list" | while IFS= read -r each; do rm -f "$to/$each"; done
+    sed -n 's/^folder //p' "$list" > "$list.folders"
+    rm -f "$list"
+    sort -r "$list.folders" > "${TMPDIR-/tmp}/pm-host-folders.$$"
+    rm -f "$list.folders"
+    while IFS= read -r each; do rmdir "$to/$each" 2> /dev/null || true; done < "${TMPDIR-/tmp}/pm-host-folders.$$"
+    rm -f "${TMPDIR-/tmp}/pm-host-folders.$$"
+}
+
+if [ -n "$uninstall" ]; then
+    [ -f "$list" ] || die "nothing is installed below $to: there is no $list"
+    removed
+    told
+    echo "removed from $to"
+    exit
+fi
+
 pmb=${PMB-$root/crates/pmb/out/pmb} pmbhost=${PMBHOST-$root/crates/pmbhost/out/pmbhost}
 pmbpart=${PMBPART-$root/crates/pmbpart/out/pmbpart}
 
@@ -38,45 +67,94 @@ for each in pm_host_c pm_device_c; do
 done
 if [ -z "$library" ]; then
     program "$pmb" "by (cd crates/pmb && rt run -- replay < stdin), set PMB"
-    program "$pmbhost" "as docs/bus.md says, set PMBHOST"
-    program "$pmbpart" "as docs/desk.md says, set PMBPART"
+    program "$pmbhost" "as docs/board.md says, set PMBHOST"
+    program "$pmbpart" "as docs/no-board.md says, set PMBPART"
+    command -v python3 > /dev/null || die "no python3 on this machine: pmhost wants it; or give --library"
 fi
-version=$(sed -n 's/^#define PM_VERSION 0x\(..\)\(..\)$/\1 \2/p' "$root/crates/pm_host_c/include/pm.h")
-major=$((16#${version% *})) minor=$((16#${version#* }))
-to=${DESTDIR-}$prefix
+version=$(sed -n 's/^pub const VERSION: &str = "\(.*\)";$/\1/p' "$root/crates/pm_console/src/options.rt")
+major=${version%%.*}
+work=$(mktemp -d)
+trap 'rm -rf "$work"' EXIT
+mkdir -p "$to"
+[ ! -f "$list" ] || removed
+: > "$work/list"
+
+# made FOLDER: it is there, and each part that wasn't stands in the list
+made() {
+    local each=$1
+    while [ "$each" != . ] && [ ! -d "$to/$each" ]; do echo "folder $each" >> "$work/list"; each=$(dirname "$each"); done
+    mkdir -p "$to/$1"
+}
 
 # put MODE FILE PLACE
-put() { install -D -m "$1" "$2" "$to/$3"; }
+put() { made "$(dirname "$3")"; install -m "$1" "$2" "$to/$3"; echo "file $3" >> "$work/list"; }
 
-# library CRATE HEADER PACKAGE WORDS: the archive, the header, the shared object, and what pkg-config says of them
+# linked TARGET PLACE
+linked() { ln -sf "$1" "$to/$2"; echo "file $2" >> "$work/list"; }
+
+# shared OUT NAME ARCHIVE ..: a shared object of archives
+shared() {
+    local out=$1 name=$2
+    shift 2
+    ${CC-cc} -shared -Wl,--whole-archive "$@" -Wl,--no-whole-archive -Wl,-z,noexecstack -Wl,-z,relro -Wl,-soname,"$name" -o "$out"
+}
+
+# library CRATE NAME HEADER WORDS: the archive, the header, the shared object, and what pkg-config says of them
 library() {
-    local shared=lib$1.so.$major.$minor from
-    from=$(archive "$1")
-    put 644 "$from" "lib/lib$1.a"
-    put 644 "$root/crates/$1/include/$2" "include/$2"
-    ${CC-cc} -shared -Wl,--whole-archive "$from" -Wl,--no-whole-archive -Wl,-z,noexecstack -Wl,-z,relro \
-        -Wl,-soname,"lib$1.so.$major" -o "$to/lib/$shared"
-    chmod 644 "$to/lib/$shared"
-    ln -sf "$shared" "$to/lib/lib$1.so.$major"
-    ln -sf "lib$1.so.$major" "$to/lib/lib$1.so"
-    mkdir -p "$to/lib/pkgconfig"
-    cat > "$to/lib/pkgconfig/$3.pc" << END
-prefix=$prefix
+    local object=lib$2.so.$version
+    put 644 "$(archive "$1")" "lib/lib$2.a"
+    put 644 "$root/crates/$1/include/$3" "include/$3"
+    shared "$work/$object" "lib$2.so.$major" "$(archive "$1")"
+    put 644 "$work/$object" "lib/$object"
+    linked "$object" "lib/lib$2.so.$major"
+    linked "lib$2.so.$major" "lib/lib$2.so"
+    cat > "$work/$2.pc" << END
+prefix=\${pcfiledir}/../..
 libdir=\${prefix}/lib
 includedir=\${prefix}/include
 
-Name: $3
+Name: $2
 Description: $4
-Version: $major.$minor
-Libs: -L\${libdir} -l$1
+Version: $version
+Libs: -L\${libdir} -l$2
 Cflags: -I\${includedir}
 END
+    put 644 "$work/$2.pc" "lib/pkgconfig/$2.pc"
 }
 
-library pm_host_c pm.h pm_host "A PMBus host core that sets supply voltages, proved"
+# package: the command pmhost and its package, which finds its library beside it wherever both stand
+package() {
+    (cd "$root/python/src" && find pmhost -type f ! -name '*.pyc' ! -name '*.so') | sort > "$work/modules"
+    while IFS= read -r each; do put 644 "$root/python/src/$each" "lib/pm-host/$each"; done < "$work/modules"
+    shared "$work/libpmhost.so" libpmhost.so "$(archive pm_host_c)" "$(archive pm_device_c)"
+    put 644 "$work/libpmhost.so" lib/pm-host/pmhost/libpmhost.so
+    put 755 "$root/packaging/pmhost" bin/pmhost
+    put 644 "$root/docs/pmhost.1" share/man/man1/pmhost.1
+    [ -n "${COMPLETION-}" ] || python3 -B "$to/bin/pmhost" --completion > "$work/completion"
+    put 644 "${COMPLETION-$work/completion}" share/bash-completion/completions/pmhost
+}
+
+# wheel: the package as pip takes it, where it is made for this machine
+wheel() {
+    mkdir -p "$work/archives" "$work/wheel"
+    for each in pm_host_c pm_device_c; do cp "$(archive $each)" "$work/archives/"; done
+    (cd "$root/python/build" && PMHOST_ARCHIVES=$work/archives python3 -B -c 'import backend, sys; backend.build_wheel(sys.argv[1])' "$work/wheel")
+    put 644 "$work/wheel"/*.whl "share/pm-host/$(basename "$work/wheel"/*.whl)"
+}
+
+# pages: README, docs and examples
+pages() {
+    (cd "$root" && git ls-files README.md CHANGELOG.md docs examples 2> /dev/null || find README.md CHANGELOG.md docs examples -type f) > "$work/pages"
+    while IFS= read -r each; do put 644 "$root/$each" "share/doc/pm-host/$each"; done < "$work/pages"
+}
+
+library pm_host_c pm_host pm.h "A PMBus host core that sets supply voltages, proved"
 put 644 "$root/crates/pm_host_c/include/pm_patient.h" include/pm_patient.h
-library pm_device_c pm_part.h pm_part "A model of a PMBus power converter to try firmware against, proved"
+library pm_device_c pm_device pm_part.h "A model of a PMBus power converter to try firmware against, proved"
 if [ -z "$library" ]; then
+    package
+    [ -n "${COMPLETION-}" ] || wheel
+    pages
     for each in pmb pmbhost pmbpart; do
         [ -n "${!each}" ] || continue
         put 755 "${!each}" "bin/$each"
@@ -84,4 +162,10 @@ if [ -z "$library" ]; then
         put 644 "$root/packaging/completions/$each.bash" "share/bash-completion/completions/$each"
     done
 fi
-echo "installed below $to"
+made share/pm-host
+sort -u "$work/list" > "$list"
+told
+echo "installed below $to: libpm_host and libpm_device for C${library:-, pmhost, pmb, pmbhost and pmbpart with manual pages and completions, README, docs and examples}" | sed 's/Cyes$/C/'
+echo "next: cc order.c \$(pkg-config --cflags --libs pm_host)"
+[ -n "$library" ] || echo "      pmhost -b desk --outputs 2 --limit 0:3.135V:3.465V set 0 3.3V   # a model part, no board; man pmhost"
+case ":$PATH:" in *":$prefix/bin:"*) ;; *) [ -n "$library" ] || echo "      ($prefix/bin isn't on your PATH yet)" ;; esac

@@ -42,7 +42,7 @@ if [ -z "$archives" ]; then
     done
 fi
 maintainer=$(git -C "$root" log -1 --format='%an <%ae>')
-version=1.0.0
+version=$(sed -n 's/^pub const VERSION: &str = "\(.*\)";$/\1/p' "$root/crates/pm_console/src/options.rt")
 name=pm-host
 
 # says ARCHIVE: what it says of itself
@@ -52,6 +52,7 @@ says() { readelf -p .comment "$1" 2> /dev/null | grep -ao 'built: backend=[a-z]*
 packed() {
     local arch=$1 deb=$2 from=$3 mode=$4 tree=$folder/$1
     DESTDIR=$tree "$root/packaging/install.sh" /usr $mode --archives "$from" > /dev/null
+    rm -f "$tree/usr/share/pm-host/installed" # (the list of what --uninstall takes away; dpkg has its own)
     find "$tree" -exec touch -h -d "@$SOURCE_DATE_EPOCH" {} +
     tar -C "$tree/usr" --sort=name --owner=0 --group=0 --numeric-owner --transform "s,^\.,$name-$version-$arch," -cf - . |
         gzip -n > "$out/$name-$version-$arch.tar.gz"
@@ -64,30 +65,30 @@ packed() {
 
 # debian TREE ARCH: what a .deb has beside
 debian() {
-    local tree=$1 arch=$2 doc=$1/usr/share/doc/$name
+    local tree=$1 arch=$2 doc=$1/usr/share/doc/$name python=''
+    [ ! -x "$tree/usr/bin/pmhost" ] || python=yes
     mkdir -p "$tree/DEBIAN" "$doc"
     for page in "$tree"/usr/share/man/man1/*.1; do [ ! -f "$page" ] || gzip -9n "$page"; done
     printf '%s (%s) unstable; urgency=medium\n\n  * Commit %s.\n\n -- %s  %s\n' "$name" "$version" "$commit" \
         "$maintainer" "$(date -R -d "@$SOURCE_DATE_EPOCH")" | gzip -9n > "$doc/changelog.gz"
-    cp "$root/docs/firmware.md" "$doc/firmware.md"
-    find "$tree/usr" \( -name 'libpm_*.so.*.*' -o -path '*/bin/*' \) -type f -exec "${STRIP-strip}" --strip-unneeded {} + 2> /dev/null || true
+    find "$tree/usr" \( -name 'libpm*.so*' -o -path '*/bin/*' \) -type f -exec "${STRIP-strip}" --strip-unneeded {} + 2> /dev/null || true
     cat > "$tree/DEBIAN/control" << END
 Package: $name
 Version: $version
 Architecture: $arch
 Maintainer: $maintainer
 Installed-Size: $(du -sk "$tree/usr" | cut -f1)
-Depends: libc6 (>= 2.34)
+Depends: libc6 (>= 2.34)${python:+, python3 (>= 3.11)}
 Section: electronics
 Priority: optional
 Description: PMBus host core that sets supply voltages, proved
- The libraries for C with their headers, and, where they are part of it,
- the programs pmb, pmbhost and pmbpart. A host orders a voltage, reads it
+ The command pmhost, the programs pmb, pmbhost and pmbpart, and the libraries
+ for C with their headers. A host orders a voltage, reads it
  back, and keeps the list of words that a register may hold until then. A
  model part is there to try firmware and scripts against.
 END
     printf 'activate-noawait ldconfig\n' > "$tree/DEBIAN/triggers"
-    printf '%s 1 %s (>= %s)\n' libpm_host_c "$name" "$version" libpm_device_c "$name" "$version" > "$tree/DEBIAN/shlibs"
+    printf '%s 0 %s (>= %s)\n' libpm_host "$name" "$version" libpm_device "$name" "$version" > "$tree/DEBIAN/shlibs"
     (cd "$tree" && find usr -type f -exec md5sum {} + > DEBIAN/md5sums)
     find "$tree" -type d -exec chmod 755 {} +
     find "$tree" -exec touch -h -d "@$SOURCE_DATE_EPOCH" {} +
@@ -95,6 +96,7 @@ END
 
 : > "$out/FACTS"
 packed x86_64 amd64 "$archives" "$library"
+[ -n "$library" ] || export COMPLETION=$folder/x86_64/usr/share/bash-completion/completions/pmhost
 if [ -n "$aarch64" ]; then
     for each in pm_host_c pm_device_c; do
         [ -f "$aarch64/lib$each.a" ] || die "no lib$each.a in $aarch64: trials/c/targets.sh --out leaves one"

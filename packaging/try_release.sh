@@ -5,9 +5,10 @@
 #
 # RELEASE is the folder of the release. ROOT is a Debian 12 that holds no work, which is made by hand, as root:
 #   debootstrap --variant=minbase --include=gcc,libc6-dev,pkg-config,python3,python3-venv bookworm ROOT
-# The .deb is installed there, and the tarball unpacked; C programs are compiled by pkg-config over both and run; the
-# Python package is installed without a network, and its tests run; README's examples run where the release has the
-# programs. Last the .deb is removed, which leaves nothing. The last line says how many passed and failed.
+# The .deb is installed there, and the tarball unpacked, with no checkout beside them; as an ordinary user pmhost sets a rail of
+# a model part, C programs are compiled by pkg-config over both and run, the wheel is installed without a network, pmb decodes,
+# and README's examples run. Last the .deb is removed, which leaves nothing, and install.sh --uninstall is tried on a folder of the
+# tree that made the release. The last line says how many passed and failed.
 set -u
 case " $* " in *" --help "* | *" -h "*) sed -n '2,/^[^#]/s/^# \{0,1\}//p' "$0"; exit 0 ;; esac
 [ $# = 2 ] || { echo "try_release.sh: give RELEASE ROOT; --help says more" >&2; exit 2; }
@@ -19,38 +20,49 @@ release=$1 root=$2
 work=/tmp/pm-host-trial
 rm -rf "${root:?}$work"
 mkdir -p "$root$work"
-cp -r examples python docs README.md "$root$work/"
 cp "$release"/*x86_64.tar.gz "$release"/*amd64.deb "$root$work/"
+chroot "$root" sh -c 'id trial > /dev/null 2>&1 || useradd -m trial' && chroot "$root" chown -R trial "$work"
+before=$(mktemp) after=$(mktemp)
+trap 'rm -f "$before" "$after"' EXIT
+all() { find "$root"/usr "$root"/etc "$root"/opt -not -name '*.pyc' -not -name __pycache__ -not -path '*/ld.so.cache' | sort; }
 
-# step NAME COMMANDS: they run in the root, by a shell, with no network of their own
-step() {
-    if chroot "$root" /usr/bin/env -i PATH=/usr/sbin:/usr/bin:/sbin:/bin LC_ALL=C.UTF-8 sh -ec "cd $work; $2" > "$root$work/log" 2>&1; then
-        tell 0; echo "$1: ok"
+# step NAME COMMANDS, asked NAME COMMANDS: they run in the root, by a shell, with no network of their own; asked: as an ordinary user
+step() { ran "$1" /bin/sh -ec "cd $work; $2"; }
+asked() { ran "$1" /bin/su trial -s /bin/sh -c "set -e; cd $work; $2"; }
+ran() {
+    local name=$1
+    shift
+    if chroot "$root" /usr/bin/env -i PATH=/usr/local/sbin:/usr/sbin:/usr/bin:/sbin:/bin LC_ALL=C.UTF-8 "$@" > "$root$work/log" 2>&1; then
+        tell 0; echo "$name: ok"
     else
-        tell 1; echo "$1: FAILED"; tail -5 "$root$work/log"
+        tell 1; echo "$name: FAILED"; tail -5 "$root$work/log"
     fi
 }
 
+doc=/usr/share/doc/pm-host
 step "no toolchain is there" '! command -v rt && ! command -v rattle'
+all > "$before"
 step ".deb" 'dpkg -i *.deb'
-step "C over the shared object" 'gcc -Wall -Werror examples/c/order.c $(pkg-config --cflags --libs pm_host) -o order && ./order | cmp - examples/c/order.expected'
-step "C over the part's shared object" 'gcc -Wall -Werror examples/c/part.c $(pkg-config --cflags --libs pm_part) -o part && ./part | cmp - examples/c/part.expected'
-step "C over both shared objects" 'gcc -Wall -Werror examples/c/faults.c $(pkg-config --cflags --libs pm_host pm_part) -o faults && ./faults 5000'
-step "C over the archive" 'gcc examples/c/order.c -l:libpm_host_c.a -o order && ./order | cmp - examples/c/order.expected'
-step "both ends under faults" 'gcc examples/c/faults.c -l:libpm_host_c.a -l:libpm_device_c.a -o faults && ./faults 5000'
-step "Python package" 'python3 -m venv v && PMHOST_ARCHIVES=/usr/lib v/bin/pip install --no-index ./python'
-step "its tests" 'v/bin/python -B -m unittest discover -s python/tests -t python'
-step "its command" 'v/bin/pmhost -b desk --outputs 2 --limit 0:3.135V:3.465V set 0 3.3V | grep "the output commands 3.300048V, within"'
-step "a file of rails" 'printf "[rails.core]\noutput = 0\nvolts = \"0.9V\"\nlimits = [\"0.85V\", \"0.95V\"]\n" > rails.toml && v/bin/pmhost -b desk apply rails.toml'
-step "tarball" 'mkdir t && tar -C t --strip-components=1 -xf *.tar.gz && gcc examples/c/order.c -It/include t/lib/libpm_host_c.a -o order && ./order | cmp - examples/c/order.expected && gcc examples/c/faults.c -It/include t/lib/libpm_host_c.a t/lib/libpm_device_c.a -o faults && ./faults 5000'
-if [ -x "$root/usr/bin/pmb" ]; then
-    step "README's example" 'pmb replay < examples/answer-lost.scenario | cmp - examples/answer-lost.report'
-    step "manual pages and completions" 'for each in pmb pmbhost pmbpart; do test -x /usr/bin/$each && test -f /usr/share/man/man1/$each.1.gz && bash -c ". /usr/share/bash-completion/completions/$each"; done'
-    step "a part over pmbpart" 'printf "B0 15 24\nquit\n" | pmbpart | grep -qx taken'
-    step "an order over pmbhost" 'printf "order 0 VOUT_COMMAND 34CD\n" | PMBHOST=/usr/bin/pmbhost v/bin/python -B examples/pmbhost/drive.py desk 58 2 | grep "ended done"'
-else
-    echo "the release has no programs: README's examples aren't tried"
-fi
-step "removed" 'dpkg -r pm-host && for each in lib/libpm_host_c.a lib/libpm_device_c.a include/pm.h include/pm_patient.h include/pm_part.h bin/pmbpart; do ! test -e /usr/$each || exit 1; done'
+asked "its command" 'pmhost -b desk --outputs 2 --limit 0:3.135V:3.465V set 0 3.3V | grep "the output commands 3.300048V, within"'
+asked "a file of rails" 'printf "[rails.core]\noutput = 0\nvolts = \"0.9V\"\nlimits = [\"0.85V\", \"0.95V\"]\n" > rails.toml && pmhost -b desk apply rails.toml'
+asked "one version" 'test "$(for each in pmb pmbhost pmbpart pmhost; do $each --version | cut -d" " -f2; done | sort -u)" = "$(pkg-config --modversion pm_host pm_device | sort -u)"'
+asked "C over the shared object" "gcc -Wall -Werror $doc/examples/c/order.c \$(pkg-config --cflags --libs pm_host) -o order && ./order | cmp - $doc/examples/c/order.expected"
+asked "C over the part's shared object" "gcc -Wall -Werror $doc/examples/c/part.c \$(pkg-config --cflags --libs pm_device) -o part && ./part | cmp - $doc/examples/c/part.expected"
+asked "C over both shared objects" "gcc -Wall -Werror $doc/examples/c/faults.c \$(pkg-config --cflags --libs pm_host pm_device) -o faults && ./faults 5000"
+asked "C over the archives" "gcc $doc/examples/c/faults.c -l:libpm_host.a -l:libpm_device.a -o faults && ./faults 5000"
+asked "the wheel" 'python3 -m venv v && v/bin/pip install --no-index /usr/share/pm-host/*.whl && v/bin/pmhost -b desk --outputs 2 --no-limit set 0 3.3V'
+asked "pmb decodes a capture" "pmb decode --values --vout=ulinear16:-12 < $doc/examples/bus.trace | grep -q 3300048"
+asked "README's example" "pmb replay < $doc/examples/answer-lost.scenario | cmp - $doc/examples/answer-lost.report"
+asked "a capture of sigrok" "printf 'i2c-1: Start\ni2c-1: Address write: 58\n' | pmhost capture sigrok > trace"
+asked "manual pages and completions" 'for each in pmb pmbhost pmbpart pmhost; do test -x /usr/bin/$each && gzip -t /usr/share/man/man1/$each.1.gz && bash -c ". /usr/share/bash-completion/completions/$each && complete -p $each"; done'
+asked "a part over pmbpart" 'printf "B0 15 24\nquit\n" | pmbpart | grep -qx taken'
+asked "an order over pmbhost" "printf 'order 0 VOUT_COMMAND 34CD\n' | PYTHONPATH=/usr/lib/pm-host PMBHOST=/usr/bin/pmbhost python3 -B $doc/examples/pmbhost/drive.py desk 58 2 | grep 'ended done'"
+asked "tarball, anywhere" "mkdir t && tar -C t --strip-components=1 -xf *.tar.gz && export PKG_CONFIG_PATH=$work/t/lib/pkgconfig LD_LIBRARY_PATH=$work/t/lib && gcc t/share/doc/pm-host/examples/c/order.c \$(pkg-config --cflags --libs pm_host) -o order && ./order | cmp - t/share/doc/pm-host/examples/c/order.expected && readlink -f \$(ldd order | sed -n 's/.*libpm_host.so.* => \\(.*\\) (.*/\\1/p') | grep -q ^$work/t/ && t/bin/pmhost -b desk --outputs 2 --limit 0:3.135V:3.465V set 0 3.3V"
+step "removed" 'dpkg -P pm-host'
+all > "$after"
+cmp -s "$before" "$after"
+status=$?
+tell $status
+[ $status = 0 ] && echo "nothing is left: ok" || { echo "nothing is left: FAILED"; diff "$before" "$after" | head -5; }
 rm -rf "${root:?}$work"
 end_tally

@@ -1,6 +1,6 @@
 //! Finds the archives libpm_host_c.a and libpm_device_c.a for the target that is built for: in the folder that
 //! PM_ARCHIVES_<target> names, with `_` for `-`; for x86-64 Linux else in that of PM_ARCHIVES, or those that `rt lib`
-//! left in crates/pm_host_c/out and crates/pm_device_c/out.
+//! left in crates/pm_host_c/out and crates/pm_device_c/out. Installed they are libpm_host.a and libpm_device.a.
 
 use std::path::{Path, PathBuf};
 use std::{env, fs, process};
@@ -20,7 +20,8 @@ fn archive(target: &str, library: &str) -> PathBuf {
     let own = format!("PM_ARCHIVES_{}", target.replace('-', "_"));
     let is_built_here = target.starts_with("x86_64") && target.contains("linux");
     if let Some(folder) = named(&own).or_else(|| named("PM_ARCHIVES").filter(|_| is_built_here)) {
-        return folder.join(format!("lib{library}.a"));
+        let installed = folder.join(format!("lib{}.a", library.trim_end_matches("_c")));
+        return if installed.is_file() { installed } else { folder.join(format!("lib{library}.a")) };
     }
     if !is_built_here {
         refuse(format!("no archives for {target}: build them by trials/c/targets.sh --out FOLDER, and give {own}=FOLDER/NAME"));

@@ -16,6 +16,7 @@ It prints a line for each finding, and has status 1 if there is one. With --plac
     lemma      a lemma that is proved a second time, under whatever name
     page       a refusal of a type isn't in docs/refusals.md, or one of the page or of a help is in no type
     example    an example of a comment stands in no test, word for word
+    claims     a law doesn't stand on its crate's page of docs/claims/, or on another one's too
     edit       a text that a planted bug replaces doesn't stand once in its file
 
 Tests are left out.
@@ -264,6 +265,33 @@ def twins(crates):
             yield path, number, "lemma", "%s stands %d times: %s" % (name, len(those), ", ".join(sorted({it[0] for it in those})))
 
 
+LAW = re.compile(r"^pub fn (\w+)(?:<[^\n]*>)?\(\)(?: *$| *\{)", re.M)
+
+
+def law_names(crates):
+    """The laws of crates: their public functions that take nothing and answer nothing, by crate."""
+    for crate in crates:
+        for path in sorted(glob.glob("crates/%s/src/**/*.rt" % crate, recursive=True)):
+            if "/tests" not in path:
+                yield from ((crate, name) for name in LAW.findall(read(path)))
+
+
+def carriers():
+    """The cells of docs/claims/ that say what carries a promise, by page."""
+    for path in sorted(glob.glob("docs/claims/pm*.md")):
+        rows = [line.split(" | ") for line in read(path).split("\n") if line.startswith("| ")]
+        yield os.path.basename(path)[:-3], "\n".join(row[1] for row in rows if len(row) > 2)
+
+
+def unclaimed(crates):
+    """Laws that don't stand on the page of their crate, or stand on another one's too."""
+    told = dict(carriers())
+    for crate, name in law_names(crates):
+        pages = [page for page, text in told.items() if re.search(r"`(?:\w+::)?%s`" % name, text)]
+        if pages != [crate]:
+            yield "docs/claims/%s.md" % crate, 1, "claims", "the law %s stands on %s" % (name, ", ".join(pages) or "no page")
+
+
 def stripped(text):
     """A text's lines without the space around them."""
     return "\n".join(line.strip() for line in text.split("\n"))
@@ -307,6 +335,7 @@ def findings(crates):
     yield from foreign(crates)
     yield from twins(crates)
     yield from unrun(crates)
+    yield from unclaimed(crates)
     yield from planted.findings(crates)
 
 

@@ -1,6 +1,6 @@
 #!/usr/bin/env python3
 """Compares what the C headers, the Python package and the Rust package say of the two libraries with the types of crates/:
-the names of the calls; each refusal's number, letter and name; the sizes and versions; and of each struct the names and
+the version; the names of the calls; each refusal's number, letter and name; the sizes and versions; and of each struct the names and
 the widths of its fields. By text alone: nothing is built or run.
 
     tools/compare_layers.py
@@ -62,6 +62,20 @@ CRATES = {"pm_host_c": sources("pm_host_c"), "pm_device_c": sources("pm_device_c
 HEADERS = {"pm_host_c": header("crates/pm_host_c/include/pm.h"), "pm_device_c": header("crates/pm_device_c/include/pm_part.h")}
 PYTHON = read("python/src/pmhost/_library.py")
 RUST = without_comments(read("rust/src/ffi.rs"))
+
+
+# ---- Versions ----
+
+def versions():
+    """One version everywhere: that of the programs, of both packages, and, in two bytes, of the library and its callers."""
+    own = re.search(r'pub const VERSION: &str = "(.*)";', read("crates/pm_console/src/options.rt"))[1]
+    yield "versions", own, {"python": re.search(r'^version = "(.*)"', read("python/pyproject.toml"), re.MULTILINE)[1],
+                            "python's module": re.search('^__version__ = "(.*)"', read("python/src/pmhost/_version.py"), re.MULTILINE)[1],
+                            "rust": re.search(r'^version = "(.*)"', read("rust/Cargo.toml"), re.MULTILINE)[1]}
+    major, minor, _ = map(int, own.split("."))
+    forms = {"its type": ("crates/pm_host_c/src/host.rt", r"^const VERSION: u16 = (\w+);"), "its header": ("crates/pm_host_c/include/pm.h", r"^#define PM_VERSION (\w+)"),
+             "python": ("python/src/pmhost/_library.py", r"^VERSION = (\w+)"), "rust": ("rust/src/ffi.rs", r"^pub const VERSION: u16 = (\w+);")}
+    yield "the library's version", 256 * major + minor, {layer: int(re.search(form, read(path), re.MULTILINE)[1], 0) for layer, (path, form) in forms.items()}
 
 
 # ---- Calls ----
@@ -222,7 +236,7 @@ def structs():
 def main():
     answer_help(__doc__)
     tally = Tally()
-    for what, types, layers in [*calls(), *refusals(), *letters(), *sizes(), *structs()]:
+    for what, types, layers in [*versions(), *calls(), *refusals(), *letters(), *sizes(), *structs()]:
         if not types:
             layers = {"crates": None}
         for layer, found in layers.items():

@@ -1,9 +1,9 @@
 #!/usr/bin/env python3
 """Prints the counts by which the house is judged, a line each.
 
-    tools/house.py            the counts
-    tools/house.py --pairs    the lemmas that are proved twice, a pair a line
-    tools/house.py --middles  the comments of proofs that begin in the middle of a sentence
+    tools/house            the counts
+    tools/house --pairs    the laws that are stated twice and the lemmas that are proved twice, a pair a line
+    tools/house --middles  the comments of proofs that begin in the middle of a sentence
 
 Run it at the top of the repository. It reads files, and changes nothing.
 """
@@ -28,8 +28,11 @@ def own_crates():
 
 def statement(lemma):
     """The type of a lemma, its bound variables named in the order in which they are bound."""
-    text = re.sub(r"\s+", " ", lemma.head.split(" : ", 1)[1]).strip()
-    names = {}
+    return renamed(re.sub(r"\s+", " ", lemma.head.split(" : ", 1)[1]).strip(), {})
+
+
+def renamed(text, names):
+    """A type with its bound variables named in the order in which they are bound, behind those that have names."""
     for group in re.findall(r"[({]([^(){}:→]+) : ", text):
         for name in group.split():
             names.setdefault(name, "v%d" % len(names))
@@ -47,6 +50,22 @@ def doubled_lemmas(crates):
                 if not lemma.is_goal() and not is_short(lemma):
                     places[statement(lemma)].append((path, lemma.number, lemma.name))
     return sorted((text, those) for text, those in places.items() if len(those) > 1)
+
+
+LAW = re.compile(r"^abbrev pub (\w+) : ([^\n]*)Type 0\n\1 ?([^=\n]*)=(.*?)(?=\n\n|\Z)", re.M | re.S)
+
+
+def doubled_laws(crates):
+    """Statements of laws that stand twice, under whatever names: of definitions that are types with a premise or a variable, the
+    names and what they state. (statement, [(path, name), ..])."""
+    places = collections.defaultdict(list)
+    for crate in crates:
+        for path in sorted(glob.glob(os.path.join("crates", crate, "specs", "**", "*.antt"), recursive=True)):
+            for name, taken, given, text in LAW.findall(read(path)):
+                if "→" in text and text.count(" ") > 12:
+                    names = {word: "g%d" % at for at, word in enumerate(re.findall(r"\w+", given))}
+                    places[taken, renamed(re.sub(r"\s+", " ", text).strip(), names)].append((path, name))
+    return sorted((text, those) for (_, text), those in places.items() if len(those) > 1)
 
 
 DATA = re.compile(r"(Type 0|ℕ|Bool|(List|Option) \S+)$")
@@ -134,6 +153,8 @@ def main():
     answer_help(__doc__)
     crates = own_crates()
     if "--pairs" in sys.argv[1:]:
+        for _, those in doubled_laws(crates):
+            print(" ~ ".join("%s %s" % it for it in those))
         for _, those in doubled_lemmas(crates):
             print(" ~ ".join("%s:%d %s" % it for it in those))
         return
@@ -146,6 +167,7 @@ def main():
     rows = [
         ("crates", len(crates)),
         ("engines that write a trace's text", len(engines())),
+        ("laws stated twice", sum(len(those) - 1 for _, those in doubled_laws(crates))),
         ("lemmas proved twice", sum(len(those) - 1 for _, those in doubled_lemmas(crates))),
         ("names of another crate's proofs", len(lower_proofs(crates))),
         ("comments of proofs that begin in the middle", len(middles(crates))),

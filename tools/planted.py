@@ -1,44 +1,34 @@
-"""Planted bugs as their files have them: whether each text that an edit replaces stands once where it says."""
+"""Planted bugs as their files have them: whether each text that a bug replaces stands once where it says."""
 import glob
 import os
 
+import mutant_file
 from crate_copy import read
 
 
 def paths(crates):
-    """The edits of crates, each with its crate."""
+    """The files of bugs, each with the folder that their files stand in: a crate's, and with all crates those of C, Rust and
+    Python."""
     for crate in crates:
-        for folder in f"attacks/{crate}", f"attacks/definitions/{crate}", f"crates/{crate}/must-fail":
-            for path in sorted(glob.glob(folder + "/*.edit")):
-                yield path, crate
+        for path in mutant_file.path_of(crate), *sorted(glob.glob(f"crates/{crate}/must-fail/*.edit")):
+            if os.path.exists(path):
+                yield path, f"crates/{crate}"
+    for name in ("python", "c", "rust") if "pmb" in crates else ():
+        yield mutant_file.path_of(name), "."
 
 
-def misplaced(text, file_of):
-    """The lines of an edit whose text doesn't stand once, after the ones before it: their number, and what is wrong.
-    `file_of` gives the text of a file that the edit names, or None."""
-    files, here, old = {}, None, None
-    for number, line in enumerate(text.split("\n"), 1):
-        word, _, rest = line.partition(": ")
-        if word == "file":
-            here = rest.strip()
-            if here not in files:
-                files[here] = file_of(here)
-                if files[here] is None:
-                    yield number, f"there is no {here}"
-        elif word == "old":
-            old = number, rest
-        elif word == "new" and old and files.get(here) is not None:
-            count = files[here].count(old[1])
-            if count != 1:
-                yield old[0], f"its text stands {count} times in {here}"
-            files[here] = files[here].replace(old[1], rest)
+def mutants_in(path):
+    """The bugs of a file, of which the toolchain's has one without a name; the numbers are those of its lines."""
+    text = read(path)
+    return mutant_file.mutants_in(text if path.endswith(".txt") else f"== {os.path.basename(path)}\n{text}")
 
 
 def findings(crates):
     """Each misplaced line, as tools/check_sources.py tells it."""
-    for path, crate in paths(crates):
-        def file_of(name, crate=crate):
-            full = f"crates/{crate}/{name}"
+    for path, home in paths(crates):
+        def text_of(name, home=home):
+            full = os.path.join(home, name)
             return read(full) if os.path.exists(full) else None
-        for number, words in misplaced(read(path), file_of):
-            yield path, number, "edit", words
+        for bug in mutants_in(path):
+            for number, words in mutant_file.misplaced(bug, text_of):
+                yield path, number - path.endswith(".edit"), "edit", words

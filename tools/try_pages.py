@@ -1,7 +1,7 @@
 #!/usr/bin/env python3
 """Holds README.md, docs/ and examples/README.md to the program. It runs each line that begins with `$`, those of the
 helps too, and compares what it prints, runs the commands of examples/README.md, and has `pmb` read the lines of
-docs/texts.md. The table of docs/commands.md must be the plain model's, the README's listing the test's; the files,
+docs/texts.md. The table of docs/commands.md must be the plain model's, the listing of docs/proved.md the test's; the files,
 calls, definitions, tests and planted bugs that pages name must be there, the manual pages have no fault, and each script
 answer --help. What is wrong is printed, and the status is then 1.
 
@@ -27,17 +27,18 @@ from plain import packets  # noqa: E402
 from plain.converter import ALLOWED  # noqa: E402
 
 BUILT = "crates/pmb/out/pmb"
-MOST_LINES = {"README.md": 120}
+MOST_LINES = {"README.md": 95}
 # The tables of docs/texts.md with lines of a trace, and the options of `decode` that tell them so.
 TRACES = [("what is told",), ("what is told with values", "--values"), ("what is told with readings", "--values", "--readings=8C:direct:1:0:1"),
           ("what is told of all codes", "--all"), ("what all codes say", "--all", "--values"),
           ("what is told with times", "--times"), ("what is told with pages", "--pages", "--values")]
-FILE = re.compile(r"(?:\.\./)?(?:crates|tools|trials|packaging|python|rust|mutants|docs|examples|bench|attacks)/[\w./-]*\w")
+FILE = re.compile(r"(?:\.\./)?(?:crates|tools|trials|packaging|python|rust|mutants|docs|examples|bench)/[\w./-]*\w")
 
 
 def pages():
     """The pages, by name from the root."""
-    for path in ["README.md", "CHANGELOG.md", "examples/README.md", *sorted(glob.glob("docs/*.*", root_dir=program.ROOT))]:
+    for path in ["README.md", "CHANGELOG.md", *sorted(glob.glob("docs/**/*.[m1]*", root_dir=program.ROOT, recursive=True)),
+                 *sorted(glob.glob("*/README.md", root_dir=program.ROOT))]:
         with open(os.path.join(program.ROOT, path), encoding="utf-8") as file:
             yield path, file.read()
 
@@ -146,10 +147,36 @@ def table_faults(found):
         yield f"the table has {rows}"
 
 
+def anchors(text):
+    """The anchors of a page's headings, as a forge makes them."""
+    heads = re.findall(r"^#+ (.*)$", re.sub(r"^```.*?^```", "", text, flags=re.M | re.S), re.M)
+    return {re.sub(r"[^\w\- ]", "", head.replace("`", "").lower()).replace(" ", "-") for head in heads}
+
+
+def anchor_faults(name, found):
+    """Links to a heading that isn't there."""
+    for place, anchor in re.findall(r"\]\(([^)#:]*)#([^)]+)\)", found):
+        path = os.path.join(program.ROOT, os.path.dirname(name), place) if place else os.path.join(program.ROOT, name)
+        if os.path.exists(path):
+            with open(path, encoding="utf-8") as file:
+                if anchor not in anchors(file.read()):
+                    yield f"no heading {anchor} in {place or name}"
+
+
+WIDE = 100
+
+
+def width_faults(name, found):
+    """Lines of the README's code that a forge cuts off."""
+    if name == "README.md":
+        for block in re.findall(r"^```\w*\n(.*?)^```", found, re.M | re.S):
+            yield from (f"over {WIDE} characters: {line}" for line in block.splitlines() if len(line) > WIDE)
+
+
 def name_faults(name, found):
     """The files that a page names, and links."""
     links = [it for it in re.findall(r"\]\(([^)#]+)\)", found) if "://" not in it]
-    files = [it for it in FILE.findall(found) if not it.startswith(("../", BUILT, "crates/NAME", "crates/X", "attacks/NAME"))]
+    files = [it for it in FILE.findall(found) if not it.startswith(("../", BUILT, "crates/NAME", "crates/X", "mutants/NAME", "docs/claims/NAME"))]
     places = [os.path.join(os.path.dirname(name), it) for it in links] + files
     for place in places:
         if not os.path.exists(os.path.join(program.ROOT, place)) and "/out" not in place:
@@ -161,11 +188,11 @@ def name_faults(name, found):
 def source_words():
     """The words of the sources, of the tools and trials, and of the names of planted bugs."""
     words = set()
-    for form in ("crates/*/src/**/*.rt", "crates/*/specs/**/*.antt", "crates/*/must-fail/*", "attacks/**/*",
+    for form in ("crates/*/src/**/*.rt", "crates/*/specs/**/*.antt", "crates/*/must-fail/*", "mutants/*.txt",
                  "tools/**/*", "trials/**/*.py", "crates/*/include/*.h", "python/**/*.py", "rust/**/*.rs"):
         for path in glob.glob(os.path.join(program.ROOT, form), recursive=True):
             words.add(os.path.basename(path).partition(".")[0])
-            if path.endswith((".rt", ".antt", ".py", ".h", ".rs")):
+            if path.endswith((".rt", ".antt", ".py", ".h", ".rs", ".txt")):
                 with open(path, encoding="utf-8") as file:
                     words.update(re.findall(r"\w+", file.read()))
     with open(os.path.join(program.ROOT, "crates.txt"), encoding="utf-8") as file:
@@ -180,7 +207,7 @@ def word_faults(found, known):
 
 
 def toolchain_faults(shell, found):
-    """The toolchain that the README trusts is the one that is installed, if one is, and its crates those that stand in
+    """The toolchain that docs/proved.md trusts is the one that is installed, if one is, and its crates those that stand in
     crates.txt."""
     trusted = set(re.findall(r"`([\w-]+)`", found[found.index("Trusted: "):]))
     installed = set(shell.run("rt version").stdout.split()) - {"logic"} if shutil.which("rt") else set()
@@ -192,7 +219,7 @@ def toolchain_faults(shell, found):
 
 
 def listing_fault(found):
-    """The README's listing is the rail of the driver's own example, which a test runs."""
+    """The listing of docs/proved.md is the rail of the driver's own example, which a test runs."""
     listing = re.search(r"^```rust\n(.*?)^```", found, re.M | re.S)[1]
     with open(os.path.join(program.ROOT, "crates/pm_host_tests/src/driver/example.rt"), encoding="utf-8") as file:
         body = re.search(r"^fn applied.*?^}\n", file.read(), re.M | re.S)[0]
@@ -243,8 +270,9 @@ def main():
                 told += table_faults(found)
             if name == "docs/texts.md":
                 told += text_faults(shell, found)
-            if name == "README.md":
+            if name == "docs/proved.md":
                 told += [*listing_fault(found), *toolchain_faults(shell, found)]
+            told += [*anchor_faults(name, found), *width_faults(name, found)]
             if name.endswith(".1"):
                 told += manual_faults(name)
             count += len(list(shown(found)))

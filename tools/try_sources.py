@@ -10,7 +10,7 @@ import sys
 
 import check_sources
 import house
-import planted
+import mutant_file
 from program import answer_help
 from proof_text import lemmas_of
 
@@ -83,7 +83,8 @@ def is_foreign(line):
 
 
 def is_misplaced(edit):
-    return bool([*planted.misplaced(edit, FILES.get)])
+    bug, = mutant_file.mutants_in(f"== it\n{edit}")
+    return bool([*mutant_file.misplaced(bug, FILES.get)])
 
 
 def is_seen(form):

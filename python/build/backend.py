@@ -1,6 +1,7 @@
 """Builds the package: the files of pmhost, and the shared object that the C compiler makes of the two archives.
 
-The archives libpm_host_c.a and libpm_device_c.a are those in the folder that the variable PMHOST_ARCHIVES names, or else those that
+The archives libpm_host_c.a and libpm_device_c.a (installed: libpm_host.a and libpm_device.a) are those in the folder that the variable
+PMHOST_ARCHIVES names, or else those that
 `rt lib` left in crates/pm_host_c/out and crates/pm_device_c/out. The compiler is `cc`, or what CC names. It has the calls of PEP 517
 and no dependency.
 """
@@ -48,6 +49,8 @@ def archives():
     given, found = os.environ.get("PMHOST_ARCHIVES"), []
     for crate in CRATES:
         path = os.path.join(given or os.path.join(os.path.dirname(HOME), "crates", crate, "out"), f"lib{crate}.a")
+        installed = path.replace("_c.a", ".a")
+        path = installed if given and os.path.isfile(installed) else path
         if not os.path.isfile(path):
             raise SystemExit(f"pmhost: no archive at {path}: build it by (cd crates/{crate} && rt lib --backend rattle), "
                              "or give PMHOST_ARCHIVES, a folder with libpm_host_c.a and libpm_device_c.a")

@@ -180,7 +180,7 @@ class ByHand(unittest.TestCase):
         for name, marks in MARKS.items():
             self.assertEqual([row.mark[1] for row in Seen(lived(example(name))).rows[1:]], marks, name)
 
-        def test_words_of_a_picture(self):
+    def test_words_of_a_picture(self):
         drawn = Drawn(picture_of(THREE))
         self.assertEqual(IN_THREE - {it.words for it in drawn.texts}, set())
 
@@ -199,13 +199,13 @@ class ByHand(unittest.TestCase):
                 found = "".join(f"{line}\n" for line in timeline(lived(written.get(name) or example(name))))
                 self.assertEqual(found, stored(DATA, "timelines", f"{name}.txt"))
 
-        def test_a_shift_of_34_millivolts_is_seen(self):
+    def test_a_shift_of_34_millivolts_is_seen(self):
         """Of a rail of 0.85 V, beside one of 5 V."""
         drawn = Drawn(picture_of(eight_rails(LIVES)))
         at = [it[0] for (output, _), it in sorted(drawn.upright(drawing.LINE, 3).items()) if output == 0]
         self.assertGreaterEqual(max(at) - min(at), 8)
 
-        def test_limits_of_rails_are_drawn(self):
+    def test_limits_of_rails_are_drawn(self):
         rails = {0: (950000, 3465000), 1: (-2000000, 5000000)}
         drawn = Drawn(picture_of(BANDS, "bands", rails))
         self.assertEqual([*picture_faults.rail_faults(drawn, rails), *picture_faults.layout_faults(drawn)], [])
@@ -216,7 +216,7 @@ class ByHand(unittest.TestCase):
             found = pmhost("picture", path, "--limit=0:0.95V:3465mV", "--limit=1:-2000000uV:5V")
         self.assertEqual(found, (0, picture_of(BANDS, "bands", rails), ""))
 
-        def test_colours_can_be_read(self):
+    def test_colours_can_be_read(self):
         self.assertEqual([*picture_faults.colour_faults()], [])
 
 

@@ -1,7 +1,7 @@
 //! The calls of the two libraries, as their headers pm.h and pm_part.h have them. tools/compare_layers.py compares names,
 //! numbers and sizes.
 
-pub const VERSION: u16 = 0x0100;
+pub const VERSION: u16 = 0x0001;
 pub const HOST_VERSION: u16 = 5;
 pub const HOST_SIZE: usize = 2064;
 pub const SURVEY_VERSION: u16 = 1;

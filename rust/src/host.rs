@@ -188,7 +188,7 @@ pub struct Known {
     pub possible: Possible,
 }
 
-/// The least and the most that an output's voltage may be, in microvolts. Both count as within.
+/// The least and the most that an output may be commanded to, in microvolts. Both count as within.
 #[derive(Clone, Copy, Debug, PartialEq, Eq)]
 pub struct Limits {
     /// The least.
@@ -197,7 +197,7 @@ pub struct Limits {
     pub most: i64,
 }
 
-/// Between which voltages an output may be, in microvolts, the least rounded down and the greatest up.
+/// Which voltages an output may be commanded to, in microvolts, the least rounded down and the greatest up.
 #[derive(Clone, Copy, Debug, PartialEq, Eq)]
 pub struct Band {
     /// The least.
@@ -319,7 +319,7 @@ impl Host {
         within_of(unsafe { ffi::pm_host_within(&self.image, output) })
     }
 
-    /// Between which voltages an output may be, by what is known. H4, H7 where its format isn't known, NoBand where OPERATION may
+    /// Which voltages an output may be commanded to, by what is known. H4, H7 where its format isn't known, NoBand where OPERATION may
     /// hand its voltage to AVSBus, N5.
     pub fn band(&self, output: u8) -> Result<Band, Refusal> {
         let mut found = ffi::BandImage::default();

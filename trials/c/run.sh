@@ -161,7 +161,7 @@ ok deaf deaf ok deaf ok|-b 1 -a 58 --outputs 1 --passes 1 clear 0|0|clear 0: ack
 |-b 3 -a 58 probe|2||/dev/i2c-3: Permission denied: be root, or ask for leave to open it (ls -l /dev/i2c-3)
 |-b 4 -a 58 probe|2||/dev/i2c-4: Inappropriate ioctl for device: it is no I2C bus
 |-b 5 -a 58 probe|2||another program drives 5-0058: fuser /dev/i2c-5 names who has the bus open
-|-b 6 -a 58 probe|2||a line is held low: address 02, which no part may have, acknowledges: look at SDA and SCL, take the power off
+|-b 6 -a 58 probe|2||a line is held low: address 02, which no part may have, acknowledges: clock SCL nine times and send a stop, cycle the supply last
 |-b 5 -a 58 --share-bus learn 0|0|learn 0: learned ULINEAR16 -12|
 count ok ok deaf*40|-b 1 -a 58 --outputs 1 clear 0|0|clear 0: acknowledged\n43 transfers, 195 ms|
 |-b 9 -a 58 probe|2||/dev/i2c-9: No such file or directory: load i2c-dev (modprobe i2c-dev), and look for the bus (ls /dev/i2c-*)
@@ -313,7 +313,7 @@ int main(void) { (void)wanted; (void)next; (void)survey;' row=0
     echo "$1, dropped answers: $row rows"
 }
 
-# snippets NAME COMPILER: the C of docs/firmware.md builds with no warning
+# snippets NAME COMPILER: the C of docs/c.md builds with no warning
 snippets() {
     {
         printf '#include "pm_patient.h"\n#include <stddef.h>\nextern pm_host host;\nvoid log_line(const char *line);\n'
@@ -322,13 +322,13 @@ snippets() {
         printf 'uint64_t read_from_bus(void *context, const uint8_t *request, uint64_t count, uint8_t *answer, uint64_t room);\n'
         awk '/^```c$/ {print "int snippet_" ++count "(void);\nint snippet_" count "(void) {"; within = 1; next}
             /^```$/ && within {print "return 1; }"; within = 0}
-            within {print}' docs/firmware.md
+            within {print}' docs/c.md
     } > "$folder/snippets.c"
     : > "$folder/wanted"; : > "$folder/out"
     grep -q pm_host_run "$folder/snippets.c" &&
         $2 $headers -Wall -Wextra -Wconversion -Wpedantic -Werror -c "$folder/snippets.c" \
         -o "$folder/object" > "$folder/log" 2>&1
-    told "$1 docs/firmware.md" $?
+    told "$1 docs/c.md" $?
 }
 
 mkdir "$folder/objects"
@@ -368,6 +368,7 @@ for each in $compilers; do
         program "$name pm_host_run" examples/c/run_rows.expected "$compiler $strict" examples/c/run_rows.c $rest --
         program "$name pm_patient_run" examples/c/patient_rows.expected "$compiler $strict" examples/c/patient_rows.c $rest --
         program "$name both ends" examples/c/faults.expected "$compiler $strict" examples/c/faults.c $rest --
+        program "$name HAL" examples/c/hal_bus.expected "$compiler $strict" examples/c/hal_bus.c $rest --
         program "$name rail" examples/c/rail.expected "$compiler $strict" examples/c/rail.c $rest --
         case $each in gcc | clang)
             program "$name firmware" examples/firmware/console.expected "$compiler $strict -Iexamples/firmware" $firmware -- ;;

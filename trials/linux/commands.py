@@ -1,4 +1,4 @@
-"""The commands of docs/bus.md, word for word, over a bus of the guest: commands BUS.
+"""The commands of docs/board.md and docs/captures.md, word for word, over a bus of the guest: commands BUS.
 
 The page's bus is 1; over another its number stands in the commands in the place of that. A command that the page doesn't
 have is a fault. Beside them: pmhost capture i2ctransfer with i2c-tools where transfers fail, and what the page says of a
@@ -27,6 +27,7 @@ LEARNED = """1 58 page 0 OPERATION read 80
 5 58 page 0 VOUT_COMMAND read 34CD
 """
 TRACED = "echo > /sys/kernel/tracing/trace", "echo 1 > /sys/kernel/tracing/events/i2c/enable", "cat /sys/kernel/tracing/trace"
+PAGES = ("board", "captures", "tried")
 
 
 class Page:
@@ -34,7 +35,7 @@ class Page:
 
     def __init__(self, number):
         self.number, self.bench, self.tally = number, Bench(number), Tally()
-        self.text = read(root_file("docs/bus.md"))
+        self.text = "".join(read(root_file(f"docs/{page}.md")) for page in PAGES)
         os.makedirs(PLACE, exist_ok=True)
         os.chdir(PLACE)
         for folder in ("tools", "trials"):
@@ -58,7 +59,7 @@ class Page:
         """Runs a command and compares; `more` are further things that are wrong."""
         ran, faults = self.run(words), list(more)
         if on_page and words not in self.text:
-            faults.append("docs/bus.md doesn't have it")
+            faults.append("no page has it")
         found = ran.returncode, ran.stdout, ran.stderr
         if found[0] != status or not re.fullmatch(self.command(out), found[1]) or not re.fullmatch(self.command(err), found[2]):
             faults.append(f"it gives {found}, not {(status, out, err)}")
@@ -76,7 +77,7 @@ def without_comments(trace):
 
 
 def board(page):
-    """From a board to a confirmed voltage, and what went over the wire."""
+    """From a board to a confirmed setting, and what went over the wire."""
     page.bench.put("modes 14 40")
     page.tell("pmhost -b 1 -a 58 probe", exactly(f"probe: {PROBE}") + FURTHER, BEFORE, more=[] if PROBE.strip() in page.text else ["the page has another"])
     page.bench.put("proved")

@@ -18,7 +18,7 @@
 #
 #   rows      every run of python/tests/data that is about a bus, by pmhost as a process
 #   faults    eight orders under nine kinds of fault at each transfer, and 60 lists of two to four faults
-#   commands  the commands of docs/bus.md
+#   commands  the commands of docs/board.md and docs/captures.md
 #   programs  examples/c/i2c_dev.c and examples/pmbhost/drive.py under each fault
 #   captures  one run, told by pmhost's trace, the kernel's tracepoints and the waveform of the wires
 #   drawn     jobs of every kind under drawn faults, all registers asked behind (SEED and LISTS in the environment)

@@ -47,10 +47,10 @@ extern "C" {
 #endif
 
 /* The version of the library, the greater part in the upper byte; pm_version answers that of the one that was linked. */
-#define PM_VERSION 0x0100
+#define PM_VERSION 0x0001
 
 /* The versions of a host's layout and a survey's, their sizes in bytes, and the stack that a call takes at most: PM_STACK, and PM_NAME_STACK
- * of pm_refusal_name, in which a loader may bind memmove. docs/firmware.md has what calls take on each processor, and an
+ * of pm_refusal_name, in which a loader may bind memmove. docs/c.md has what calls take on each processor, and an
  * archive says its own bound as stack-bytes in its section .comment. */
 #define PM_HOST_VERSION 5
 #define PM_HOST_SIZE 2064
@@ -264,7 +264,7 @@ uint8_t pm_host_limits(const pm_host *host, uint8_t output, pm_limits *limits);
 enum { PM_WITHIN = 0x91, PM_OUTSIDE = 0x92, PM_NOT_KNOWN = 0x93 };
 uint8_t pm_host_within(const pm_host *host, uint8_t output);
 
-/* Between which voltages an output may be, by what is known. No narrower band is true where, since the host started, the
+/* Which voltages an output may be commanded to, by what is known. No narrower band is true where, since the host started, the
  * device didn't restart, WRITE_PROTECT was neither ordered nor read as other than 00h, and no restore was begun. The least
  * is rounded down, the greatest up. PM_NO_HOST, H4, H7 where its format isn't known, PM_NO_BAND where OPERATION may hand
  * its voltage to AVSBus, N5 where an end is beyond 10^15 microvolts; then nothing is written. */

@@ -30,9 +30,9 @@ abbrev pub host_size : ℕ
 host_size = 2 * word_size + 4 + stage_size + 8 * format_size + places * cell_size + word_size
     + 4 + 3 * word_size + 8 * limits_size
 
--- the version of this library, 1.0: the greater part in the upper byte, the lesser in the lower one
+-- the version of this library, 0.1: the greater part in the upper byte, the lesser in the lower one
 abbrev pub library_version : ℕ
-library_version = 0x0100
+library_version = 0x0001
 
 -- a survey: the mark, the version and the tries left; six bytes, eight of what was read, and five wishes of a flag and a word
 abbrev pub survey_size : ℕ

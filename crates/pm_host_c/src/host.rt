@@ -24,7 +24,7 @@ use pm_table::{Code, address_ok, cell_of};
 use std::mem::size_of;
 
 // The version of this library.
-const VERSION: u16 = 0x0100;
+const VERSION: u16 = 0x0001;
 
 /// How many bytes a host has.
 #[unsafe(no_mangle)]

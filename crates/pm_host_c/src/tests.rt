@@ -18,7 +18,7 @@ use pm_host::{FormatImage, WordsImage};
 #[test]
 fn sizes_are_those_of_the_header(rt: HostRuntime) {
     equal(&rt, &pm_host_size(), &2064, &1);
-    equal(&rt, &(pm_version(), pm_host_version()), &(0x0100, 5), &2);
+    equal(&rt, &(pm_version(), pm_host_version()), &(0x0001, 5), &2);
     equal(&rt, &pm_survey_size(), &40, &3);
     equal(&rt, &pm_survey_version(), &1, &4);
 }

@@ -6,7 +6,7 @@
         part.learn(0)
         print(part.order_volts(0, "3.3"))
 
-What the library's calls answer is proved (docs/firmware.md says of what); this package is tested, and not proved.
+What the library's calls answer is proved (docs/c.md says of what); this package is tested, and not proved.
 """
 from ._version import __version__
 from .bus import DeskBus, LinuxBus, NoBus, NoTransfer, PatientBus, Smbus2Bus

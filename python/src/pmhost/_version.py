@@ -1,2 +1,2 @@
 """The version of the package."""
-__version__ = "1.0.0"
+__version__ = "0.1.0"

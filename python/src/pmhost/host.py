@@ -61,7 +61,7 @@ class Known:
 
 @dataclass(frozen=True)
 class Limits:
-    """The least and the most that an output's voltage may be, in microvolts."""
+    """The least and the most that an output may be commanded to, in microvolts."""
 
     least: int
     most: int
@@ -155,7 +155,7 @@ class Host:
         return WITHIN[number]
 
     def band(self, output: int) -> Band:
-        """Between which voltages an output may be. H7 where its format isn't known, N5."""
+        """Which voltages an output may be commanded to. H7 where its format isn't known, N5."""
         found = at.BandImage()
         accepted(library.pm_host_band(REFERENCE(self._image), self._there(output), REFERENCE(found)))
         return Band(found.least, found.greatest)

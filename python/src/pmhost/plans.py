@@ -25,7 +25,7 @@ Wanted = Mapping[Union[str, int], int]
 
 @dataclass(frozen=True)
 class Band:
-    """Between which voltages an output may be, in microvolts, the least rounded down and the greatest up."""
+    """Which voltages an output may be commanded to, in microvolts, the least rounded down and the greatest up."""
 
     least: int
     greatest: int

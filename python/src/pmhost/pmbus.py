@@ -50,7 +50,7 @@ class Pmbus:
         return self.host.within(output)
 
     def band(self, output: int) -> tuple[Decimal, Decimal] | None:
-        """Between which volts the output may be, by what is known; None where its format isn't known."""
+        """Which volts the output may be commanded to, by what is known; None where its format isn't known."""
         try:
             found = self.host.band(output)
         except Refused as it:

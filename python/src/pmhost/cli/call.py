@@ -20,7 +20,7 @@ from .parser import BEHIND, DESK, OPTIONS, BadCall
 
 DESK_ADDRESS, DESK_OUTPUTS, PASSES = 0x58, 2, 3
 NOTHING = "nothing was written"
-HELD_LOW = "a line is held low: address 02, which no part may have, acknowledges: look at SDA and SCL, take the power off"
+HELD_LOW = "a line is held low: address 02, which no part may have, acknowledges: clock SCL nine times and send a stop, cycle the supply last"
 
 
 class Interrupted(BaseException):

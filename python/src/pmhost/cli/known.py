@@ -22,7 +22,7 @@ def add(commands: Any) -> None:
     found.add_argument("output", metavar="O", nargs="?", type=whole(0, 7, "output"), help="of one output alone")
     found.set_defaults(run=known, is_question=True)
     bus_options(found)
-    found = commands.add_parser("band", help="tells between which voltages an output may be, and sends nothing")
+    found = commands.add_parser("band", help="tells which voltages an output may be commanded to, and sends nothing")
     found.add_argument("output", metavar="O", type=whole(0, 7, "output"))
     found.set_defaults(run=band, is_question=True)
     bus_options(found)
@@ -65,7 +65,7 @@ def row_of(part: Pmbus, it: Known) -> dict[str, object]:
 
 
 def band(arguments: argparse.Namespace) -> int:
-    """Between which voltages an output may be, by what is known."""
+    """Which voltages an output may be commanded to, by what is known."""
     call: Call = arguments.call
     part = call.part()
     found = commanded(part, arguments.output)

@@ -1,0 +1,116 @@
+"""Planted bugs of the headers for C, of the bus of Linux in C, and of the Rust crate, each in a copy: the test that is named
+beside it has to fail."""
+import os
+import re
+import shutil
+import subprocess
+import sys
+import tempfile
+
+import mutant_file
+from crate_copy import read, write
+from program import ROOT
+
+# The tests that stand in rust/src.
+UNITS = {"an_address_is_locked_for_one_open_file", "enxio_alone_is_unheard"}
+
+
+class Copy:
+    """What is tried on: a copy of the files, with one text in the place of another."""
+
+    def __init__(self, folder, built):
+        self.folder, self.built = folder, built
+        for each in ("crates/pm_host_c/include", "crates/pm_device_c/include", "examples/c", "rust"):
+            shutil.copytree(os.path.join(ROOT, each), os.path.join(folder, each), ignore=shutil.ignore_patterns("target"))
+
+    def run(self, *words, **environment):
+        done = subprocess.run(words, cwd=self.folder, env={**os.environ, **environment}, stdin=subprocess.DEVNULL,
+                              stdout=subprocess.PIPE, stderr=subprocess.STDOUT, text=True)
+        return done.returncode, done.stdout
+
+    def planted(self, bug):
+        """What is wrong where its test doesn't pass without the bug, or doesn't fail with it."""
+        def text_of(name):
+            return read(os.path.join(self.folder, name)) if os.path.exists(os.path.join(self.folder, name)) else None
+
+        wrong = next((words for _, words in mutant_file.misplaced(bug, text_of)), None)
+        if wrong:
+            return wrong
+        if not self.passes(bug):
+            return "its test fails without it"
+        was = {name: text_of(name) for name, *_ in bug.pairs}
+        for name, text in mutant_file.planted(bug, text_of).items():
+            write(os.path.join(self.folder, name), text)
+        try:
+            return "NOT NOTICED" if self.passes(bug) else None
+        finally:
+            for name, text in was.items():
+                write(os.path.join(self.folder, name), text)
+
+    def passes(self, bug):
+        """Whether the test that a bug names passes."""
+        test, _, row = bug.said["test"].partition(", ")
+        if test == "run_rows.c":
+            return self.row(row)
+        if test == "dropped answers":
+            return self.warns(row)
+        if test == "rail.c":
+            return self.rail()
+        if test == "patient_rows.c":
+            return self.patient_row(row)
+        if test == "i2c_dev.c":
+            return self.transfers(row, bug.said["mishaps"], bug.said["prints"] + "\n")
+        return self.rust(bug.said["test"])
+
+    def program(self, name, *words):
+        found = self.run("gcc", "-O1", "-Icrates/pm_host_c/include", "-Icrates/pm_device_c/include", *words, os.path.join(self.built, "libpm_host_c.a"),
+                         os.path.join(self.built, "libpm_device_c.a"), "-o", name)
+        if found[0]:
+            sys.exit(found[1])
+
+    def row(self, name):
+        """Whether this row of run_rows.c is right."""
+        self.program("rows", "examples/c/run_rows.c")
+        return f"\n{name}: " not in "\n" + self.run("./rows")[1]
+
+    def rail(self):
+        """Whether rail.c prints what it is to print."""
+        self.program("rail", "examples/c/rail.c")
+        with open(os.path.join(self.folder, "examples/c/rail.expected"), encoding="utf-8") as wanted:
+            return self.run("timeout", "60", "./rail")[1] == wanted.read()
+
+    def warns(self, call):
+        """Whether gcc warns of this call alone on a line."""
+        with open(os.path.join(self.folder, "drops.c"), "w", encoding="utf-8") as file:
+            file.write(f'#include "pm.h"\nstatic pm_host host;\nint main(void) {{ pm_host_{call}; return 0; }}\n')
+        return self.run("gcc", "-Icrates/pm_host_c/include", "-Werror=unused-result", "-c", "drops.c")[0] != 0
+
+    def patient_row(self, name):
+        """Whether this row of patient_rows.c is right."""
+        self.program("patient", "examples/c/patient_rows.c")
+        return f"\n{name}: " not in "\n" + self.run("./patient")[1]
+
+    def transfers(self, words, mishaps, wanted):
+        """Whether i2c_dev.c over the stand-in for the kernel prints this."""
+        self.program("bus", "-Wl," + ",".join(f"--wrap={name}" for name in ("open", "ioctl", "close", "fcntl", "clock_gettime", "nanosleep")),
+                     "examples/c/i2c_dev.c", "examples/c/stand_in.c")
+        return self.run("./bus", *words.split(), MISHAPS=mishaps)[1] == wanted
+
+    def rust(self, test):
+        """Whether a test of the crate passes: one of tests/, or those in the documentation of an item."""
+        words = ["--doc" if "::" in test else "--all-features" if test in UNITS else "--test=calls", *(["--lib"] if test in UNITS else []), "--", test]
+        status, text = self.run("cargo", "test", "--offline", "--manifest-path", "rust/Cargo.toml", *words,
+                                PM_ARCHIVES=self.built, CARGO_TARGET_DIR=os.path.join(self.folder, "target"))
+        if "error: could not compile" in text or not re.search(r"ok\. [1-9]\d* passed|FAILED", text):
+            sys.exit(text)
+        return status == 0
+
+
+def try_all(bugs, built, tally):
+    with tempfile.TemporaryDirectory() as folder:
+        copy = Copy(folder, os.path.abspath(built))
+        for bug in bugs:
+            wrong = copy.planted(bug)
+            tally.tell(bug.name, [wrong] if wrong else [])
+            if not wrong:
+                print(f"{bug.name}: noticed by {bug.said['test']}", flush=True)
