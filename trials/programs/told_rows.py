@@ -401,13 +401,17 @@ B0 05 02 00 D4 07 08                      58 code 05 PAGE_PLUS_WRITE write 02 00
 B0 05 01 00 *                             58 code 05 PAGE_PLUS_WRITE write 01 00, PEC right
 B0 05 00 *                                58 code 05 PAGE_PLUS_WRITE write 00, PEC right
 B0 05                                     58 code 05 PAGE_PLUS_WRITE send, no PEC
-= count code 05 5
-= count code 06 5
+B0 05 02 00 D4 / B1 07                    58 code 05 PAGE_PLUS_WRITE write 02 00 D4 read 07, no PEC
+B0 06 03 00 D4 07                         58 code 06 PAGE_PLUS_READ write 03 00 D4 07, no PEC
+B0 96 02 00 EF / B1 01 60                 58 code 96 READ_POUT write 02 00 EF read 01 60, no PEC
+B0 96 03 00 D4 07                         58 code 96 READ_POUT write 03 00 D4 07, no PEC
+= count code 05 6
+= count code 06 6
 = count code 21 1
-= count code 96 1
+= count code 96 3
 = count code D4 4
 = count code EF 3
-= lines 19 accepted 0 other 19 faults 0 bad 0
+= lines 23 accepted 0 other 23 faults 0 bad 0
 
 # An answer of nothing but ones; with its PEC, which is chance, and with no byte it is none.
 B0 06 02 00 21 / B1 FF FF FF FF           58 code 06 PAGE_PLUS_READ write 02 00 21 read FF FF FF FF, all ones: nobody answered
@@ -421,15 +425,24 @@ B0 78 / B1 FF *                           58 STATUS_BYTE read FF
 B0 78 / B1 FF FE                          58 read F5 WrongPec 2
 B0 D4 FF FF                               58 code D4 write FF FF, no PEC
 B0 FF / B1                                58 code FF PMBUS_COMMAND_EXT read, no PEC
+B0 89 / B1 FF                             58 code 89 READ_IIN read, PEC right
+B0 E0 / B1 FF FF                          58 code E0 read FF, PEC right
+B0 40 / B1 FF FF                          58 code 40 VOUT_OV_FAULT_LIMIT read FF FF, all ones: nobody answered
+B0 40 / B1 FF FF FF                       58 code 40 VOUT_OV_FAULT_LIMIT read FF FF, PEC right
+0E 96 / 0F FF                             -- write F1 NotOurs
+B0 96 / B3 FF                             58 write F6 UnknownCode 1
 = count STATUS_BYTE 1
 = count code 03 1
 = count code 06 1
+= count code 40 2
 = count code 78 2
 = count code 79 2
+= count code 89 1
 = count code 96 1
 = count code D4 1
+= count code E0 1
 = count code FF 1
-= lines 11 accepted 1 other 9 faults 1 bad 0
+= lines 17 accepted 1 other 13 faults 3 bad 0
 
 # These stay faults: a wrong PEC of a code that is written here, no code, another device's answer, no answer, no device.
 B0 03 47                                  58 write F5 WrongPec 2

@@ -26,7 +26,7 @@ def of_all(packet, frame, read):
         return packet
     is_answer = read is None or read[:1] == [frame[0] + 1]
     is_right = is_closed(frame, read)
-    if read is not None and is_answer and len(read) > 1 and {*read[1:]} == {0xFF} and not is_right:
+    if read is not None and is_answer and {*read[1:]} == {0xFF} and not is_right:
         return {**otherwise(packet["address"], frame, read), "is_ones": True}
     if packet["fault"][0] == "F2 Short":
         message = [*frame, *(read or [])]
