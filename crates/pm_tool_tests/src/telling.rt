@@ -13,14 +13,14 @@ static TOLD: [(&[&str], &str, u8, &str, &str); 12] = [
         &["pmb", "decode", "--values"],
         "B0 06 02 00 20 / B1 01 14 4E\nB0 05 04 00 21 CD 34 5A\nB0 05 04 01 21 CD 34 4C\n",
         0,
-        "1 58 page 0 VOUT_MODE read 14 ULINEAR16 -12\n2 58 page 0 VOUT_COMMAND write 34CD 13517/4096 3300048 uV\n3 58 page 1 VOUT_COMMAND write 34CD\ncount VOUT_MODE 1\ncount VOUT_COMMAND 2\nlines 3 accepted 3 faults 0 bad 0\n",
+        "1 58 page 0 VOUT_MODE read 14 ULINEAR16 -12\n2 58 page 0 VOUT_COMMAND write 34CD 3.300048 V\n3 58 page 1 VOUT_COMMAND write 34CD\ncount VOUT_MODE 1\ncount VOUT_COMMAND 2\nlines 3 accepted 3 faults 0 bad 0\n",
         "",
     ),
     (
         &["pmb", "decode", "--vout=direct:1:0:3", "--values"],
         "B0 05 04 00 21 CD 34 5A\n",
         0,
-        "1 58 page 0 VOUT_COMMAND write 34CD 13517/1000 13517000 uV\ncount VOUT_COMMAND 1\nlines 1 accepted 1 faults 0 bad 0\n",
+        "1 58 page 0 VOUT_COMMAND write 34CD 13.517 V\ncount VOUT_COMMAND 1\nlines 1 accepted 1 faults 0 bad 0\n",
         "",
     ),
     (
@@ -56,7 +56,7 @@ static TOLD: [(&[&str], &str, u8, &str, &str); 12] = [
         &["pmb", "decode", "--json", "--values"],
         "B0 06 02 00 20 / B1 01 14 4E\nB0 05 04 00 21 CD 34 5A\n",
         0,
-        "{\"line\":1,\"address\":\"58\",\"page\":0,\"code\":\"20\",\"name\":\"VOUT_MODE\",\"direction\":\"read\",\"bytes\":\"14\",\"value\":\"ULINEAR16 -12\"}\n{\"line\":2,\"address\":\"58\",\"page\":0,\"code\":\"21\",\"name\":\"VOUT_COMMAND\",\"direction\":\"write\",\"bytes\":\"CD 34\",\"value\":\"13517/4096\",\"micro\":3300048,\"unit\":\"V\"}\n{\"count\":\"VOUT_MODE\",\"lines\":1}\n{\"count\":\"VOUT_COMMAND\",\"lines\":1}\n{\"lines\":2,\"accepted\":2,\"faults\":0,\"bad\":0}\n",
+        "{\"line\":1,\"address\":\"58\",\"page\":0,\"code\":\"20\",\"name\":\"VOUT_MODE\",\"direction\":\"read\",\"payload\":\"14\",\"value\":\"ULINEAR16 -12\"}\n{\"line\":2,\"address\":\"58\",\"page\":0,\"code\":\"21\",\"name\":\"VOUT_COMMAND\",\"direction\":\"write\",\"payload\":\"CD 34\",\"numerator\":13517,\"denominator\":4096,\"volts\":3.300048}\n{\"count\":\"VOUT_MODE\",\"lines\":1}\n{\"count\":\"VOUT_COMMAND\",\"lines\":1}\n{\"lines\":2,\"accepted\":2,\"faults\":0,\"bad\":0}\n",
         "",
     ),
     // The options are judged in their order.
@@ -181,7 +181,7 @@ fn options_are_read_as_they_are_written(rt: HostRuntime) -> Result<(), Fail> {
         ..wanted
     };
     let options = more.options()?;
-    is_true(&rt, options.values && options.vout.is_some(), &more);
+    is_true(&rt, options.values && options.formats.vout.is_some(), &more);
     is_true(&rt, options.times && options.json, &more);
     is_true(&rt, !options.all && !options.long, &more);
     Ok(())

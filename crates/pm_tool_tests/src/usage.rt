@@ -188,7 +188,7 @@ that of --vout, as pmb number has it: linear11, ulinear16:N or direct:M:B:R.
 
   $ printf 'B0 06 02 00 20 / B1 01 14 4E\\nB0 05 04 00 21 CD 34 5A\\n' | pmb decode --values | head -2
   1 58 page 0 VOUT_MODE read 14 ULINEAR16 -12
-  2 58 page 0 VOUT_COMMAND write 34CD 13517/4096 3300048 uV
+  2 58 page 0 VOUT_COMMAND write 34CD 3.300048 V
 
 With --all a packet that the command table doesn't have is told so: 1 58 code FD send, no PEC. With
 --times a line is 1234 B0 03 46, and told so: 1 1234 us 58 CLEAR_FAULTS send.

@@ -17,6 +17,7 @@ use pm_console::given_text;
 use pm_decode::TellOptions;
 use pm_num::{AnyFormat, Ulinear16};
 use pm_table::{Coefficients, VoutMode, format_of};
+use pm_values::GivenFormats;
 use std::alloc::Global;
 
 /// The options of `decode`, as they were written.
@@ -69,7 +70,10 @@ impl<'a> TellTexts<'a> {
         let vout = self.vout_format()?;
         Ok(TellOptions {
             values: self.values,
-            vout,
+            formats: GivenFormats {
+                vout,
+                readings: [None; 8],
+            },
             all: self.all,
             long: self.long,
             times: self.times,
