@@ -73,7 +73,7 @@ B0 05 03 00 21 CD 48 -> 58 page 0 code 21 VOUT_COMMAND write CD, PEC right
 B0 05 03 00 D4 07 65 -> 58 page 0 code D4 write 07, PEC right
 B0 05 02 07 D4 10 -> 58 page 7 code D4 send, PEC right
 B0 05 02 FF 0B -> 58 page 255 code 0B send, no PEC
-B0 05 04 00 D4 07 65 -> 58 code 05 PAGE_PLUS_WRITE write 04 00 D4 07, PEC right
+B0 05 04 00 D4 07 07 -> 58 code 05 PAGE_PLUS_WRITE write 04 00 D4 07, PEC right
 B0 05 01 00 -> 58 code 05 PAGE_PLUS_WRITE write 01 00, no PEC
 B0 06 02 00 EF / B1 01 60 7D -> 58 page 0 code EF read 60, PEC right
 B0 06 02 01 EF / B1 02 60 07 -> 58 page 1 code EF read 60 07, no PEC
