@@ -28,7 +28,7 @@ from told_rows import (  # noqa: E402
 )
 
 JSON = "--json"
-EVERY = ["--values", "--all", "--long", "--times", "--pages"]
+EVERY = ["--values", "--all", "--long", "--times"]
 MIB, LONG = 1_048_576, 5_242_880
 # So much more memory may be in use behind 5 MiB than behind the first one.
 MOST_GROWTH = 128
@@ -89,25 +89,22 @@ def traces(text):
 
 
 def wanted_of(rows, words):
-    """A trace's text, the lines that are told, the counts that it names, and what is said on standard error."""
-    lines, told, counts, said_of_all = [], [], [], ""
+    """A trace's text, the lines that are told, and the counts that it names."""
+    lines, told, counts = [], [], []
     for row in rows:
         if row.startswith("= "):
             counts.append(row[2:])
-            continue
-        if row.startswith("~ "):
-            said_of_all = f"pmb: {row[2:]}\n"
             continue
         line, _, said = row.partition("  ")
         line, said = filled(line, said.strip(), "--times" in words)
         lines.append(line)
         if said:
             told.append(said if said.startswith("{") else f"{len(lines)} {said}")
-    return "".join(line + "\n" for line in lines), told, counts, said_of_all
+    return "".join(line + "\n" for line in lines), told, counts
 
 
 def row_faults(decode, words, rows):
-    text, told, counts, said_of_all = wanted_of(rows, words)
+    text, told, counts = wanted_of(rows, words)
     status, said, errors = decode(text.encode(), words)
     found, is_bad = said.splitlines(), any(" X1 " in it or " X2 " in it or '"X' in it for it in told)
     for place, line in enumerate(told):
@@ -115,7 +112,7 @@ def row_faults(decode, words, rows):
             yield f"it tells {found[place:place + 1]}, and not {line!r}"
     if counts and found[len(told):] != counts:
         yield f"it counts {found[len(told):]}, and not {counts}"
-    if (status, errors) != (int(is_bad), said_of_all):
+    if (status, errors) != (int(is_bad), ""):
         yield f"it has status {status}, and says {errors!r}"
     if JSON in words:
         yield from json_faults(found)

@@ -2,18 +2,16 @@
 import re
 
 from . import trace
-from .following import Pages
-from .lines import MOST_BYTES, TextFault, decimal, is_skipped, lines_of
-from .numbers import coefficients_fault, value_of
+from .lines import MOST_BYTES, TextFault, decimal, numbered
+from .numbers import coefficients_fault
 from .packets import name_of
 from .telling import fields_of, object_text, of_all, text_of
-from .trace import judged, parts_of, payload_word
-from .values import MOST_VOLTS, READINGS, Formats, value_fields, words_of_value
+from .trace import judged, parts_of
+from .values import READINGS, Formats, value_fields, words_of_value
 
-SWITCHES = ("--values", "--all", "--long", "--times", "--json", "--pages")
-VALUED = ("--vout", "--readings", "--gap")
+SWITCHES = ("--values", "--all", "--long", "--times", "--json")
 TIME = re.compile(rb" *([0-9]{1,18})(?= |$)")
-MOST_READINGS, MOST_GAP, GAP = 8, 1_000_000, 1000
+MOST_READINGS = 8
 
 
 class BadOptions(Exception):
@@ -21,8 +19,8 @@ class BadOptions(Exception):
 
 
 def format_named(text, refusal="bad vout"):
-    """The format that a text names; a slash stands for a colon."""
-    name, *numbers = text.replace("/", ":").split(":")
+    """The format that a text names."""
+    name, *numbers = text.split(":")
     bounds = {"linear11": [], "ulinear16": [(-16, 15)], "direct": [(-2**15, 2**15 - 1)] * 2 + [(-2**7, 2**7 - 1)]}.get(name)
     if bounds is None or len(bounds) != len(numbers):
         raise BadOptions(refusal)
@@ -39,7 +37,7 @@ def readings_named(text):
     """The entries of `--readings`: an address or None, a code or None, and a format each."""
     entries = []
     for entry in text.split(","):
-        words, places = entry.replace("/", ":").split(":"), []
+        words, places = entry.split(":"), []
         while len(places) < 2 and re.fullmatch("[0-9A-Fa-f]{2}", words[0]):
             places.append(int(words.pop(0), 16))
             words = words or [""]
@@ -53,16 +51,8 @@ def readings_named(text):
     return entries
 
 
-def gap_named(text):
-    """The milliseconds of `--gap`."""
-    if not re.fullmatch("[0-9]{1,7}", text) or int(text) > MOST_GAP:
-        raise BadOptions("bad gap")
-    return int(text)
-
-
-# The options that need others, in the order of their refusals, and what reads what stands behind them.
-NEEDS = [("--vout", ("--values",), format_named), ("--readings", ("--values",), readings_named),
-         ("--gap", ("--pages", "--times"), gap_named)]
+# The options that go with `--values`, in the order of their refusals, and what reads what stands behind them.
+VALUED = {"--vout": format_named, "--readings": readings_named}
 
 
 def options_of(words):
@@ -75,10 +65,10 @@ def options_of(words):
         if name in options or name not in (*SWITCHES, *VALUED) or bool(equals) != (name in VALUED):
             raise BadOptions(None)
         options[name] = value
-    for name, needed, read in NEEDS:
+    for name, read in VALUED.items():
         if name in options:
-            if not {*needed} <= {*options}:
-                raise BadOptions(f"give {name} with {' and '.join(needed)}")
+            if "--values" not in options:
+                raise BadOptions(f"give {name} with --values")
             options[name] = read(options[name])
     return options
 
@@ -89,59 +79,39 @@ class Telling:
     def __init__(self, options):
         self.options = options
         self.formats = Formats(options.get("--vout"), options.get("--readings", []))
-        self.pages = Pages(1000 * options.get("--gap", GAP)) if "--pages" in options else None
         self.said, self.counts, self.codes = [], {}, {}
         self.faults = self.bad = self.others = 0
-        self.has_time, self.beyond, self.has_bad_time = False, None, False
 
     def line(self, number, line):
-        if is_skipped(line):
-            if self.pages and line.startswith(b"#"):
-                self.pages.comment(line)
-            return
         time = None
         if "--times" in self.options:
             found = TIME.match(line)
             if not found:
                 self.bad_line(number, "X1 Syntax")
                 return
-            time, line, self.has_time = int(found[1]), line[found.end():], True
+            time, line = int(found[1]), line[found.end():]
         parts = parts_of(line)
         if isinstance(parts, str):
-            self.has_bad_time |= TIME.match(line) is not None
             self.bad_line(number, parts)
         else:
             self.packet(number, time, *parts)
 
     def packet(self, number, time, frame, read):
-        packet, wrong = judged(frame, read), None
+        packet = judged(frame, read)
         if "--all" in self.options:
             packet = of_all(packet, frame, read)
-        if self.pages:
-            self.pages.come(packet, time)
-            wrong = self.pages.contradiction(number, packet)
-            packet = self.pages.followed(packet)
         self.count(packet)
-        value = self.value(number, packet)
-        self.say(number, time, packet, (frame, read), value, wrong)
-        self.formats.learn(packet)
-        if self.pages:
-            self.pages.learn(number, packet, frame)
-
-    def say(self, number, time, packet, parts, value, wrong):
-        has_values = "--values" in self.options
+        value, has_values = self.value(packet), "--values" in self.options
         if "--json" in self.options:
-            told = fields_of(packet, *parts, has_values, value)
-            self.said.append(object_text({"line": number, "time": time, **told, "wrong": wrong}))
-            return
-        where = f"{number}" if time is None else f"{number} {time} us"
-        mark = f" WRONG PAGE? lines {wrong[0]} and {wrong[1]}" if wrong else ""
-        self.said.append(f"{where} {text_of(packet, *parts, has_values, words_of_value(value))}{mark}")
+            told = fields_of(packet, frame, read, has_values, value)
+            self.said.append(object_text({"line": number, "time": time, **told}))
+        else:
+            where = f"{number}" if time is None else f"{number} {time} us"
+            self.said.append(f"{where} {text_of(packet, frame, read, has_values, words_of_value(value))}")
+        self.formats.learn(packet)
 
     def bad_line(self, number, words):
         self.bad += 1
-        if self.pages:
-            self.pages.lose()
         self.said.append(object_text({"line": number, "fault": words}) if "--json" in self.options else f"{number} {words}")
 
     def count(self, packet):
@@ -153,16 +123,10 @@ class Telling:
         else:
             self.counts[packet["code"]] = self.counts.get(packet["code"], 0) + 1
 
-    def value(self, number, packet):
+    def value(self, packet):
         if "--values" not in self.options or packet["kind"] not in ("read", "write", "other"):
             return {}
-        form, is_vout = (None, False) if packet["kind"] == "other" else self.formats.of(packet)
-        value = value_fields(packet, form)
-        if is_vout and "volts" in value and self.beyond is None:
-            top, low = value_of(form, int.from_bytes(bytes(packet["payload"]), "little"))
-            if abs(top) > MOST_VOLTS * low:
-                self.beyond = f"line {number}: {name_of(packet['code'])} {payload_word(packet['payload'])} is beyond 1000 V by --vout"
-        return value
+        return value_fields(packet, None if packet["kind"] == "other" else self.formats.of(packet))
 
     def ends(self):
         """The lines of the counts."""
@@ -179,15 +143,6 @@ class Telling:
             self.said += [f"count code {code:02X} {count}" for code, count in codes]
             self.said.append(" ".join(f"{name} {count}" for name, count in last.items()))
 
-    def hint(self):
-        """What is said on standard error of a whole trace, or nothing."""
-        accepted, other = sum(self.counts.values()), self.others
-        if self.beyond:
-            return self.beyond
-        if "--times" in self.options:
-            return "no line begins with a time: give --times to both" if self.said and not self.has_time else None
-        return "no line is a packet: give --times to both" if self.has_bad_time and not accepted + other else None
-
 
 def decode(text, words):
     """Status, standard output and standard error of `pmb decode` on a text, with these options; standard error is None
@@ -203,12 +158,9 @@ def decode(text, words):
         text = text[:MOST_BYTES]
         text = text[:text.rfind(b"\n") + 1]
     told = Telling(options)
-    for number, line in enumerate(lines_of(text), 1):
+    for number, line in numbered(text):
         told.line(number, line)
-    hint = told.hint()
     if is_whole:
         told.ends()
     said = "".join(line + "\n" for line in told.said)
-    if not is_whole:
-        return 1, said, "pmb: X3 TooLong\n"
-    return int(told.bad > 0), said, f"pmb: {hint}\n" if hint else ""
+    return (int(told.bad > 0), said, "") if is_whole else (1, said, "pmb: X3 TooLong\n")

@@ -20,8 +20,6 @@ UNITS = {"READ_VIN": "volts", "READ_IOUT": "amperes", "READ_TEMPERATURE_1": "cel
 LETTERS = {"volts": "V", "amperes": "A", "celsius": "C"}
 MODE, READINGS = CODES["VOUT_MODE"], tuple(map(CODES.get, UNITS))
 DIRECT = 0x40
-# A voltage that is told by `--vout` and lies further from 0 is beyond what any rail has.
-MOST_VOLTS = 1000
 
 
 class Rounded(int):
@@ -112,19 +110,19 @@ class Formats:
                 self.linear.add(packet["address"])
 
     def of(self, packet):
-        """The format of a packet's reading or voltage, or None, and whether `--vout` gave it."""
+        """The format of a packet's reading or voltage, or None."""
         address, code = packet["address"], packet["code"]
         if code in READINGS:
-            return self.of_reading(address, code), False
+            return self.of_reading(address, code)
         mode = self.modes.get((address, packet["page"]))
         if mode is None:
-            return self.vout, True
+            return self.vout
         if mode_fault(mode) or mode != DIRECT:
-            return None if mode_fault(mode) else format_of(mode, ()), False
+            return None if mode_fault(mode) else format_of(mode, ())
         taught = self.coefficients.get((address, code))
         if taught is None:
-            return self.vout if self.vout and self.vout[0] == "direct" else None, True
-        return None if coefficients_fault(taught[0], taught[2]) else format_of(mode, taught), False
+            return self.vout if self.vout and self.vout[0] == "direct" else None
+        return None if coefficients_fault(taught[0], taught[2]) else format_of(mode, taught)
 
     def of_reading(self, address, code):
         for where, asked, form in self.readings:
