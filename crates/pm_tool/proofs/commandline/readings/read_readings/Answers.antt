@@ -30,7 +30,7 @@ returns-in-Some c =
     let f = c.in_ok-front.front in
     let b = c.in_ok-back.back in
     let left : entries_left 0 (text_at b.left) ≡ None =
-        ap (λ (l : Option (Bor Text)). entries_left 0 (text_at l)) c.in-Some.is ∙ no_room c.in-Some.field-0.now in
+    ap (λ (l : Option (Bor Text)). entries_left 0 (text_at l)) c.in-Some.is ∙ no_room c.in-Some.field-0.now in
     sym (c.in_ok-front.ensures 4 ∙ ap (option_map (four f.first f.second f.third f.fourth))
     (c.in_ok-back.ensures 0 ∙ ap (option_map (four b.first b.second b.third b.fourth)) left))
 
