@@ -1,6 +1,6 @@
 -- What is written of a capture as objects of JSON, one a line, without spaces, and with keys in one order. Every text in
 -- them is made of letters, digits, spaces and a few signs of which none has to be escaped. This project's own choice.
-use Rattle.std.specs.Prelude.{ℕ, ℤ, Bool, true, if◌then◌else◌, zero, suc, nat_eq, List, [], ◌∷◌, ◌++◌, slice_index, decimal, codes, unwrap_or, Option, Some, None}
+use Rattle.std.specs.Prelude.{ℕ, ℤ, pos, Bool, true, if◌then◌else◌, zero, suc, nat_eq, List, [], ◌∷◌, ◌++◌, slice_index, decimal, codes, unwrap_or, Option, Some, None}
 use Rattle.std.specs.Fmt.{signed_decimal}
 use Rattle.std.specs.Map.{lookup}
 use Rattle.pm_frame.specs.FaultWords.{frame_fault_place, frame_fault_words}
@@ -9,6 +9,7 @@ use Rattle.pm_frame.specs.declared.fault.FrameFault.{FrameFault}
 use Rattle.pm_frame.specs.declared.message.Message.{Message}
 use Rattle.pm_frame.specs.declared.message.Message.TheVariants.{SendByte, WriteByte, WriteWord, PagePlusWrite, ReadCommand, PagePlusRead, ReadCoefficients}
 use Rattle.pm_lines.specs.Numbers.{hex_byte}
+use Rattle.pm_num.specs.Ratio.{Ratio}
 use Rattle.pm_table.specs.Commands.{name_of}
 use Rattle.pm_table.specs.Coefficients.{coefficients_of}
 use Rattle.pm_table.specs.declared.coefficients.Coefficients.{Coefficients}
@@ -70,9 +71,16 @@ unit_key Volt = codes "volts"
 unit_key Ampere = codes "amperes"
 unit_key Celsius = codes "celsius"
 
+-- a fraction as the word has it
+unfoldable pub fraction_by : ℤ → ℤ → List ℕ
+fraction_by num den = signed_field (codes "numerator") num ++ signed_field (codes "denominator") den
+
+-- a fraction rounded down to a millionth
+unfoldable pub rounded_field : Ratio → MeasureUnit → List ℕ
+rounded_field ratio unit = key (unit_key unit) ++ decimal_of (millionths ratio)
+
 abbrev pub value_fields : Value → List ℕ
-value_fields (Measured ratio unit) = signed_field (codes "numerator") ratio.num
-    ++ (number_field (codes "denominator") ratio.den ++ (key (unit_key unit) ++ decimal_of (millionths ratio)))
+value_fields (Measured ratio unit) = fraction_by ratio.num (pos ratio.den) ++ rounded_field ratio unit
 value_fields (Operates operation) = text_field (codes "value") (operation_text operation)
 value_fields (Protects byte) = text_field (codes "value") (protection_text byte)
 value_fields (Scales mode) = text_field (codes "value") (mode_text mode)

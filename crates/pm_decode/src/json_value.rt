@@ -1,7 +1,7 @@
 //! Values as fields of objects of JSON.
 ghost use Rattle.std.specs.Prelude.{◌≡◌, ◌++◌, codes, OnOk, string_bytes};
 ghost use Rattle.pm_values.specs.ValueText.{capability_text, mode_text, on_off_text};
-ghost use Rattle.pm_decode.specs.JsonText.{text_field, unit_key as spec_unit_key, value_fields, value_fields_if};
+ghost use Rattle.pm_decode.specs.JsonText.{fraction_by, rounded_field, text_field, unit_key as spec_unit_key, value_fields, value_fields_if};
 
 use crate::json_fields::{push_key, push_signed_field, push_text_field};
 use pm_num::Frac;
@@ -39,12 +39,28 @@ fn push_fields_of(text: &mut String, value: Value) -> Result<(), AllocError>
 }
 
 // A number: its fraction as the word has it, and what it is rounded down to a millionth.
-#[tactic(auto, using(pm_lines::specs::Lemmas::Joins::joins), unfolding(crate::specs::JsonText::number_field, crate::specs::JsonText::signed_field))]
+#[tactic(auto, using(pm_lines::specs::Lemmas::Joins::joins))]
 fn push_measured_fields(text: &mut String, ratio: Frac, unit: Unit) -> Result<(), AllocError>
     ensures { OnOk result (string_bytes text.new ≡ string_bytes text.old ++ value_fields (Value.Measured ratio unit)) }
 {
-    push_signed_field(text, "numerator", ratio.num())?;
-    push_signed_field(text, "denominator", ratio.den())?;
+    push_fraction_by(text, ratio.num(), ratio.den())?;
+    push_rounded_field(text, ratio, unit)
+}
+
+// A fraction by its two numbers.
+#[tactic(auto, using(pm_lines::specs::Lemmas::Joins::signed_joins), unfolding(crate::specs::JsonText::fraction_by))]
+fn push_fraction_by(text: &mut String, num: i128, den: i128) -> Result<(), AllocError>
+    ensures { OnOk result (string_bytes text.new ≡ string_bytes text.old ++ fraction_by num den) }
+{
+    push_signed_field(text, "numerator", num)?;
+    push_signed_field(text, "denominator", den)
+}
+
+// A fraction rounded down to a millionth.
+#[tactic(auto, using(pm_lines::specs::Lemmas::Joins::joins), unfolding(crate::specs::JsonText::rounded_field))]
+fn push_rounded_field(text: &mut String, ratio: Frac, unit: Unit) -> Result<(), AllocError>
+    ensures { OnOk result (string_bytes text.new ≡ string_bytes text.old ++ rounded_field ratio unit) }
+{
     push_key(text, unit_key(unit))?;
     push_millionths(text, ratio)
 }

@@ -4,7 +4,7 @@ ghost use Rattle.pm_trace.specs.ShownLines.{judged_in};
 ghost use Rattle.pm_trace.specs.Trace.{reading_judged};
 ghost use Rattle.pm_trace.specs.TraceText.{judged_text};
 ghost use Rattle.pm_values.specs.Taught.{Taught};
-ghost use Rattle.pm_decode.specs.CaptureText.{bytes_text, extra_text, json_line, lack_text, line_text, plain_line, meaning_text, packet_text_by, read_bytes_text, time_text};
+ghost use Rattle.pm_decode.specs.CaptureText.{bytes_text, extra_text, json_line, lack_text, line_text, plain_line, meaning_text, packet_fields_by, packet_text_by, read_bytes_text, time_text};
 ghost use Rattle.pm_decode.specs.Hearing.{is_without_pec, other_address};
 ghost use Rattle.pm_decode.specs.JsonText.{lack_field as spec_lack_field};
 ghost use Rattle.pm_decode.specs.Readings.{judged_by};
@@ -132,14 +132,33 @@ fn push_packet_json(
     text.push_str("{\"line\":")?;
     push_decimal(text, number)?;
     push_number_field_if(text, "time", time)?;
+    push_packet_fields(text, options, lessons, packet, shown, lacks, other)?;
+    text.push_str("}")
+}
+
+// The fields of a packet.
+#[tactic(auto, using(pm_lines::specs::Lemmas::Joins::joins))]
+fn push_packet_fields(
+    text: &mut String,
+    options: &TellOptions,
+    lessons: &Lessons,
+    packet: &Packet<'_>,
+    shown: &Shown<'_>,
+    lacks: bool,
+    other: Option<u8>,
+) -> Result<(), AllocError>
+    requires shown { judged_in shown.now ≡ judged_by options.now.all (packet_in packet.now) }
+    requires lacks { lacks ≡ is_without_pec options.now.all (packet_in packet.now) }
+    ensures { OnOk result (string_bytes text.new ≡ string_bytes text.old
+        ++ packet_fields_by options.now lessons.now (packet_in packet.now) other) }
+{
     match other {
         None => {
             push_judged_fields(text, options, lessons, packet, shown)?;
-            text.push_str(lack_field(lacks))?;
+            text.push_str(lack_field(lacks))
         }
-        Some(addr) => push_other_fields(text, options.values, addr, packet)?,
+        Some(addr) => push_other_fields(text, options.values, addr, packet),
     }
-    text.push_str("}")
 }
 
 // The same as it is told to a person.
