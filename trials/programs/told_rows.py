@@ -28,6 +28,8 @@ B0 8D / B1 19 00 *                        58 READ_TEMPERATURE_1 read 0019 25 C
 B2 20 / B3 40 *                           59 VOUT_MODE read 40 DIRECT
 B2 30 02 88 01 / B3 05 01 00 00 00 00 *   59 COEFFICIENTS of 88 side 1 read m 1 b 0 r 0
 B2 88 / B3 00 D3 *                        59 READ_VIN read D300
+B2 20 / B3 20 *                           59 VOUT_MODE read 20
+B2 88 / B3 00 D3 *                        59 READ_VIN read D300
 B2 20 / B3 21 *                           59 VOUT_MODE read 21
 B2 88 / B3 00 D3 *                        59 READ_VIN read D300
 B2 20 / B3 60 *                           59 VOUT_MODE read 60
