@@ -54,7 +54,7 @@ asked "the wheel" 'python3 -m venv v && v/bin/pip install --no-index /usr/share/
 asked "pmb decodes a capture" "pmb decode --values --vout=ulinear16:-12 < $doc/examples/bus.trace | grep -q 3300048"
 asked "README's example" "pmb replay < $doc/examples/answer-lost.scenario | cmp - $doc/examples/answer-lost.report"
 asked "a capture of sigrok" "printf 'i2c-1: Start\ni2c-1: Address write: 58\n' | pmhost capture sigrok > trace"
-asked "manual pages and completions" 'for each in pmb pmbhost pmbpart pmhost; do test -x /usr/bin/$each && gzip -t /usr/share/man/man1/$each.1.gz && bash -c ". /usr/share/bash-completion/completions/$each && complete -p $each"; done'
+asked "manual pages and completions" 'for each in pmb pmbhost pmbpart pmhost; do test -x /usr/bin/$each && man -P cat $each 2> /dev/null | grep -qi NAME && bash -c ". /usr/share/bash-completion/completions/$each && complete -p $each"; done'
 asked "a part over pmbpart" 'printf "B0 15 24\nquit\n" | pmbpart | grep -qx taken'
 asked "an order over pmbhost" "printf 'order 0 VOUT_COMMAND 34CD\n' | PYTHONPATH=/usr/lib/pm-host PMBHOST=/usr/bin/pmbhost python3 -B $doc/examples/pmbhost/drive.py desk 58 2 | grep 'ended done'"
 asked "tarball, anywhere" "mkdir t && tar -C t --strip-components=1 -xf *.tar.gz && export PKG_CONFIG_PATH=$work/t/lib/pkgconfig LD_LIBRARY_PATH=$work/t/lib && gcc t/share/doc/pm-host/examples/c/order.c \$(pkg-config --cflags --libs pm_host) -o order && ./order | cmp - t/share/doc/pm-host/examples/c/order.expected && readlink -f \$(ldd order | sed -n 's/.*libpm_host.so.* => \\(.*\\) (.*/\\1/p') | grep -q ^$work/t/ && t/bin/pmhost -b desk --outputs 2 --limit 0:3.135V:3.465V set 0 3.3V"

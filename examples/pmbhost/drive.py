@@ -13,7 +13,7 @@ import os
 import re
 import sys
 
-sys.path.insert(0, os.path.join(os.path.dirname(os.path.abspath(__file__)), "..", "..", "python", "src"))
+sys.path.append(os.path.join(os.path.dirname(os.path.abspath(__file__)), "..", "..", "python", "src"))
 
 from pmhost import DeskBus, LinuxBus, NoBus  # noqa: E402
 from pmhost.programs import HostProgram, Missing, NoAnswer  # noqa: E402

@@ -11,6 +11,18 @@ const OUTPUT = {mode: 0x14, operation: 0x80, command: 0x1000, max: 0x4000, high:
 const hex = (bytes) => bytes.map((byte) => byte.toString(16).toUpperCase().padStart(2, "0")).join(" ");
 export const volts = (microvolts) => (microvolts / 1e6).toFixed(3) + " V";
 
+const hexWord = (word) => word.toString(16).toUpperCase().padStart(4, "0") + "h";
+const REGISTERS = Object.fromEntries(Object.entries(CODE).map(([name, code]) => [code, name]));
+
+// What a frame of either host asks for, in words.
+export function meaning(bytes, reads) {
+    const [, code, ...rest] = bytes;
+    if (code === 0x00) return `PAGE ${rest[0]}`;
+    if (code === 0x05) return `${REGISTERS[rest[2]]} of output ${rest[1]}: ${hexWord(rest[3] | rest[4] << 8)}`;
+    if (code === 0x06) return `reads ${REGISTERS[rest[2]]} of output ${rest[1]}`;
+    return reads ? `reads ${REGISTERS[code]}` : `${REGISTERS[code]}, by PAGE: ${hexWord(rest[0] | rest[1] << 8)}`;
+}
+
 // A bus with a part and a plan of faults, which tells each transfer.
 export class Bus {
     constructor(library, plan) {
@@ -28,7 +40,7 @@ export class Bus {
         if (fault === "cut") arrived = bytes.slice(0, 3);
         if (fault === "damaged") arrived = bytes.map((byte, at) => (at === 3 ? byte ^ 0x40 : byte));
         const reply = arrived === null ? {heard: "silent", answer: []} : this.part.hear(arrived, reads);
-        return {fault, reply, line: {fault, reads, sent: hex(bytes), heard: reply.heard, back: ""}};
+        return {fault, reply, line: {fault, reads, sent: hex(bytes), meaning: meaning(bytes, reads), heard: reply.heard, back: ""}};
     }
 
     end(line, back) {

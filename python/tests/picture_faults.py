@@ -29,9 +29,10 @@ def bar_faults(drawn, plain):
             title, edge, fill, _ = bars.get((output, name_of(code), place), ("any ", "", "", ""))
             kind, _, words = title.partition(" ")
             found = kind, [int(it, 16) for it in words.split(", ") if it]
-            if found != wanted or fill and fill != picture.BELIEFS[kind][0]:
-                yield f"row {place}: of {output} {name_of(code)} it draws {found}, and not {wanted}"
-            if (edge == drawing.FAULT) != (wanted[0] != "any" and word not in wanted[1]):
+            is_false = wanted[0] != "any" and word not in wanted[1]
+            if found != wanted or fill and fill != (picture.FALSE if is_false else picture.BELIEFS[kind][0]):
+                yield f"row {place}: of {output} {name_of(code)} it draws {found} in {fill}, and not {wanted}"
+            if (edge == drawing.FAULT) != is_false:
                 yield f"row {place}: of {output} {name_of(code)} it marks a false word wrongly"
 
 
@@ -262,6 +263,7 @@ def colour_faults():
     for fill, ink, _ in picture.BELIEFS.values():
         behind = {"none": [drawing.PANEL], picture.HATCH: picture.STRIPES}.get(fill, [fill])
         pairs += [(ink, it) for it in behind]
+    pairs += [(drawing.INK, it) for it in picture.FALSE_STRIPES]
     pairs += [(ink, drawing.PANEL if fill == "none" else fill) for fill, _, ink in picture.STATUS.values()]
     pairs += [(ink, fill) for fill, ink in picture.ENDS.values()]
     for pair in pairs:

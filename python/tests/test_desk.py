@@ -9,6 +9,7 @@ import tempfile
 import time
 import unittest
 import unittest.mock
+import xml.etree.ElementTree as tree
 
 from pmhost import desk, programs
 from pmhost.scenario import Setup
@@ -83,6 +84,41 @@ class Mishaps(unittest.TestCase):
         figures.order(both, Wrong(), 1, "34CD")
         self.assertEqual(figures.line("wrong"), "wrong: 1 orders, 1 words reached the wrong output; success was reported 1 times, "
                                                 "1 times wrongly")
+
+
+@needs("pmbhost", "pmbpart")
+class Pictures(unittest.TestCase):
+    """One order by both hosts under the same mishaps, drawn."""
+
+    def drawn(self, *words):
+        status, svg, said = called("desk", "--picture", *words)
+        self.assertEqual(said, "")
+        return status, [it.text for it in tree.fromstring(svg).iter("{http://www.w3.org/2000/svg}text")]
+
+    def test_the_stored_picture_is_what_the_page_says(self):
+        words = ["desk", "--picture", "--faults=ok,restart", *ORDER]
+        self.assertEqual(called(*words), (0, running.stored(running.ROOT, "docs", "pictures", "page-fault.svg"), ""))
+
+    def test_each_host_is_told_with_what_the_part_holds(self):
+        status, words = self.drawn("--faults=ok,restart", *ORDER)
+        self.assertEqual(status, 0)
+        for said in ("PAGE 1", "writes 34CDh to VOUT_COMMAND, by PAGE", "the part restarts before it: taken, acknowledged",
+                     "writes 34CDh to VOUT_COMMAND of output 1", "reads VOUT_COMMAND of output 1", "Output 1 has the word."):
+            self.assertIn(said, words)
+        self.assertEqual([it for it in words if it.startswith("It says")], ["It says: success"] * 2)
+        self.assertIn("The word reached output 0, which nobody ordered.", " ".join(words))
+
+    def test_a_host_that_says_that_it_does_not_know_is_right(self):
+        status, words = self.drawn(f"--faults={','.join(['lost'] * 9)}", *ORDER)
+        self.assertEqual((status, [it for it in words if it.startswith("It says")]), (0, ["It says: unknown"] * 2))
+
+    def test_it_draws_one_order(self):
+        for words, said in ((["check", "0", "VOUT_COMMAND"], "--picture draws one order of a word, as order 1 VOUT_COMMAND 34CD"),
+                            ([*ORDER, "+", *ORDER], "--picture draws one order of a word, as order 1 VOUT_COMMAND 34CD"),
+                            (["--runs=2"], "--picture draws both hosts: leave --plain-host and --runs out"),
+                            (["--plain-host", *ORDER], "--picture draws both hosts: leave --plain-host and --runs out")):
+            with self.subTest(words):
+                self.assertEqual(called("desk", "--picture", *words), (2, "", f"pmhost: desk: {said}\n"))
 
 
 @needs("pmbhost", "pmbpart")

@@ -205,6 +205,16 @@ class ByHand(unittest.TestCase):
         at = [it[0] for (output, _), it in sorted(drawn.upright(drawing.LINE, 3).items()) if output == 0]
         self.assertGreaterEqual(max(at) - min(at), 8)
 
+    def test_outputs_that_no_event_names_are_a_line(self):
+        """Eight rails of which one is ordered fit a screen; a rail with limits is drawn."""
+        text = eight_rails([(5, "34CD", "deliver whole")])
+        drawn = Drawn(picture_of(text))
+        self.assertEqual(([*drawn.lanes], drawn.width < 1200), ([5], True))
+        said = " ".join(it.words for it in drawn.texts)
+        for output in (0, 1, 2, 3, 4, 6, 7):
+            self.assertRegex(said, rf"output {output}, which no event names and which stays (\d|min|max)")
+        self.assertEqual([*Drawn(picture_of(text, "it", {2: (0, 5000000)})).lanes], [2, 5])
+
     def test_limits_of_rails_are_drawn(self):
         rails = {0: (950000, 3465000), 1: (-2000000, 5000000)}
         drawn = Drawn(picture_of(BANDS, "bands", rails))

@@ -405,16 +405,21 @@ installed() {
 }
 
 if command -v pkg-config > /dev/null && command -v gcc > /dev/null; then
+    mkdir -p "$folder/prefix/lib"; echo kept > "$folder/prefix/lib/other"
     packaging/install.sh "$folder/prefix" --library --archives "$built" > "$folder/log" 2>&1 || told "installed" install
     export PKG_CONFIG_PATH=$folder/prefix/lib/pkgconfig
     order="examples/c/order.expected examples/c/order.c" part="examples/c/part.expected examples/c/part.c"
     ends="examples/c/faults.expected examples/c/faults.c"
     installed "order, shared" $order $(pkg-config --cflags --libs pm_host)
-    installed "order, static" $order $(pkg-config --cflags pm_host) "$folder/prefix/lib/libpm_host_c.a"
-    installed "part, shared" $part $(pkg-config --cflags --libs pm_part)
-    installed "part, static" $part $(pkg-config --cflags pm_part) "$folder/prefix/lib/libpm_device_c.a"
-    installed "both ends, shared" $ends $(pkg-config --cflags --libs pm_host pm_part)
-    installed "both ends, static" $ends $(pkg-config --cflags pm_host pm_part) "$folder/prefix/lib/libpm_host_c.a" "$folder/prefix/lib/libpm_device_c.a"
+    installed "order, static" $order $(pkg-config --cflags pm_host) "$folder/prefix/lib/libpm_host.a"
+    installed "part, shared" $part $(pkg-config --cflags --libs pm_device)
+    installed "part, static" $part $(pkg-config --cflags pm_device) "$folder/prefix/lib/libpm_device.a"
+    installed "both ends, shared" $ends $(pkg-config --cflags --libs pm_host pm_device)
+    installed "both ends, static" $ends $(pkg-config --cflags pm_host pm_device) "$folder/prefix/lib/libpm_host.a" "$folder/prefix/lib/libpm_device.a"
+    # An uninstall takes away just what was put.
+    packaging/install.sh "$folder/prefix" --uninstall > "$folder/log" 2>&1
+    (cd "$folder/prefix" && find . -type f) > "$folder/out"; echo ./lib/other > "$folder/wanted"
+    told "uninstalled" $?
 else
     echo "pkg-config: not on this machine"
 fi

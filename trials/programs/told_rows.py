@@ -28,6 +28,8 @@ B0 8D / B1 19 00 *                        58 READ_TEMPERATURE_1 read 0019 25 C
 B2 20 / B3 40 *                           59 VOUT_MODE read 40 DIRECT
 B2 30 02 88 01 / B3 05 01 00 00 00 00 *   59 COEFFICIENTS of 88 side 1 read m 1 b 0 r 0
 B2 88 / B3 00 D3 *                        59 READ_VIN read D300
+B2 20 / B3 20 *                           59 VOUT_MODE read 20
+B2 88 / B3 00 D3 *                        59 READ_VIN read D300
 B2 20 / B3 21 *                           59 VOUT_MODE read 21
 B2 88 / B3 00 D3 *                        59 READ_VIN read D300
 B2 20 / B3 60 *                           59 VOUT_MODE read 60
@@ -545,7 +547,7 @@ B0 02 / B1 17                             58 code 02 ON_OFF_CONFIG read 17 by CO
 B0 02 / B1 1C                             58 code 02 ON_OFF_CONFIG read 1C by OPERATION and CONTROL, CONTROL active low, off with delay, no PEC
 B0 02 1F *                                58 code 02 ON_OFF_CONFIG write 1F by OPERATION and CONTROL, CONTROL active high, off at once, PEC right
 B0 02 / B1 3E                             58 code 02 ON_OFF_CONFIG read 3E by OPERATION and CONTROL, CONTROL active high, off with delay, bit 5, no PEC
-B0 02 / B1 FF                             58 code 02 ON_OFF_CONFIG read FF, all ones: nobody answered
+B0 02 / B1 FF                             58 code 02 ON_OFF_CONFIG read FF by OPERATION and CONTROL, CONTROL active high, off at once, bit 7, bit 6, bit 5, all ones: nobody answered
 B0 02 / B1 16 00                          58 code 02 ON_OFF_CONFIG read 16 00, no PEC
 B0 02                                     58 code 02 ON_OFF_CONFIG send, no PEC
 B0 05 03 00 02 18 *                       58 page 0 code 02 ON_OFF_CONFIG write 18 by OPERATION, PEC right
@@ -553,7 +555,7 @@ B0 05 03 00 02 18 *                       58 page 0 code 02 ON_OFF_CONFIG write 
 B0 7B / B1 00                             58 code 7B STATUS_IOUT read 00 none, no PEC
 B0 7B / B1 A1 *                           58 code 7B STATUS_IOUT read A1 IOUT_OC_FAULT, IOUT_OC_WARNING, POUT_OP_WARNING, PEC right
 B0 7B / B1 80 00                          58 code 7B STATUS_IOUT read 80 00, no PEC
-B0 7B / B1 FF                             58 code 7B STATUS_IOUT read FF, all ones: nobody answered
+B0 7D / B1 FF                             58 code 7D STATUS_TEMPERATURE read FF OT_FAULT, OT_WARNING, UT_WARNING, UT_FAULT, bit 3, bit 2, bit 1, bit 0, all ones: nobody answered
 B0 06 02 01 7C / B1 01 88 *               58 page 1 code 7C STATUS_INPUT read 88 VIN_OV_FAULT, UNIT_OFF_LOW_VIN, PEC right
 B0 78 20 *                                58 code 78 STATUS_BYTE write 20, PEC right
 B0 7A / B1 80 00 *                        58 code 7A STATUS_VOUT read 80 00, PEC right
@@ -744,7 +746,7 @@ B0 7B / B1 81 *            {"line":2,"address":"58","code":"7B","name":"STATUS_I
 B0 7C 00 *                 {"line":3,"address":"58","code":"7C","name":"STATUS_INPUT","direction":"write","payload":"00","flags":[],"pec":true}
 B0 06 02 01 02 / B1 01 1C  {"line":4,"address":"58","page":1,"code":"02","name":"ON_OFF_CONFIG","direction":"read","payload":"1C","value":"by OPERATION and CONTROL, CONTROL active low, off with delay","pec":false}
 B0 79 / B1 02 20           {"line":5,"address":"58","code":"79","name":"STATUS_WORD","direction":"read","payload":"02 20","flags":["INPUT","CML"],"pec":false}
-B0 7B / B1 FF              {"line":6,"address":"58","code":"7B","name":"STATUS_IOUT","direction":"read","payload":"FF","pec":false,"answered":false}
+B0 7D / B1 FF              {"line":6,"address":"58","code":"7D","name":"STATUS_TEMPERATURE","direction":"read","payload":"FF","flags":["OT_FAULT","OT_WARNING","UT_WARNING","UT_FAULT","bit 3","bit 2","bit 1","bit 0"],"pec":false,"answered":false}
 B0 20 / B1 14              {"line":7,"address":"58","code":"20","name":"VOUT_MODE","direction":"read","payload":"14","value":"ULINEAR16 -12","pec":false}
 B0 88 / B1 00 D3           {"line":8,"address":"58","code":"88","name":"READ_VIN","direction":"read","payload":"00 D3","numerator":768,"denominator":64,"volts":12,"pec":false}
 B0 20 14                   {"line":9,"address":"58","code":"20","name":"VOUT_MODE","direction":"write","payload":"14","pec":false}

@@ -42,6 +42,10 @@ row("the restarted part behind the proved host", voltages.proved.outputs.map(vol
 row("the restarted part behind the other", voltages.page.outputs.map(volts), ["3.300 V", "1.000 V"]);
 row("a lost word that was acknowledged", compare(library, ["false acknowledgement"]).page.missing, true);
 
+row("what the proved host's frames ask for", voltages.proved.told.slice(0, 2).map(({meaning}) => meaning),
+    ["VOUT_COMMAND of output 1: 34CDh", "reads VOUT_COMMAND of output 1"]);
+row("what the other's ask for", compare(library, []).page.told.map(({meaning}) => meaning), ["VOUT_COMMAND, by PAGE: 34CDh"]);
+
 // Every plan of three faults: the proved host never touches output 0, and never says done where output 1 hasn't the word.
 let [touched, untrue, plainWrong, plainTold] = [0, 0, 0, 0];
 for (const first of FAULTS) for (const second of FAULTS) for (const third of FAULTS) {

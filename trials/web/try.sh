@@ -37,6 +37,16 @@ if [ -n "$browser" ] && command -v python3 > /dev/null; then
     else
         tell 1; echo "the page doesn't show its first example:"; tail -3 "$work/log"
     fi
+    for words in 'VOUT_COMMAND of output 1: 34CDh' 'VOUT_COMMAND, by PAGE: 34CDh' '3.300 V (34CDh) confirmed'; do
+        if grep -qF "$words" "$work/page"; then tell 0; else tell 1; echo "the page doesn't say: $words"; fi
+    done
+    if ! grep -q 'id="why"' "$work/page"; then tell 0; else tell 1; echo "the page still says why nothing is there"; fi
+    for wide in 420 1400; do
+        timeout 60 "$browser" --headless --no-sandbox --disable-gpu --hide-scrollbars --window-size=$wide,1400 --virtual-time-budget=5000 \
+            --screenshot="$work/$wide.png" "$page/index.html" > /dev/null 2> "$work/log"
+        [ -z "${SHOTS-}" ] || cp "$work/$wide.png" "$SHOTS/"
+        if [ -s "$work/$wide.png" ]; then tell 0; else tell 1; echo "no picture of the page at $wide pixels"; fi
+    done
     if grep -q '<div class="verdict bad">It says: success. 3.3 V reached output 0.' "$work/page"; then
         tell 0
     else

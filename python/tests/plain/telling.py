@@ -27,7 +27,7 @@ def of_all(packet, frame, read):
     is_answer = read is None or read[:1] == [frame[0] + 1]
     is_right = is_closed(frame, read)
     if read is not None and is_answer and {*read[1:]} == {0xFF} and not is_right:
-        return {**otherwise(packet["address"], frame, read), "is_ones": True}
+        return carried({**otherwise(packet["address"], frame, read), "is_ones": True}, frame, read)
     if packet["fault"][0] == "F2 Short":
         message = [*frame, *(read or [])]
         whole = judged([*frame, pec(message)], None) if read is None else judged(frame, [*read, pec(message)])

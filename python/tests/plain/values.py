@@ -66,7 +66,7 @@ def value_fields(packet, form):
     """The value of a packet's payload. `form` is the format of its reading or voltage, or None."""
     if packet["kind"] == "other":
         shown = packet["written"] if packet["got"] is None else packet["got"]
-        return {} if packet["is_ones"] else fields_of_bytes(packet["code"], shown)
+        return fields_of_bytes(packet["code"], shown)
     name, word = name_of(packet["code"]), int.from_bytes(bytes(packet["payload"]), "little")
     if name in STATUS_BITS:
         return {"flags": bits_of(STATUS_BITS[name], word)}

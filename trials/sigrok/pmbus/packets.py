@@ -188,9 +188,9 @@ class Reader:
         is_right, code = is_last_right(write, read), write[1]
         shown = last[first:-1] if is_right else last[first:]
         written, got = (shown, None) if read is None else (write[2:], shown)
-        if not is_ones and code == CARRIER and read is None and len(written) > 2 and written[0] == len(written) - 1:
+        if code == CARRIER and read is None and len(written) > 2 and written[0] == len(written) - 1:
             where, code, written = "%spage %d " % (where, written[1]), written[2], written[3:]
-        elif not is_ones and code == REQUESTER and got and len(write) == 5 and write[2] == 2 and got[0] == len(got) - 1:
+        elif code == REQUESTER and got and len(write) == 5 and write[2] == 2 and got[0] == len(got) - 1:
             where, code, written, got = "%spage %d " % (where, write[3]), write[4], [], got[1:]
         words = ["code %02X" % code, *([NAMES[code]] if code in NAMES else [])]
         if written:
@@ -199,7 +199,7 @@ class Reader:
             words.append(("read " + spaced(got)).rstrip())
         elif not written:
             words.append("send")
-        value = "" if is_ones else value_of_bytes(code, written if got is None else got)
+        value = value_of_bytes(code, written if got is None else got)
         said = " ".join(words) + (value and " " + value)
         ending = NOBODY if is_ones else RIGHT if is_right else NO_PEC
         return Told(OTHER, "%s%s, %s" % (where, said, ending), said, True if is_right else None)

@@ -7,13 +7,14 @@ from typing import Any
 
 from .. import desk, programs
 from ..desk import bus as desk_bus
+from ..picture.desk import DeskPicture
 from ..picture.told import in_words
 from ..scenario import Setup, read_setup
 from . import streams
 from .call import complain
 from .completion import FILES, completed_by
 from .parser import BadCall, file_of, shown, whole
-from .texts import without_a_bus
+from .texts import told, without_a_bus
 
 ABOUT = """Joins both ends at a desk: the proved host pmbhost and the proved converter pmbpart, over a bus that loses, cuts,
 damages and repeats frames. Each frame is told as it goes, with what the part answered and what came of it.
@@ -21,6 +22,7 @@ damages and repeats frames. Each frame is told as it goes, with what the part an
   pmhost desk order 1 VOUT_COMMAND 34CD
   pmhost desk --faults=damaged:2:0 --plain-host order 1 VOUT_COMMAND 34CD
   pmhost desk --seed=7 learn 0 + volts 0 VOUT_COMMAND 3300000 + part page
+  pmhost desk --picture --faults=ok,restart order 1 VOUT_COMMAND 34CD
   pmhost desk --runs=10000 --seed=1
 
 A job is what is said to pmbhost, as order O NAME HEX, check O NAME or state O NAME; with part before it, what is said to
@@ -60,6 +62,8 @@ def add(commands: Any) -> None:
                         help="in place of pmbhost a host that selects by PAGE and believes acknowledgements; it takes orders")
     parser.add_argument("--runs", type=whole(1, 10**9 - 1, "runs"), metavar="N",
                         help="N lists of random mishaps, under each of which both hosts order a word at two outputs")
+    parser.add_argument("--picture", action="store_true",
+                        help="draws (SVG) one order of a word by both hosts, under the same mishaps")
     parser.add_argument("jobs", nargs=argparse.REMAINDER, metavar="JOB [+ JOB ..]", help=f"as {EXAMPLE}")
     parser.set_defaults(run=run, judge=judge)
 
@@ -72,7 +76,11 @@ def judge(arguments: argparse.Namespace) -> None:
         raise BadCall(f"desk: {fault}") from None
     if bool(arguments.jobs) == (arguments.runs is not None):
         raise BadCall(f"desk: give a job, as {EXAMPLE}, or --runs")
+    if arguments.picture and (arguments.plain_host or arguments.runs is not None):
+        raise BadCall("desk: --picture draws both hosts: leave --plain-host and --runs out")
     arguments.start = setup_in(arguments.setup)
+    if arguments.picture and (len(arguments.jobs) != 1 or not desk.is_order(arguments.jobs[0], len(arguments.start.outputs))):
+        raise BadCall(f"desk: --picture draws one order of a word, as {EXAMPLE}")
     for job in arguments.jobs:
         if arguments.plain_host and job[0] != "part" and not desk.is_order(job, len(arguments.start.outputs)):
             raise BadCall(f"desk: {shown(' '.join(job))}: the plain host takes orders alone, as {EXAMPLE}")
@@ -105,6 +113,8 @@ def run(arguments: argparse.Namespace) -> int:
     try:
         both = desk.Desk(arguments.start, arguments.setup, arguments.tries, silent if arguments.runs else indented)
         try:
+            if arguments.picture:
+                return drawn(both, arguments)
             return counted(both, arguments) if arguments.runs else carried_out(both, arguments)
         finally:
             both.close()
@@ -131,11 +141,27 @@ def counted(both: desk.Desk, arguments: argparse.Namespace) -> int:
     return 0
 
 
+def mishaps_for(arguments: argparse.Namespace) -> list[str]:
+    """The list, and behind it those that a seed draws."""
+    random_ones = [] if arguments.seed is None else desk.draw_mishaps(random.Random(arguments.seed), arguments.rate)
+    return [*arguments.faults, *random_ones]
+
+
+def drawn(both: desk.Desk, arguments: argparse.Namespace) -> int:
+    """Draws one order by both hosts; the status is 1 where the proved one says what isn't so."""
+    job, mishaps = arguments.jobs[0], mishaps_for(arguments)
+    both.part.ask("restart")
+    start = both.microvolts()
+    stories = [both.story(both.proved, "This host: PAGE_PLUS, and reads back", job, mishaps),
+               both.story(both.plain, "A host by PAGE that believes acknowledgements", job, mishaps)]
+    title = f"{' '.join(job)}; what befalls the transfers: {', '.join(mishaps) or 'nothing'}"
+    svg = DeskPicture(arguments.start.address, title, stories, start, int(job[1])).svg()
+    return told([svg.removesuffix("\n")]) or int(not stories[0].is_true)
+
+
 def carried_out(both: desk.Desk, arguments: argparse.Namespace) -> int:
     """The status: whether each job went well."""
-    both.bus.mishaps = [*arguments.faults]
-    if arguments.seed is not None:
-        both.bus.mishaps += desk.draw_mishaps(random.Random(arguments.seed), arguments.rate)
+    both.bus.mishaps = mishaps_for(arguments)
     host: desk.LineHost = both.proved
     if arguments.plain_host:
         host = both.plain

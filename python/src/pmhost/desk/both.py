@@ -5,6 +5,7 @@ import random
 import re
 from collections.abc import Callable, Iterator
 
+from ..picture.desk import Story, Transfer
 from ..programs import HostProgram, PartProgram
 from ..scenario import Setup
 from ..values import CODES
@@ -37,6 +38,19 @@ def is_order(job: list[str], outputs: int) -> bool:
     return re.fullmatch(f"[0-9A-Fa-f]{{{digits}}}", job[3]) is not None and job[1].isdecimal() and int(job[1]) < outputs
 
 
+TOLD = re.compile(r"([0-9A-F ]+?)( read \d+)?  (\S+): part (.*), (acknowledged|not acknowledged|back (.*))")
+
+
+def transfer_of(line: str, microvolts: tuple[int, ...]) -> Transfer:
+    """A transfer, of the line that tells it."""
+    found = TOLD.fullmatch(line)
+    assert found
+    said = found[4] if found[2] is None else found[5]
+    is_well = found[4] == "taken" or found[4].startswith("answer") and found[4].removeprefix("answer ") == found[6]
+    came = f"{said}, {found[5]}" if found[2] is None else f"came {found[6]}"
+    return Transfer(bytes.fromhex(found[1]), found[2] is not None, found[3], is_well, came, microvolts)
+
+
 class Desk:
     """Both ends, of a setup, which the part reads in a file where one is given. `tell` is called with a line for each
     transfer."""
@@ -58,6 +72,31 @@ class Desk:
             return self.part.ask(" ".join(job[1:])), True
         answer = host.carry_out(job)
         return answer, answer.startswith(WELL)
+
+    def microvolts(self) -> tuple[int, ...]:
+        """What the outputs command."""
+        return tuple(int(self.part.ask(f"output {output}").split()[-2]) for output in self.outputs)
+
+    def story(self, host: LineHost, name: str, job: list[str], mishaps: list[str]) -> Story:
+        """An order of a word by a host under a list of mishaps, on a part that has just started."""
+        self.part.ask("restart")
+        host.restart()
+        told: list[str] = []
+        transfers: list[Transfer] = []
+        self.bus.mishaps, self.bus.tell = list(mishaps), told.append
+        self.bus.after = lambda: transfers.append(transfer_of(told[-1], self.microvolts()))
+        try:
+            answer = host.carry_out(job)
+        finally:
+            self.bus.after = None
+        words, (_, output, register, word) = self.words(), job
+        strayed = [at for at in self.outputs if at != int(output) and words[at] == word.upper()]
+        held = self.part.ask(f"word {output} {register}").split()[1] == word.upper()
+        is_done = answer == "ended done"
+        why = f"Output {output} has the word." if held else f"Output {output} doesn't have the word."
+        if strayed:
+            why = f"The word reached output {strayed[0]}, which nobody ordered. {why}"
+        return Story(name, transfers, "success" if is_done else answer.removeprefix("ended "), not strayed and held == is_done, why)
 
     def close(self) -> None:
         self.part.abandon()

@@ -55,10 +55,17 @@ def changed(frame: bytes, place: int, bit: int) -> bytes:
 
 
 class DeskBus:
-    """Over a part, with a list of mishaps. `tell` is called with a line for each transfer."""
+    """Over a part, with a list of mishaps. `tell` is called with a line for each transfer, and then `after`."""
 
     def __init__(self, part: PartProgram, mishaps: Iterable[str], tell: Callable[[str], None]) -> None:
         self.part, self.mishaps, self.tell = part, list(mishaps), tell
+        self.after: Callable[[], None] | None = None
+
+    def told(self, line: str) -> None:
+        """Tells a transfer that is over."""
+        self.tell(line)
+        if self.after:
+            self.after()
 
     def heard(self, frame: bytes, ending: str) -> str:
         """What the part answers to bytes: none at all are no frame."""
@@ -74,7 +81,7 @@ class DeskBus:
         if kind == "twice":
             answer = self.heard(sent, "")
         acked = kind == "false" or not self.fails(kind, sent, frame) and answer != "silent"
-        self.tell(f"{in_hexadecimal(frame)}  {mishap}: part {answer}, {'acknowledged' if acked else 'not acknowledged'}")
+        self.told(f"{in_hexadecimal(frame)}  {mishap}: part {answer}, {'acknowledged' if acked else 'not acknowledged'}")
         return acked
 
     def read(self, frame: bytes, count: int) -> bytes:
@@ -90,7 +97,7 @@ class DeskBus:
             answer = self.heard(sent, ending)
         bytes_back = bytes.fromhex(answer[7:]) if answer.startswith("answer ") else b""
         back = self.returning(bytes_back, kind, numbers)
-        self.tell(f"{in_hexadecimal(frame)} read {count}  {mishap}: part {answer}, back {in_hexadecimal(back) or 'nothing'}")
+        self.told(f"{in_hexadecimal(frame)} read {count}  {mishap}: part {answer}, back {in_hexadecimal(back) or 'nothing'}")
         return back
 
     def next(self) -> tuple[str, str, list[int]]:

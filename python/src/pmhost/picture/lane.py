@@ -11,7 +11,7 @@ from .seen import Seen
 from .told import in_volts
 
 PAD, BESIDE, LEAST_WIDTH = 8, 8, 120
-OUTSIDE, INSIDE = "#f6e4d3", "#eef3ee"
+OUTSIDE, INSIDE = "#e4e2dc", "#eef3ee"
 # What lies over the ground where the host knows the voltage to be.
 SHADE = ' fill-opacity="0.18"'
 

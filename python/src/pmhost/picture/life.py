@@ -247,6 +247,10 @@ class Run:
     stop: str
     after: list[Event]
 
+    def every(self) -> list[Event]:
+        """The events of the text, in their order: those that were taken, the one where it stops, and those after it."""
+        return [*self.events, *([self.stopping] if self.stopping else []), *self.after]
+
     @property
     def left(self) -> int:
         """How many events come after the one that wasn't taken."""

@@ -9,8 +9,8 @@ from html import escape
 from ..scenario import Cell
 from ..status import BITS, names_of
 from .drawing import (EDGES, FAULT, GOOD, INK, LIMIT, LINE, MARKS, MONO, PALE, PANEL, RAIL, RESTART, box, first_that_fits, line,
-                      path, symbol, text, width_of)
-from .lane import INSIDE, OUTSIDE, SHADE, Lane
+                      path, symbol, text, width_of, wrapped)
+from .lane import INSIDE, OUTSIDE, SHADE, Lane, value_in_words
 from .life import Belief, State
 from .seen import Job, Row, Seen
 from .told import digits_of
@@ -18,7 +18,7 @@ from .told import digits_of
 ROW, HEADS, EDGE, GAP, PITCH = 28, 84, 18, 20, 15
 PAGE, MOST_PAGE = 20, 25
 BELIEF, MARK = 140, 26
-BAND, HATCH = "#e9eef5", "url(#doubt)"
+BAND, HATCH, FALSE = "#e9eef5", "url(#doubt)", "url(#false)"
 # Of each belief: what fills it, the colour of its words, its legend.
 BELIEFS = {
     "confirmed": (GOOD, "#ffffff", "the host calls it confirmed"),
@@ -26,7 +26,7 @@ BELIEFS = {
     "possible": ("#f4c95d", INK, "the host thinks these possible"),
     "any": ("none", PALE, "the host doesn't know"),
 }
-STRIPES = "#cfe8d8", "#a3d3b6"
+STRIPES, FALSE_STRIPES = ("#cfe8d8", "#a3d3b6"), ("#fdf0ee", "#f3c4bf")
 # Of a status that is 0, and of one that isn't: what fills it, its edge, the colour of its words.
 STATUS = {False: ("none", EDGES, PALE), True: ("#fbe6e3", FAULT, "#8c1d18")}
 # Of a job's end: what fills it, and the colour of its words.
@@ -80,11 +80,12 @@ class Picture:
 
     def place_columns(self) -> None:
         """Where each output's voltage and status and each register's belief begin."""
+        self.folded = self.unnamed()
         self.lanes: dict[int, tuple[float, Lane]] = {}
         self.beliefs_at: dict[Cell, float] = {}
         self.status_at: dict[int | None, tuple[float, float]] = {}
         x = self.lanes_at
-        for output in (None, *self.seen.outputs):
+        for output in (None, *(it for it in self.seen.outputs if it not in self.folded)):
             start = x
             if output is not None:
                 self.lanes[output] = x, Lane(output, self.seen, self.rails.get(output))
@@ -97,6 +98,17 @@ class Picture:
                 x += self.status_at[output][1] + 8
             x += GAP - 8 if x > start else 0
         self.width = max(x - GAP + EDGE, 700)
+
+    def unnamed(self) -> dict[int, str]:
+        """The outputs that no event names and on which nothing changes, with what they command; none where a rail is drawn."""
+        names = {word for event in self.seen.run.every() for word in event.words.split() if word.isdecimal() and len(word) == 1}
+        found: dict[int, str] = {}
+        for output in self.seen.outputs:
+            told = {(row.state.outputs[output], row.state.cut.get(output), row.state.status[output]) for row in self.seen.rows}
+            if str(output) not in names and output not in self.rails and len(told) == 1:
+                (is_on, micro), limit, _ = told.pop()
+                found[output] = value_in_words(is_on, micro, limit)
+        return found if len(found) < len(self.seen.outputs) else {}
 
     def width_of_status(self, output: int | None) -> float:
         said = {word for row in self.seen.rows for word in status_of(row.state, output)[1].split()}
@@ -144,7 +156,7 @@ class Picture:
         for start, stop, belief, is_false in self.bars(register, first, end):
             fill, ink, _ = BELIEFS[belief.kind]
             title = f"{belief.kind} {', '.join(hexadecimal(register, belief.words))}"
-            look = fill, edge_of(belief.kind, is_false), ink
+            look = (FALSE, edge_of(belief.kind, True), INK) if is_false else (fill, edge_of(belief.kind, False), ink)
             self.draw_bar(self.beliefs_at[register], start, stop, BELIEF, look, title, self.words_of(register, belief))
 
     def draw_status(self, output: int | None, first: int, end: int) -> None:
@@ -184,8 +196,9 @@ class Picture:
             self.parts.append(text(x, top + 18, words, 12, PALE))
             return
         fill, ink = ENDS[job.end.split()[0]]
-        self.parts.append(box(x, top + 4, pill_width(words), ROW - 8, fill, ' rx="10"'))
-        self.parts.append(text(x + 8, top + 18, words, 12, ink, extra=' font-weight="bold"'))
+        wide = pill_width(words)
+        self.parts.append(box(x, top + 4, wide, ROW - 8, fill, ' rx="10"'))
+        self.parts.append(text(x + wide / 2, top + 18, words, 12, ink, anchor="middle", extra=' font-weight="bold"'))
 
     # The rest.
 
@@ -234,7 +247,7 @@ class Picture:
         entries: list[tuple[str | None, str, str]] = [
             (it[0], edge_of(kind, False), it[2]) for kind, it in BELIEFS.items() if kind in kinds]
         if any(bar[3] for register in self.beliefs_at for bar in self.bars(register, 0, len(rows))):
-            entries.append(("none", edge_of("", True), "false since a restart"))
+            entries.append((FALSE, edge_of("", True), "false since a restart"))
         entries += [(INSIDE, f' stroke="{LIMIT}"', "between the limits"), (OUTSIDE, "", "outside of them")]
         if any(band for row in rows for band in row.state.bands.values()):
             entries.append((LINE, SHADE, "where the host knows the voltage to be"))
@@ -242,12 +255,19 @@ class Picture:
             entries.append(("none", f' stroke="{RAIL}" stroke-width="1.6" stroke-dasharray="2 3"', "limits of the rail"))
         if self.seen.jobs:
             entries.append((BAND, "", "a job, from its order to its end"))
-        zero = [] if None in self.status_at else ["STATUS_CML stays 00"]
+        return entries
+
+    def not_drawn(self) -> list[str]:
+        """What the picture leaves out, in sentences that fit its width: registers, status that stays 0, outputs."""
+        said = ["Not drawn: registers that no event names, of which the host knows nothing"]
+        if None not in self.status_at:
+            said.append("STATUS_CML, which stays 00")
         if not self.status_at.keys() - {None}:
-            zero.append("STATUS_VOUT stays 00")
-        elif self.status_at.keys() - {None} != {*self.seen.outputs}:
-            zero.append("of outputs with no STATUS_WORD here STATUS_VOUT stays 00")
-        return [*entries, (None, "", "of other registers the host knows nothing"), *((None, "", it) for it in zero)]
+            said.append("STATUS_VOUT, which stays 00")
+        elif self.status_at.keys() - {None} != {*self.lanes}:
+            said.append("STATUS_VOUT of outputs with no STATUS_WORD here, which stays 00")
+        said += [f"output {output}, which no event names and which stays {value}" for output, value in self.folded.items()]
+        return wrapped("; ".join(said) + ".", self.width - 2 * EDGE, 12)
 
     def draw_legend(self, y: float) -> float:
         """The legend, as many to a line as fit; where it ends."""
@@ -261,6 +281,9 @@ class Picture:
                 self.parts.append(box(x, y - 12, 24, 16, fill, f' rx="4"{edge}'))
             self.parts.append(text(x + 34 if fill else x, y, words, fill=PALE))
             x += wide
+        for said in self.not_drawn():
+            y += 24
+            self.parts.append(text(EDGE, y, said, fill=PALE))
         return y + 22
 
     def svg(self) -> str:
@@ -282,10 +305,12 @@ class Picture:
 
 
 def hatch() -> str:
-    ground, stripe = STRIPES
-    return ('<defs><pattern id="doubt" width="10" height="10" patternUnits="userSpaceOnUse"'
-            f' patternTransform="rotate(45)"><rect width="10" height="10" fill="{ground}"/>'
-            f'<rect width="4" height="10" fill="{stripe}"/></pattern></defs>')
+    """The two patterns of stripes: of a word in doubt, and of a false one."""
+    patterns = [f'<pattern id="{name}" width="10" height="10" patternUnits="userSpaceOnUse"'
+                f' patternTransform="rotate(45)"><rect width="10" height="10" fill="{ground}"/>'
+                f'<rect width="4" height="10" fill="{stripe}"/></pattern>'
+                for name, (ground, stripe) in (("doubt", STRIPES), ("false", FALSE_STRIPES))]
+    return f"<defs>{''.join(patterns)}</defs>"
 
 
 def hexadecimal(register: Cell, words: tuple[int, ...]) -> list[str]:

@@ -46,8 +46,7 @@ class Seen:
     def _named(self) -> list[Cell]:
         """The registers that events order or check, WRITE_PROTECT first, then output by output in the order of their codes. Of
         the others the host never knows anything."""
-        every = [*self.run.events, *([self.run.stopping] if self.run.stopping else []), *self.run.after]
-        named = {event.cell for event in every if event.cell and event.kind in ("order", "volts", "check")}
+        named = {event.cell for event in self.run.every() if event.cell and event.kind in ("order", "volts", "check")}
         shown = [Cell(output, name) for output in self.outputs for name in self.run.setup.registers]
         return [cell for cell in [PROTECT, *shown] if cell in named]
 

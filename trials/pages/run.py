@@ -1,0 +1,168 @@
+#!/usr/bin/env python3
+"""Runs what the pages show, as an ordinary user, on a copy of the repository in an empty folder: each line of each block `sh` of
+README.md and docs/, in its order, a shell for each page.
+
+    trials/pages/run.py --built FOLDER [--minutes] [PAGE ..]
+
+FOLDER has libpm_host_c.a, libpm_device_c.a, and the programs pmb, pmbhost and pmbpart. A command for the part at address 58 of bus 1
+runs on the model part (`-b desk`), an install goes to the user's own folder, `rt lib` and `rt check` and what stands in tools/ and
+trials/ is held by its parse alone, since it takes many minutes: the crate is there, the command is one of rt's, the program answers
+--help. --minutes runs `rt try` and `tools/test quick` too. What no test runs (a board's own tools) has to stand on its page in a line
+that begins with "No test runs". Lines that begin with `$` are those of tools/try_pages.py, which compares what they print.
+
+Each page counts once; the last line is `N passed, M failed`.
+"""
+import argparse
+import glob
+import os
+import re
+import shutil
+import subprocess
+import sys
+import tempfile
+
+sys.dont_write_bytecode = True
+sys.path.insert(0, os.path.dirname(os.path.dirname(os.path.abspath(__file__))))
+
+import paths  # noqa: E402, F401
+from program import ROOT  # noqa: E402
+from tally import Tally  # noqa: E402
+
+ORDINARY = 65534
+LIBRARIES, PROGRAMS = ("pm_host_c", "pm_device_c"), ("pmb", "pmbhost", "pmbpart")
+# What a machine or a bus of its own is wanted for.
+NOT_RUN = re.compile(r"sigrok-cli|capture i2ctransfer 1 --run|trials/linux/|echo .*/sys/")
+RT = re.compile(r"\(cd crates/(\w+) && rt (lib|check|run|try)\b[^)]*\)")
+# What wants a part as the commands before it left it: each call has a fresh model part, so that the status may be 1. The tests of the
+# package have these commands on one part, with what they print.
+UNLIKE = re.compile(r" verify | survey | margin | on |VOUT_MARGIN")
+SECONDS = 600
+
+
+def pages(chosen):
+    names = ["README.md", *sorted(glob.glob("docs/**/*.md", root_dir=ROOT, recursive=True)), "examples/README.md"]
+    return [name for name in names if not chosen or name in chosen]
+
+
+def lines_of(text):
+    """The commands of a page's blocks, each whole, with the files that its blocks of TOML make."""
+    for kind, block in re.findall(r"^```(\w+)\n(.*?)^```", text, re.M | re.S):
+        if kind == "toml" and block.startswith("# "):
+            name, _, rest = block[2:].partition("\n")
+            yield "file", name.split()[0], rest
+        elif kind == "sh" and not re.search(r"^\$ ", block, re.M):
+            whole = re.sub(r"(\\|\|)\n +", lambda it: " " if it[1] == "\\" else "| ", block)
+            for line in whole.splitlines():
+                line = re.sub(r"(^|\s+)#( .*|$)", "", line).rstrip()
+                if line.strip():
+                    yield "sh", line.strip(), ""
+
+
+class Place:
+    """A copy of the repository's files, with what is built in its places, and a user that owns it."""
+
+    def __init__(self, folder, built):
+        self.home, self.tree = os.path.join(folder, "home"), os.path.join(folder, "home", "tree")
+        os.makedirs(self.tree)
+        names = subprocess.run(["git", "ls-files", "-z"], cwd=ROOT, capture_output=True, text=True, check=True).stdout.split("\0")
+        for name in filter(None, names):
+            path = os.path.join(self.tree, name)
+            os.makedirs(os.path.dirname(path), exist_ok=True)
+            shutil.copy2(os.path.join(ROOT, name), path, follow_symlinks=False)
+        for name, file in [*((it, f"lib{it}.a") for it in LIBRARIES), *((it, it) for it in PROGRAMS)]:
+            out = os.path.join(self.tree, "crates", name, "out")
+            os.makedirs(out)
+            shutil.copy(os.path.join(built, file), out)
+        self.user = []
+        if os.getuid() == 0:
+            subprocess.run(["chown", "-R", f"{ORDINARY}:{ORDINARY}", folder], check=True)
+            self.user = ["setpriv", f"--reuid={ORDINARY}", f"--regid={ORDINARY}", "--clear-groups"]
+
+    def write(self, name, text):
+        path = os.path.join(self.tree, name)
+        with open(path, "w", encoding="utf-8") as file:
+            file.write(text)
+        os.chmod(path, 0o644)
+
+    def shell(self, script):
+        around = {"HOME": self.home, "PATH": os.environ["PATH"], "LC_ALL": "C.UTF-8", "CARGO_HOME": os.path.join(self.home, "cargo"),
+                  "PYTHONDONTWRITEBYTECODE": "1"}
+        return subprocess.run([*self.user, "bash", "-c", script], cwd=self.tree, env=around, capture_output=True, text=True, timeout=SECONDS,
+                              stdin=subprocess.DEVNULL)
+
+
+def over_a_model(line):
+    """A command for a board, on the model part."""
+    return line.replace("-b 1 -a 58", "-b desk").replace("bus.trace", "desk.trace")
+
+
+def parsed(place, line, has_minutes):
+    """What is wrong with a line that isn't run; None where it is to be run."""
+    found = RT.fullmatch(line) or (None if has_minutes else RT.match(line))
+    several = [RT.fullmatch(it.strip()) for it in line.split(";")]
+    if found or all(several):
+        for it in [found] if found else several:
+            if not os.path.isdir(os.path.join(place.tree, "crates", it[1])):
+                return f"there is no crate {it[1]}"
+        return ""
+    tool = re.match(r"((?:tools|trials|bench)/[\w./]+)(?: |$)", line)
+    if tool and not (has_minutes and line.startswith("tools/test")):
+        ran = place.shell(f"{tool[1]} --help")
+        return "" if ran.returncode == 0 and ran.stdout else f"{tool[1]} --help: {ran.stderr or ran.returncode}"
+    return None
+
+
+def faults(place, name, has_minutes):
+    """What is wrong with a page's commands; the others are counted."""
+    with open(os.path.join(ROOT, name), encoding="utf-8") as file:
+        text = file.read()
+    script, said = ["set -e", "shopt -s expand_aliases", "PATH=$PWD/crates/pmb/out:$PWD/crates/pmbhost/out:$PWD/crates/pmbpart/out:$PATH"], " ".join(re.findall(r"^No test runs .*?(?:\n\n|\Z)", text, re.M | re.S))
+    if os.path.exists(os.path.join(place.home, "v/bin")):
+        script.append(". ~/v/bin/activate")
+    count = 0
+    for kind, line, rest in lines_of(text):
+        if kind == "file":
+            place.write(line, rest)
+            continue
+        if NOT_RUN.search(line):
+            tool = NOT_RUN.search(line)[0].strip().split("/")[0]
+            if tool not in said and NOT_RUN.search(line)[0] not in said:
+                yield f"no test runs it, and the page doesn't say so: {line}"
+            continue
+        if line.startswith("cargo ") and place.shell("cargo --version").returncode:
+            print(f"{name}: this user has no cargo: not run: {line}")
+            continue
+        wrong = parsed(place, line, has_minutes)
+        if wrong:
+            yield f"{line}: {wrong}"
+        if wrong is None:
+            line, count = over_a_model(line), count + 1
+            script.append(f"echo '== {count}'")
+            script.append(f"{line} || [ $? = 1 ]" if UNLIKE.search(line) else line)
+    if count:
+        ran = place.shell("\n".join(script))
+        if ran.returncode or "Traceback" in ran.stderr:
+            at = re.findall(r"^== (\d+)$", ran.stdout, re.M)
+            yield f"command {at[-1] if at else 0} of {count} ends with {ran.returncode}: {script[4 + 2 * int(at[-1] if at else 1):][:1]} {ran.stderr[-300:]}"
+    print(f"{name}: {count} commands run", flush=True)
+
+
+def main():
+    reader = argparse.ArgumentParser(description=__doc__, formatter_class=argparse.RawDescriptionHelpFormatter)
+    reader.add_argument("--built", required=True, metavar="FOLDER")
+    reader.add_argument("--minutes", action="store_true")
+    reader.add_argument("pages", nargs="*", metavar="PAGE")
+    how = reader.parse_args()
+    tally = Tally()
+    with tempfile.TemporaryDirectory() as folder:
+        os.chmod(folder, 0o755)
+        place = Place(folder, how.built)
+        made = place.shell("python3 -m venv ~/v && ~/v/bin/pip install --quiet ./python")
+        tally.tell("pip install ./python", [made.stderr[-300:]] if made.returncode else [])
+        for name in pages(how.pages):
+            tally.tell(name, faults(place, name, how.minutes))
+    return tally.end()
+
+
+if __name__ == "__main__":
+    sys.exit(main())
