@@ -1,19 +1,22 @@
 """The sharpest case, as a listing of root's shell: one lost answer to a read of telemetry, and the next order of the kernel's regulators
 reaches the other output. The part is the model of two outputs that kernel_driver.py has. Last a line tells whether it
-was seen."""
+was seen. The kernel's tracepoints of the case stay in FOLDER/sharpest.linux: python/tests/data/captures has those of a run."""
 import os
 import subprocess
 
-from guest_bus import Bench
+from captures import TRACING
+from guest_bus import FOLDER, Bench
 from kernel_driver import PER_VOLT, Driver
+from rows import read, write
 from tally import Tally
 
 BOARD = "/run/board"
 
 
 def main(words):
-    driver = Driver(0, "polled")
-    bench = Bench(0)
+    bus = int(words[0]) if words else 0
+    driver = Driver(bus, "polled")
+    bench = Bench(bus)
     os.symlink("/sys/kernel/debug/regulator_board", BOARD)
     os.symlink(os.path.dirname(driver.hwmon[0]), "/run/hwmon")
     telemetry = f"/run/hwmon/{os.path.basename(driver.hwmon[1])}_input"
@@ -35,10 +38,14 @@ def main(words):
     shown(f"echo 1800000 > {BOARD}/set0; echo 1000000 > {BOARD}/set1; echo status $?")
     driver.settle()
     outputs()
+    write(f"{TRACING}/trace", "\n")
+    write(f"{TRACING}/events/i2c/enable", "1")
     print("-- the answer to the next read of PAGE is lost")
     bench.say("plan ok lost")
     shown(f"cat {telemetry}")
     shown(f"echo 3000000 > {BOARD}/set0; echo status $?")
+    write(f"{TRACING}/events/i2c/enable", "0")
+    write(f"{FOLDER}/sharpest.linux", read(f"{TRACING}/trace"))
     held = outputs()
     said = shown(f"cat {BOARD}/set0")
     is_seen = held[1] == 3 * PER_VOLT and held[0] != 3 * PER_VOLT and said == "3000000\n"
