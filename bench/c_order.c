@@ -1,10 +1,11 @@
 /* How long an order takes over the static library, and how much stack its calls take; beside it an order by
  * plain code: the frame and its PEC, the answer judged, no words kept. bench/c_order.sh runs it. With arguments it does
  * one thing alone and ends, so that its instructions are counted: `loop`, orders; `guard`, orders within limits; `plan`,
- * orders within limits that a plan gives, and `asked`, plans that are asked for their next order alone; `bands`, bands of
+ * orders within limits that a plan gives, and `asked`, plans that are asked for their next order alone; `run`, orders by
+ * pm_host_run over a bus of no cost; `patient`, the same by pm_patient_run, with its patience of 200 ms; `bands`, bands of
  * outputs whose registers list as many words as they can. The second says the format, `linear` or `direct`, and the third
  * how often. It prints how many orders were done, or how many listed words were looked at. */
-#include "pm.h"
+#include "pm_patient.h"
 #include <stdio.h>
 #include <stdlib.h>
 #include <string.h>
@@ -45,6 +46,39 @@ static int asked(const pm_host *host, uint16_t word) {
     const pm_wanted wanted = {.command = {1, word}};
     pm_plan_order next;
     return pm_host_plan(host, 0, &wanted, &next) == PM_OK;
+}
+
+/* A bus of no cost: each write is acknowledged, and each read has the answer that the context points to. */
+static uint8_t free_write(void *context, const uint8_t *bytes, uint64_t count) {
+    (void)context, (void)bytes, (void)count;
+    return PM_ACKED;
+}
+
+static uint64_t free_read(void *context, const uint8_t *request, uint64_t count, uint8_t *answer, uint64_t room) {
+    const uint8_t *bytes = *(const uint8_t **)context + 1;
+    (void)request, (void)count;
+    if (room == 4)
+        memcpy(answer, bytes, 4);
+    else
+        memcpy(answer, bytes, 2);
+    return room;
+}
+
+static uint32_t free_now(void *context) {
+    (void)context;
+    return 0;
+}
+
+static void free_wait(void *context, uint32_t milliseconds) {
+    (void)context, (void)milliseconds;
+}
+
+/* A whole order by the loop of the header, over the bus of no cost, which waits for a busy part or doesn't. */
+static int order_by_loop(pm_host *host, const uint8_t *answer, uint16_t word, int is_patient) {
+    pm_patient bus = {free_write, free_read, &answer, free_now, free_wait, -1, 0};
+    if (pm_host_order(host, 0, PM_VOUT_COMMAND, word))
+        return 0;
+    return (is_patient ? pm_patient_run(host, &bus) : pm_host_run(host, free_write, free_read, &answer)).kind == PM_DONE;
 }
 
 /* Answers the request that is being sent by these bytes. */
@@ -181,6 +215,7 @@ int main(int count, char **arguments) {
     if (count > 3) {
         long all = atol(arguments[3]);
         int is_direct = !strcmp(arguments[2], "direct");
+        int is_patient = !strcmp(arguments[1], "patient"), is_run = is_patient || !strcmp(arguments[1], "run");
         if (strcmp(arguments[1], "loop")) {
             learn(&host, 0, is_direct);
             learn(&host, 1, is_direct);
@@ -194,9 +229,10 @@ int main(int count, char **arguments) {
             done = bands(&host, all);
         else
             for (long i = 0; i < all; i++)
-                done += is_asked  ? asked(&host, (uint16_t)(0x34D0 + (i & 1)))
-                        : is_plan ? planned(&host, answers[i & 1], (uint16_t)(0x34CD + (i & 1)))
-                                  : order(&host, answers[i & 1], (uint16_t)(0x34CD + (i & 1)));
+                done += is_run     ? order_by_loop(&host, answers[i & 1], (uint16_t)(0x34CD + (i & 1)), is_patient)
+                        : is_asked ? asked(&host, (uint16_t)(0x34D0 + (i & 1)))
+                        : is_plan  ? planned(&host, answers[i & 1], (uint16_t)(0x34CD + (i & 1)))
+                                   : order(&host, answers[i & 1], (uint16_t)(0x34CD + (i & 1)));
         printf("%ld\n", done);
         return 0;
     }

@@ -1,6 +1,7 @@
 #!/usr/bin/env python3
 """Counts by valgrind's callgrind, and judges each by a bound of this project: an order by pm_driver beside one by the same
-loop written out over a host; by pm_driver, an order over a patient bus beside one over its adapter; an order through a guard
+loop written out over a host; by pm_driver, an order over a patient bus beside one over its adapter, and by the loops of pm.h and
+pm_patient.h the same over a bus of no cost; an order through a guard
 within limits beside one through its host, by that loop over either; by pm_driver, an order within limits beside one without;
 and a band for each word that the output's registers list. Limits and bands are counted over the C library as well.
 
@@ -52,8 +53,9 @@ def over_driver(driver, bands, folder):
 def over_pm_c(archive, folder):
     made = measured.over_archive(archive, os.path.join(folder, "c_order"))
     for kind in FORMATS:
-        loop, guard = (measured.for_one([made, way, kind], folder) for way in ("loop", "guard"))
+        loop, guard, run, patient = (measured.for_one([made, way, kind], folder) for way in ("loop", "guard", "run", "patient"))
         yield beside(f"pm_host_c: an order within limits beside one without, {kind}", guard, loop, WITHIN_LIMITS)
+        yield beside(f"pm_host_c: an order by pm_patient_run beside one by pm_host_run, {kind}", patient, run, BY_PATIENT)
         yield a_word(f"pm_host_c: a band, a word, {kind}", measured.for_one([made, "bands", kind], folder))
 
 

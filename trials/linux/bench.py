@@ -7,11 +7,12 @@ FOLDER gets the sockets: i2c.sock is for a device of i2c-virtio, whose failed tr
 one of gpio-virtio, whose lines 0 and 1 are SDA and SCL. With --vcd the waveform of both goes to wire.vcd. It ends when
 the guest has gone.
 
-At address 0A of the first bus, text is taken: `part WORDS` puts a part there (parts.py), as made; `beside WORDS` another one,
-at an address of its own, whose transfers meet no mishap; `adapter errno` or `adapter count` says who asks; `plan WORD ..` has a
-mishap for each coming transfer; `restart` restarts the part; `low sda` and `low scl` have a line of the wire held low until
-`low none`. A read there tells as JSON what the parts hold, each word that a register of the first held since it was put there
-(`ever`), and the transfers so far. A read of a byte at 0B tells the error of the last
+At address 0A of the first bus, text is taken: `part WORDS` puts a part there (parts.py), as made, and takes all others away;
+`beside WORDS` another one, at an address of its own, and `behind K WORDS` one behind channel K of the multiplexer at 70, which
+`mux` puts there and which stays; `struck XX` says whose transfers meet mishaps, where it isn't the first part; `adapter errno` or
+`adapter count` says who asks; `plan WORD ..` has a mishap for each coming transfer; `restart` restarts the part; `low sda` and
+`low scl` have a line of the wire held low until `low none`. A read there tells as JSON what the parts hold, each word that a register of them held since it was put there
+(`ever`), and how many transfers met the mishaps. A read of a byte at 0B tells the error of the last
 failed transfer, by its number, for an adapter that answers errors. The mishaps are those of python/tests/kernel.py, and
 
     lostall   as `lost`, and of a read no message goes, where `lost` lets the first one go
@@ -20,9 +21,14 @@ failed transfer, by its number, for an adapter that answers errors. The mishaps 
     last      the last answer comes once more
     gone      nobody hears it: the error is that of an adapter that was unplugged
     power     the part restarts inside its answer, whose bytes behind the first are FF; a write is heard before it
+    nackK     byte K isn't acknowledged, and neither it nor what would follow is heard: the address is byte 0
+    arb       the bus is lost to another master before anything is heard
+    ones      nobody hears it, writes are acknowledged, and reads are ones
+    zeros     the same, and reads are zeros
     flip      a bit of a write's last byte but one is changed on its way, and the write is acknowledged
     sdaK      on the wire alone: SDA is held low behind K bytes of the frame, until the fourth stop
     sclK      on the wire alone: SCL is held low behind K bytes of the frame, until the fourth stop
+    stretchN  on the wire alone: the clock is held low for N milliseconds before an answer
     stale     on the wire alone: the read address isn't acknowledged, and the next one that comes alone gets the answer
     held      it is under way until the guest takes the file `held` away
 """
@@ -45,7 +51,8 @@ import wire  # noqa: E402
 from counted import ERROR  # noqa: E402
 
 SIGNALS = ("sigint", "sigterm", "sigquit", "sighup", "group", "held")
-MOST_SECONDS = 20
+MOST_SECONDS, MOST_WRONG = 20, 2
+MUX = 0x70
 
 
 class Bench:
@@ -53,7 +60,7 @@ class Bench:
 
     def __init__(self, folder):
         self.folder = folder
-        self.has_errors = False
+        self.has_errors, self.mux = False, None
         # What the wire does where a line is held low or let go.
         self.settle = lambda: None
         self.put(["proved"])
@@ -61,16 +68,33 @@ class Bench:
     def put(self, words):
         part, self.address = parts.made(words)
         self.part = parts.Watched(part)
-        self.parts, self.plan, self.count, self.error, self.low = {self.address: self.part}, [], 0, 0, None
+        self.standing, self.plan, self.count, self.error, self.low = {self.address: self.part}, [], 0, 0, None
+        if self.mux:
+            self.mux.channels, self.standing[MUX] = {}, self.mux
         # The bytes of the last answer, behind the read address.
         self.last = b""
+
+    @property
+    def parts(self):
+        """What the bus reaches now, by its addresses."""
+        return {**self.standing, **self.mux.reached()} if self.mux else self.standing
+
+    def everywhere(self):
+        """Each part with its place: an address, behind a channel of the multiplexer `K/XX`."""
+        yield from ((f"{address:02X}", part) for address, part in self.standing.items() if part is not self.mux)
+        for channel, behind in self.mux.channels.items() if self.mux else ():
+            yield from ((f"{channel}/{address:02X}", part) for address, part in behind.items())
+
+    def is_low(self):
+        """The part holds the data line low."""
+        return getattr(self.part, "is_low", False)
 
     def mishap(self):
         """What befalls the transfer that begins."""
         self.count += 1
         found = self.plan.pop(0) if self.plan else "ok"
         if found == "restart":
-            self.part.restart()
+            self.parts[self.address].restart()
         if found in SIGNALS:
             self.hold(found)
         return found
@@ -90,7 +114,14 @@ class Bench:
             self.put(words)
         elif kind == "beside":
             part, address = parts.made(words)
-            self.parts[address] = parts.Watched(part)
+            self.standing[address] = parts.Watched(part)
+        elif kind == "mux":
+            self.mux = self.standing[MUX] = parts.Mux()
+        elif kind == "behind":
+            part, address = parts.made(words[1:])
+            self.mux.channels.setdefault(int(words[0]), {})[address] = parts.Watched(part)
+        elif kind == "struck":
+            self.address = int(words[0], 16)
         elif kind == "low":
             self.low = None if words == ["none"] else words[0]
             self.settle()
@@ -102,10 +133,15 @@ class Bench:
             self.part.restart()
 
     def told(self):
-        told = {"held": parts.held(self.part), "page": self.part.converter.page, "count": self.count, "plan": self.plan,
-                "kind": type(self.part.converter).__name__, "maxima": getattr(self.part, "maxima", list)(),
+        told = {"held": parts.held(self.part), "word": self.part.word(), "count": self.count, "plan": self.plan,
+                "kind": type(getattr(self.part, "converter", self.part)).__name__, "maxima": getattr(self.part, "maxima", list)(),
                 "cells": parts.cells(self.part), "ever": self.part.told_ever(),
-                "beside": {f"{address:02X}": parts.held(part) for address, part in self.parts.items() if part is not self.part}}
+                "wrong": getattr(self.part, "wrong", [])[:MOST_WRONG], "behind restart": parts.behind_restart(self.part)}
+        everywhere = dict(self.everywhere())
+        if len(everywhere) > 1:
+            told["all"] = {place: {"held": parts.held(part), "cells": parts.cells(part), "ever": part.told_ever(),
+                                   "wrong": getattr(part, "wrong", [])[:MOST_WRONG], "behind restart": parts.behind_restart(part)}
+                           for place, part in everywhere.items()}
         return json.dumps(told).encode("ascii")
 
     def at_bench(self, address, written, count):

@@ -5,7 +5,7 @@
 #
 # FOLDER is made, and keeps what the trial said (`said`), its status (`ended`) and the kernel's messages (`dmesg`). CACHE
 # names the folder that build.sh filled, PMB and PMBHOST the built programs, PMHOST_LIBRARY the library of the package, and
-# PLAIN_PART=1 has the plain model alone behind the buses; SECONDS_AT_MOST how long a guest may take (900). VCD=1 keeps
+# PLAIN_PART=1 has the plain model alone behind the buses; SECONDS_AT_MOST how long a guest may take (1800). VCD=1 keeps
 # the wire's waveform. The status is 0 where the trial's was 0.
 set -u
 case " $* " in *" --help "* | *" -h "*) sed -n '2,/^[^#]/s/^# \{0,1\}//p' "$0"; exit 0 ;; esac
@@ -38,7 +38,7 @@ done
 [ -S "$folder/wire.sock" ] || { echo "boot.sh: the bench didn't start:" >&2; cat "$folder/bench" >&2; exit 2; }
 memory=$folder
 [ -w /dev/shm ] && memory=/dev/shm
-TMPDIR=$memory timeout -k 5 "${SECONDS_AT_MOST:-900}" "$CACHE/kernel/linux" mem=192M quiet \
+TMPDIR=$memory timeout -k 5 "${SECONDS_AT_MOST:-1800}" "$CACHE/kernel/linux" mem=192M quiet \
     "virtio_uml.device=$folder/i2c.sock:34" "virtio_uml.device=$folder/wire.sock:41" \
     root=/dev/root rootfstype=hostfs rootflags=/ ro "init=$here/guest.sh" "uml_dir=$folder/uml/" umid=guest \
     con=null con0=fd:0,fd:1 "ROOT=$(cd "$here/../.." && pwd)" "FOLDER=$folder" "CACHE=$CACHE" "TRIAL=$trial" \

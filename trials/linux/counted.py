@@ -3,6 +3,7 @@
 The driver of the kernel tells of a failed transfer by the number of messages that went, and by no error.
 """
 import errno
+import re
 import struct
 
 import vhost
@@ -10,6 +11,11 @@ import vhost
 # Where the bench itself stands on the bus, and where it tells the error of the last failed transfer.
 BENCH, ERROR = 0x0A, 0x0B
 ZERO_LENGTH = 1 << 0
+# Mishaps of a transfer that nobody hears, with their errors.
+UNHEARD = {"deaf": errno.ENXIO, "nack0": errno.ENXIO, "hung": errno.ETIMEDOUT, "gone": errno.ENODEV, "short0": errno.EIO, "short1": errno.EIO,
+           "arb": errno.EAGAIN}
+DROPPED = ("false", "ones", "zeros")
+NACK = re.compile(r"nack(\d)")
 READS = 2
 FAILED = None
 
@@ -58,7 +64,8 @@ class Adapter(vhost.FrontEnd):
             return [bench.at_bench(address, each.written, each.count) for each in messages]
         bench.error = errno.ENXIO
         if address not in bench.parts:
-            return [FAILED] * len(messages)
+            # (a line that is held low acknowledges everything)
+            return [b"\0" * (each.count or 0) if bench.is_low() else FAILED for each in messages]
         if address != bench.address:
             return self.beside(messages)
         if [each.count is None for each in messages] == [True]:
@@ -78,27 +85,39 @@ class Adapter(vhost.FrontEnd):
 
     def is_unheard(self, mishap):
         """The transfer fails, and the part doesn't hear it."""
-        self.bench.error = {"hung": errno.ETIMEDOUT, "gone": errno.ENODEV, "short0": errno.EIO, "short1": errno.EIO}.get(mishap, errno.ENXIO)
-        return mishap in ("deaf", "hung", "gone", "short0", "short1")
+        self.bench.error = UNHEARD.get(mishap, errno.ENXIO)
+        return mishap in UNHEARD
 
     def write(self, message, mishap):
-        bench, frame = self.bench, [2 * message.address, *message.written]
-        if mishap == "false":
+        part, frame = self.bench.parts[message.address], [2 * message.address, *message.written]
+        if mishap in DROPPED:
             return b""
         if self.is_unheard(mishap):
+            return FAILED
+        nack = NACK.fullmatch(mishap)
+        if nack and int(nack[1]) < len(frame):
+            if int(nack[1]) > 1:
+                part.hear(frame[:int(nack[1])], "stop")
+            self.bench.error = part.refusal
             return FAILED
         frame = frame[:-1] if mishap == "half" else frame
         if mishap == "flip":
             frame[-2] ^= 1
-        return FAILED if self.heard(frame, "stop", mishap) is None or mishap == "half" else b""
+        return FAILED if self.heard(part, frame, "stop", mishap) is None or mishap == "half" else b""
 
     def read(self, sent, back, mishap):
-        bench = self.bench
+        bench, part = self.bench, self.bench.parts[sent.address]
+        if mishap in ("ones", "zeros"):
+            return [b"", (b"\xff" if mishap == "ones" else b"\0") * back.count]
         if self.is_unheard(mishap) or mishap == "false":
             return [b"" if mishap == "short1" else FAILED, FAILED]
-        answer = self.heard([2 * sent.address, *sent.written], "restart", mishap)
+        nack = NACK.fullmatch(mishap)
+        if nack and int(nack[1]) <= len(sent.written):
+            self.bench.error = part.refusal
+            return [FAILED, FAILED]
+        answer = self.heard(part, [2 * sent.address, *sent.written], "restart", mishap)
         if answer is None:
-            is_first = mishap in ("lostall", "short0h") or bench.part.refusal == errno.ENXIO
+            is_first = mishap in ("lostall", "short0h") or part.refusal == errno.ENXIO
             return [FAILED if is_first else b"", FAILED]
         if mishap == "empty":
             return [b"", b""]
@@ -110,18 +129,18 @@ class Adapter(vhost.FrontEnd):
             got = got[:-1] + bytes([got[-1] ^ 4])
         return [b"", got[:-1] + b"\xff" if mishap == "cut" else got]
 
-    def heard(self, frame, ending, mishap):
+    def heard(self, part, frame, ending, mishap):
         """What the part answers, None also where that is lost. Where the kernel repeats a transfer by itself, this
         adapter's transfer is repeated here, unless it is asked for errors: then it is told to try again."""
         bench = self.bench
-        bench.error = errno.EIO if mishap == "short0h" else bench.part.refusal
+        bench.error = errno.EIO if mishap == "short0h" else part.refusal
         if mishap == "twice":
-            bench.part.hear(frame, ending)
+            part.hear(frame, ending)
             if bench.has_errors:
                 bench.plan.insert(0, "again")
                 bench.error = errno.EAGAIN
                 return None
-        answer = bench.part.hear(frame, ending)
+        answer = part.hear(frame, ending)
         if mishap == "power":
-            bench.part.restart()
+            part.restart()
         return None if mishap in ("lost", "lostall", "short0h") else answer

@@ -11,17 +11,19 @@ import random
 import re
 
 from faults import KINDS, ON_WIRE
-from guest_bus import Bench
+from guest_bus import WIRE, Bench
 from pmhost import cli
 from pmhost.values import CODES
 from tally import Tally
 
-SEED, LISTS, EACH = 7, 60, 6
+SEED, LISTS, EACH, ON_SLOW = 7, 60, 6, 2
 ORDERS = (("0", "VOUT_COMMAND", "14CD"), ("1", "VOUT_COMMAND", "1400"), ("0", "VOUT_MAX", "3770"), ("1", "VOUT_MARGIN_HIGH", "1500"),
           ("0", "VOUT_MARGIN_LOW", "0E00"), ("1", "VOUT_MIN", "0200"), ("0", "OPERATION", "A8"), ("-", "WRITE_PROTECT", "40"))
 LATER = (("-", "WRITE_PROTECT", "00"), ("0", "OPERATION", "80"), ("1", "VOUT_COMMAND", "1700"))
 JOBS = [*(f"word {output} {register} {word}" for output, register, word in ORDERS), *(f"word {each[0]} {each[1]} {each[2]}" for each in LATER)]
 JOBS = ["learn 0", "set 0 1.3V", *JOBS[:6], "clear 0", "store", *JOBS[6:], "restore --outputs-may-go-off", "read 0", "read 1", "known"]
+# Of the bytes of a write some are left out: `half` is the last.
+MORE = {"twice": "heard twice", "power": "power lost", "arb": "lost to another master", **{f"nack{byte}": f"byte {byte} refused" for byte in (1, 2, 4, 5)}}
 KNOWN = re.compile(r"([-01]) (\w+) (?:([0-9A-F]{2}|[0-9A-F]{4}) (?:[-\d.]+V )?confirmed|possible (.*)|any)")
 WORD = re.compile(r"\b([0-9A-F]{4}|[0-9A-F]{2})\b")
 SEEN = re.compile(r"restart seen: (yes|no)")
@@ -30,11 +32,11 @@ SEEN = re.compile(r"restart seen: (yes|no)")
 class Run:
     """One call of pmhost with a plan of mishaps, what it said, and what the part held and holds."""
 
-    def __init__(self, bench, plan, passes):
-        bench.put("proved", " ".join(plan))
+    def __init__(self, bench, plan, passes, address="58"):
+        bench.put(f"at {address}", " ".join(plan))
         out, err = io.StringIO(), io.StringIO()
         with contextlib.redirect_stdout(out), contextlib.redirect_stderr(err):
-            self.status = cli.main(["-b", str(bench.number), "-a", "58", "--outputs=2", "--no-limit", "--patience=0", f"--passes={passes}",
+            self.status = cli.main(["-b", str(bench.number), "-a", address, "--outputs=2", "--no-limit", "--patience=0", f"--passes={passes}",
                                     *" + ".join(JOBS).split()])
         self.said, self.err, self.told = out.getvalue().splitlines(), err.getvalue(), bench.ask()
         self.has_restarted = not {"restart", "power"}.isdisjoint(plan)
@@ -77,11 +79,11 @@ def main(words):
     seed, lists = (int(words[1]) if len(words) > 1 else SEED), (int(words[2]) if len(words) > 2 else LISTS)
     bench.put("proved")
     STARTS.update(bench.ask()["cells"])
-    drawn, kinds = random.Random(seed), {**KINDS, "twice": "heard twice", "power": "power lost", **(ON_WIRE if bench.number == 5 else {})}
+    drawn, kinds = random.Random(seed), {**KINDS, **MORE, **(ON_WIRE if bench.number == WIRE else {})}
     clean = Run(bench, [], 3)
     tally.tell(f"bus {bench.number}, no fault", [*clean.wrong_cells(), *clean.false_statements(), *([] if clean.status == 0 else [clean.err])])
     length = clean.told["count"]
-    plans = [["ok"] * drawn.randrange(length) + [kind] for kind in kinds for _ in range(EACH)]
+    plans = [["ok"] * drawn.randrange(length) + [kind] for kind in kinds for _ in range(ON_SLOW if bench.number == WIRE else EACH)]
     for _ in range(lists):
         plan = ["ok"] * length
         for _ in range(drawn.choice((2, 3, 4, 5))):

@@ -4,11 +4,15 @@ import errno
 import fcntl
 import json
 import os
+import random
 
 from counted import BENCH
 from pmhost.bus.linux import I2C_M_RD, I2C_RDWR, Message, Messages
 
-ROOM = 4096
+# The most that i2c-dev takes.
+ROOM = 8192
+# The bit-banged bus, which is slow: there a few drawn places stand for all.
+WIRE = 5
 FOLDER = os.environ.get("FOLDER", "")
 
 
@@ -37,6 +41,12 @@ class Bench:
         """A part as it is made, and mishaps for its transfers."""
         self.say(f"part {part}")
         self.say(f"plan {mishaps}")
+
+
+def places(bench, length, few, is_short=False):
+    """The transfers that a fault strikes in turn: all of them, and over the slow bus, or in a short trial, so few that are drawn."""
+    is_few = is_short or bench.number == WIRE
+    return sorted(random.Random(length).sample(range(length), min(few, length))) if is_few else range(length)
 
 
 def root_file(*parts):

@@ -1,20 +1,20 @@
 """pmhost over lines that are held low, an adapter that is unplugged, and answers that come once more: lines BUS.
 
 Either line of the bit-banged bus is held low at rest, and behind each byte of a frame; on the other buses a transfer fails as one
-with a line held low does, or as over an adapter that is unplugged. Nothing may be told as done, acknowledged or confirmed that isn't so, by orders, clear, store, restore,
-reads and probe. Of each ordered pair of registers of two outputs the first's answer comes once more to the second's read: it passes
-for that just where the two reads share their packet error code up to the read address.
+with a line held low does, or as over an adapter that is unplugged. Nothing may be told as done, acknowledged or confirmed that
+isn't so, by orders, clear, store, restore, reads and probe. Of each ordered pair of registers of two outputs the first's answer
+comes once more to the second's read: it passes for that just where the two reads share their packet error code up to the read
+address.
 """
 import contextlib
 import io
 import re
 
-from guest_bus import Bench
+from guest_bus import WIRE, Bench
 from pmhost import cli
 from pmhost.values import CODES
 from tally import Tally
 
-WIRE = 5
 CALLS = ("clear 0", "store", "restore --outputs-may-go-off", "word 0 VOUT_COMMAND 34CD", "read 0 VOUT_COMMAND", "read - WRITE_PROTECT", "probe")
 CLAIMS = re.compile(r"confirmed|acknowledged|: done|PEC yes|can drive")
 FRAME, TRANSFERS = 8, 3

@@ -1,6 +1,7 @@
 #!/usr/bin/env bash
 # Plants bugs into copies of the package and of the C example, each of which a trial over a whole Linux must find: a short
-# count that is taken for success, once in each of the three programs that make transfers. Prints what found them.
+# count that is taken for success, once in each of the three programs that make transfers; a buffer for answers that is kept
+# from one transfer to the next; an address that is another part's; and answers of ones that are believed. Prints what found them.
 #
 #   trials/linux/must_fail.sh [OPTIONS]
 #
@@ -24,18 +25,26 @@ open(path, "w", encoding="utf-8").write(text.replace(old, new))
 sys.exit(text.count(old) != 1)
 END
 }
-# tried NAME TRIAL BUS: the trial on the copy.
+# tried NAME TRIAL BUS [WORD ..]: the trial on the copy.
 tried() {
+    local name=$1; shift
     while [ "$(jobs -rp | wc -l)" -ge "$at_once" ]; do wait -n; done
-    "$work/$1/tree/trials/linux/boot.sh" "$work/$1/guest" "$2" "$3" > "$work/$1/boot" 2>&1 &
+    "$work/$name/tree/trials/linux/boot.sh" "$work/$name/guest" "$@" > "$work/$name/boot" 2>&1 &
     guests+=($!)
 }
 plant package python/src/pmhost/bus/linux.py "if went != len(messages):" "if went < 0:"
-tried package rows 0
+tried package faults 0
 plant frames python/src/pmhost/capture/i2ctransfer.py "if ran.returncode or ran.stderr or len(back) != wanted or BYTES.sub(\"\", ran.stdout).strip():" \
     "if ran.returncode:"
 tried frames commands 0
-names="package frames"
+plant buffer python/src/pmhost/bus/linux.py "back = ctypes.create_string_buffer(count or 0)" \
+    "back = self.__dict__.setdefault(f'kept{count}', ctypes.create_string_buffer(count or 0))"
+tried buffer lines 0
+plant address python/src/pmhost/bus/linux.py "return self._sent(self.address, " "return self._sent(min(self.address, 0x59), "
+tried address several 0 short
+plant ones python/src/pmhost/bus/linux.py "return given(answer)" "return answer"
+tried ones ones 0
+names="package frames buffer address ones"
 plant program examples/c/linux_bus.h "return went == count;" "return went >= 0;"
 mkdir "$work/cache"
 ln -s "$built/kernel" "$built/modules" "$built/libpmhost.so" "$work/cache"

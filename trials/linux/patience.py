@@ -1,8 +1,9 @@
 """pmhost, examples/c/i2c_dev.c and rust/examples/i2c_dev.rs and parts that are busy behind each write, in real time: patience BUS.
 
-Eight orders, a store and both checks by pmhost, and an order and a store by each example, at a part that is busy for 1, 10, 30 or 150 milliseconds behind each write and away for
-400 behind the store, by missing acknowledgements and by ones. With the patience that pmhost has by itself all ends well; with
-none some end unknown where it is busy for 30 or more, and at no delay is anything false said. A part at 08h is driven.
+Eight orders, a store and both checks by pmhost, and an order and a store by each example, at a part that is busy for 1, 10, 30 or
+150 milliseconds behind each write and away for 400 behind the store, by missing acknowledgements and by ones. With the patience
+that pmhost has by itself all ends well; with none some end unknown where it is busy for 30 or more, and at no delay is anything
+false said. A part at 08h is driven.
 """
 import contextlib
 import io
@@ -11,13 +12,13 @@ import re
 import subprocess
 
 from faults import ORDERS, OUTPUTS, WORDS
-from guest_bus import Bench
+from guest_bus import WIRE, Bench
 from pmhost import cli
 from tally import Tally
 
 PROGRAMS = [path for path in (os.path.join(os.environ["CACHE"], name) for name in ("i2c_dev", "i2c_dev_rust")) if os.path.exists(path)]
 ORDERED, START = 0x34CD, 0x1000
-DELAYS, AWAY, WIRE = (1, 10, 30, 150), 400, 5
+DELAYS, AWAY = (1, 10, 30, 150), 400
 JOBS = f"{ORDERS} + store + read 0 VOUT_COMMAND + read 1 VOUT_COMMAND + known"
 DONE = re.compile(r"word [01]: VOUT_COMMAND \w{4} confirmed; ")
 READ = re.compile(r"read ([01]): VOUT_COMMAND (\w{4}) ")

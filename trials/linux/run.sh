@@ -16,14 +16,19 @@
 # KEEP a folder for what the guests left.
 # Buses: 0 is i2c-virtio, whose failed transfers are short counts; 1 answers errors; 5 is bit-banged, i2c-gpio.
 #
-#   rows      every run of python/tests/data that is about a bus, by pmhost as a process
+#   rows      every run of python/tests/data that is about a bus, on bus 0 by pmhost as a process
 #   faults    eight orders under nine kinds of fault at each transfer, and 60 lists of two to four faults
 #   commands  the commands of docs/board.md and docs/captures.md
 #   programs  examples/c/i2c_dev.c and examples/pmbhost/drive.py under each fault
 #   captures  one run, told by pmhost's trace, the kernel's tracepoints and the waveform of the wires
 #   drawn     jobs of every kind under drawn faults, all registers asked behind (SEED and LISTS in the environment)
 #   lines     lines that are held low, at rest and behind each byte
+#   ones      answers of ones and of zeros where they are good ones, and a clock that is held
 #   patience  parts that are busy behind each write or away behind a store, by missing acknowledgements and by ones
+#   signals   a signal while a transfer is under way, at each transfer of a call with a job of every kind
+#   boards    `pmhost apply` of a board under each fault at each transfer, and of 200 drawn ones under drawn faults (SEED, BOARDS)
+#   several   two parts at two addresses and one behind a multiplexer, a pmhost for each at once, under each fault
+#   board_file  the same three parts by one board file, under each fault, and 40 drawn board files of eight rails
 #   together  both hosts at once, a part that is unplugged, a pmhost that is killed
 #
 # What is wrong is printed, each trial's own last line, and last how many runs passed and failed in all.
@@ -35,7 +40,7 @@ root=$(cd "$here/../.." && pwd)
 command -v i2ctransfer > /dev/null || [ -x /usr/sbin/i2ctransfer ] || refuse "no i2ctransfer: install i2c-tools"
 start "$@"
 began=$(date +%s)
-kinds="faults rows commands captures together programs patience drawn lines"
+kinds="several board_file boards faults rows signals commands captures together programs patience drawn lines ones"
 gcc -O2 -Wall -Wextra -Werror -I"$root/crates/pm_host_c/include" "$root/examples/c/i2c_dev.c" "$archive" -o "$CACHE/i2c_dev" ||
     refuse "examples/c/i2c_dev.c doesn't build"
 rm -f "$CACHE/i2c_dev_rust"
@@ -51,9 +56,11 @@ names=()
 for kind in $kinds; do
     # The bit by bit one takes longest: it begins first.
     for bus in 5 0 1; do
-        names+=("$kind$bus") drawn=()
-        [ $kind != drawn ] || drawn=("${SEED-7}" "${LISTS-60}")
-        VCD=$([ $kind$bus = captures5 ] && echo 1) trial $kind$bus $kind $bus "${drawn[@]}"
+        names+=("$kind$bus") more=()
+        [ $kind$bus != rows0 ] || more=(processes)
+        [ $kind != drawn ] || more=("${SEED-7}" "${LISTS-60}")
+        [ $kind != boards ] || more=("${SEED-7}" "${BOARDS-200}")
+        VCD=$([ $kind$bus = captures5 ] && echo 1) trial $kind$bus $kind $bus "${more[@]}"
     done
 done
 wait

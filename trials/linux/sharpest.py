@@ -1,22 +1,22 @@
 """The sharpest case, as a listing of root's shell: one lost answer to a read of telemetry, and the next order of the kernel's regulators
-reaches the other output. The part is the model of two outputs that kernel_driver.py has. Last a line tells whether it
-was seen. The kernel's tracepoints of the case stay in FOLDER/sharpest.linux: python/tests/data/captures has those of a run."""
+reaches the other output. The part is the model of two outputs that kernel_driver.py has. The kernel's events of it stay in FOLDER as
+`sharpest.linux`, and the packets of these for `pmb decode` as `sharpest.trace`. Last a line tells whether it was seen."""
 import os
 import subprocess
 
-from captures import TRACING
+import rows
+from captures import ADDRESS, TRACING
 from guest_bus import FOLDER, Bench
 from kernel_driver import PER_VOLT, Driver
-from rows import read, write
+from pmhost.capture import trace
 from tally import Tally
 
 BOARD = "/run/board"
 
 
 def main(words):
-    bus = int(words[0]) if words else 0
-    driver = Driver(bus, "polled")
-    bench = Bench(bus)
+    driver = Driver(0, "polled")
+    bench = Bench(0)
     os.symlink("/sys/kernel/debug/regulator_board", BOARD)
     os.symlink(os.path.dirname(driver.hwmon[0]), "/run/hwmon")
     telemetry = f"/run/hwmon/{os.path.basename(driver.hwmon[1])}_input"
@@ -35,19 +35,21 @@ def main(words):
 
     bench.say("part ltc2972")
     driver.settle()
+    rows.write(f"{TRACING}/trace", "\n")
+    rows.write(f"{TRACING}/events/i2c/enable", "1")
     shown(f"echo 1800000 > {BOARD}/set0; echo 1000000 > {BOARD}/set1; echo status $?")
     driver.settle()
     outputs()
-    write(f"{TRACING}/trace", "\n")
-    write(f"{TRACING}/events/i2c/enable", "1")
     print("-- the answer to the next read of PAGE is lost")
     bench.say("plan ok lost")
     shown(f"cat {telemetry}")
     shown(f"echo 3000000 > {BOARD}/set0; echo status $?")
-    write(f"{TRACING}/events/i2c/enable", "0")
-    write(f"{FOLDER}/sharpest.linux", read(f"{TRACING}/trace"))
     held = outputs()
     said = shown(f"cat {BOARD}/set0")
+    rows.write(f"{TRACING}/events/i2c/enable", "0")
+    events = rows.read(f"{TRACING}/trace")
+    rows.write(f"{FOLDER}/sharpest.linux", events)
+    rows.write(f"{FOLDER}/sharpest.trace", "".join(f"{line}\n" for line in trace("linux", events.splitlines(), ADDRESS, 0)))
     is_seen = held[1] == 3 * PER_VOLT and held[0] != 3 * PER_VOLT and said == "3000000\n"
     tally = Tally()
     tally.tell("a word on the wrong output", [] if is_seen else [f"{held} are held, and it says {said!r}"])

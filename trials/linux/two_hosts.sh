@@ -5,7 +5,7 @@
 #
 #   trials/linux/two_hosts.sh [OPTIONS]
 #
-# The options are those of run.sh. The part is a model of two outputs with the registers that the driver asks for, and
+# The options are those of run.sh, and so is KEEP. The part is a model of two outputs with the registers that the driver asks for, and
 # the faults are chosen: these are no failure rates of boards. The last line tells how many lines of the table and of the
 # listing are as trials/linux/results/two_hosts.txt has them.
 set -u
@@ -40,7 +40,8 @@ cat "$work/table"
 for each in limit regulator polled ours sharpest; do
     [ "$(cat "$work/$each/ended" 2> /dev/null)" = "status 0" ] || why $each
 done
-sed 's/^/not as before: /' <(grep -vxFf <(sed 's/^bus\.py, /pmhost, /' "$here/results/two_hosts.txt") "$work/table") | tee "$work/others"
+[ -z "${KEEP-}" ] || cp -r "$work" "$KEEP"
+sed 's/^/not as before: /' <(grep -vxFf "$here/results/two_hosts.txt" "$work/table") | tee "$work/others"
 . "$here/../tally.sh"
 failed=$(wc -l < "$work/others") passed=$(wc -l < "$work/table")
 passed=$((passed - failed))

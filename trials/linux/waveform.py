@@ -20,6 +20,8 @@ from tally import Tally  # noqa: E402
 
 OPTIONS = "i2c:scl=SCL:sda=SDA:address_format=unshifted"
 ADDRESS = 0x58
+# The end of a read whose read address wasn't acknowledged: pmhost has its request alone.
+REFUSED = f" / {2 * ADDRESS + 1:02X}"
 
 
 def is_packet(line):
@@ -27,8 +29,9 @@ def is_packet(line):
 
 
 def faults_of(wire, sent):
-    """What differs between the packets on the wire and those of pmhost's trace. A write that failed for pmhost went
+    """What differs between the packets on the wire and those of pmhost's trace. A transfer that failed for pmhost went
     over the wire, with a byte that wasn't acknowledged."""
+    wire = [line.removesuffix(REFUSED) for line in wire]
     failed = [line.split(": ")[1] for line in sent if line.startswith("# failed")]
     expected = [line if is_packet(line) else line.split(": ")[1] for line in sent]
     if list(filter(is_packet, wire)) != expected:

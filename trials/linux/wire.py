@@ -5,7 +5,9 @@ where SCL falls. i2c-algo-bit asks four times for an address that isn't acknowle
 before it, so a mishap of the address lasts for four of them.
 """
 import errno
+import re
 import struct
+import time
 
 import vhost
 from plain.packets import is_written, length_of
@@ -17,6 +19,7 @@ CONFIG = 1 << 9
 PAGE_PLUS_WRITE, PAGE_PLUS_READ, COEFFICIENTS = 0x05, 0x06, 0x30
 MORE_TRIES = 3
 ABSENT = errno.ENXIO
+NACK, STRETCH = re.compile(r"nack(\d)"), re.compile(r"stretch(\d+)")
 TICK = 5
 VCD_HEAD = ("$timescale 1 us $end\n$scope module bus $end\n$var wire 1 c SCL $end\n$var wire 1 d SDA $end\n"
             "$upscope $end\n$enddefinitions $end\n#0\n1c\n1d\n")
@@ -41,6 +44,8 @@ class Wire:
         self.sda = self.scl = 1
         self.state, self.bits, self.byte = "idle", 0, 0
         self.frame, self.answer, self.mishap = [], [], "ok"
+        # When a clock that is held for a time is let go.
+        self.let_go_at = None
         # The part has acknowledged its address since the start; addresses that it won't acknowledge; stops while held.
         self.is_open, self.refusals, self.stops, self.kept = False, 0, 0, None
         # The part that was addressed, and the line that it holds low whatever the part does.
@@ -57,13 +62,19 @@ class Wire:
         if line == SDA and value and (self.host[SCL] and not self.part[SCL] or self.held_low is not None):
             self.stops += 1
             if self.stops > MORE_TRIES:
-                self.part, self.state, self.held_low = [1, 1], "idle", None
+                self.part, self.state, self.held_low, self.let_go_at = [1, 1], "idle", None, None
         self.settle()
+
+    def look(self):
+        """Lets a clock go that was held long enough."""
+        if self.let_go_at is not None and time.monotonic() >= self.let_go_at:
+            self.part[SCL], self.let_go_at = 1, None
+            self.settle()
 
     def settle(self):
         """Each change of a line is seen by the part, which may change SDA in turn."""
         while True:
-            low = {"sda": SDA, "scl": SCL}.get(self.bench.low, self.held_low)
+            low = SDA if self.bench.is_low() else {"sda": SDA, "scl": SCL}.get(self.bench.low, self.held_low)
             sda, scl = (self.host[line] & self.part[line] & (line != low) for line in (SDA, SCL))
             if (sda, scl) == (self.sda, self.scl):
                 return
@@ -102,6 +113,7 @@ class Wire:
         if self.state in ("address", "write"):
             if self.bits == 8:
                 self.part[SDA] = 0 if self.acknowledges() else 1
+                self.stretch()
             elif self.bits == 9:
                 self.part[SDA], self.bits, self.byte = 1, 0, 0
         elif self.state == "answering" and self.bits == 9:
@@ -111,6 +123,13 @@ class Wire:
                 self.answer, self.bits = self.answer[1:], 0
             byte = self.answer[0] if self.answer else 0xFF
             self.part[SDA] = byte >> 7 - self.bits & 1 if self.bits < 8 else 1
+
+    def stretch(self):
+        """The clock is held before an answer."""
+        stretch = STRETCH.fullmatch(self.mishap)
+        if stretch and self.state == "answering":
+            self.part[SCL], self.mishap, self.stops = 0, "ok", 0
+            self.let_go_at = time.monotonic() + int(stretch[1]) / 1000
 
     def acknowledges(self):
         """A byte came. Whether it is acknowledged; the state after it."""
@@ -142,7 +161,7 @@ class Wire:
         if self.mishap == "hung" and not self.is_open:
             self.part[SCL], self.stops, self.state = 0, 0, "ignore"
             return True
-        if self.mishap not in ("deaf", "short0") and self.addressed.refusal != ABSENT:
+        if self.mishap not in ("deaf", "nack0", "arb", "gone", "short0") and self.addressed.refusal != ABSENT:
             return False
         self.state, self.refusals = "ignore", MORE_TRIES
         return True
@@ -150,6 +169,9 @@ class Wire:
     def refuses_byte(self):
         """The last byte of a write, or of a request, isn't acknowledged."""
         frame, mishap = self.frame, self.mishap
+        nack = NACK.fullmatch(mishap)
+        if nack and len(frame) == int(nack[1]) + 1:
+            return True
         if write_length(frame) == len(frame) and mishap in ("lost", "lostall", "half", "short0h"):
             return True
         return mishap == "lostall" and frame[1:2] in ([PAGE_PLUS_READ], [COEFFICIENTS]) and len(frame) == 5
@@ -175,8 +197,10 @@ class Wire:
         frame, self.frame = self.frame, []
         if self.mishap == "short1":
             return None
-        if self.mishap == "false":
+        if self.mishap in ("false", "ones"):
             return [0xFF]
+        if self.mishap == "zeros":
+            return [0] * 16
         if self.mishap == "twice":
             self.addressed.hear(frame, "restart")
         found = self.addressed.hear(frame, "restart")
@@ -199,9 +223,12 @@ class Wire:
 
     def hear_write(self):
         frame, mishap = self.frame, self.mishap
-        if mishap == "false":
+        if mishap in ("false", "ones", "zeros"):
             return
-        frame = frame[:-1] if mishap == "half" else frame
+        nack = NACK.fullmatch(mishap)
+        frame = frame[:-1] if mishap == "half" else frame[:int(nack[1])] if nack else frame
+        if len(frame) < 2:
+            return
         if mishap == "flip" and len(frame) > 2:
             frame[-2] ^= 1
         for _ in range(2 if mishap == "twice" else 1):
@@ -232,6 +259,7 @@ class Lines(vhost.FrontEnd):
         if kind == GET_DIRECTION:
             return self.direction[line]
         if kind == GET_VALUE:
+            self.wire.look()
             return (self.wire.sda, self.wire.scl)[line]
         if kind == SET_DIRECTION:
             self.direction[line] = value
