@@ -56,8 +56,8 @@ answer-legal : (request : List ℕ) (needed : ℕ) (answer : List ℕ) →
     is_legal_return request needed (bytes_eq request request) answer answer ≡ true
 unfolding is_legal_return
 answer-legal request needed answer =
-    ap₂ (λ a b. a && b || (nat_lt (length answer) needed || is_betrayed request answer)) 
-        ((bytes_eq-Decides request request).1 refl) ((bytes_eq-Decides answer answer).1 refl)
+    ap₂ (λ a b. a && b || (nat_lt (length answer) needed || is_betrayed request answer))
+    ((bytes_eq-Decides request request).1 refl) ((bytes_eq-Decides answer answer).1 refl)
 
 pub whole-legal-all : WholeFramesAreLegal
 whole-legal-all = record { write = write-heard; request = whole-hearing; answer = answer-legal }
