@@ -149,7 +149,8 @@ pub(super) fn format(image: &GuardImage, output: u8) -> (u8, u8, i8) {
 pub(super) fn kept(image: &GuardImage, output: u8) -> (u8, [u8; 5]) {
     let [first, second, ..] = image.host.state.formats;
     let format = if output == 0 { first } else { second };
-    (format.mode, format.coefficients)
+    let coefficients = format.coefficients;
+    (format.mode, coefficients)
 }
 
 pub(super) fn restart_seen(image: &GuardImage) -> u8 {
