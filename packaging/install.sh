@@ -138,7 +138,7 @@ package() {
 wheel() {
     mkdir -p "$work/archives" "$work/wheel"
     for each in pm_host_c pm_device_c; do cp "$(archive $each)" "$work/archives/"; done
-    (cd "$root/python/build" && PMHOST_ARCHIVES=$work/archives python3 -B -c 'import backend, sys; backend.build_wheel(sys.argv[1])' "$work/wheel")
+    (cd "$root/python/backend" && PMHOST_ARCHIVES=$work/archives python3 -B -c 'import backend, sys; backend.build_wheel(sys.argv[1])' "$work/wheel")
     put 644 "$work/wheel"/*.whl "share/pm-host/$(basename "$work/wheel"/*.whl)"
 }
 

@@ -14,9 +14,11 @@ It prints a line for each finding, and has status 1 if there is one. With --plac
     laws       a record of laws in proofs, where the law has a name in the definitions of its crate
     proofs     a crate names the proofs of another: a lemma that crates above need stands in specs/Lemmas
     lemma      a lemma that is proved a second time, under whatever name
+    middle     a comment of a proof begins in the middle of a sentence: with and, so, or, nor
     page       a refusal of a type isn't in docs/refusals.md, or one of the page or of a help is in no type
     example    an example of a comment stands in no test, word for word
     claims     a law doesn't stand on its crate's page of docs/claims/, or on another one's too
+    path       a path that a page, a script or a source names isn't there
     edit       a text that a planted bug replaces doesn't stand once in its file
 
 Tests are left out.
@@ -24,6 +26,7 @@ Tests are left out.
 import glob
 import os
 import re
+import subprocess
 import sys
 
 import house
@@ -226,31 +229,6 @@ def page(src):
                         yield path, number, "page", "no type has %s %s" % refusal
 
 
-# Lemmas that stand twice yet, by their crates: each that goes leaves this list, and none comes to it.
-TWICE = {
-    "pm_device": "less-true map-none still_set",
-    "pm_driver": "both-so bytes-self entries-more first-none in-format later-none long-so none-more now-config "
-                 "reads-so request-legal whole-legal writes-so",
-    "pm_frame": "bytes-more doubled-lt length_fault-found pec_of-lt residue-lt residues_of-lt same_from_sum",
-    "pm_host": "all_any-length first_none le-times le_from_times lt-times possible_of-put_other reads_cell "
-               "reads_question times-swap times-times writes_cell",
-    "pm_host_c": "at_most both-true found within",
-    "pm_limits": "all-dens head not-above same-itself second through",
-    "pm_model": "not-above true-there zero-on",
-    "pm_num": "at_most at_most-trans from_T le-times le_from_times lt-times power times-swap times-times within",
-    "pm_rail": "below-count both-true first-of found has-wanted head not-above off-not on-not or-first or-second "
-               "same-number selected-needed tail un-not unmapped",
-    "pm_table": "IsShort-cond IsShort-line_among register_at-number",
-    "pm_text": "not-above",
-    "pm_world": "all-dens and-both any-length cell-there doubled-byte entries-more from_T in-format itself "
-                "now-config one-more or-first or-second pec-byte put-other question-reads reads-cell "
-                "register_at-number residue-byte residues-byte same-number same_bytes selected-needed whole-hearing "
-                "write-heard write-kind",
-    "pm_world_examples": "cancel_left sized",
-    "pmbhost_lines": "short_among short_choice",
-}
-
-
 def foreign(crates):
     """Places where a crate names the proofs of another."""
     for path, number, name in house.lower_proofs(crates):
@@ -260,9 +238,35 @@ def foreign(crates):
 def twins(crates):
     """Lemmas that are proved a second time."""
     for _, those in house.doubled_lemmas(crates):
-        new = [(path, number, name) for path, number, name in those if name not in TWICE.get(path.split("/")[1], "").split()]
-        for path, number, name in new:
+        for path, number, name in those:
             yield path, number, "lemma", "%s stands %d times: %s" % (name, len(those), ", ".join(sorted({it[0] for it in those})))
+
+
+def hanging(crates):
+    """Comments of proofs that hang on the line before."""
+    for path, number, text in house.middles(crates):
+        yield path, number, "middle", text
+
+
+# What may name a path of the repository, and the form of one; a word in capitals stands for many.
+NAMING = re.compile(r"(tools|trials|packaging|python|bench|examples|rust|\.ci|docs|README|CHANGELOG|crates/\w+/(src|include))")
+UNNAMING = re.compile(r"results/|\.svg$|captures/|timelines/|Cargo.lock")
+PLACE = re.compile(r"(?<![\w./$}~-])((?:crates|tools|trials|packaging|python|rust|mutants|docs|examples|bench)/[\w./-]*\w)(?![\w{%*$<])")
+
+
+def lost_paths():
+    """Paths that a page, a script or a source names, and that aren't there: from the top, or from where the file stands."""
+    names = subprocess.run(["git", "ls-files"], capture_output=True, text=True).stdout.split("\n")
+    for name in names:
+        if not NAMING.match(name) or UNNAMING.search(name) or not os.path.isfile(name):
+            continue
+        with open(name, encoding="utf-8", errors="replace") as file:
+            for number, line in enumerate(file, 1):
+                for path in PLACE.findall(line):
+                    if "/out" in path or re.search(r"\b(NAME|CRATE|X|FOLDER|FILE)\b", path):
+                        continue
+                    if not any(os.path.exists(os.path.join(home, path)) for home in ("", os.path.dirname(name), "python", "rust")):
+                        yield name, number, "path", "there is no %s" % path
 
 
 LAW = re.compile(r"^pub fn (\w+)(?:<[^\n]*>)?\(\)(?: *$| *\{)", re.M)
@@ -334,8 +338,10 @@ def findings(crates):
         yield from laws(path, lines)
     yield from foreign(crates)
     yield from twins(crates)
+    yield from hanging(crates)
     yield from unrun(crates)
     yield from unclaimed(crates)
+    yield from lost_paths() if "pmb" in crates else ()
     yield from planted.findings(crates)
 
 

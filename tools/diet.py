@@ -228,9 +228,9 @@ def main():
     if "--rules" in flags:
         rules(words[0])
     elif "--wrap" in flags:
-        for name in files_of(home):
-            path = os.path.join(home, name)
-            write(path, wrapped(read(path)))
+        for folder in ("proofs", "specs"):
+            for path in glob.glob(os.path.join(home, folder, "**", "*.antt"), recursive=True):
+                write(path, wrapped(read(path)))
     else:
         diet(words[0], jobs, "--apply" in flags)
 

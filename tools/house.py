@@ -15,7 +15,7 @@ import sys
 
 from crate_copy import crates_below, read
 from program import answer_help
-from proof_text import files_of, lemmas_of
+from proof_text import files_of, lemmas_of, over
 
 # A comment that begins so hangs on the line before it.
 MIDDLE = re.compile(r"(and|so|or|nor)\b", re.I)
@@ -149,6 +149,12 @@ def lines_of(pattern):
     return sum(read(path).count("\n") for path in glob.glob(pattern, recursive=True) if "/out/" not in path)
 
 
+def long_lines():
+    """The lines of proofs and definitions that are over 140 characters."""
+    found = [path for kind in ("proofs", "specs") for path in glob.glob("crates/*/%s/**/*.antt" % kind, recursive=True)]
+    return sum(len(over(read(path))) for path in found)
+
+
 def main():
     answer_help(__doc__)
     crates = own_crates()
@@ -171,6 +177,7 @@ def main():
         ("lemmas proved twice", sum(len(those) - 1 for _, those in doubled_lemmas(crates))),
         ("names of another crate's proofs", len(lower_proofs(crates))),
         ("comments of proofs that begin in the middle", len(middles(crates))),
+        ("lines of proofs and definitions over 140 characters", long_lines()),
         ("libraries with an example at their root", "%d of %d" % (len(with_example(shipped)), len(shipped))),
         ("modules that people run and that import the plain model", len(importing_oracle())),
         ("lines of code", lines_of("crates/*/src/**/*.rt")),

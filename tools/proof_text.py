@@ -1,4 +1,5 @@
 """Proof text: the lemmas of a file, each with its comment and its arguments, and lines that are too long."""
+import glob
 import os
 import re
 
@@ -17,6 +18,7 @@ def files_of(home):
             for name in names:
                 if name.endswith(".antt") and not (name == "Lib.antt" and top.endswith("/proofs")):
                     found.append(os.path.relpath(os.path.join(top, name), home))
+    found += [os.path.relpath(path, home) for path in glob.glob(os.path.join(home, "specs", "*Lemmas.antt"))]
     return sorted(found)
 
 

@@ -29,7 +29,8 @@ from plain.converter import ALLOWED  # noqa: E402
 BUILT = "crates/pmb/out/pmb"
 MOST_LINES = {"README.md": 95}
 # The tables of docs/texts.md with lines of a trace, and the options of `decode` that tell them so.
-TRACES = [("what is told",), ("what is told with values", "--values"), ("what is told of all codes", "--all"),
+TRACES = [("what is told",), ("what is told with values", "--values"), ("what is told with readings", "--values", "--readings=8C:direct:1:0:1"),
+          ("what is told of all codes", "--all"), ("what all codes say", "--all", "--values"),
           ("what is told with times", "--times")]
 FILE = re.compile(r"(?:\.\./)?(?:crates|tools|trials|packaging|python|rust|mutants|docs|examples|bench)/[\w./-]*\w")
 
@@ -88,15 +89,20 @@ def example_faults(shell, found):
     """The commands of the table, each of which answers with what is stored."""
     answers = {"scenario": "report", "frames": "answers", "trace": "lines"}
     for command in re.findall(r"\| `([^`]+)` \|$", found, re.M):
-        ran, (name, kind) = shell.run(command), re.search(r"examples/([\w-]+)\.(\w+)", command).groups()
+        ran, (name, kind) = shell.run(command), re.search(r"examples/([\w/-]+)\.(\w+)", command).groups()
         if command.startswith(BUILT):
             with open(os.path.join(program.ROOT, f"examples/{name}.{answers[kind]}"), encoding="utf-8") as file:
                 if ran.stdout != file.read():
                     yield f"{command}: not what is stored"
         if not ran.stdout or ran.stderr:
             yield f"{command}: it says {ran.stderr!r}"
-    for path in glob.glob(os.path.join(program.ROOT, "examples/*.*")):
-        name, _, kind = os.path.basename(path).partition(".")
+        if name.startswith("captures/"):
+            with open(os.path.join(program.ROOT, f"examples/{name}.{kind}"), encoding="utf-8") as file:
+                words = file.read().splitlines()[1].removeprefix("# pmb ")
+            if f"{BUILT} {words} < " not in command:
+                yield f"{command}: the options of the file are {words}"
+    for path in glob.glob("**/*.*", root_dir=os.path.join(program.ROOT, "examples"), recursive=True):
+        name, _, kind = path.partition(".")
         if kind in answers and f"examples/{name}.{kind}" not in found:
             yield f"the page doesn't name {name}.{kind}"
 

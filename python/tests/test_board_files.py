@@ -176,7 +176,8 @@ class Files(unittest.TestCase):
             found = rails.read(file.name)
         self.assertEqual(found.parts, {"u12": BoardPart("u12", "7", 0x4F, 2, "LTC3880"), "u13": BoardPart("u13", "7", 0x50, 2),
                                        "u14": BoardPart("u14", "8", 0x4F, 1)})
-        self.assertEqual([(rail.name, rail.part, rail.output) for rail in found.rails], [("core", "u12", 0), ("io", "u13", 1), ("pll", "u14", 0)])
+        self.assertEqual([(rail.name, rail.part, rail.output) for rail in found.rails],
+                         [("core", "u12", 0), ("io", "u13", 1), ("pll", "u14", 0)])
         self.assertTrue(found.is_board)
 
     def test_each_address_is_locked_for_its_own_bus(self):
@@ -240,8 +241,9 @@ class Files(unittest.TestCase):
         self.assertEqual([self.codes(name)[-1] for name in self.parts], ["15"] * 3)
         self.assertEqual([line for line in spare.lines if line.startswith("A0 15")], [])
         self.parts["u14"].converter.set((None, 0x10), 0x40)
-        self.assertEqual(applied(text, over, "--store")[::2], (1, "pmhost: apply FILE: u14: WRITE_PROTECT is 40: a store wants 00: order it "
-                         "by word - WRITE_PROTECT 00; nothing was ordered of core, io, pll\n"))
+        self.assertEqual(applied(text, over, "--store")[::2],
+                         (1, "pmhost: apply FILE: u14: WRITE_PROTECT is 40: a store wants 00: order it by word - WRITE_PROTECT 00; nothing "
+                             "was ordered of core, io, pll\n"))
 
     def test_a_store_that_fails_says_which_were_done(self):
         self.assertEqual(applied(self.text, self.over())[0], 0)
@@ -249,8 +251,8 @@ class Files(unittest.TestCase):
         self.parts["u13"].hear = lambda frame, ending: None if frame[1] == 0x15 else heard(frame, ending)
         status, out, err = applied(self.text, self.over(), "--store")
         self.assertEqual((status, out.splitlines()[-1]), (1, "apply: store unknown"))
-        self.assertIn("u13: store: it may have been carried out or not: 1 transfer failed, the last: Remote I/O error; STATUS_CML 00; stored "
-                      "before: u12", err)
+        self.assertIn("u13: store: it may have been carried out or not: 1 transfer failed, the last: Remote I/O error; STATUS_CML 00; "
+                      "stored before: u12", err)
         self.assertNotIn("15", self.codes("u14"))
 
     def test_a_restart_is_that_of_its_part(self):

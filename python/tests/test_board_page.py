@@ -86,8 +86,8 @@ class Cases(unittest.TestCase):
     def test_a_part_on_margin_high(self):
         words = {"OPERATION": 0xA8, "VOUT_MARGIN_HIGH": 0x4000}
         self.assertEqual(self.ran(self.part(**words), "set", "0", "3.3V"), (
-            1, "set 0: VOUT_COMMAND 34CD 3.300048V confirmed; OPERATION selects VOUT_MARGIN_HIGH: the output commands 4V, OUTSIDE 3.135V to "
-            "3.465V", "set 0 3.3V: the output commands a voltage outside its limits"))
+            1, "set 0: VOUT_COMMAND 34CD 3.300048V confirmed; OPERATION selects VOUT_MARGIN_HIGH: the output commands 4V, OUTSIDE 3.135V "
+            "to 3.465V", "set 0 3.3V: the output commands a voltage outside its limits"))
         for command, more in (("apply", "; stays changed, or may be: io.volts"), ("verify", "")):
             part = self.part(**words, **({} if command == "apply" else {"VOUT_COMMAND": 0x34CD}))
             self.assertEqual(self.ran(part, command, "FILE"), (
@@ -100,7 +100,8 @@ class Cases(unittest.TestCase):
             "set 0 3.3V: the output commands a voltage outside its limits"))
         self.assertEqual(self.ran(self.part(VOUT_MAX=0x2800), "apply", "FILE"), (
             1, "io: the output commands 1V, OUTSIDE 3.135V to 3.465V",
-            "apply FILE: io.volts: 3.300048V is above VOUT_MAX, which is 2.5V, and not in the file: P6 AboveMax; nothing was ordered of io"))
+            "apply FILE: io.volts: 3.300048V is above VOUT_MAX, which is 2.5V, and not in the file: P6 AboveMax; nothing was ordered of "
+            "io"))
         self.assertEqual(self.ran(self.part(VOUT_MAX=0x2800, VOUT_COMMAND=0x34CD), "verify", "FILE"), (
             1, "io: CUT: the output commands 2.5V, OUTSIDE 3.135V to 3.465V",
             "verify FILE: io: the output commands a voltage outside its limits"))

@@ -119,6 +119,23 @@ class Traces(unittest.TestCase):
             with self.subTest(name):
                 self.assertEqual(decoded(capture(name))[-1:], [wanted])
 
+    @needs("pmb")
+    def test_the_driver_s_word_for_the_other_page_is_told(self):
+        told = decoded(capture("sharpest.trace"), "--all", "--values", "--vout=ulinear16:-12")
+        self.assertIn("20 58 VOUT_COMMAND write 1CCD 1.800048 V", told)
+        self.assertEqual([line for line in told if line.split()[0] in ("37", "39", "46")],
+                         ["37 58 PAGE write 01", "39 58 code 00 PAGE read, no PEC", "46 58 VOUT_COMMAND write 3000 3 V"])
+        example = stored(EXAMPLES, "captures", "ltc2972.trace").splitlines(keepends=True)
+        self.assertEqual("".join(example[2:]), capture("sharpest.trace"))
+
+    @needs("pmb")
+    def test_captures_among_the_examples_are_told_as_stored(self):
+        for name in ("ltc2972", "ltc2977", "ltc3880", "raa228", "tps546d24a"):
+            with self.subTest(name):
+                text = stored(EXAMPLES, "captures", f"{name}.trace")
+                options = text.splitlines()[1].removeprefix("# pmb decode ").split()
+                self.assertEqual("".join(line + "\n" for line in decoded(text, *options)), stored(EXAMPLES, "captures", f"{name}.lines"))
+
     def test_one_bus_of_several_has_each_packet_once(self):
         both = "".join(line + "\n" + line.replace("i2c-1 ", "i2c-0 ") + "\n" for line in capture("bus.linux").splitlines()
                        if "i2c-1 " in line)

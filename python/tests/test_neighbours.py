@@ -37,7 +37,8 @@ class Pair:
 
     def begin(self):
         """A job of both hosts."""
-        cell, kind = self.draw.choice(self.cells), self.draw.choice(("order",) * 6 + ("check", "check", "learn", "clear", "store", "restore"))
+        kinds = ("order",) * 6 + ("check", "check", "learn", "clear", "store", "restore")
+        cell, kind = self.draw.choice(self.cells), self.draw.choice(kinds)
         output = cell[0] or 0
         word = self.draw.choice((0x00, 0x20, 0x80) if cell == PROTECT or cell[1] == OPERATION else (0x1000, 0x1100, 0x2000))
         plain = {"order": lambda: self.plain_host.order(cell, word), "check": lambda: self.plain_host.check(cell),

@@ -2,7 +2,7 @@
 //! numbers and sizes.
 
 pub const VERSION: u16 = 0x0001;
-pub const HOST_VERSION: u16 = 5;
+pub const HOST_VERSION: u16 = 6;
 pub const HOST_SIZE: usize = 2064;
 pub const SURVEY_VERSION: u16 = 1;
 pub const SURVEY_SIZE: usize = 40;
@@ -161,6 +161,13 @@ pub struct PayloadImage {
 
 #[repr(C)]
 #[derive(Clone, Copy, Default)]
+pub struct BlockImage {
+    pub length: u8,
+    pub bytes: [u8; 32],
+}
+
+#[repr(C)]
+#[derive(Clone, Copy, Default)]
 pub struct OutputImage {
     pub mode: u8,
     pub unused: u8,
@@ -249,6 +256,8 @@ extern "C" {
         count: u64,
         payload: &mut PayloadImage,
     ) -> u8;
+    pub fn pm_read_block(address: u8, code: u8, bytes: *const u8, count: u64, block: &mut BlockImage) -> u8;
+    pub fn pm_read_plain(address: u8, code: u8, size: u8, bytes: *const u8, count: u64, block: &mut BlockImage) -> u8;
     pub fn pm_part_size() -> u64;
     pub fn pm_part_new(part: &mut PartImage, config: &ConfigImage) -> u8;
     pub fn pm_part_hear(part: &mut PartImage, bytes: *const u8, count: u64, is_request: u8, reply: &mut ReplyImage) -> u8;

@@ -21,7 +21,7 @@ pub use host::{Band, Cell, Host, Job, Known, Limits, Possible, Register, Sending
 #[cfg(feature = "linux")]
 pub use linux::{LinuxBus, NoBus, NoTransfer, SystemClock};
 pub use number::Format;
-pub use packet::{pec, Bytes, Data, Packet};
+pub use packet::{pec, Block, Bytes, Data, Packet};
 pub use part::{Heard, NoAnswer, Output, Part, Reading};
 pub use patient::{Clock, NotHeard, Patient, Unheard};
 pub use rail::{NotPlanned, NotReached, PlanOrder, Power, Rail, Survey, Surveyed, Wanted};

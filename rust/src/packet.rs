@@ -173,6 +173,49 @@ impl Packet {
     }
 }
 
+/// The payload of a read that is no packet of a host, without its count and its packet error code: at most 32 bytes.
+#[derive(Clone, Copy, Debug, PartialEq, Eq)]
+pub struct Block {
+    length: u8,
+    bytes: [u8; 32],
+}
+
+impl Deref for Block {
+    type Target = [u8];
+
+    fn deref(&self) -> &[u8] {
+        &self.bytes[..usize::from(self.length)]
+    }
+}
+
+impl Block {
+    /// What came back for a block of any code, whose request is the address byte and the code: the read address first, then the
+    /// count, at most 32. F1 to F5.
+    ///
+    /// ```
+    /// # use pm_host::{pec, Block};
+    /// let mut came = vec![0xB1, 3, b'L', b'T', b'C'];
+    /// came.push(pec(&[&[0xB0, 0x99], came.as_slice()].concat())); // MFR_ID
+    /// assert_eq!(&*Block::read(0x58, 0x99, &came)?, b"LTC");
+    /// # Ok::<(), pm_host::Refusal>(())
+    /// ```
+    pub fn read(address: u8, code: u8, bytes: &[u8]) -> Result<Block, Refusal> {
+        let mut found = ffi::BlockImage::default();
+        // SAFETY: the slice's pointer and count are its own, and what is written overlaps nothing.
+        accepted(unsafe { ffi::pm_read_block(address, code, bytes.as_ptr(), bytes.len() as u64, &mut found) })?;
+        Ok(Block { length: found.length.min(32), bytes: found.bytes })
+    }
+
+    /// What came back for a plain read of any code that asks for `size` bytes, at most 32: the read address first. F1 to F3, F5;
+    /// NoPacket where more were asked for.
+    pub fn read_plain(address: u8, code: u8, size: u8, bytes: &[u8]) -> Result<Block, Refusal> {
+        let mut found = ffi::BlockImage::default();
+        // SAFETY: as above.
+        accepted(unsafe { ffi::pm_read_plain(address, code, size, bytes.as_ptr(), bytes.len() as u64, &mut found) })?;
+        Ok(Block { length: found.length.min(32), bytes: found.bytes })
+    }
+}
+
 /// The packet error code of bytes.
 pub fn pec(bytes: &[u8]) -> u8 {
     // SAFETY: the slice's pointer and count are its own.

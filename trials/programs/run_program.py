@@ -274,8 +274,17 @@ STREAMS = [
 KINDS = [("replay", "scenario", "report"), ("hear", "frames", "answers"), ("decode", "trace", "lines")]
 
 
+def captures():
+    """Runs of the captures, whose second line has the options."""
+    for path in sorted(glob.glob(os.path.join(ROOT, "examples/captures/*.trace"))):
+        text = contents(path)
+        words = text.splitlines()[1].decode().removeprefix("# pmb ").split()
+        yield words, text, 0, contents(path.removesuffix("trace") + "lines"), b""
+
+
 def examples():
     """Runs of the examples. A trace with a bad line and a stopped scenario have status 1."""
+    yield from captures()
     for command, text, answer in KINDS:
         for path in sorted(glob.glob(os.path.join(ROOT, "examples", "*." + text))):
             wanted = contents(path.removesuffix(text) + answer)

@@ -4,25 +4,40 @@ A `*` is the PEC of the bytes before it, a `!` another byte. A line of one colum
 are the counts, where a trace has them; a blank line ends a trace."""
 
 VALUES = """
-B0 88 / B1 00 D3 *                        58 READ_VIN read D300 12/1 V
+B0 88 / B1 00 D3 *                        58 READ_VIN read D300
+B0 20 / B1 14 *                           58 VOUT_MODE read 14 ULINEAR16 -12
+B0 88 / B1 00 D3 *                        58 READ_VIN read D300 12 V
+B0 88 / B1 00 80 *                        58 READ_VIN read 8000 0 V
+B0 88 / B1 FF 87 *                        58 READ_VIN read 87FF -0.000016 V
+B0 88 / B1 01 80 *                        58 READ_VIN read 8001 0.000015 V
+B0 06 02 00 88 / B1 02 00 D3 *            58 page 0 READ_VIN read D300 12 V
+B0 8C / B1 FB FF *                        58 READ_IOUT read FFFB -2.5 A
+B0 8C / B1 FF 7B *                        58 READ_IOUT read 7BFF 33521664 A
+B0 8C / B1 00 7C *                        58 READ_IOUT read 7C00 -33554432 A
+B0 06 02 01 8C / B1 02 00 84 *            58 page 1 READ_IOUT read 8400 -0.015625 A
+B0 8D / B1 19 00 *                        58 READ_TEMPERATURE_1 read 0019 25 C
+B0 8D / B1 64 F0 *                        58 READ_TEMPERATURE_1 read F064 25 C
+B0 8D / B1 D8 07 *                        58 READ_TEMPERATURE_1 read 07D8 -40 C
+B2 88 / B3 00 D3 *                        59 READ_VIN read D300
 
-B0 88 / B1 00 80 *                        58 READ_VIN read 8000 0/1 V
-
-B0 88 / B1 FF 87 *                        58 READ_VIN read 87FF -1/65536 V
-
-B0 06 02 00 88 / B1 02 00 D3 *            58 page 0 READ_VIN read D300 12/1 V
-
-B0 8C / B1 FB FF *                        58 READ_IOUT read FFFB -5/2 A
-
-B0 8C / B1 FF 7B *                        58 READ_IOUT read 7BFF 33521664/1 A
-
-B0 06 02 01 8C / B1 02 00 84 *            58 page 1 READ_IOUT read 8400 -1/64 A
-
-B0 8D / B1 19 00 *                        58 READ_TEMPERATURE_1 read 0019 25/1 C
-
-B0 8D / B1 64 F0 *                        58 READ_TEMPERATURE_1 read F064 25/1 C
-
-B0 8D / B1 D8 07 *                        58 READ_TEMPERATURE_1 read 07D8 -40/1 C
+# One ULINEAR16 is enough, of whatever page; no other mode is.
+B0 06 02 07 20 / B1 01 1F *               58 page 7 VOUT_MODE read 1F ULINEAR16 -1
+B0 8D / B1 19 00 *                        58 READ_TEMPERATURE_1 read 0019 25 C
+B0 06 02 00 20 / B1 01 40 *               58 page 0 VOUT_MODE read 40 DIRECT
+B0 8D / B1 19 00 *                        58 READ_TEMPERATURE_1 read 0019 25 C
+B2 20 / B3 40 *                           59 VOUT_MODE read 40 DIRECT
+B2 30 02 88 01 / B3 05 01 00 00 00 00 *   59 COEFFICIENTS of 88 side 1 read m 1 b 0 r 0
+B2 88 / B3 00 D3 *                        59 READ_VIN read D300
+B2 20 / B3 20 *                           59 VOUT_MODE read 20
+B2 88 / B3 00 D3 *                        59 READ_VIN read D300
+B2 20 / B3 21 *                           59 VOUT_MODE read 21
+B2 88 / B3 00 D3 *                        59 READ_VIN read D300
+B2 20 / B3 60 *                           59 VOUT_MODE read 60
+B2 88 / B3 00 D3 *                        59 READ_VIN read D300
+B2 20 / B3 97 *                           59 VOUT_MODE read 97
+B2 88 / B3 00 D3 *                        59 READ_VIN read D300
+B2 20 / B3 14 !                           59 read F5 WrongPec 2 bytes B2 20 / B3 14 !
+B2 88 / B3 00 D3 *                        59 READ_VIN read D300
 
 B0 01 / B1 00 *                           58 OPERATION read 00 off
 B0 01 40 *                                58 OPERATION write 40 off
@@ -60,7 +75,7 @@ B0 20 / B1 60 *                           58 VOUT_MODE read 60
 B0 20 / B1 94 *                           58 VOUT_MODE read 94
 
 B0 00 01 *                                58 PAGE write 01
-B0 19 / B1 80 *                           58 CAPABILITY read 80
+B0 19 / B1 80 *                           58 CAPABILITY read 80 PEC, 100 kHz
 B0 98 / B1 33 *                           58 PMBUS_REVISION read 33
 B0 03 *                                   58 CLEAR_FAULTS send
 B0 05 02 00 03 *                          58 page 0 CLEAR_FAULTS send
@@ -76,6 +91,18 @@ B0 30 02 21 00 / B1 05 01 00 00 00 03 *   58 COEFFICIENTS of 21 side 0 read m 1 
 = count VOUT_COMMAND 2
 = count COEFFICIENTS 1
 = lines 9 accepted 9 faults 0 bad 0
+
+B0 19 / B1 B0 *                           58 CAPABILITY read B0 PEC, 400 kHz, SMBALERT#
+B0 19 / B1 00 *                           58 CAPABILITY read 00 100 kHz
+B0 19 / B1 20 *                           58 CAPABILITY read 20 400 kHz
+B0 19 / B1 40 *                           58 CAPABILITY read 40 1 MHz
+B0 19 / B1 60 *                           58 CAPABILITY read 60 reserved speed
+B0 19 / B1 10 *                           58 CAPABILITY read 10 100 kHz, SMBALERT#
+B0 19 / B1 08 *                           58 CAPABILITY read 08 100 kHz, IEEE half precision
+B0 19 / B1 04 *                           58 CAPABILITY read 04 100 kHz, AVSBus
+B0 19 / B1 02 *                           58 CAPABILITY read 02 100 kHz, bit 1
+B0 19 / B1 01 *                           58 CAPABILITY read 01 100 kHz, bit 0
+B0 06 02 01 19 / B1 01 FF *               58 page 1 CAPABILITY read FF PEC, reserved speed, SMBALERT#, IEEE half precision, AVSBus, bit 1, bit 0
 
 B0 78 / B1 00 *                           58 STATUS_BYTE read 00 none
 B0 79 / B1 00 00 *                        58 STATUS_WORD read 0000 none
@@ -137,18 +164,18 @@ STATUS_CODES = {"STATUS_BYTE": "78", "STATUS_WORD": "79", "STATUS_VOUT": "7A", "
 TAUGHT = """
 B0 05 04 00 21 CD 34 *                    58 page 0 VOUT_COMMAND write 34CD
 B0 06 02 00 20 / B1 01 14 *               58 page 0 VOUT_MODE read 14 ULINEAR16 -12
-B0 05 04 00 21 CD 34 *                    58 page 0 VOUT_COMMAND write 34CD 13517/4096 3300048 uV
-B0 06 02 00 21 / B1 02 CD 34 *            58 page 0 VOUT_COMMAND read 34CD 13517/4096 3300048 uV
-B0 05 04 00 24 00 40 *                    58 page 0 VOUT_MAX write 4000 16384/4096 4000000 uV
-B0 05 04 00 25 00 11 *                    58 page 0 VOUT_MARGIN_HIGH write 1100 4352/4096 1062500 uV
-B0 05 04 00 26 00 0F *                    58 page 0 VOUT_MARGIN_LOW write 0F00 3840/4096 937500 uV
-B0 05 04 00 2B 00 00 *                    58 page 0 VOUT_MIN write 0000 0/4096 0 uV
-B0 06 02 00 8B / B1 02 01 00 *            58 page 0 READ_VOUT read 0001 1/4096 244 uV
+B0 05 04 00 21 CD 34 *                    58 page 0 VOUT_COMMAND write 34CD 3.300048 V
+B0 06 02 00 21 / B1 02 CD 34 *            58 page 0 VOUT_COMMAND read 34CD 3.300048 V
+B0 05 04 00 24 00 40 *                    58 page 0 VOUT_MAX write 4000 4 V
+B0 05 04 00 25 00 11 *                    58 page 0 VOUT_MARGIN_HIGH write 1100 1.0625 V
+B0 05 04 00 26 00 0F *                    58 page 0 VOUT_MARGIN_LOW write 0F00 0.9375 V
+B0 05 04 00 2B 00 00 *                    58 page 0 VOUT_MIN write 0000 0 V
+B0 06 02 00 8B / B1 02 01 00 *            58 page 0 READ_VOUT read 0001 0.000244 V
 B0 05 04 01 21 CD 34 *                    58 page 1 VOUT_COMMAND write 34CD
 B2 05 04 00 21 CD 34 *                    59 page 0 VOUT_COMMAND write 34CD
 B0 21 CD 34 *                             58 VOUT_COMMAND write 34CD
 B0 06 02 00 20 / B1 01 13 *               58 page 0 VOUT_MODE read 13 ULINEAR16 -13
-B0 05 04 00 21 CD 34 *                    58 page 0 VOUT_COMMAND write 34CD 13517/8192 1650024 uV
+B0 05 04 00 21 CD 34 *                    58 page 0 VOUT_COMMAND write 34CD 1.650024 V
 B0 06 02 00 20 / B1 01 21 *               58 page 0 VOUT_MODE read 21
 B0 05 04 00 21 CD 34 *                    58 page 0 VOUT_COMMAND write 34CD
 
@@ -158,68 +185,96 @@ B0 06 02 00 20 / B1 01 14 !               58 read F5 WrongPec 3 bytes B0 06 02 0
 B0 05 04 00 21 CD 34 *                    58 page 0 VOUT_COMMAND write 34CD
 
 B0 06 02 FF 20 / B1 01 0F *               58 page 255 VOUT_MODE read 0F ULINEAR16 15
-B0 05 04 FF 21 01 00 *                    58 page 255 VOUT_COMMAND write 0001 32768/1 32768000000 uV
+B0 05 04 FF 21 01 00 *                    58 page 255 VOUT_COMMAND write 0001 32768 V
 B0 06 02 FF 20 / B1 01 10 *               58 page 255 VOUT_MODE read 10 ULINEAR16 -16
-B0 05 04 FF 21 01 00 *                    58 page 255 VOUT_COMMAND write 0001 1/65536 15 uV
+B0 05 04 FF 21 01 00 *                    58 page 255 VOUT_COMMAND write 0001 0.000015 V
 B0 05 04 FE 21 01 00 *                    58 page 254 VOUT_COMMAND write 0001
 
-# DIRECT needs both; the coefficients are the address's, of any voltage and on either side.
+# DIRECT needs both; the coefficients are those of the code, on either side.
 B0 06 02 01 20 / B1 01 40 *               58 page 1 VOUT_MODE read 40 DIRECT
 B0 05 04 01 21 E4 0C *                    58 page 1 VOUT_COMMAND write 0CE4
-B0 30 02 88 00 / B1 05 01 00 00 00 03 *   58 COEFFICIENTS of 88 side 0 read m 1 b 0 r 3
-B0 05 04 01 21 E4 0C *                    58 page 1 VOUT_COMMAND write 0CE4
 B0 30 02 8B 01 / B1 05 01 00 00 00 03 *   58 COEFFICIENTS of 8B side 1 read m 1 b 0 r 3
-B0 05 04 01 21 E4 0C *                    58 page 1 VOUT_COMMAND write 0CE4 3300/1000 3300000 uV
-B0 05 04 01 21 FF FF *                    58 page 1 VOUT_COMMAND write FFFF -1/1000 -1000 uV
-B0 30 02 21 00 / B1 05 FF FF 05 00 03 *   58 COEFFICIENTS of 21 side 0 read m -1 b 5 r 3
-B0 05 04 01 21 E8 03 *                    58 page 1 VOUT_COMMAND write 03E8 4000/1000 4000000 uV
-B0 30 02 24 00 / B1 05 02 00 01 00 FE *   58 COEFFICIENTS of 24 side 0 read m 2 b 1 r -2
-B0 06 02 01 8B / B1 02 03 00 *            58 page 1 READ_VOUT read 0003 299/2 149500000 uV
-B0 30 02 25 00 / B1 05 03 00 00 00 00 *   58 COEFFICIENTS of 25 side 0 read m 3 b 0 r 0
-B0 06 02 01 8B / B1 02 FF FF *            58 page 1 READ_VOUT read FFFF -1/3 -333334 uV
-B0 30 02 26 01 / B1 05 00 00 00 00 03 *   58 COEFFICIENTS of 26 side 1 read m 0 b 0 r 3
+B0 05 04 01 21 E4 0C *                    58 page 1 VOUT_COMMAND write 0CE4
+B0 06 02 01 8B / B1 02 E4 0C *            58 page 1 READ_VOUT read 0CE4 3.3 V
+B0 30 02 21 00 / B1 05 01 00 00 00 03 *   58 COEFFICIENTS of 21 side 0 read m 1 b 0 r 3
+B0 05 04 01 21 E4 0C *                    58 page 1 VOUT_COMMAND write 0CE4 3.3 V
+B0 05 04 01 21 FF FF *                    58 page 1 VOUT_COMMAND write FFFF -0.001 V
+B0 05 04 01 24 E4 0C *                    58 page 1 VOUT_MAX write 0CE4
+B0 30 02 24 01 / B1 05 FF FF 05 00 03 *   58 COEFFICIENTS of 24 side 1 read m -1 b 5 r 3
+B0 05 04 01 24 E8 03 *                    58 page 1 VOUT_MAX write 03E8 4 V
+B0 30 02 8B 00 / B1 05 02 00 01 00 FE *   58 COEFFICIENTS of 8B side 0 read m 2 b 1 r -2
+B0 06 02 01 8B / B1 02 03 00 *            58 page 1 READ_VOUT read 0003 149.5 V
+B0 05 04 01 21 E4 0C *                    58 page 1 VOUT_COMMAND write 0CE4 3.3 V
+B0 30 02 8B 01 / B1 05 03 00 00 00 00 *   58 COEFFICIENTS of 8B side 1 read m 3 b 0 r 0
+B0 06 02 01 8B / B1 02 FF FF *            58 page 1 READ_VOUT read FFFF -0.333334 V
+B0 30 02 8B 01 / B1 05 00 00 00 00 03 *   58 COEFFICIENTS of 8B side 1 read m 0 b 0 r 3
 B0 06 02 01 8B / B1 02 FF FF *            58 page 1 READ_VOUT read FFFF
-B0 30 02 2B 01 / B1 05 01 00 00 00 0C *   58 COEFFICIENTS of 2B side 1 read m 1 b 0 r 12
-B0 06 02 01 8B / B1 02 01 00 *            58 page 1 READ_VOUT read 0001 1/1000000000000 0 uV
-B0 30 02 21 01 / B1 05 01 00 00 00 0D *   58 COEFFICIENTS of 21 side 1 read m 1 b 0 r 13
+B0 30 02 8B 01 / B1 05 01 00 00 00 0C *   58 COEFFICIENTS of 8B side 1 read m 1 b 0 r 12
+B0 06 02 01 8B / B1 02 01 00 *            58 page 1 READ_VOUT read 0001 0 V
+B0 06 02 01 8B / B1 02 FF FF *            58 page 1 READ_VOUT read FFFF -0.000001 V
+B0 30 02 8B 01 / B1 05 01 00 00 00 0D *   58 COEFFICIENTS of 8B side 1 read m 1 b 0 r 13
 B0 06 02 01 8B / B1 02 01 00 *            58 page 1 READ_VOUT read 0001
-B0 30 02 21 01 / B1 05 01 00 00 00 F4 *   58 COEFFICIENTS of 21 side 1 read m 1 b 0 r -12
-B0 06 02 01 8B / B1 02 01 00 *            58 page 1 READ_VOUT read 0001 1000000000000/1 1000000000000000000 uV
+B0 30 02 8B 01 / B1 05 01 00 00 00 F4 *   58 COEFFICIENTS of 8B side 1 read m 1 b 0 r -12
+B0 06 02 01 8B / B1 02 01 00 *            58 page 1 READ_VOUT read 0001 1000000000000 V
 B0 05 04 00 21 E4 0C *                    58 page 0 VOUT_COMMAND write 0CE4
+B2 06 02 01 20 / B3 01 40 *               59 page 1 VOUT_MODE read 40 DIRECT
+B2 05 04 01 21 E4 0C *                    59 page 1 VOUT_COMMAND write 0CE4
+B2 30 02 25 00 / B3 05 01 00 00 00 03 *   59 COEFFICIENTS of 25 side 0 read m 1 b 0 r 3
+B2 05 04 01 25 E4 0C *                    59 page 1 VOUT_MARGIN_HIGH write 0CE4 3.3 V
+B2 05 04 01 26 E4 0C *                    59 page 1 VOUT_MARGIN_LOW write 0CE4
+B2 30 02 26 00 / B3 05 01 00 00 00 03 *   59 COEFFICIENTS of 26 side 0 read m 1 b 0 r 3
+B2 05 04 01 26 E4 0C *                    59 page 1 VOUT_MARGIN_LOW write 0CE4 3.3 V
+B2 30 02 2B 00 / B3 05 01 00 00 00 03 *   59 COEFFICIENTS of 2B side 0 read m 1 b 0 r 3
+B2 05 04 01 2B E4 0C *                    59 page 1 VOUT_MIN write 0CE4 3.3 V
 """
 
 # `--vout`: for a plain packet, and where the trace didn't teach one of the formats.
 VOUT = [
     ("--values --vout=ulinear16:-12", """
-B0 21 CD 34 *                             58 VOUT_COMMAND write 34CD 13517/4096 3300048 uV
-B0 8B / B1 CD 34 *                        58 READ_VOUT read 34CD 13517/4096 3300048 uV
-B0 05 04 00 21 CD 34 *                    58 page 0 VOUT_COMMAND write 34CD 13517/4096 3300048 uV
-B0 06 02 00 20 / B1 01 00 *               58 page 0 VOUT_MODE read 00 ULINEAR16 0
-B0 05 04 00 21 CD 34 *                    58 page 0 VOUT_COMMAND write 34CD 13517/1 13517000000 uV
-B0 05 04 01 21 CD 34 *                    58 page 1 VOUT_COMMAND write 34CD 13517/4096 3300048 uV
-B0 21 CD 34 *                             58 VOUT_COMMAND write 34CD 13517/4096 3300048 uV
+B0 21 CD 34 *                             58 VOUT_COMMAND write 34CD 3.300048 V
+B0 8B / B1 CD 34 *                        58 READ_VOUT read 34CD 3.300048 V
+B0 05 04 00 21 CD 34 *                    58 page 0 VOUT_COMMAND write 34CD 3.300048 V
+B0 06 02 00 20 / B1 01 13 *               58 page 0 VOUT_MODE read 13 ULINEAR16 -13
+B0 05 04 00 21 CD 34 *                    58 page 0 VOUT_COMMAND write 34CD 1.650024 V
+B0 05 04 01 21 CD 34 *                    58 page 1 VOUT_COMMAND write 34CD 3.300048 V
+B0 21 CD 34 *                             58 VOUT_COMMAND write 34CD 3.300048 V
 B0 06 02 00 20 / B1 01 21 *               58 page 0 VOUT_MODE read 21
-B0 05 04 00 21 CD 34 *                    58 page 0 VOUT_COMMAND write 34CD 13517/4096 3300048 uV
+B0 05 04 00 21 CD 34 *                    58 page 0 VOUT_COMMAND write 34CD
 B0 06 02 00 20 / B1 01 40 *               58 page 0 VOUT_MODE read 40 DIRECT
-B0 05 04 00 21 CD 34 *                    58 page 0 VOUT_COMMAND write 34CD 13517/4096 3300048 uV
+B0 05 04 00 21 CD 34 *                    58 page 0 VOUT_COMMAND write 34CD
 B0 30 02 21 00 / B1 05 01 00 00 00 03 *   58 COEFFICIENTS of 21 side 0 read m 1 b 0 r 3
-B0 05 04 00 21 CD 34 *                    58 page 0 VOUT_COMMAND write 34CD 13517/1000 13517000 uV
-B0 88 / B1 00 D3 *                        58 READ_VIN read D300 12/1 V
+B0 05 04 00 21 E4 0C *                    58 page 0 VOUT_COMMAND write 0CE4 3.3 V
+B0 05 04 00 24 E4 0C *                    58 page 0 VOUT_MAX write 0CE4
+B0 30 02 21 00 / B1 05 00 00 00 00 03 *   58 COEFFICIENTS of 21 side 0 read m 0 b 0 r 3
+B0 05 04 00 21 E4 0C *                    58 page 0 VOUT_COMMAND write 0CE4
+B0 88 / B1 00 D3 *                        58 READ_VIN read D300 12 V
+"""),
+    ("--values --vout=direct:2:0:3", """
+B0 05 04 00 21 E4 0C *                    58 page 0 VOUT_COMMAND write 0CE4 1.65 V
+B0 06 02 00 20 / B1 01 40 *               58 page 0 VOUT_MODE read 40 DIRECT
+B0 05 04 00 21 E4 0C *                    58 page 0 VOUT_COMMAND write 0CE4 1.65 V
+B0 30 02 21 00 / B1 05 01 00 00 00 03 *   58 COEFFICIENTS of 21 side 0 read m 1 b 0 r 3
+B0 05 04 00 21 E4 0C *                    58 page 0 VOUT_COMMAND write 0CE4 3.3 V
+B0 05 04 00 24 E4 0C *                    58 page 0 VOUT_MAX write 0CE4 1.65 V
+B0 30 02 21 00 / B1 05 01 00 00 00 0D *   58 COEFFICIENTS of 21 side 0 read m 1 b 0 r 13
+B0 05 04 00 21 E4 0C *                    58 page 0 VOUT_COMMAND write 0CE4
+B0 06 02 00 20 / B1 01 14 *               58 page 0 VOUT_MODE read 14 ULINEAR16 -12
+B0 05 04 00 24 CD 34 *                    58 page 0 VOUT_MAX write 34CD 3.300048 V
 """),
     ("--vout linear11 --values", """
-B0 8B / B1 00 D3 *                        58 READ_VOUT read D300 768/64 12000000 uV
+B0 8B / B1 00 D3 *                        58 READ_VOUT read D300 12 V
 """),
     ("--values --vout=direct:-1:5:3", """
-B0 8B / B1 E8 03 *                        58 READ_VOUT read 03E8 4000/1000 4000000 uV
+B0 8B / B1 E8 03 *                        58 READ_VOUT read 03E8 4 V
 """),
     ("--values --vout=direct:32767:-32768:-12", """
-B0 8B / B1 00 00 *                        58 READ_VOUT read 0000 32768/32767 1000030 uV
+B0 8B / B1 00 00 *                        58 READ_VOUT read 0000 1.00003 V
 """),
     ("--values --vout=ulinear16:15", """
-B0 8B / B1 FF FF *                        58 READ_VOUT read FFFF 2147450880/1 2147450880000000 uV
+B0 8B / B1 FF FF *                        58 READ_VOUT read FFFF 2147450880 V
 """),
     ("--values --vout=ulinear16:-16", """
-B0 8B / B1 FF FF *                        58 READ_VOUT read FFFF 65535/65536 999984 uV
+B0 8B / B1 FF FF *                        58 READ_VOUT read FFFF 0.999984 V
 """),
 ]
 
@@ -246,51 +301,162 @@ B0 / B1 / B2                              X1 Syntax
 """
 
 ALL = """
-B0 96 / B1 34 12 *                        58 code 96 read 34 12, PEC right
-B0 96 / B1 34 12 !                        58 code 96 read 34 12 !, no PEC
-B0 96 / B1 34 12                          58 code 96 read 34 12, no PEC
-B0 96 / B1                                58 code 96 read, no PEC
-B0 96 / B1 *                              58 code 96 read, PEC right
-B0 86 02 01 02 / B1 03 04 *               58 code 86 write 02 01 02 read 03 04, PEC right
-B0 86 02 01 02 / B1                       58 code 86 write 02 01 02 read, no PEC
+B0 96 / B1 34 12 *                        58 code 96 READ_POUT read 34 12, PEC right
+B0 96 / B1 34 12 !                        58 code 96 READ_POUT read 34 12 !, no PEC
+B0 96 / B1 34 12                          58 code 96 READ_POUT read 34 12, no PEC
+B0 96 / B1                                58 code 96 READ_POUT read, no PEC
+B0 96 / B1 *                              58 code 96 READ_POUT read, PEC right
+B0 86 02 01 02 / B1 03 04 *               58 code 86 READ_EIN write 02 01 02 read 03 04, PEC right
+B0 86 02 01 02 / B1                       58 code 86 READ_EIN write 02 01 02 read, no PEC
 B0 D4 01 02 03                            58 code D4 write 01 02 03, no PEC
 B0 D4 01 02 03 *                          58 code D4 write 01 02 03, PEC right
 B0 D4                                     58 code D4 send, no PEC
 B0 D4 *                                   58 code D4 send, PEC right
-B0 21 CD 34                               58 code 21 VOUT_COMMAND write CD 34, no PEC
-B0 03                                     58 code 03 CLEAR_FAULTS send, no PEC
-B0 06 02 00 21 / B1 02 CD 34              58 code 06 PAGE_PLUS_READ write 02 00 21 read 02 CD 34, no PEC
-B0 05 03 00 21 CD *                       58 code 05 PAGE_PLUS_WRITE write 03 00 21 CD, PEC right
-B0 05 03 00 D4 07 *                       58 code 05 PAGE_PLUS_WRITE write 03 00 D4 07, PEC right
+B0 21 CD                                  58 code 21 VOUT_COMMAND write CD, no PEC
 B0 21 CD 34 * 01                          58 code 21 VOUT_COMMAND write CD 34 * 01, no PEC
-B0 88 / B1 00 D3                          58 code 88 READ_VIN read 00 D3, no PEC
+B0 88 / B1 00                             58 code 88 READ_VIN read 00, no PEC
 EE D4                                     77 code D4 send, no PEC
 10 D4                                     08 code D4 send, no PEC
-= count code 03 1
-= count code 05 2
-= count code 06 1
 = count code 21 2
 = count code 86 2
 = count code 88 1
 = count code 96 5
 = count code D4 6
-= lines 20 accepted 0 other 20 faults 0 bad 0
+= lines 16 accepted 0 other 16 faults 0 bad 0
 
-# These stay faults: a wrong PEC of a code that is known, a wrong direction, a code in a code, no code, another device's answer, no answer, no device.
+# Packets of the table whose PEC alone lacks.
+B0 21 CD 34                               58 VOUT_COMMAND write 34CD, no PEC
+B0 03                                     58 CLEAR_FAULTS send, no PEC
+B0 15                                     58 STORE_USER_ALL send, no PEC
+B0 88 / B1 00 D3                          58 READ_VIN read D300, no PEC
+B0 78 / B1 42                             58 STATUS_BYTE read 42, no PEC
+B0 06 02 00 21 / B1 02 CD 34              58 page 0 VOUT_COMMAND read 34CD, no PEC
+B0 05 04 01 21 CD 34                      58 page 1 VOUT_COMMAND write 34CD, no PEC
+B0 05 02 01 03                            58 page 1 CLEAR_FAULTS send, no PEC
+B0 30 02 21 00 / B1 05 01 00 00 00 03     58 COEFFICIENTS of 21 side 0 read m 1 b 0 r 3, no PEC
+B0 00 01                                  58 PAGE write 01, no PEC
+EE 01 80                                  77 OPERATION write 80, no PEC
+= count VOUT_COMMAND 3
+= count CLEAR_FAULTS 2
+= count STORE_USER_ALL 1
+= count READ_VIN 1
+= count STATUS_BYTE 1
+= count COEFFICIENTS 1
+= count PAGE 1
+= count OPERATION 1
+= lines 11 accepted 11 other 0 faults 0 bad 0
+
+# Nor is a byte missing in these, or more than one is.
+B0 21                                     58 code 21 VOUT_COMMAND send, no PEC
+B0 88 / B1                                58 code 88 READ_VIN read, no PEC
+B0 06 02 00 21 / B1 02 CD                 58 code 06 PAGE_PLUS_READ write 02 00 21 read 02 CD, no PEC
+B0 06 02 00 21 / B1 01 CD                 58 page 0 code 21 VOUT_COMMAND read CD, no PEC
+B0 05 04 00 21 CD                         58 code 05 PAGE_PLUS_WRITE write 04 00 21 CD, no PEC
+B0 30 02 21 00 / B1 05 01 00 00 00        58 code 30 COEFFICIENTS write 02 21 00 read 05 01 00 00 00, no PEC
+= count code 05 1
+= count code 06 1
+= count code 21 2
+= count code 30 1
+= count code 88 1
+= lines 6 accepted 0 other 6 faults 0 bad 0
+
+# A direction that isn't this table's, with PEC, without, and with a wrong one; a code in a code.
+B0 20 14                                  58 code 20 VOUT_MODE write 14, no PEC
+B0 20 14 *                                58 code 20 VOUT_MODE write 14, PEC right
+B0 20 14 !                                58 code 20 VOUT_MODE write 14 !, no PEC
+B0 78 20 *                                58 code 78 STATUS_BYTE write 20, PEC right
+B0 79 00 08                               58 code 79 STATUS_WORD write 00 08, no PEC
+B0 8B CD 34                               58 code 8B READ_VOUT write CD 34, no PEC
+B0 06 02 00 21                            58 code 06 PAGE_PLUS_READ write 02 00 21, no PEC
+B0 30 02 21 00                            58 code 30 COEFFICIENTS write 02 21 00, no PEC
+B0 03 / B1 00 *                           58 code 03 CLEAR_FAULTS read 00, PEC right
+B0 15 / B1 00                             58 code 15 STORE_USER_ALL read 00, no PEC
+B0 05 03 01 20 14 *                       58 page 1 code 20 VOUT_MODE write 14, PEC right
+B0 06 02 01 03 / B1 00 *                  58 page 1 code 03 CLEAR_FAULTS read, PEC right
+B0 05 03 00 00 01 *                       58 page 0 code 00 PAGE write 01, PEC right
+B0 06 02 00 30 / B1 01 05                 58 page 0 code 30 COEFFICIENTS read 05, no PEC
+
+# Codes that PAGE_PLUS carries: the count is that of the bytes.
+B0 06 02 00 EF / B1 01 60 *               58 page 0 code EF read 60, PEC right
+B0 06 02 00 EF / B1 01 60                 58 page 0 code EF read 60, no PEC
+B0 06 02 FF 96 / B1 02 34 12 *            58 page 255 code 96 READ_POUT read 34 12, PEC right
+B0 06 02 00 EF / B1 00                    58 page 0 code EF read, no PEC
+B0 06 02 00 EF / B1                       58 code 06 PAGE_PLUS_READ write 02 00 EF read, no PEC
+B0 06 02 00 EF / B1 02 60 *               58 code 06 PAGE_PLUS_READ write 02 00 EF read 02 60, PEC right
+B0 06 03 00 EF / B1 01 60 *               58 code 06 PAGE_PLUS_READ write 03 00 EF read 01 60, PEC right
+B0 06 02 00 EF 00 / B1 01 60 *            58 code 06 PAGE_PLUS_READ write 02 00 EF 00 read 01 60, PEC right
+B0 06 02 00 / B1 01 60 *                  58 code 06 PAGE_PLUS_READ write 02 00 read 01 60, PEC right
+B0 05 03 00 D4 07 *                       58 page 0 code D4 write 07, PEC right
+B0 05 03 00 D4 07                         58 page 0 code D4 write 07, no PEC
+B0 05 02 01 D4 *                          58 page 1 code D4 send, PEC right
+B0 05 02 01 D4                            58 page 1 code D4 send, no PEC
+B0 05 03 00 21 CD *                       58 page 0 code 21 VOUT_COMMAND write CD, PEC right
+B0 05 04 00 D4 07                         58 code 05 PAGE_PLUS_WRITE write 04 00 D4 07, no PEC
+B0 05 02 00 D4 07 08                      58 code 05 PAGE_PLUS_WRITE write 02 00 D4 07 08, no PEC
+B0 05 01 00 *                             58 code 05 PAGE_PLUS_WRITE write 01 00, PEC right
+B0 05 00 *                                58 code 05 PAGE_PLUS_WRITE write 00, PEC right
+B0 05                                     58 code 05 PAGE_PLUS_WRITE send, no PEC
+B0 05 02 00 D4 / B1 07                    58 code 05 PAGE_PLUS_WRITE write 02 00 D4 read 07, no PEC
+B0 06 03 00 D4 07                         58 code 06 PAGE_PLUS_READ write 03 00 D4 07, no PEC
+B0 96 02 00 EF / B1 01 60                 58 code 96 READ_POUT write 02 00 EF read 01 60, no PEC
+B0 96 03 00 D4 07                         58 code 96 READ_POUT write 03 00 D4 07, no PEC
+= count code 05 6
+= count code 06 6
+= count code 21 1
+= count code 96 3
+= count code D4 4
+= count code EF 3
+= lines 23 accepted 0 other 23 faults 0 bad 0
+
+# An answer of nothing but ones; with its PEC, which is chance, and with no byte it is none.
+B0 06 02 00 21 / B1 FF FF FF FF           58 code 06 PAGE_PLUS_READ write 02 00 21 read FF FF FF FF, all ones: nobody answered
+B0 79 / B1 FF FF                          58 code 79 STATUS_WORD read FF FF, all ones: nobody answered
+B0 79 / B1 FF FF FF                       58 code 79 STATUS_WORD read FF FF FF, all ones: nobody answered
+B0 78 / B1 FF                             58 code 78 STATUS_BYTE read FF, all ones: nobody answered
+B0 96 / B1 FF FF FF                       58 code 96 READ_POUT read FF FF FF, all ones: nobody answered
+B0 03 / B1 FF                             58 code 03 CLEAR_FAULTS read FF, all ones: nobody answered
+B0 78 00 / B1 FF                          58 code 78 STATUS_BYTE write 00 read FF, all ones: nobody answered
+B0 78 / B1 FF *                           58 STATUS_BYTE read FF
+B0 78 / B1 FF FE                          58 read F5 WrongPec 2
+B0 D4 FF FF                               58 code D4 write FF FF, no PEC
+B0 FF / B1                                58 code FF PMBUS_COMMAND_EXT read, no PEC
+B0 89 / B1 FF                             58 code 89 READ_IIN read, PEC right
+B0 E0 / B1 FF FF                          58 code E0 read FF, PEC right
+B0 40 / B1 FF FF                          58 code 40 VOUT_OV_FAULT_LIMIT read FF FF, all ones: nobody answered
+B0 40 / B1 FF FF FF                       58 code 40 VOUT_OV_FAULT_LIMIT read FF FF, PEC right
+0E 96 / 0F FF                             -- write F1 NotOurs
+B0 96 / B3 FF                             58 write F6 UnknownCode 1
+= count STATUS_BYTE 1
+= count code 03 1
+= count code 06 1
+= count code 40 2
+= count code 78 2
+= count code 79 2
+= count code 89 1
+= count code 96 1
+= count code D4 1
+= count code E0 1
+= count code FF 1
+= lines 17 accepted 1 other 13 faults 3 bad 0
+
+# These stay faults: a wrong PEC of a code that is written here, no code, another device's answer, no answer, no device.
 B0 03 47                                  58 write F5 WrongPec 2
-B0 8B CD 34                               58 write F5 WrongPec 3
+B0 21 CD 34 !                             58 write F5 WrongPec 4
+B0 8B / B1 CD 34 !                        58 read F5 WrongPec 3
 B0 05 04 00 D4 CD 34 !                    58 write F5 WrongPec 7
-B0 78 20 *                                58 write F7 WrongDirection 1
-B0 05 02 00 06 *                          58 write F8 Nested 4
+B0 05 03 00 20 14 !                       58 write F5 WrongPec 6
 B0                                        58 write F2 Short 1
 B0 / B1 00                                58 write F2 Short 1
+B0 / B1 FF                                58 write F2 Short 1
 B0 96 / B3 34 12                          58 write F6 UnknownCode 1
+B0 03 / B3 00                             58 write F7 WrongDirection 1
+B0 96 / B3 FF FF                          58 write F6 UnknownCode 1
 B0 96 /                                   58 write F6 UnknownCode 1
 B0 96 / B0 00                             58 write F6 UnknownCode 1
 B0 21 / B3 CD                             58 read F1 NotOurs
 0E D4                                     -- write F1 NotOurs
 F0 D4                                     -- write F1 NotOurs
-= lines 13 accepted 0 other 0 faults 13 bad 0
+= lines 16 accepted 0 other 0 faults 16 bad 0
 
 # The last byte is the PEC only where it stands behind the code, and behind the second address: 0B is that of B6, 6D of B0 D4.
 B6 0B                                     5B code 0B send, no PEC
@@ -302,12 +468,165 @@ B0 21 CD 34 *                             58 VOUT_COMMAND write 34CD
 = lines 3 accepted 1 other 2 faults 0 bad 0
 
 # The first and the last code that the table doesn't have.
-B0 02                                     58 code 02 send, no PEC
-B0 FF                                     58 code FF send, no PEC
-B0 FF / B1 FF                             58 code FF read FF, no PEC
+B0 02                                     58 code 02 ON_OFF_CONFIG send, no PEC
+B0 FF                                     58 code FF PMBUS_COMMAND_EXT send, no PEC
+B0 FF / B1 FE                             58 code FF PMBUS_COMMAND_EXT read FE, no PEC
 = count code 02 1
 = count code FF 2
 = lines 3 accepted 0 other 3 faults 0 bad 0
+"""
+
+# The names of the standard, which a packet of another code or length has, and the first and last codes of what it reserves.
+NAMES = """
+00 PAGE|01 OPERATION|02 ON_OFF_CONFIG|03 CLEAR_FAULTS|04 PHASE|05 PAGE_PLUS_WRITE|06 PAGE_PLUS_READ|07 ZONE_CONFIG
+08 ZONE_ACTIVE|09|0F|10 WRITE_PROTECT|11 STORE_DEFAULT_ALL|12 RESTORE_DEFAULT_ALL|13 STORE_DEFAULT_CODE
+14 RESTORE_DEFAULT_CODE|15 STORE_USER_ALL|16 RESTORE_USER_ALL|17 STORE_USER_CODE|18 RESTORE_USER_CODE|19 CAPABILITY|1A QUERY
+1B SMBALERT_MASK|1C|1F|20 VOUT_MODE|21 VOUT_COMMAND|22 VOUT_TRIM|23 VOUT_CAL_OFFSET|24 VOUT_MAX|25 VOUT_MARGIN_HIGH
+26 VOUT_MARGIN_LOW|27 VOUT_TRANSITION_RATE|28 VOUT_DROOP|29 VOUT_SCALE_LOOP|2A VOUT_SCALE_MONITOR|2B VOUT_MIN|2C|2F
+30 COEFFICIENTS|31 POUT_MAX|32 MAX_DUTY|33 FREQUENCY_SWITCH|34 POWER_MODE|35 VIN_ON|36 VIN_OFF|37 INTERLEAVE|38 IOUT_CAL_GAIN
+39 IOUT_CAL_OFFSET|3A FAN_CONFIG_1_2|3B FAN_COMMAND_1|3C FAN_COMMAND_2|3D FAN_CONFIG_3_4|3E FAN_COMMAND_3|3F FAN_COMMAND_4
+40 VOUT_OV_FAULT_LIMIT|41 VOUT_OV_FAULT_RESPONSE|42 VOUT_OV_WARN_LIMIT|43 VOUT_UV_WARN_LIMIT|44 VOUT_UV_FAULT_LIMIT
+45 VOUT_UV_FAULT_RESPONSE|46 IOUT_OC_FAULT_LIMIT|47 IOUT_OC_FAULT_RESPONSE|48 IOUT_OC_LV_FAULT_LIMIT
+49 IOUT_OC_LV_FAULT_RESPONSE|4A IOUT_OC_WARN_LIMIT|4B IOUT_UC_FAULT_LIMIT|4C IOUT_UC_FAULT_RESPONSE|4D|4E|4F OT_FAULT_LIMIT
+50 OT_FAULT_RESPONSE|51 OT_WARN_LIMIT|52 UT_WARN_LIMIT|53 UT_FAULT_LIMIT|54 UT_FAULT_RESPONSE|55 VIN_OV_FAULT_LIMIT
+56 VIN_OV_FAULT_RESPONSE|57 VIN_OV_WARN_LIMIT|58 VIN_UV_WARN_LIMIT|59 VIN_UV_FAULT_LIMIT|5A VIN_UV_FAULT_RESPONSE
+5B IIN_OC_FAULT_LIMIT|5C IIN_OC_FAULT_RESPONSE|5D IIN_OC_WARN_LIMIT|5E POWER_GOOD_ON|5F POWER_GOOD_OFF|60 TON_DELAY|61 TON_RISE
+62 TON_MAX_FAULT_LIMIT|63 TON_MAX_FAULT_RESPONSE|64 TOFF_DELAY|65 TOFF_FALL|66 TOFF_MAX_WARN_LIMIT|67|68 POUT_OP_FAULT_LIMIT
+69 POUT_OP_FAULT_RESPONSE|6A POUT_OP_WARN_LIMIT|6B PIN_OP_WARN_LIMIT|6C|77|78 STATUS_BYTE|79 STATUS_WORD|7A STATUS_VOUT
+7B STATUS_IOUT|7C STATUS_INPUT|7D STATUS_TEMPERATURE|7E STATUS_CML|7F STATUS_OTHER|80 STATUS_MFR_SPECIFIC|81 STATUS_FANS_1_2
+82 STATUS_FANS_3_4|83 READ_KWH_IN|84 READ_KWH_OUT|85 READ_KWH_CONFIG|86 READ_EIN|87 READ_EOUT|88 READ_VIN|89 READ_IIN
+8A READ_VCAP|8B READ_VOUT|8C READ_IOUT|8D READ_TEMPERATURE_1|8E READ_TEMPERATURE_2|8F READ_TEMPERATURE_3|90 READ_FAN_SPEED_1
+91 READ_FAN_SPEED_2|92 READ_FAN_SPEED_3|93 READ_FAN_SPEED_4|94 READ_DUTY_CYCLE|95 READ_FREQUENCY|96 READ_POUT|97 READ_PIN
+98 PMBUS_REVISION|99 MFR_ID|9A MFR_MODEL|9B MFR_REVISION|9C MFR_LOCATION|9D MFR_DATE|9E MFR_SERIAL|9F APP_PROFILE_SUPPORT
+A0 MFR_VIN_MIN|A1 MFR_VIN_MAX|A2 MFR_IIN_MAX|A3 MFR_PIN_MAX|A4 MFR_VOUT_MIN|A5 MFR_VOUT_MAX|A6 MFR_IOUT_MAX|A7 MFR_POUT_MAX
+A8 MFR_TAMBIENT_MAX|A9 MFR_TAMBIENT_MIN|AA MFR_EFFICIENCY_LL|AB MFR_EFFICIENCY_HL|AC MFR_PIN_ACCURACY|AD IC_DEVICE_ID
+AE IC_DEVICE_REV|AF|B0 USER_DATA_00|B1 USER_DATA_01|B2 USER_DATA_02|B3 USER_DATA_03|B4 USER_DATA_04|B5 USER_DATA_05
+B6 USER_DATA_06|B7 USER_DATA_07|B8 USER_DATA_08|B9 USER_DATA_09|BA USER_DATA_10|BB USER_DATA_11|BC USER_DATA_12
+BD USER_DATA_13|BE USER_DATA_14|BF USER_DATA_15|C0 MFR_MAX_TEMP_1|C1 MFR_MAX_TEMP_2|C2 MFR_MAX_TEMP_3|C3|CF|D0|EF|FD
+FE MFR_SPECIFIC_COMMAND_EXT|FF PMBUS_COMMAND_EXT
+"""
+
+# What the bytes of other codes say: texts, ON_OFF_CONFIG, registers of the table that stand alone.
+WORDS = """
+B0 99 / B1 03 4C 54 43 *                  58 code 99 MFR_ID read 03 4C 54 43 "LTC", PEC right
+B0 99 / B1 03 4C 54 43                    58 code 99 MFR_ID read 03 4C 54 43 "LTC", no PEC
+B0 99 03 4C 54 43 *                       58 code 99 MFR_ID write 03 4C 54 43 "LTC", PEC right
+B0 9A / B1 01 20                          58 code 9A MFR_MODEL read 01 20 " ", no PEC
+B0 9B / B1 01 7E                          58 code 9B MFR_REVISION read 01 7E "~", no PEC
+B0 9C / B1 01 7F                          58 code 9C MFR_LOCATION read 01 7F, no PEC
+B0 9C / B1 01 41                          58 code 9C MFR_LOCATION read 01 41 "A", no PEC
+B0 9D / B1 06 32 36 31 31 32 37           58 code 9D MFR_DATE read 06 32 36 31 31 32 37 "261127", no PEC
+B0 9D / B1 01 1F                          58 code 9D MFR_DATE read 01 1F, no PEC
+B0 9E / B1 02 21 23                       58 code 9E MFR_SERIAL read 02 21 23 "!#", no PEC
+B0 9E / B1 01 22                          58 code 9E MFR_SERIAL read 01 22, no PEC
+B0 9E / B1 01 5C                          58 code 9E MFR_SERIAL read 01 5C, no PEC
+B0 9E / B1 02 5B 5D                       58 code 9E MFR_SERIAL read 02 5B 5D "[]", no PEC
+B0 9E / B1 00                             58 code 9E MFR_SERIAL read 00, no PEC
+B0 9E / B1 02 41                          58 code 9E MFR_SERIAL read 02 41, no PEC
+B0 9E / B1 01 41 42                       58 code 9E MFR_SERIAL read 01 41 42, no PEC
+B0 AD / B1 02 54 49                       58 code AD IC_DEVICE_ID read 02 54 49 "TI", no PEC
+B0 AE / B1 01 30                          58 code AE IC_DEVICE_REV read 01 30 "0", no PEC
+B0 AC / B1 01 30                          58 code AC MFR_PIN_ACCURACY read 01 30, no PEC
+B0 98 01 30                               58 code 98 PMBUS_REVISION write 01 30, no PEC
+B0 9F / B1 01 30                          58 code 9F APP_PROFILE_SUPPORT read 01 30, no PEC
+B0 06 02 01 99 / B1 04 03 4C 54 43 *      58 page 1 code 99 MFR_ID read 03 4C 54 43 "LTC", PEC right
+B0 05 06 01 99 03 4C 54 43                58 page 1 code 99 MFR_ID write 03 4C 54 43 "LTC", no PEC
+B0 06 02 01 99 / B1 03 4C 54 43 *         58 page 1 code 99 MFR_ID read 4C 54 43, PEC right
+
+B0 02 / B1 0F                             58 code 02 ON_OFF_CONFIG read 0F always on, no PEC
+B0 02 / B1 00                             58 code 02 ON_OFF_CONFIG read 00 always on, no PEC
+B0 02 / B1 EF                             58 code 02 ON_OFF_CONFIG read EF always on, bit 7, bit 6, bit 5, no PEC
+B0 02 / B1 10                             58 code 02 ON_OFF_CONFIG read 10 by neither, no PEC
+B0 02 / B1 13                             58 code 02 ON_OFF_CONFIG read 13 by neither, no PEC
+B0 02 / B1 18                             58 code 02 ON_OFF_CONFIG read 18 by OPERATION, no PEC
+B0 02 / B1 1B                             58 code 02 ON_OFF_CONFIG read 1B by OPERATION, no PEC
+B0 02 / B1 14                             58 code 02 ON_OFF_CONFIG read 14 by CONTROL, CONTROL active low, off with delay, no PEC
+B0 02 / B1 15                             58 code 02 ON_OFF_CONFIG read 15 by CONTROL, CONTROL active low, off at once, no PEC
+B0 02 / B1 16                             58 code 02 ON_OFF_CONFIG read 16 by CONTROL, CONTROL active high, off with delay, no PEC
+B0 02 / B1 17                             58 code 02 ON_OFF_CONFIG read 17 by CONTROL, CONTROL active high, off at once, no PEC
+B0 02 / B1 1C                             58 code 02 ON_OFF_CONFIG read 1C by OPERATION and CONTROL, CONTROL active low, off with delay, no PEC
+B0 02 1F *                                58 code 02 ON_OFF_CONFIG write 1F by OPERATION and CONTROL, CONTROL active high, off at once, PEC right
+B0 02 / B1 3E                             58 code 02 ON_OFF_CONFIG read 3E by OPERATION and CONTROL, CONTROL active high, off with delay, bit 5, no PEC
+B0 02 / B1 FF                             58 code 02 ON_OFF_CONFIG read FF by OPERATION and CONTROL, CONTROL active high, off at once, bit 7, bit 6, bit 5, all ones: nobody answered
+B0 02 / B1 16 00                          58 code 02 ON_OFF_CONFIG read 16 00, no PEC
+B0 02                                     58 code 02 ON_OFF_CONFIG send, no PEC
+B0 05 03 00 02 18 *                       58 page 0 code 02 ON_OFF_CONFIG write 18 by OPERATION, PEC right
+
+B0 7B / B1 00                             58 code 7B STATUS_IOUT read 00 none, no PEC
+B0 7B / B1 A1 *                           58 code 7B STATUS_IOUT read A1 IOUT_OC_FAULT, IOUT_OC_WARNING, POUT_OP_WARNING, PEC right
+B0 7B / B1 80 00                          58 code 7B STATUS_IOUT read 80 00, no PEC
+B0 7D / B1 FF                             58 code 7D STATUS_TEMPERATURE read FF OT_FAULT, OT_WARNING, UT_WARNING, UT_FAULT, bit 3, bit 2, bit 1, bit 0, all ones: nobody answered
+B0 06 02 01 7C / B1 01 88 *               58 page 1 code 7C STATUS_INPUT read 88 VIN_OV_FAULT, UNIT_OFF_LOW_VIN, PEC right
+B0 78 20 *                                58 code 78 STATUS_BYTE write 20, PEC right
+B0 7A / B1 80 00 *                        58 code 7A STATUS_VOUT read 80 00, PEC right
+B0 79 / B1 02 20                          58 STATUS_WORD read 2002 INPUT, CML, no PEC
+B0 19 / B1 B0                             58 CAPABILITY read B0 PEC, 400 kHz, SMBALERT#, no PEC
+B0 20 14                                  58 code 20 VOUT_MODE write 14, no PEC
+B0 20 / B1 14                             58 VOUT_MODE read 14 ULINEAR16 -12, no PEC
+B0 88 / B1 00 D3                          58 READ_VIN read D300 12 V, no PEC
+B0 88 / B1 FF FF                          58 code 88 READ_VIN read FF FF, all ones: nobody answered
+B0 06 02 01 20 / B1 01 17                 58 page 1 VOUT_MODE read 17 ULINEAR16 -9, no PEC
+B0 06 02 01 8B / B1 02 00 02              58 page 1 READ_VOUT read 0200 1 V, no PEC
+"""
+
+# Each bit of the registers that the table doesn't have, from the highest down.
+OTHER_STATUS = """
+7B STATUS_IOUT 80 IOUT_OC_FAULT
+7B STATUS_IOUT 40 IOUT_OC_LV_FAULT
+7B STATUS_IOUT 20 IOUT_OC_WARNING
+7B STATUS_IOUT 10 IOUT_UC_FAULT
+7B STATUS_IOUT 08 CURRENT_SHARE_FAULT
+7B STATUS_IOUT 04 POWER_LIMITING
+7B STATUS_IOUT 02 POUT_OP_FAULT
+7B STATUS_IOUT 01 POUT_OP_WARNING
+7C STATUS_INPUT 80 VIN_OV_FAULT
+7C STATUS_INPUT 40 VIN_OV_WARNING
+7C STATUS_INPUT 20 VIN_UV_WARNING
+7C STATUS_INPUT 10 VIN_UV_FAULT
+7C STATUS_INPUT 08 UNIT_OFF_LOW_VIN
+7C STATUS_INPUT 04 IIN_OC_FAULT
+7C STATUS_INPUT 02 IIN_OC_WARNING
+7C STATUS_INPUT 01 PIN_OP_WARNING
+7D STATUS_TEMPERATURE 80 OT_FAULT
+7D STATUS_TEMPERATURE 40 OT_WARNING
+7D STATUS_TEMPERATURE 20 UT_WARNING
+7D STATUS_TEMPERATURE 10 UT_FAULT
+7D STATUS_TEMPERATURE 08 bit 3
+7D STATUS_TEMPERATURE 04 bit 2
+7D STATUS_TEMPERATURE 02 bit 1
+7D STATUS_TEMPERATURE 01 bit 0
+7F STATUS_OTHER 80 bit 7
+7F STATUS_OTHER 40 bit 6
+7F STATUS_OTHER 20 INPUT_A_FUSE
+7F STATUS_OTHER 10 INPUT_B_FUSE
+7F STATUS_OTHER 08 INPUT_A_ORING
+7F STATUS_OTHER 04 INPUT_B_ORING
+7F STATUS_OTHER 02 OUTPUT_ORING
+7F STATUS_OTHER 01 FIRST_TO_ASSERT_SMBALERT
+80 STATUS_MFR_SPECIFIC 80 bit 7
+80 STATUS_MFR_SPECIFIC 40 bit 6
+80 STATUS_MFR_SPECIFIC 20 bit 5
+80 STATUS_MFR_SPECIFIC 10 bit 4
+80 STATUS_MFR_SPECIFIC 08 bit 3
+80 STATUS_MFR_SPECIFIC 04 bit 2
+80 STATUS_MFR_SPECIFIC 02 bit 1
+80 STATUS_MFR_SPECIFIC 01 bit 0
+81 STATUS_FANS_1_2 80 FAN_1_FAULT
+81 STATUS_FANS_1_2 40 FAN_2_FAULT
+81 STATUS_FANS_1_2 20 FAN_1_WARNING
+81 STATUS_FANS_1_2 10 FAN_2_WARNING
+81 STATUS_FANS_1_2 08 FAN_1_SPEED_OVERRIDDEN
+81 STATUS_FANS_1_2 04 FAN_2_SPEED_OVERRIDDEN
+81 STATUS_FANS_1_2 02 AIRFLOW_FAULT
+81 STATUS_FANS_1_2 01 AIRFLOW_WARNING
+82 STATUS_FANS_3_4 80 FAN_3_FAULT
+82 STATUS_FANS_3_4 40 FAN_4_FAULT
+82 STATUS_FANS_3_4 20 FAN_3_WARNING
+82 STATUS_FANS_3_4 10 FAN_4_WARNING
+82 STATUS_FANS_3_4 08 FAN_3_SPEED_OVERRIDDEN
+82 STATUS_FANS_3_4 04 FAN_4_SPEED_OVERRIDDEN
+82 STATUS_FANS_3_4 02 bit 1
+82 STATUS_FANS_3_4 01 bit 0
 """
 
 TIMES = """
@@ -341,39 +660,47 @@ x zz                                      X1 Syntax
 
 JSON = [
     ("--json", """
-B0 05 04 00 21 CD 34 5A    {"line":1,"address":"58","page":0,"code":"21","name":"VOUT_COMMAND","direction":"write","bytes":"CD 34"}
-B0 06 02 01 21 / B1 02 CD 34 *   {"line":2,"address":"58","page":1,"code":"21","name":"VOUT_COMMAND","direction":"read","bytes":"CD 34"}
+B0 05 04 00 21 CD 34 5A    {"line":1,"address":"58","page":0,"code":"21","name":"VOUT_COMMAND","direction":"write","payload":"CD 34"}
+B0 06 02 01 21 / B1 02 CD 34 *   {"line":2,"address":"58","page":1,"code":"21","name":"VOUT_COMMAND","direction":"read","payload":"CD 34"}
 B0 03 46                   {"line":3,"address":"58","code":"03","name":"CLEAR_FAULTS","direction":"send"}
-B0 30 02 21 00 / B1 05 01 00 00 00 03 6B    {"line":4,"address":"58","code":"30","name":"COEFFICIENTS","of":"21","side":0,"direction":"read","bytes":"01 00 00 00 03","value":"m 1 b 0 r 3"}
-B0 05 04 01 21 CD 34 5A    {"line":5,"address":"58","direction":"write","fault":"F5 WrongPec","place":7}
-B0 21 / B3                 {"line":6,"address":"58","direction":"read","fault":"F1 NotOurs"}
-/                          {"line":7,"direction":"write","fault":"F1 NotOurs"}
-B0 9                       {"line":8,"fault":"X2 BadHex"}
-B0 / B1 / B2               {"line":9,"fault":"X1 Syntax"}
-B0 96 / B1 34 12           {"line":10,"address":"58","direction":"write","fault":"F6 UnknownCode","place":1}
+B0 30 02 21 00 / B1 05 01 00 00 00 03 6B    {"line":4,"address":"58","code":"30","name":"COEFFICIENTS","of":"21","side":0,"direction":"read","payload":"01 00 00 00 03","m":1,"b":0,"r":3}
+B0 30 02 8B 01 / B1 05 00 80 FF FF F4 *    {"line":5,"address":"58","code":"30","name":"COEFFICIENTS","of":"8B","side":1,"direction":"read","payload":"00 80 FF FF F4","m":-32768,"b":-1,"r":-12}
+B0 05 04 01 21 CD 34 5A    {"line":6,"address":"58","direction":"write","fault":"F5 WrongPec","place":7}
+B0 21 / B3                 {"line":7,"address":"58","direction":"read","fault":"F1 NotOurs"}
+/                          {"line":8,"direction":"write","fault":"F1 NotOurs"}
+B0 9                       {"line":9,"fault":"X2 BadHex"}
+B0 / B1 / B2               {"line":10,"fault":"X1 Syntax"}
+B0 96 / B1 34 12           {"line":11,"address":"58","direction":"write","fault":"F6 UnknownCode","place":1}
 = {"count":"VOUT_COMMAND","lines":2}
 = {"count":"CLEAR_FAULTS","lines":1}
-= {"count":"COEFFICIENTS","lines":1}
-= {"lines":10,"accepted":4,"faults":4,"bad":2}
+= {"count":"COEFFICIENTS","lines":2}
+= {"lines":11,"accepted":5,"faults":4,"bad":2}
 """),
     ("--json --values", """
-B0 06 02 00 20 / B1 01 14 *   {"line":1,"address":"58","page":0,"code":"20","name":"VOUT_MODE","direction":"read","bytes":"14","value":"ULINEAR16 -12"}
-B0 05 04 00 21 CD 34 5A    {"line":2,"address":"58","page":0,"code":"21","name":"VOUT_COMMAND","direction":"write","bytes":"CD 34","value":"13517/4096","micro":3300048,"unit":"V"}
-B0 88 / B1 00 D3 *         {"line":3,"address":"58","code":"88","name":"READ_VIN","direction":"read","bytes":"00 D3","value":"12/1","unit":"V"}
-B0 8C / B1 FB FF *         {"line":4,"address":"58","code":"8C","name":"READ_IOUT","direction":"read","bytes":"FB FF","value":"-5/2","unit":"A"}
-B0 8D / B1 19 00 *         {"line":5,"address":"58","code":"8D","name":"READ_TEMPERATURE_1","direction":"read","bytes":"19 00","value":"25/1","unit":"C"}
-B0 01 94 *                 {"line":6,"address":"58","code":"01","name":"OPERATION","direction":"write","bytes":"94","value":"on, margin low"}
-B0 01 FF *                 {"line":7,"address":"58","code":"01","name":"OPERATION","direction":"write","bytes":"FF"}
-B0 10 80 34                {"line":8,"address":"58","code":"10","name":"WRITE_PROTECT","direction":"write","bytes":"80","value":"writes of WRITE_PROTECT"}
-B0 78 / B1 42 *            {"line":9,"address":"58","code":"78","name":"STATUS_BYTE","direction":"read","bytes":"42","flags":["OFF","CML"]}
-B0 79 / B1 00 00 *         {"line":10,"address":"58","code":"79","name":"STATUS_WORD","direction":"read","bytes":"00 00","flags":[]}
-B0 7E / B1 04 *            {"line":11,"address":"58","code":"7E","name":"STATUS_CML","direction":"read","bytes":"04","flags":["bit 2"]}
-B0 05 04 01 21 CD 34 5A    {"line":12,"address":"58","direction":"write","bytes":"B0 05 04 01 21 CD 34 5A","fault":"F5 WrongPec","place":7}
-B0 06 02 00 21 / B1 02 CD  {"line":13,"address":"58","direction":"read","bytes":"B0 06 02 00 21 / B1 02 CD","fault":"F2 Short","place":3}
-B0 21 CD 34 *              {"line":14,"address":"58","code":"21","name":"VOUT_COMMAND","direction":"write","bytes":"CD 34"}
-= {"count":"VOUT_MODE","lines":1}
-= {"count":"VOUT_COMMAND","lines":2}
-= {"count":"READ_VIN","lines":1}
+B0 06 02 00 20 / B1 01 14 *   {"line":1,"address":"58","page":0,"code":"20","name":"VOUT_MODE","direction":"read","payload":"14","value":"ULINEAR16 -12"}
+B0 05 04 00 21 CD 34 5A    {"line":2,"address":"58","page":0,"code":"21","name":"VOUT_COMMAND","direction":"write","payload":"CD 34","numerator":13517,"denominator":4096,"volts":3.300048}
+B0 88 / B1 00 D3 *         {"line":3,"address":"58","code":"88","name":"READ_VIN","direction":"read","payload":"00 D3","numerator":768,"denominator":64,"volts":12}
+B0 8C / B1 FB FF *         {"line":4,"address":"58","code":"8C","name":"READ_IOUT","direction":"read","payload":"FB FF","numerator":-5,"denominator":2,"amperes":-2.5}
+B0 8D / B1 19 00 *         {"line":5,"address":"58","code":"8D","name":"READ_TEMPERATURE_1","direction":"read","payload":"19 00","numerator":25,"denominator":1,"celsius":25}
+B0 01 94 *                 {"line":6,"address":"58","code":"01","name":"OPERATION","direction":"write","payload":"94","value":"on, margin low"}
+B0 01 FF *                 {"line":7,"address":"58","code":"01","name":"OPERATION","direction":"write","payload":"FF"}
+B0 10 80 34                {"line":8,"address":"58","code":"10","name":"WRITE_PROTECT","direction":"write","payload":"80","value":"writes of WRITE_PROTECT"}
+B0 78 / B1 42 *            {"line":9,"address":"58","code":"78","name":"STATUS_BYTE","direction":"read","payload":"42","flags":["OFF","CML"]}
+B0 79 / B1 00 00 *         {"line":10,"address":"58","code":"79","name":"STATUS_WORD","direction":"read","payload":"00 00","flags":[]}
+B0 7E / B1 04 *            {"line":11,"address":"58","code":"7E","name":"STATUS_CML","direction":"read","payload":"04","flags":["bit 2"]}
+B0 05 04 01 21 CD 34 5A    {"line":12,"address":"58","direction":"write","packet":"B0 05 04 01 21 CD 34 5A","fault":"F5 WrongPec","place":7}
+B0 06 02 00 21 / B1 02 CD  {"line":13,"address":"58","direction":"read","packet":"B0 06 02 00 21 / B1 02 CD","fault":"F2 Short","place":3}
+B0 21 CD 34 *              {"line":14,"address":"58","code":"21","name":"VOUT_COMMAND","direction":"write","payload":"CD 34"}
+B0 19 / B1 B0 *            {"line":15,"address":"58","code":"19","name":"CAPABILITY","direction":"read","payload":"B0","value":"PEC, 400 kHz, SMBALERT#"}
+/                          {"line":16,"direction":"write","packet":"/","fault":"F1 NotOurs"}
+B0 88 / B1 FF 87 *         {"line":17,"address":"58","code":"88","name":"READ_VIN","direction":"read","payload":"FF 87","numerator":-1,"denominator":65536,"volts":-0.000016}
+B0 05 04 00 21 00 00 *     {"line":18,"address":"58","page":0,"code":"21","name":"VOUT_COMMAND","direction":"write","payload":"00 00","numerator":0,"denominator":4096,"volts":0}
+B0 06 02 01 20 / B1 01 40 *   {"line":19,"address":"58","page":1,"code":"20","name":"VOUT_MODE","direction":"read","payload":"40","value":"DIRECT"}
+B0 30 02 21 00 / B1 05 01 00 00 00 03 6B    {"line":20,"address":"58","code":"30","name":"COEFFICIENTS","of":"21","side":0,"direction":"read","payload":"01 00 00 00 03","m":1,"b":0,"r":3}
+B0 05 04 01 21 E4 0C *     {"line":21,"address":"58","page":1,"code":"21","name":"VOUT_COMMAND","direction":"write","payload":"E4 0C","numerator":3300,"denominator":1000,"volts":3.3}
+= {"count":"VOUT_MODE","lines":2}
+= {"count":"VOUT_COMMAND","lines":4}
+= {"count":"READ_VIN","lines":2}
 = {"count":"READ_IOUT","lines":1}
 = {"count":"READ_TEMPERATURE_1","lines":1}
 = {"count":"OPERATION","lines":2}
@@ -381,26 +708,48 @@ B0 21 CD 34 *              {"line":14,"address":"58","code":"21","name":"VOUT_CO
 = {"count":"STATUS_BYTE","lines":1}
 = {"count":"STATUS_WORD","lines":1}
 = {"count":"STATUS_CML","lines":1}
-= {"lines":14,"accepted":12,"faults":2,"bad":0}
+= {"count":"CAPABILITY","lines":1}
+= {"count":"COEFFICIENTS","lines":1}
+= {"lines":21,"accepted":18,"faults":3,"bad":0}
 """),
     ("--all --json", """
-B0 96 / B1 34 12 *         {"line":1,"address":"58","code":"96","direction":"read","bytes":"34 12","pec":true}
-B0 86 02 01 02 / B1 03 04  {"line":2,"address":"58","code":"86","direction":"read","written":"02 01 02","bytes":"03 04","pec":false}
+B0 96 / B1 34 12 *         {"line":1,"address":"58","code":"96","name":"READ_POUT","direction":"read","payload":"34 12","pec":true}
+B0 86 02 01 02 / B1 03 04  {"line":2,"address":"58","code":"86","name":"READ_EIN","direction":"read","written":"02 01 02","payload":"03 04","pec":false}
 B0 D4                      {"line":3,"address":"58","code":"D4","direction":"send","pec":false}
-B0 D4 01 *                 {"line":4,"address":"58","code":"D4","direction":"write","bytes":"01","pec":true}
-B0 21 CD 34                {"line":5,"address":"58","code":"21","name":"VOUT_COMMAND","direction":"write","bytes":"CD 34","pec":false}
-B0 96 / B1                 {"line":6,"address":"58","code":"96","direction":"read","pec":false}
+B0 D4 01 *                 {"line":4,"address":"58","code":"D4","direction":"write","payload":"01","pec":true}
+B0 21 CD 34                {"line":5,"address":"58","code":"21","name":"VOUT_COMMAND","direction":"write","payload":"CD 34","pec":false}
+B0 96 / B1                 {"line":6,"address":"58","code":"96","name":"READ_POUT","direction":"read","pec":false}
 B0 03 46                   {"line":7,"address":"58","code":"03","name":"CLEAR_FAULTS","direction":"send"}
-B0 02                      {"line":8,"address":"58","code":"02","direction":"send","pec":false}
-B0 FF                      {"line":9,"address":"58","code":"FF","direction":"send","pec":false}
-= {"count":"CLEAR_FAULTS","lines":1}
-= {"code":"02","lines":1}
-= {"code":"21","lines":1}
+B0 03                      {"line":8,"address":"58","code":"03","name":"CLEAR_FAULTS","direction":"send","pec":false}
+B0 FF                      {"line":9,"address":"58","code":"FF","name":"PMBUS_COMMAND_EXT","direction":"send","pec":false}
+B0 06 02 00 EF / B1 01 60 *   {"line":10,"address":"58","page":0,"code":"EF","direction":"read","payload":"60","pec":true}
+B0 05 03 01 D4 07          {"line":11,"address":"58","page":1,"code":"D4","direction":"write","payload":"07","pec":false}
+B0 05 02 01 D4 *           {"line":12,"address":"58","page":1,"code":"D4","direction":"send","pec":true}
+B0 06 02 00 21 / B1 FF FF FF FF    {"line":13,"address":"58","code":"06","name":"PAGE_PLUS_READ","direction":"read","written":"02 00 21","payload":"FF FF FF FF","pec":false,"answered":false}
+B0 30 02 21 00 / B1 05 01 00 00 00 03    {"line":14,"address":"58","code":"30","name":"COEFFICIENTS","of":"21","side":0,"direction":"read","payload":"01 00 00 00 03","m":1,"b":0,"r":3,"pec":false}
+B0 99 / B1 03 4C 54 43     {"line":15,"address":"58","code":"99","name":"MFR_ID","direction":"read","payload":"03 4C 54 43","pec":false}
+= {"count":"VOUT_COMMAND","lines":1}
+= {"count":"CLEAR_FAULTS","lines":2}
+= {"count":"COEFFICIENTS","lines":1}
+= {"code":"06","lines":1}
 = {"code":"86","lines":1}
 = {"code":"96","lines":2}
-= {"code":"D4","lines":2}
+= {"code":"99","lines":1}
+= {"code":"D4","lines":4}
+= {"code":"EF","lines":1}
 = {"code":"FF","lines":1}
-= {"lines":9,"accepted":1,"other":8,"faults":0,"bad":0}
+= {"lines":15,"accepted":4,"other":11,"faults":0,"bad":0}
+"""),
+    ("--all --json --values", """
+B0 99 / B1 03 4C 54 43     {"line":1,"address":"58","code":"99","name":"MFR_ID","direction":"read","payload":"03 4C 54 43","text":"LTC","pec":false}
+B0 7B / B1 81 *            {"line":2,"address":"58","code":"7B","name":"STATUS_IOUT","direction":"read","payload":"81","flags":["IOUT_OC_FAULT","POUT_OP_WARNING"],"pec":true}
+B0 7C 00 *                 {"line":3,"address":"58","code":"7C","name":"STATUS_INPUT","direction":"write","payload":"00","flags":[],"pec":true}
+B0 06 02 01 02 / B1 01 1C  {"line":4,"address":"58","page":1,"code":"02","name":"ON_OFF_CONFIG","direction":"read","payload":"1C","value":"by OPERATION and CONTROL, CONTROL active low, off with delay","pec":false}
+B0 79 / B1 02 20           {"line":5,"address":"58","code":"79","name":"STATUS_WORD","direction":"read","payload":"02 20","flags":["INPUT","CML"],"pec":false}
+B0 7D / B1 FF              {"line":6,"address":"58","code":"7D","name":"STATUS_TEMPERATURE","direction":"read","payload":"FF","flags":["OT_FAULT","OT_WARNING","UT_WARNING","UT_FAULT","bit 3","bit 2","bit 1","bit 0"],"pec":false,"answered":false}
+B0 20 / B1 14              {"line":7,"address":"58","code":"20","name":"VOUT_MODE","direction":"read","payload":"14","value":"ULINEAR16 -12","pec":false}
+B0 88 / B1 00 D3           {"line":8,"address":"58","code":"88","name":"READ_VIN","direction":"read","payload":"00 D3","numerator":768,"denominator":64,"volts":12,"pec":false}
+B0 20 14                   {"line":9,"address":"58","code":"20","name":"VOUT_MODE","direction":"write","payload":"14","pec":false}
 """),
     ("--times --json", """
 0012 B0 03 46              {"line":1,"time":12,"address":"58","code":"03","name":"CLEAR_FAULTS","direction":"send"}
@@ -410,13 +759,58 @@ x                          {"line":3,"fault":"X1 Syntax"}
 = {"count":"CLEAR_FAULTS","lines":1}
 = {"lines":4,"accepted":1,"faults":1,"bad":2}
 """),
+    ("--times --json --values", """
+13                         {"line":1,"time":13,"direction":"write","fault":"F1 NotOurs"}
+14 /                       {"line":2,"time":14,"direction":"write","packet":"/","fault":"F1 NotOurs"}
+"""),
+]
+
+# `--readings`: the first entry that fits, before what the trace taught.
+READINGS = [
+    ("--values --readings=direct:2:0:2", """
+B0 88 / B1 B0 04 *                        58 READ_VIN read 04B0 6 V
+B0 8C / B1 B0 04 *                        58 READ_IOUT read 04B0 6 A
+B0 8D / B1 FF FF *                        58 READ_TEMPERATURE_1 read FFFF -0.005 C
+B0 20 / B1 14 *                           58 VOUT_MODE read 14 ULINEAR16 -12
+B0 06 02 01 88 / B1 02 B0 04 *            58 page 1 READ_VIN read 04B0 6 V
+B0 8B / B1 B0 04 *                        58 READ_VOUT read 04B0
+"""),
+    ("--values --readings=linear11", """
+B0 88 / B1 00 D3 *                        58 READ_VIN read D300 12 V
+B0 20 / B1 40 *                           58 VOUT_MODE read 40 DIRECT
+B0 8D / B1 19 00 *                        58 READ_TEMPERATURE_1 read 0019 25 C
+"""),
+    ("--readings=8d:direct:1:0:0 --values", """
+B0 8D / B1 19 00 *                        58 READ_TEMPERATURE_1 read 0019 25 C
+B2 8D / B3 00 03 *                        59 READ_TEMPERATURE_1 read 0300 768 C
+B0 88 / B1 19 00 *                        58 READ_VIN read 0019
+B0 8C / B1 19 00 *                        58 READ_IOUT read 0019
+B0 20 / B1 14 *                           58 VOUT_MODE read 14 ULINEAR16 -12
+B0 8D / B1 00 D3 *                        58 READ_TEMPERATURE_1 read D300 -11520 C
+B0 88 / B1 00 D3 *                        58 READ_VIN read D300 12 V
+"""),
+    ("--values --readings=58:88:direct:1:0:2,88:linear11,58:8C:linear11,direct:1:0:1", """
+B0 88 / B1 B0 04 *                        58 READ_VIN read 04B0 12 V
+B2 88 / B3 00 D3 *                        59 READ_VIN read D300 12 V
+B0 8C / B1 FB FF *                        58 READ_IOUT read FFFB -2.5 A
+B2 8C / B3 FB FF *                        59 READ_IOUT read FFFB -0.5 A
+B0 8D / B1 FB FF *                        58 READ_TEMPERATURE_1 read FFFB -0.5 C
+"""),
+    ("--values --readings 8C:direct:1:0:1,linear11", """
+B0 8C / B1 FB FF *                        58 READ_IOUT read FFFB -0.5 A
+B0 8D / B1 19 00 *                        58 READ_TEMPERATURE_1 read 0019 25 C
+"""),
+    ("--json --values --readings=direct:3:0:1", """
+B0 88 / B1 B0 04 *         {"line":1,"address":"58","code":"88","name":"READ_VIN","direction":"read","payload":"B0 04","numerator":1200,"denominator":30,"volts":40}
+B0 8C / B1 01 00 *         {"line":2,"address":"58","code":"8C","name":"READ_IOUT","direction":"read","payload":"01 00","numerator":1,"denominator":30,"amperes":0.033333}
+"""),
 ]
 
 # One trace under each option alone, and under all of them.
 EACH = [
     ("--values", """
 B0 06 02 00 20 / B1 01 14 *               58 page 0 VOUT_MODE read 14 ULINEAR16 -12
-B0 05 04 00 21 CD 34 5A                   58 page 0 VOUT_COMMAND write 34CD 13517/4096 3300048 uV
+B0 05 04 00 21 CD 34 5A                   58 page 0 VOUT_COMMAND write 34CD 3.300048 V
 B0 05 04 01 21 CD 34 5A                   58 write F5 WrongPec 7 bytes B0 05 04 01 21 CD 34 5A
 B0 96 / B1 34 12                          58 write F6 UnknownCode 1 bytes B0 96 / B1 34 12
 = count VOUT_MODE 1
@@ -427,7 +821,7 @@ B0 96 / B1 34 12                          58 write F6 UnknownCode 1 bytes B0 96 
 B0 06 02 00 20 / B1 01 14 *               58 page 0 VOUT_MODE read 14
 B0 05 04 00 21 CD 34 5A                   58 page 0 VOUT_COMMAND write 34CD
 B0 05 04 01 21 CD 34 5A                   58 write F5 WrongPec 7
-B0 96 / B1 34 12                          58 code 96 read 34 12, no PEC
+B0 96 / B1 34 12                          58 code 96 READ_POUT read 34 12, no PEC
 = count VOUT_MODE 1
 = count VOUT_COMMAND 1
 = count code 96 1
@@ -451,28 +845,29 @@ B0 96 / B1 34 12                          58 write F6 UnknownCode 1
 = count VOUT_COMMAND 1
 = lines 4 accepted 2 faults 2 bad 0
 """),
-    ("--json --times --long --all --vout=linear11 --values", """
-1 B0 06 02 00 20 / B1 01 14 *   {"line":1,"time":1,"address":"58","page":0,"code":"20","name":"VOUT_MODE","direction":"read","bytes":"14","value":"ULINEAR16 -12"}
-20 B0 05 04 00 21 CD 34 5A      {"line":2,"time":20,"address":"58","page":0,"code":"21","name":"VOUT_COMMAND","direction":"write","bytes":"CD 34","value":"13517/4096","micro":3300048,"unit":"V"}
-300 B0 05 04 01 21 CD 34 5A     {"line":3,"time":300,"address":"58","direction":"write","bytes":"B0 05 04 01 21 CD 34 5A","fault":"F5 WrongPec","place":7}
-4000 B0 96 / B1 34 12           {"line":4,"time":4000,"address":"58","code":"96","direction":"read","bytes":"34 12","pec":false}
+    ("--json --times --long --all --vout=linear11 --values --readings=linear11", """
+1 B0 06 02 00 20 / B1 01 14 *   {"line":1,"time":1,"address":"58","page":0,"code":"20","name":"VOUT_MODE","direction":"read","payload":"14","value":"ULINEAR16 -12"}
+20 B0 05 04 00 21 CD 34 5A      {"line":2,"time":20,"address":"58","page":0,"code":"21","name":"VOUT_COMMAND","direction":"write","payload":"CD 34","numerator":13517,"denominator":4096,"volts":3.300048}
+300 B0 05 04 01 21 CD 34 5A     {"line":3,"time":300,"address":"58","direction":"write","packet":"B0 05 04 01 21 CD 34 5A","fault":"F5 WrongPec","place":7}
+4000 B0 96 / B1 34 12           {"line":4,"time":4000,"address":"58","code":"96","name":"READ_POUT","direction":"read","payload":"34 12","pec":false}
 = {"count":"VOUT_MODE","lines":1}
 = {"count":"VOUT_COMMAND","lines":1}
 = {"code":"96","lines":1}
 = {"lines":4,"accepted":2,"other":1,"faults":1,"bad":0}
 """),
     ("--times --values --all", """
-1 B0 88 / B1 00 D3 *                      1 us 58 READ_VIN read D300 12/1 V
-2 B0 88 / B1 00 D3                        2 us 58 code 88 READ_VIN read 00 D3, no PEC
+1 B0 20 / B1 14 *                         1 us 58 VOUT_MODE read 14 ULINEAR16 -12
+1 B0 88 / B1 00 D3 *                      1 us 58 READ_VIN read D300 12 V
+2 B0 88 / B1 00 D3                        2 us 58 READ_VIN read D300 12 V, no PEC
 3 B0 88 / B1 00 D3 !                      3 us 58 read F5 WrongPec 3 bytes B0 88 / B1 00 D3 !
-= count READ_VIN 1
-= count code 88 1
-= lines 3 accepted 1 other 1 faults 1 bad 0
+= count VOUT_MODE 1
+= count READ_VIN 2
+= lines 4 accepted 3 other 0 faults 1 bad 0
 """),
 ]
 
-GROUPS = [("--values", VALUES), ("--values", TAUGHT), *VOUT, ("--values", FAULTS), ("--all", ALL), ("--times", TIMES), *JSON,
-          *EACH]
+GROUPS = [("--values", VALUES), ("--values", TAUGHT), *VOUT, *READINGS, ("--values", FAULTS), ("--all", ALL),
+          ("--all --values", WORDS), ("--times", TIMES), *JSON, *EACH]
 
 # Texts as bytes, the options, and the whole answer: ends of lines, skipped lines, the longest parts.
 WHOLE = [
@@ -483,13 +878,15 @@ WHOLE = [
     ("--values", b"\r\n  \r\n# x\r\nB0 03 46\r\n\r", 0,
      "4 58 CLEAR_FAULTS send\ncount CLEAR_FAULTS 1\nlines 1 accepted 1 faults 0 bad 0\n"),
     ("--times", b"  5   B0 03 46  \r", 0, "1 5 us 58 CLEAR_FAULTS send\ncount CLEAR_FAULTS 1\nlines 1 accepted 1 faults 0 bad 0\n"),
-    ("--times", b"5\tB0 03 46", 1, "1 X1 Syntax\nlines 1 accepted 0 faults 0 bad 1\n"),
-    ("--times", b" #\n5\r\r\n", 1, "1 X1 Syntax\n2 X1 Syntax\nlines 2 accepted 0 faults 0 bad 2\n"),
+    ("--times", b"5\tB0 03 46\n5", 1, "1 X1 Syntax\n2 5 us -- write F1 NotOurs\nlines 2 accepted 0 faults 1 bad 1\n"),
+    ("--times", b" #\n5\r\r\n5", 1,
+     "1 X1 Syntax\n2 X1 Syntax\n3 5 us -- write F1 NotOurs\nlines 3 accepted 0 faults 1 bad 2\n"),
+    ("--times --values", b"5", 0, "1 5 us -- write F1 NotOurs\nlines 1 accepted 0 faults 1 bad 0\n"),
     ("--values", b"B0\tB0", 1, "1 X2 BadHex\nlines 1 accepted 0 faults 0 bad 1\n"),
     ("--all", b"B0" * 301, 1, "1 X1 Syntax\nlines 1 accepted 0 other 0 faults 0 bad 1\n"),
     ("--all", b"B0D4" + b"05" * 298, 0, f"1 58 code D4 write {' '.join(['05'] * 298)}, no PEC\ncount code D4 1\n"
      "lines 1 accepted 0 other 1 faults 0 bad 0\n"),
-    ("--all", b"B096/B1" + b"05" * 299, 0, f"1 58 code 96 read {' '.join(['05'] * 299)}, no PEC\ncount code 96 1\n"
+    ("--all", b"B096/B1" + b"05" * 299, 0, f"1 58 code 96 READ_POUT read {' '.join(['05'] * 299)}, no PEC\ncount code 96 1\n"
      "lines 1 accepted 0 other 1 faults 0 bad 0\n"),
     ("--values", b"B0" * 300, 0, f"1 58 write F5 WrongPec 299 bytes {' '.join(['B0'] * 300)}\nlines 1 accepted 0 faults 1 bad 0\n"),
 ]
@@ -501,8 +898,19 @@ REFUSED = [
     *((f"--values --vout={form}", "bad vout") for form in (
         "", "linear", "linear11:0", "LINEAR11", "linear16:-12", "ulinear16", "ulinear16:16", "ulinear16:-17", "ulinear16:x",
         "ulinear16:1:2", "direct", "direct:1:0", "direct:1:0:0:0", "direct:0:0:0", "direct:1:0:13", "direct:1:0:-13",
-        "direct:32768:0:0", "direct:1:-32769:0", "direct:1:0:128", "direct::0:0")),
+        "direct:32768:0:0", "direct:1:-32769:0", "direct:1:0:128", "direct::0:0", "ulinear16/-12", "direct/1/0/3", "8C:linear11")),
+    ("--readings=linear11", "give --readings with --values"), ("--readings=", "give --readings with --values"),
+    *((f"--values --readings={entries}", "bad readings") for entries in (
+        "", "linear", "ulinear16:-12", "8C", "8C:", ":linear11", "8B:linear11", "58:linear11", "8C:58:linear11", "07:8C:linear11",
+        "78:8C:linear11", "B0:8C:linear11", "58:8C:8D:linear11", "8:linear11", "08C:linear11", "0x8C:linear11", "linear11,", ",linear11",
+        "linear11,,linear11", "direct:0:0:0", "direct:1:0:13", "8C:direct:1:0:-13", "linear11:0", ",".join(["linear11"] * 9))),
+    # The first in this order.
+    ("--readings=x --vout=x", "give --vout with --values"), ("--readings=x --vout=x --values", "bad vout"),
     ("--values --values", None), ("--all --all", None), ("--json --json", None), ("--long --long", None), ("--times --times", None),
-    ("--values --vout=linear11 --vout=linear11", None), ("--values=1", None), ("--value", None), ("--all=yes", None),
-    ("--values more", None), ("--values --vout", None),
+    ("--values --vout=linear11 --vout=linear11", None),
+    ("--values --readings=linear11 --readings=linear11", None), ("--values=1", None), ("--pages", None), ("--value", None), ("--all=yes", None), ("--values more", None), ("--values --vout", None),
+    ("--values --readings", None),
 ]
+# Forms that are taken.
+TAKEN = [f"--values --readings={','.join(['77:8d:linear11'] * 8)}", "--values --readings=08:8C:direct:-1:5:12",
+         "--values --readings=88:linear11,08:8D:direct:32767:-32768:-12"]

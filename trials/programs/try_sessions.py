@@ -1,8 +1,8 @@
 #!/usr/bin/env python3
 """Tries `pmbhost` as a coprocess: an order, a lost answer, a false acknowledgement, a restart of either end, a restore,
 limits, surveys and plans, and LINES lines of random sessions, of which most have limits and some parts lack registers, against the
-plain host of python/tests/plain. Each answer must come before the next line is said, and in 10 seconds. How the program ends is tried too: its status and what it says, for faulty options and failed
-streams. What is wrong is printed, and the status is then 1.
+plain host of python/tests/plain. Each answer must come before the next line is said, and in 10 seconds. How the program ends is
+tried too: its status and what it says, for faulty options and failed streams. What is wrong is printed, and the status is then 1.
 
     trials/programs/try_sessions.py [SEED [LINES]]
 
@@ -110,8 +110,10 @@ NOISE = ["", "#", "# order 0 VOUT_COMMAND 34CD", "hello", "order", "order 0", "o
          "finish ack", "got B", "got GG", "got B1 " + "00" * 16, "state", "state 0", "state 0 VOUT_MODE", "seen yes",
          "restart host", "Sending", "band", "band 256", "band 0 0", "limits x", "limits", "narrow 0 1", "narrow 0 1 2 3", "narrow -1 1 2",
          "narrow 0 +1 2", f"narrow 0 0 {2**63}", f"narrow 0 0 {10**15 + 1}", f"narrow 0 {-2**63} 0", "volts - WRITE_PROTECT 1", "volts 0 VOUT_COMMAND +1", "check 0 READ_VOUT",
-         "deliver whole", "learn -1", "rail", "rail 0 0", "rail 256", "plan 0", "plan 0 VOUT_COMMAND", "plan 0 VOUT_COMMAND=34C", "plan 0 OPERATION=80",
-         "plan 0 VOUT_MAX=34CD VOUT_MAX=34CD", "next 0", "next VOUT_MAX=34CD", "survey", "survey 0 VOUT_MAX=", "survey 256", "plan 0 =34CD", "store 0", "restore all", "got " + "B1 " * 5, "x" * 256, "x" * 257, "seen" + " " * 252, "seen" + " " * 253]
+         "deliver whole", "learn -1", "rail", "rail 0 0", "rail 256", "plan 0", "plan 0 VOUT_COMMAND", "plan 0 VOUT_COMMAND=34C",
+         "plan 0 OPERATION=80",
+         "plan 0 VOUT_MAX=34CD VOUT_MAX=34CD", "next 0", "next VOUT_MAX=34CD", "survey", "survey 0 VOUT_MAX=", "survey 256", "plan 0 =34CD",
+         "store 0", "restore all", "got " + "B1 " * 5, "x" * 256, "x" * 257, "seen" + " " * 252, "seen" + " " * 253]
 
 
 def uncertain_story():
@@ -189,7 +191,8 @@ def rail_line(dice, outputs):
     words = {name: word_of(dice, 4) if dice.random() < 0.6 else {"VOUT_MAX": "6000", "VOUT_MIN": "0800"}.get(name, "1000")
              for name in dice.sample(VOLTAGES, dice.choice([1, 1, 2, 5]))}
     wishes = "".join(f" {name}={word}" for name, word in words.items())
-    return dice.choice([f"rail {output}", f"plan {output}{wishes}", f"next {output}{wishes}", f"survey {output}", f"survey {output}{wishes}"])
+    return dice.choice([f"rail {output}", f"plan {output}{wishes}", f"next {output}{wishes}", f"survey {output}",
+                        f"survey {output}{wishes}"])
 
 
 class Course:

@@ -10,6 +10,7 @@ python/tests/plain in its place, which has no memory, pipes and streams to try. 
 """
 import json
 import os
+import re
 import select
 import subprocess
 import sys
@@ -22,7 +23,9 @@ sys.path.insert(0, os.path.dirname(os.path.dirname(os.path.abspath(__file__))))
 import paths  # noqa: E402, F401
 import program  # noqa: E402
 from tally import Tally  # noqa: E402
-from told_rows import ALL, FAULTS, GROUPS, REFUSED, STATUS, STATUS_CODES, WHOLE  # noqa: E402
+from told_rows import (  # noqa: E402
+    ALL, FAULTS, GROUPS, NAMES, OTHER_STATUS, REFUSED, STATUS, STATUS_CODES, TAKEN, WHOLE,
+)
 
 JSON = "--json"
 EVERY = ["--values", "--all", "--long", "--times"]
@@ -116,10 +119,12 @@ def row_faults(decode, words, rows):
 
 
 def json_faults(lines):
-    """Each line is an object, as Python's reader has it, and is written as Python would write it."""
+    """Each line is an object, as Python's reader has it, and is written as Python would write it, but for the digits of a number
+    with a point."""
     for line in lines:
         try:
-            if json.dumps(json.loads(line), separators=(",", ":")) != line or not isinstance(json.loads(line), dict):
+            found = json.loads(line, parse_float=lambda text: f"<{text}>")
+            if re.sub('"<(.*?)>"', r"\1", json.dumps(found, separators=(",", ":"))) != line or not isinstance(found, dict):
                 yield f"{line!r} isn't written as an object is"
         except ValueError as fault:
             yield f"{line!r}: {fault}"
@@ -135,10 +140,30 @@ def status_rows():
         yield ["--values"], [f"B0 06 02 01 {code} / B1 {count} {wire} *  58 page 1 {name} read {word} {bit}"]
         yield ["--values", JSON], [
             f'B0 {code} / B1 {wire} *  {{"line":1,"address":"58","code":"{code}","name":"{name}","direction":"read",'
-            f'"bytes":"{wire}","flags":["{bit}"]}}']
+            f'"payload":"{wire}","flags":["{bit}"]}}']
         if name in ("STATUS_VOUT", "STATUS_CML"):
             yield ["--values"], [f"B0 {code} {wire} *  58 {name} write {word} {bit}"]
             yield ["--values"], [f"B0 05 03 00 {code} {wire} *  58 page 0 {name} write {word} {bit}"]
+    for row in OTHER_STATUS.split("\n")[1:-1]:
+        code, name, byte, bit = row.split(" ", 3)
+        yield ["--values", "--all"], [f"B0 {code} / B1 {byte} *  58 code {code} {name} read {byte} {bit}, PEC right"]
+        yield ["--values", "--all"], [f"B0 {code} {byte} *  58 code {code} {name} write {byte} {bit}, PEC right"]
+        yield ["--values", "--all"], [
+            f"B0 06 02 01 {code} / B1 01 {byte} *  58 page 1 code {code} {name} read {byte} {bit}, PEC right"]
+        yield ["--values", "--all", JSON], [
+            f'B0 {code} / B1 {byte} *  {{"line":1,"address":"58","code":"{code}","name":"{name}","direction":"read",'
+            f'"payload":"{byte}","flags":["{bit}"],"pec":true}}']
+
+
+def name_rows():
+    """Each code's name, of a packet whose length is none that the table has, and in JSON."""
+    for row in re.split(r"[|\n]", NAMES.strip()):
+        code, _, name = row.partition(" ")
+        yield ["--all"], [f"B0 {code} 01 02 03 04 05 06 *  58 code {row} write 01 02 03 04 05 06, PEC right"]
+        shown = f'"name":"{name}",' if name else ""
+        yield ["--all", JSON], [
+            f'B0 {code} 01 02 03 04 05 06 *  {{"line":1,"address":"58","code":"{code}",{shown}"direction":"write",'
+            f'"payload":"01 02 03 04 05 06","pec":true}}']
 
 
 def all_rows():
@@ -146,6 +171,7 @@ def all_rows():
         for rows in traces(text):
             yield options.split(), rows
     yield from status_rows()
+    yield from name_rows()
 
 
 def whole_faults(decode, words, text, status, said):
@@ -158,6 +184,13 @@ def refusal_faults(decode, words, said):
     status, told, errors = decode(b"B0 03 46\n", words)
     if status != 2 or told or (errors != f"pmb: {said}\n" if said else not errors):
         yield f"it gives status {status}, {told!r} and {errors!r}, and not {said!r}"
+
+
+def taken_faults(decode, words):
+    found = decode(b"", words)
+    wanted = (0, "lines 0 accepted 0 faults 0 bad 0\n", "")
+    if found != wanted:
+        yield f"it gives {found}, and not {wanted}"
 
 
 def limit_faults(decode):
@@ -244,8 +277,8 @@ def piece_faults(decode, path):
 
 
 # A line that is told before the next one is written, as a text and as an object.
-ANSWERS = ("{} {} us 58 code 96 read 34 12, no PEC\n",
-           '{{"line":{},"time":{},"address":"58","code":"96","direction":"read","bytes":"34 12","pec":false}}\n')
+ANSWERS = ("{} {} us 58 code 96 READ_POUT read 34 12, no PEC\n",
+           '{{"line":{},"time":{},"address":"58","code":"96","name":"READ_POUT","direction":"read","payload":"34 12","pec":false}}\n')
 
 
 def live_faults(path, words):
@@ -278,6 +311,8 @@ def checks(engine):
         yield f"{options} on {text[:24]!r}", found
     for options, said in REFUSED:
         yield options, refusal_faults(engine.decode, options.split(), said)
+    for options in TAKEN:
+        yield options, taken_faults(engine.decode, options.split())
     yield "the limit of 1 MiB", limit_faults(engine.decode)
     if isinstance(engine, Program):
         yield "5 MiB", long_faults(engine.path, engine.every)

@@ -26,6 +26,8 @@ OPTIONS = ["--all", "--json", "--values"]
 WRITE, READ, MOST, MODE = 0xB0, 0xB1, 4, 0x14
 # How long a line of the tables may be.
 WIDTH = 120
+# The unit in a text of what an object measures, and the most words that a table has of one code: packets.py tells others itself.
+LETTERS, MOST_WORDS = {"volts": "V", "amperes": "A", "celsius": "C"}, 40
 
 
 class NoTables(Exception):
@@ -99,16 +101,37 @@ def values(decode, tables):
         kind = "carried_read" if code in tables["CARRIED_READS"] else "read"
         payloads = [1 << bit for bit in range(8 * count)] if count > 1 else [*range(256)]
         said = asked(decode, [teaching, *(of_packet(kind, code, word.to_bytes(count, "little")) for word in payloads)])[1:]
+        measured = [name for name in LETTERS if name in said[-1]]
         if all("flags" in it for it in said):
-            bits = [it["flags"] for word, it in zip(payloads, said) if word & word - 1 == 0 and word]
-            flags[code] = [names[0] for names in reversed(bits)]
-        elif all("micro" in it for it in said):
+            flags[code] = bits_of(payloads, said)
+        elif measured and said[-1]["numerator"] == payloads[-1]:
             voltages.append(code)
-        elif all("unit" in it for it in said):
-            units[code] = said[0]["unit"]
-        elif any("value" in it for it in said):
-            words[code] = ranges([it.get("value") for it in said])
-    return {"FLAGS": flags, "WORDS": words, "UNITS": units, "VOLTAGES": voltages}
+        elif measured:
+            units[code] = LETTERS[measured[0]]
+        elif any("value" in it for it in said) and len(found := ranges([it.get("value") for it in said])) < MOST_WORDS:
+            words[code] = found
+    return {"FLAGS": {**flags, **other_flags(decode, tables)}, "WORDS": words, "UNITS": units, "VOLTAGES": voltages,
+            "TEXTS": texts(decode, tables)}
+
+
+def bits_of(payloads, said):
+    """The names of bits, the highest first, of what is said of payloads, each bit alone among them."""
+    return [it["flags"][0] for word, it in zip(payloads, said) if word & word - 1 == 0 and word][::-1]
+
+
+def other_flags(decode, tables):
+    """The bits of registers of one byte that aren't in the table of packets."""
+    codes, payloads = [code for code in tables["NAMES"] if code not in tables["READS"]], [1 << bit for bit in range(8)]
+    said = asked(decode, [of_packet("read", code, [byte]) for code in codes for byte in payloads])
+    found = {code: said[8 * place:8 * place + 8] for place, code in enumerate(codes)}
+    return {code: bits_of(payloads, said) for code, said in found.items() if all("flags" in it for it in said)}
+
+
+def texts(decode, tables):
+    """The codes whose block is a text."""
+    codes = [*tables["NAMES"]]
+    said = asked(decode, [of_packet("read", code, [1, 0x41]) for code in codes])
+    return [code for code, it in zip(codes, said) if it.get("text") == "A"]
 
 
 def ranges(texts):
@@ -139,8 +162,9 @@ COMMENTS = {
     "CARRIED_READS": "The same of reads by PAGE_PLUS_READ.",
     "FLAGS": "The names of a status register's bits, from the highest down.",
     "WORDS": "What bytes say: the first and the last byte, and the words.",
-    "UNITS": "The unit of a LINEAR11 reading.",
+    "UNITS": "The unit of a reading.",
     "VOLTAGES": "Codes of a voltage in the output's format.",
+    "TEXTS": "Codes of a block of text.",
 }
 
 

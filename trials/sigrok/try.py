@@ -35,14 +35,14 @@ from try_told_captures import Plain, Program, traces, wanted_of  # noqa: E402
 CAPTURES = os.path.join(program.ROOT, "python/tests/data/captures")
 NAMES = ["bus", "faults", "kernel"]
 # What the decoder says of a packet that isn't good, by the fault that `decode` tells.
-WORDS = {"F1": "another address answers", "F5": "wrong PEC", "F7": "wrong direction", "F8": "PAGE_PLUS doesn't carry this code"}
+WORDS = {"F1": "another address answers", "F5": "wrong PEC"}
 # Of the first packet of bus.vcd and of the third, what stands below its bytes, and how its PEC is.
 BYTES = ["address 58", "PAGE_PLUS_WRITE", "count", "page 0", "VOUT_COMMAND", "data", "data"]
 THIRD = ["address 58", "PAGE_PLUS_WRITE", "count", "page 1", "VOUT_COMMAND", "data", "data"]
 PECS = ["PEC right", "PEC right", "PEC 5A, 4C would be right", "PEC right", "PEC right", "PEC right", "PEC right"]
 
 
-def reader(vout=""):
+def reader(vout="", readings=""):
     """The part of the decoder that needs no sigrok, from its folder."""
     import importlib.util
     name = "pmbus"
@@ -52,7 +52,7 @@ def reader(vout=""):
         package = importlib.util.module_from_spec(spec)
         package.__path__ = [os.path.join(FOLDER, name)]
         sys.modules[name] = package
-    return importlib.import_module(f"{name}.packets").Reader(vout)
+    return importlib.import_module(f"{name}.packets").Reader(vout, readings)
 
 
 def wanted_words(told, write):
@@ -80,17 +80,19 @@ def random_faults(decode, seed, texts):
     """Random packets, all but those that no bus can have."""
     dice, count = random.Random(seed), 0
     for _ in range(texts):
-        vout = dice.choice(["", "", *draw_captures.FORMATS])
+        vout, readings = dice.choice(["", "", *draw_captures.FORMATS]), ""
+        if dice.random() < 0.5:
+            readings = ",".join(dice.choice(draw_captures.WHERE) + dice.choice(draw_captures.READING_FORMATS) for _ in range(2))
         lines = [draw_captures.packet_line(dice, 0) for _ in range(60)]
         lines = [line for line in lines if not isinstance(parts_of(line), str) and parts_of(line)[0]]
-        words = ["--all", "--values", *([f"--vout={vout}"] if vout else [])]
-        told, decoder = decode(b"\n".join(lines), words)[1].splitlines(), reader(vout)
+        words = ["--all", "--values", *([f"--vout={vout}"] if vout else []), *([f"--readings={readings}"] if readings else [])]
+        told, decoder = decode(b"\n".join(lines), words)[1].splitlines(), reader(vout, readings)
         for number, line in enumerate(lines, 1):
             write, read = parts_of(line)
             found, wanted = decoder.tell(write, read).text, wanted_words(told[number - 1].partition(" ")[2] + " ", write)
             count += 1
             if found != wanted.rstrip(" "):
-                yield f"{line!r} with vout {vout!r} gives {found!r}, and not {wanted!r}"
+                yield f"{line!r} with vout {vout!r} and readings {readings!r} gives {found!r}, and not {wanted!r}"
     print(f"  {count} random packets")
 
 
@@ -128,8 +130,8 @@ def waveform_faults(decode, name):
 def drawn_faults():
     """Waveforms that are drawn of rows, which were written by hand."""
     for options, text in told_rows.GROUPS:
-        # The decoder tells values always, so rows without them serve where there is none.
-        if {*options.split()} & {"--json", "--times"} or "--values" not in options and text != told_rows.ALL:
+        # The decoder tells values always.
+        if {*options.split()} & {"--json", "--times"} or "--values" not in options:
             continue
         for rows in traces(text):
             yield from drawn_fault(options, rows)
@@ -152,12 +154,12 @@ def drawn_fault(options, rows):
             wanted.append(wanted_words(said + " ", parts[0]).rstrip(" "))
         else:
             lines[int(number) - 1] = "# not drawn"
-    vout = re.search(r"--vout[= ](\S+)", options)
+    given = re.findall(r"--(vout|readings)[= ](\S+)", options)
     with tempfile.NamedTemporaryFile("w", suffix=".vcd") as file:
         file.write(waveform("\n".join(lines)))
         file.flush()
-        # Colons part options of sigrok-cli.
-        found, errors = sigrok(file.name, ":vout=" + vout[1].replace(":", "/") if vout else "")
+        # Colons part options of sigrok-cli, and commas decoders.
+        found, errors = sigrok(file.name, "".join(f":{name}={it.replace(':', '/').replace(',', '+')}" for name, it in given))
     if found != wanted:
         yield f"{options} {rows[0]}: it tells {found} {errors!r}, and not {wanted}"
 
@@ -191,7 +193,8 @@ def byte_faults():
     if found[:7] != BYTES or found[16:23] != THIRD or pecs != PECS:
         yield f"the bytes are {found[:23]} and {pecs}"
     for options, said in ((":address=B0", "address: give two hexadecimal digits, as 58"),
-                          (":vout=linear16", "vout: give linear11, ulinear16/N or direct/M/B/R")):
+                          (":vout=linear16", "vout: give linear11, ulinear16/N or direct/M/B/R"),
+                          (":readings=ulinear16/1", "readings: give linear11 or direct/M/B/R")):
         found, errors = sigrok(path, options)
         if found or said not in errors:
             yield f"{options} gives {found[:3]}, {errors!r}"

@@ -104,17 +104,17 @@ heard_more options bytes = by (skips_timed (kept_of options bytes).line)
 
 -- the text of a line that ends is the one that is written of it
 text_here : (options : TellOptions) (bytes : List ℕ)
-    → lines_text options (taught_from untaught (map judged_in (said options.times bytes))) (ended_entries options bytes)
+    → lines_text options (taught_from untaught (map (judged_in options.all) (said options.times bytes))) (ended_entries options bytes)
     ≡ text_ended (kept_of options bytes)
 unfolding ended_entries kept_of heard_of
 text_here options bytes = by (skips_timed (kept_of options bytes).line)
   where
-    by : (c : Bool) → lines_text options (taught_from untaught (map judged_in (said options.times bytes)))
+    by : (c : Bool) → lines_text options (taught_from untaught (map (judged_in options.all) (said options.times bytes)))
         (entry_if c (entry_ended (kept_of options bytes)))
-        ≡ cond c [] (line_text options (taught_from untaught (map judged_in (said options.times bytes)))
+        ≡ cond c [] (line_text options (taught_from untaught (map (judged_in options.all) (said options.times bytes)))
         (entry_ended (kept_of options bytes)))
     by true = refl
-    by false = append-nil (line_text options (taught_from untaught (map judged_in (said options.times bytes)))
+    by false = append-nil (line_text options (taught_from untaught (map (judged_in options.all) (said options.times bytes)))
         (entry_ended (kept_of options bytes)))
 
 -- the text of the line that goes on, if it ends here, is written behind that of the lines that ended

@@ -5,6 +5,7 @@ pub mod EmptyLemmas
 pub mod EndLemmas
 pub mod GatheredLemmas
 pub mod HearingLemmas
+pub mod PecLemmas
 pub mod PlainLemmas
 pub mod PutLemmas
 pub mod TimedLemmas

@@ -4,7 +4,7 @@ use Rattle.std.specs.Prelude.{ℕ, zero, suc, Bool, true, false, if◌then◌els
 use Rattle.std.specs.Map.{lookup}
 use Rattle.pm_lines.specs.Numbers.{hex_byte}
 use Rattle.pm_trace.specs.Counts.{total_of}
-use Rattle.pm_trace.specs.Trace.{Judged, Accepted, Faulty, BadSyntax, BadHex, parts_judged, reading_judged}
+use Rattle.pm_trace.specs.Trace.{Judged, Accepted, Faulty, BadSyntax, BadHex, reading_judged}
 use Rattle.pm_trace.specs.TraceText.{count_line, end_of, judged_text}
 use Rattle.pm_trace.specs.declared.decode_end.DecodeEnd.{DecodeEnd}
 use Rattle.pm_trace.specs.declared.line_fault.LineFault.{LineFault}
@@ -13,9 +13,9 @@ use Rattle.pm_values.specs.Otherwise.{other_text, spaced}
 use Rattle.pm_values.specs.Taught.{Taught, taught_by, untaught}
 use Rattle.pm_values.specs.ValueText.{known_text}
 use Rattle.pm_values.specs.Values.{packet_value}
-use Rattle.pm_decode.specs.Hearing.{HeardLines, heard_of, heard_lines, other_address}
-use Rattle.pm_decode.specs.JsonText.{count_json, judged_fields, number_field_if, other_fields, other_jsons, text_field, totals_json}
-use Rattle.pm_decode.specs.Readings.{Entry, entries_of, judged_in}
+use Rattle.pm_decode.specs.Hearing.{HeardLines, heard_of, heard_lines, is_without_pec, other_address}
+use Rattle.pm_decode.specs.JsonText.{count_json, judged_fields, lack_field, number_field_if, other_fields, other_jsons, text_field, totals_json}
+use Rattle.pm_decode.specs.Readings.{Entry, entries_of, judged_by, judged_in}
 use Rattle.pm_decode.specs.declared.options.TellOptions.{TellOptions}
 
 -- ---- what stands behind a packet's text
@@ -25,14 +25,19 @@ abbrev pub read_bytes_text : Option (List ℕ) → List ℕ
 read_bytes_text None = []
 read_bytes_text (Some read) = codes " /" ++ spaced read
 
--- all bytes of a packet
+-- all bytes of a packet, where it has a byte, or a read part
+abbrev pub bytes_by : List ℕ → Option (List ℕ) → List ℕ
+bytes_by [] None = []
+bytes_by [] (Some read) = codes " bytes" ++ (spaced [] ++ read_bytes_text (Some read))
+bytes_by (byte ∷ bytes) read = codes " bytes" ++ (spaced (byte ∷ bytes) ++ read_bytes_text read)
+
 abbrev pub bytes_text : TraceLine → List ℕ
-bytes_text parts = codes " bytes" ++ (spaced parts.write ++ read_bytes_text parts.read)
+bytes_text parts = bytes_by parts.write parts.read
 
 -- the value of a packet, and the bytes of one with a fault
 abbrev pub meaning_text : TellOptions → Taught → TraceLine → Judged → List ℕ
 meaning_text options taught parts (Accepted addr message answer) =
-    known_text (packet_value options.vout taught addr message answer)
+    known_text (packet_value options.formats taught addr message answer)
 meaning_text options taught parts (Faulty addr is_read fault) = bytes_text parts
 meaning_text options taught parts BadSyntax = []
 meaning_text options taught parts BadHex = []
@@ -40,13 +45,17 @@ meaning_text options taught parts BadHex = []
 abbrev pub extra_text : TellOptions → Taught → TraceLine → Judged → List ℕ
 extra_text options taught parts judged = if options.values then meaning_text options taught parts judged else []
 
+-- behind a packet that lacks its PEC
+abbrev pub lack_text : Bool → List ℕ
+lack_text lacks = if lacks then codes ", no PEC" else []
+
 -- ---- a line
 
 -- a packet as the command table has it, in the line of this number, or by its code and bytes
 abbrev pub packet_text_by : TellOptions → Taught → ℕ → TraceLine → Option ℕ → List ℕ
-packet_text_by options taught number parts None = judged_text number (parts_judged parts.write parts.read)
-    ++ extra_text options taught parts (parts_judged parts.write parts.read)
-packet_text_by options taught number parts (Some addr) = other_text addr parts.write parts.read
+packet_text_by options taught number parts None = judged_text number (judged_by options.all parts)
+    ++ (extra_text options taught parts (judged_by options.all parts) ++ lack_text (is_without_pec options.all parts))
+packet_text_by options taught number parts (Some addr) = other_text options.values addr parts.write parts.read
 
 abbrev pub packet_text : TellOptions → Taught → ℕ → TraceLine → List ℕ
 packet_text options taught number parts =
@@ -69,9 +78,9 @@ plain_line options taught entry = decimal entry.0
 
 -- a packet as fields of JSON
 abbrev pub packet_fields_by : TellOptions → Taught → TraceLine → Option ℕ → List ℕ
-packet_fields_by options taught parts None = judged_fields options.vout options.values taught parts.write parts.read
-    (parts_judged parts.write parts.read)
-packet_fields_by options taught parts (Some addr) = other_fields addr parts.write parts.read
+packet_fields_by options taught parts None = judged_fields options.formats options.values taught parts.write parts.read
+    (judged_by options.all parts) ++ lack_field (is_without_pec options.all parts)
+packet_fields_by options taught parts (Some addr) = other_fields options.values addr parts.write parts.read
 
 abbrev pub reading_fields : TellOptions → Taught → ℕ → Option ℕ → Result TraceLine LineFault → List ℕ
 reading_fields options taught number time (Ok parts) = number_field_if (codes "time") time
@@ -93,7 +102,7 @@ line_text options taught entry =
 abbrev pub lines_text : TellOptions → Taught → List Entry → List ℕ
 lines_text options taught [] = []
 lines_text options taught (entry ∷ entries) = line_text options taught entry
-    ++ lines_text options (taught_by taught (judged_in entry)) entries
+    ++ lines_text options (taught_by taught (judged_in options.all entry)) entries
 
 -- ---- the counts
 

@@ -1,6 +1,6 @@
 -- What is written of a capture as objects of JSON, one a line, without spaces, and with keys in one order. Every text in
 -- them is made of letters, digits, spaces and a few signs of which none has to be escaped. This project's own choice.
-use Rattle.std.specs.Prelude.{ℕ, Bool, true, if◌then◌else◌, zero, suc, nat_eq, List, [], ◌∷◌, ◌++◌, slice_index, decimal, codes, unwrap_or, Option, Some, None}
+use Rattle.std.specs.Prelude.{ℕ, ℤ, pos, Bool, true, if◌then◌else◌, zero, suc, nat_eq, List, [], ◌∷◌, ◌++◌, slice_index, decimal, codes, unwrap_or, Option, Some, None}
 use Rattle.std.specs.Fmt.{signed_decimal}
 use Rattle.std.specs.Map.{lookup}
 use Rattle.pm_frame.specs.FaultWords.{frame_fault_place, frame_fault_words}
@@ -9,19 +9,23 @@ use Rattle.pm_frame.specs.declared.fault.FrameFault.{FrameFault}
 use Rattle.pm_frame.specs.declared.message.Message.{Message}
 use Rattle.pm_frame.specs.declared.message.Message.TheVariants.{SendByte, WriteByte, WriteWord, PagePlusWrite, ReadCommand, PagePlusRead, ReadCoefficients}
 use Rattle.pm_lines.specs.Numbers.{hex_byte}
-use Rattle.pm_num.specs.declared.any_format.AnyFormat.{AnyFormat}
-use Rattle.pm_table.specs.Commands.{is_known, name_of}
+use Rattle.pm_num.specs.Ratio.{Ratio}
+use Rattle.pm_table.specs.Commands.{name_of}
 use Rattle.pm_table.specs.Coefficients.{coefficients_of}
 use Rattle.pm_table.specs.declared.coefficients.Coefficients.{Coefficients}
 use Rattle.pm_trace.specs.Counts.{total_of}
 use Rattle.pm_trace.specs.Trace.{Judged, Accepted, Faulty, BadSyntax, BadHex}
-use Rattle.pm_values.specs.Otherwise.{answer_bytes, has_pec, spaced, written_bytes}
+use Rattle.pm_values.specs.CodeNames.{standard_name}
+use Rattle.pm_values.specs.Otherwise.{ContentBytes, content_letters, content_of, has_pec, is_all_ones, said_bytes, spaced}
 use Rattle.pm_values.specs.Statuses.{names_from, rows_of}
 use Rattle.pm_values.specs.Taught.{Taught}
-use Rattle.pm_values.specs.ValueText.{fraction_text, mode_text, operation_text, protection_text, ratio_text, unit_text}
-use Rattle.pm_values.specs.Values.{carried, millionths, packet_value}
+use Rattle.pm_values.specs.ValueText.{capability_text, decimal_of, mode_text, on_off_text, operation_text, protection_text}
+use Rattle.pm_values.specs.Values.{carried, millionths, other_value, packet_value}
+use Rattle.pm_values.specs.declared.formats.GivenFormats.{GivenFormats}
+use Rattle.pm_values.specs.declared.value.Unit.{Unit as MeasureUnit}
+use Rattle.pm_values.specs.declared.value.Unit.TheVariants.{Volt, Ampere, Celsius}
 use Rattle.pm_values.specs.declared.value.Value.{Value}
-use Rattle.pm_values.specs.declared.value.Value.TheVariants.{Reading, Volts, Operates, Protects, Scales, Flags}
+use Rattle.pm_values.specs.declared.value.Value.TheVariants.{Measured, Operates, Protects, Scales, Flags, Capable, Controls}
 use Rattle.pm_decode.specs.Hearing.{HeardLines, heard_lines}
 
 -- ---- fields
@@ -37,6 +41,9 @@ text_field name text = key name ++ (codes "\"" ++ (text ++ codes "\""))
 -- a field with a number
 unfoldable pub number_field : List ℕ → ℕ → List ℕ
 number_field name number = key name ++ decimal number
+
+unfoldable pub signed_field : List ℕ → ℤ → List ℕ
+signed_field name number = key name ++ signed_decimal number
 
 abbrev pub number_field_if : List ℕ → Option ℕ → List ℕ
 number_field_if name None = []
@@ -58,14 +65,27 @@ address_field (Some addr) = text_field (codes "address") (hex_byte addr)
 
 -- ---- values
 
+-- the key of a number with this unit
+abbrev pub unit_key : MeasureUnit → List ℕ
+unit_key Volt = codes "volts"
+unit_key Ampere = codes "amperes"
+unit_key Celsius = codes "celsius"
+
+-- a fraction as the word has it
+unfoldable pub fraction_by : ℤ → ℤ → List ℕ
+fraction_by num den = signed_field (codes "numerator") num ++ signed_field (codes "denominator") den
+
+-- a fraction rounded down to a millionth
+unfoldable pub rounded_field : Ratio → MeasureUnit → List ℕ
+rounded_field ratio unit = key (unit_key unit) ++ decimal_of (millionths ratio)
+
 abbrev pub value_fields : Value → List ℕ
-value_fields (Reading fraction unit) =
-    text_field (codes "value") (fraction_text fraction) ++ text_field (codes "unit") (unit_text unit)
-value_fields (Volts ratio) = text_field (codes "value") (ratio_text ratio)
-    ++ ((key (codes "micro") ++ signed_decimal (millionths ratio)) ++ text_field (codes "unit") (codes "V"))
+value_fields (Measured ratio unit) = fraction_by ratio.num (pos ratio.den) ++ rounded_field ratio unit
 value_fields (Operates operation) = text_field (codes "value") (operation_text operation)
 value_fields (Protects byte) = text_field (codes "value") (protection_text byte)
 value_fields (Scales mode) = text_field (codes "value") (mode_text mode)
+value_fields (Capable byte) = text_field (codes "value") (capability_text byte)
+value_fields (Controls byte) = text_field (codes "value") (on_off_text byte)
 value_fields (Flags status bits) =
     key (codes "flags") ++ (codes "[" ++ (names_from (codes ",") (codes "\"") true (rows_of status) bits ++ codes "]"))
 
@@ -81,41 +101,40 @@ sent_direction [] = codes "send"
 sent_direction (byte ∷ bytes) = codes "write"
 
 abbrev pub sent_fields : List ℕ → List ℕ
-sent_fields payload = text_field (codes "direction") (sent_direction payload) ++ bytes_field (codes "bytes") payload
+sent_fields payload = text_field (codes "direction") (sent_direction payload) ++ bytes_field (codes "payload") payload
 
 abbrev pub payload_fields : List ℕ → Option (List ℕ) → List ℕ
 payload_fields payload None = sent_fields payload
-payload_fields payload (Some answer) = text_field (codes "direction") (codes "read") ++ bytes_field (codes "bytes") answer
+payload_fields payload (Some answer) = text_field (codes "direction") (codes "read") ++ bytes_field (codes "payload") answer
 
 abbrev pub code_fields : ℕ → List ℕ
 code_fields code = text_field (codes "code") (hex_byte code) ++ text_field (codes "name") (name_of code)
 
 -- the three numbers of an answer to COEFFICIENTS
-unfoldable pub numbers_json : Coefficients → List ℕ
-numbers_json c = codes "m " ++ (signed_decimal c.m ++ (codes " b " ++ (signed_decimal c.b
-    ++ (codes " r " ++ signed_decimal c.r))))
+abbrev pub numbers_fields : Coefficients → List ℕ
+numbers_fields c = signed_field (codes "m") c.m ++ (signed_field (codes "b") c.b ++ signed_field (codes "r") c.r)
 
 -- a packet that asks for nothing but its code's value, or writes it
-abbrev pub plain_fields : Option AnyFormat → Bool → Taught → ℕ → Message → Option (List ℕ) → List ℕ
-plain_fields vout values taught addr message answer = number_field_if (codes "page") (message_page message)
+abbrev pub plain_fields : GivenFormats → Bool → Taught → ℕ → Message → Option (List ℕ) → List ℕ
+plain_fields given values taught addr message answer = number_field_if (codes "page") (message_page message)
     ++ (code_fields (message_code message) ++ (payload_fields (carried message None) answer
-    ++ (if values then value_fields_if (packet_value vout taught addr message answer) else [])))
+    ++ (if values then value_fields_if (packet_value given taught addr message answer) else [])))
 
 -- the answer to a request for coefficients
 abbrev pub coefficients_fields : ℕ → ℕ → List ℕ → List ℕ
 coefficients_fields code side answer = code_fields 0x30 ++ (text_field (codes "of") (hex_byte code)
     ++ (number_field (codes "side") side ++ (payload_fields [] (Some answer)
-    ++ text_field (codes "value") (numbers_json (coefficients_of answer)))))
+    ++ numbers_fields (coefficients_of answer))))
 
-abbrev pub message_fields : Option AnyFormat → Bool → Taught → ℕ → Message → Option (List ℕ) → List ℕ
-message_fields vout values taught addr (ReadCoefficients code side) answer = coefficients_fields code side (unwrap_or answer [])
-message_fields vout values taught addr (SendByte code) answer = plain_fields vout values taught addr (SendByte code) answer
-message_fields vout values taught addr (WriteByte code byte) answer = plain_fields vout values taught addr (WriteByte code byte) answer
-message_fields vout values taught addr (WriteWord code word) answer = plain_fields vout values taught addr (WriteWord code word) answer
-message_fields vout values taught addr (PagePlusWrite page code payload) answer =
-    plain_fields vout values taught addr (PagePlusWrite page code payload) answer
-message_fields vout values taught addr (ReadCommand code) answer = plain_fields vout values taught addr (ReadCommand code) answer
-message_fields vout values taught addr (PagePlusRead page code) answer = plain_fields vout values taught addr (PagePlusRead page code) answer
+abbrev pub message_fields : GivenFormats → Bool → Taught → ℕ → Message → Option (List ℕ) → List ℕ
+message_fields given values taught addr (ReadCoefficients code side) answer = coefficients_fields code side (unwrap_or answer [])
+message_fields given values taught addr (SendByte code) answer = plain_fields given values taught addr (SendByte code) answer
+message_fields given values taught addr (WriteByte code byte) answer = plain_fields given values taught addr (WriteByte code byte) answer
+message_fields given values taught addr (WriteWord code word) answer = plain_fields given values taught addr (WriteWord code word) answer
+message_fields given values taught addr (PagePlusWrite page code payload) answer =
+    plain_fields given values taught addr (PagePlusWrite page code payload) answer
+message_fields given values taught addr (ReadCommand code) answer = plain_fields given values taught addr (ReadCommand code) answer
+message_fields given values taught addr (PagePlusRead page code) answer = plain_fields given values taught addr (PagePlusRead page code) answer
 
 -- ---- a packet with a fault
 
@@ -129,8 +148,14 @@ whole_words [] None = []
 whole_words [] (Some read) = codes "/" ++ spaced read
 whole_words (byte ∷ bytes) read = hex_byte byte ++ (spaced bytes ++ read_words read)
 
+-- where the packet has a byte, or a read part
+abbrev pub packet_field : List ℕ → Option (List ℕ) → List ℕ
+packet_field [] None = []
+packet_field [] (Some read) = text_field (codes "packet") (whole_words [] (Some read))
+packet_field (byte ∷ bytes) read = text_field (codes "packet") (whole_words (byte ∷ bytes) read)
+
 abbrev pub whole_field : Bool → List ℕ → Option (List ℕ) → List ℕ
-whole_field values write read = if values then text_field (codes "bytes") (whole_words write read) else []
+whole_field values write read = if values then packet_field write read else []
 
 -- a fault, and its place
 abbrev pub kind_fields : FrameFault → List ℕ
@@ -144,30 +169,50 @@ fault_fields values write read addr is_read fault = address_field addr
 
 -- ---- a packet that is told by its code and bytes
 
-abbrev pub name_field : ℕ → List ℕ
-name_field code = if is_known code then text_field (codes "name") (name_of code) else []
+-- the name of a code that the standard has
+abbrev pub name_field : List ℕ → List ℕ
+name_field [] = []
+name_field (letter ∷ letters) = text_field (codes "name") (letter ∷ letters)
 
 abbrev pub other_payload_by : List ℕ → Option (List ℕ) → List ℕ
 other_payload_by written None = sent_fields written
 other_payload_by written (Some answer) = text_field (codes "direction") (codes "read")
-    ++ (bytes_field (codes "written") written ++ bytes_field (codes "bytes") answer)
+    ++ (bytes_field (codes "written") written ++ bytes_field (codes "payload") answer)
 
-abbrev pub other_payload : List ℕ → Option (List ℕ) → List ℕ
-other_payload write read = other_payload_by (written_bytes write read) (answer_bytes write read)
+-- what the bytes say
+abbrev pub meaning_fields_by : Option (List ℕ) → ContentBytes → List ℕ
+meaning_fields_by None content = value_fields_if (other_value content.code (said_bytes content))
+meaning_fields_by (Some letters) content = text_field (codes "text") letters
 
-abbrev pub other_fields : ℕ → List ℕ → Option (List ℕ) → List ℕ
-other_fields addr write read = address_field (Some addr) ++ (text_field (codes "code") (hex_byte (slice_index write 1))
-    ++ (name_field (slice_index write 1) ++ (other_payload write read
-    ++ (key (codes "pec") ++ (if has_pec write read then codes "true" else codes "false")))))
+abbrev pub meaning_fields : Bool → ContentBytes → List ℕ
+meaning_fields values content = if values then meaning_fields_by (content_letters content) content else []
+
+unfoldable pub content_fields : Bool → ContentBytes → List ℕ
+content_fields values content = number_field_if (codes "page") content.page
+    ++ (text_field (codes "code") (hex_byte content.code) ++ (name_field (standard_name content.code)
+    ++ (other_payload_by content.written content.answer ++ meaning_fields values content)))
+
+-- whether it has its PEC, and that nobody answered
+abbrev pub pec_fields : Bool → Bool → List ℕ
+pec_fields is_right is_ones = if is_right then codes ",\"pec\":true"
+    else (if is_ones then codes ",\"pec\":false,\"answered\":false" else codes ",\"pec\":false")
+
+unfoldable pub other_fields : Bool → ℕ → List ℕ → Option (List ℕ) → List ℕ
+other_fields values addr write read = address_field (Some addr) ++ (content_fields values (content_of write read)
+    ++ pec_fields (has_pec write read) (is_all_ones write read))
+
+-- behind a packet of the table that lacks its PEC
+abbrev pub lack_field : Bool → List ℕ
+lack_field lacks = if lacks then codes ",\"pec\":false" else []
 
 -- ---- a line
 
-abbrev pub judged_fields : Option AnyFormat → Bool → Taught → List ℕ → Option (List ℕ) → Judged → List ℕ
-judged_fields vout values taught write read (Accepted addr message answer) =
-    address_field (Some addr) ++ message_fields vout values taught addr message answer
-judged_fields vout values taught write read (Faulty addr is_read fault) = fault_fields values write read addr is_read fault
-judged_fields vout values taught write read BadSyntax = []
-judged_fields vout values taught write read BadHex = []
+abbrev pub judged_fields : GivenFormats → Bool → Taught → List ℕ → Option (List ℕ) → Judged → List ℕ
+judged_fields given values taught write read (Accepted addr message answer) =
+    address_field (Some addr) ++ message_fields given values taught addr message answer
+judged_fields given values taught write read (Faulty addr is_read fault) = fault_fields values write read addr is_read fault
+judged_fields given values taught write read BadSyntax = []
+judged_fields given values taught write read BadHex = []
 
 -- ---- the counts
 

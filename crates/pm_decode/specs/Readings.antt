@@ -1,13 +1,14 @@
 -- What a line of a capture reads as: the packet's bytes, as `pm_trace` reads them, and with times the number that
 -- stands before them. The forms are this project's own choice.
-use Rattle.std.specs.Prelude.{ℕ, ℤ, pos, negsuc, Bool, true, false, not, ◌||◌, ◌==◌, nat_lt, if◌then◌else◌, List, [], ◌∷◌, length, map, slice_index, Option, Some, None, Result, Err}
+use Rattle.std.specs.Prelude.{ℕ, ℤ, pos, negsuc, Bool, true, false, not, ◌||◌, ◌==◌, nat_lt, if◌then◌else◌, List, [], ◌∷◌, length, map, slice_index, Option, Some, None, Result, Ok, Err}
 use Rattle.pm_lines.specs.Digits.{signed_of}
 use Rattle.pm_lines.specs.Lines.{Numbered, is_space, unskipped_from}
 use Rattle.pm_trace.specs.Marks.{before}
-use Rattle.pm_trace.specs.Trace.{Judged, line_read, reading_judged}
+use Rattle.pm_trace.specs.Trace.{Judged, line_read, parts_judged, reading_judged}
 use Rattle.pm_trace.specs.declared.line_fault.LineFault.{LineFault}
 use Rattle.pm_trace.specs.declared.line_fault.LineFault.TheVariants as fault
 use Rattle.pm_trace.specs.declared.trace_line.TraceLine.{TraceLine}
+use Rattle.pm_values.specs.Otherwise.{judged_anyway}
 
 -- ---- the word before a packet
 
@@ -68,6 +69,14 @@ entry_of times numbered = (numbered.0, reading_of times numbered.1)
 unfoldable pub entries_of : Bool → List ℕ → List Entry
 entries_of times text = map (entry_of times) (unskipped_from 1 text)
 
+-- what a packet says; where `all` is told, its PEC may be missing
+abbrev pub judged_by : Bool → TraceLine → Judged
+judged_by all parts = if all then judged_anyway parts.write parts.read else parts_judged parts.write parts.read
+
 -- what a line says of a packet
-abbrev pub judged_in : Entry → Judged
-judged_in entry = reading_judged entry.1.parts
+abbrev pub judged_as : Bool → Result TraceLine LineFault → Judged
+judged_as all (Ok parts) = judged_by all parts
+judged_as all (Err fault) = reading_judged (Err fault)
+
+abbrev pub judged_in : Bool → Entry → Judged
+judged_in all entry = judged_as all entry.1.parts

@@ -8,6 +8,7 @@ use crate::options::TellOptions;
 use crate::telling::tell;
 use pm_lines::{Sink, Source, TextFault};
 use pm_trace::DecodeEnd;
+use pm_values::GivenFormats;
 use std::alloc::Global;
 use std::io::{Read, Write};
 
@@ -39,7 +40,10 @@ pub fn decode<R: Read, W: Write>(
 {
     let options = TellOptions {
         values: false,
-        vout: None,
+        formats: GivenFormats {
+            vout: None,
+            readings: [None; 8],
+        },
         all: false,
         long: false,
         times: false,

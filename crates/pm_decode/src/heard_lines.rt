@@ -1,14 +1,18 @@
 //! What is known behind the lines of a capture.
-ghost use Rattle.std.specs.Prelude.{◌≡◌, Err};
+ghost use Rattle.std.specs.Prelude.{◌≡◌, Err, IfSome, is_some, option_map};
 ghost use Rattle.pm_trace.specs.ShownLines.{judged_in};
-ghost use Rattle.pm_trace.specs.Trace.{reading_judged};
+ghost use Rattle.pm_trace.specs.Trace.{parts_judged, reading_judged};
+ghost use Rattle.pm_values.specs.Otherwise.{IsCompleted, content_of};
+ghost use Rattle.pm_decode.specs.Hearing.{is_without_pec};
+ghost use Rattle.pm_decode.specs.ShownReadings.{packet_in};
 
 use crate::line_text::{push_bad_line, push_packet_line};
 use crate::options::TellOptions;
 use crate::others::Others;
 use crate::timed_line::LineReading;
+use arrayvec::ArrayVec;
 use pm_trace::{LineFault, Shown, Tally, packet_shown};
-use pm_values::{Lessons, Packet, address_otherwise};
+use pm_values::{Lessons, Packet, address_otherwise, completed_part, shown_with};
 use std::alloc::{AllocError, Global};
 use std::marker::Model;
 
@@ -33,7 +37,8 @@ impl HeardLines {
     ghost use Rattle.pm_trace.specs.Counts.{lines_in};
     ghost use Rattle.pm_decode.specs.CaptureText.{line_text};
     ghost use Rattle.pm_decode.specs.Hearing.{counted_with, heard_lines, heard_of, heard_with};
-    ghost use Rattle.pm_decode.specs.ShownReadings.{packet_in, reading_in};
+    ghost use Rattle.pm_decode.specs.Readings.{judged_by};
+    ghost use Rattle.pm_decode.specs.ShownReadings.{reading_in};
 
     /// No line yet. Takes no memory.
     #[tactic(auto, unfolding(crate::specs::Hearing::heard_of))]
@@ -73,7 +78,7 @@ impl HeardLines {
     }
 
     // The same of a line that could be read.
-    #[tactic(auto, using(crate::proofs::HearingLemmas::heard_one))]
+    #[tactic(auto, using(crate::proofs::PecLemmas::completed_said, crate::proofs::PecLemmas::usual_said))]
     fn hear_packet(
         &mut self,
         options: &TellOptions,
@@ -90,8 +95,38 @@ impl HeardLines {
         ensures few { heard_lines self.new ≤ heard_lines self.old + 1 }
     {
         let shown = packet_shown(packet.write, packet.read);
+        match completed_if(options.all, packet, &shown) {
+            Some(part) => {
+                let whole = shown_with(packet.write, packet.is_read(), &part);
+                self.hear_shown(options, number, time, packet, &whole, true, text)
+            }
+            None => self.hear_shown(options, number, time, packet, &shown, false, text),
+        }
+    }
+
+    // The same of a packet by what it says; `lacks` is whether it lacks its PEC.
+    #[tactic(auto, using(crate::proofs::HearingLemmas::heard_one))]
+    fn hear_shown(
+        &mut self,
+        options: &TellOptions,
+        number: u64,
+        time: Option<u64>,
+        packet: &Packet<'_>,
+        shown: &Shown<'_>,
+        lacks: bool,
+        text: &mut String,
+    ) -> Result<(), AllocError>
+        requires few { heard_lines self.old + 1 < 2 ^ 64 }
+        requires shown { judged_in shown.now ≡ judged_by options.now.all (packet_in packet.now) }
+        requires lacks { lacks ≡ is_without_pec options.now.all (packet_in packet.now) }
+        ensures text { OnOk result (string_bytes text.new ++ codes "\n" ≡ string_bytes text.old
+            ++ line_text options.now self.old.taught (number, record { time = time; parts = Ok (packet_in packet.now) })) }
+        ensures heard { OnOk result (self.new
+            ≡ heard_with options.now.all self.old (number, record { time = time; parts = Ok (packet_in packet.now) })) }
+        ensures few { heard_lines self.new ≤ heard_lines self.old + 1 }
+    {
         let other = if options.all {
-            address_otherwise(packet, &shown)
+            address_otherwise(packet, shown)
         } else {
             None
         };
@@ -102,13 +137,14 @@ impl HeardLines {
             number,
             time,
             packet,
-            &shown,
+            shown,
+            lacks,
             other,
         )?;
-        self.lessons.learn(&shown)?;
+        self.lessons.learn(shown)?;
         match other {
-            None => self.tally.count(&shown),
-            Some(_) => self.others.count(packet.code()),
+            None => self.tally.count(shown),
+            Some(_) => self.others.count(told_code(packet)),
         }
     }
 
@@ -134,6 +170,27 @@ impl HeardLines {
     {
         &self.others
     }
+}
+
+// The last part of a packet with its PEC, where it lacks nothing but that, and packets without PEC are told.
+fn completed_if(all: bool, packet: &Packet<'_>, shown: &Shown<'_>) -> Option<ArrayVec<u8, 16>>
+    requires { judged_in shown.now ≡ parts_judged packet.now.write.now (option_map (λ bytes. bytes.now) packet.now.read) }
+    ensures lacks { is_some result ≡ is_without_pec all (packet_in packet.now) }
+    ensures part { IfSome result (λ part.
+        IsCompleted packet.now.write.now (option_map (λ bytes. bytes.now) packet.now.read) part.items) }
+{
+    if all {
+        completed_part(packet, shown)
+    } else {
+        None
+    }
+}
+
+// The code by which a packet is told that the table doesn't have.
+fn told_code(packet: &Packet<'_>) -> u8
+    ensures { result ≡ (content_of packet.now.write.now (option_map (λ bytes. bytes.now) packet.now.read)).code }
+{
+    packet.content(packet.has_pec()).code
 }
 
 // What a line says that can't be read.

@@ -1,9 +1,9 @@
 //! The fields of objects of JSON.
 ghost use Rattle.std.specs.Prelude.{◌≡◌, ◌++◌, OnOk, string_bytes};
 ghost use Rattle.pm_lines.specs.Numbers.{hex_byte};
-ghost use Rattle.pm_decode.specs.JsonText.{address_field, bytes_field, hex_words, key, number_field, number_field_if, text_field};
+ghost use Rattle.pm_decode.specs.JsonText.{address_field, bytes_field, hex_words, key, number_field, number_field_if, signed_field, text_field};
 
-use pm_lines::{push_decimal, push_hex};
+use pm_lines::{push_decimal, push_hex, push_signed};
 use pm_values::push_spaced;
 use std::alloc::AllocError;
 
@@ -50,6 +50,19 @@ pub(crate) fn push_number_field(
 {
     push_key(text, name)?;
     push_decimal(text, number)
+}
+
+/// Appends a field with a number that may be negative.
+#[tactic(auto, using(pm_lines::specs::Lemmas::Joins::joins), unfolding(crate::specs::JsonText::signed_field))]
+pub(crate) fn push_signed_field(
+    text: &mut String,
+    name: &str,
+    number: i128,
+) -> Result<(), AllocError>
+    ensures { OnOk result (string_bytes text.new ≡ string_bytes text.old ++ signed_field name.now number) }
+{
+    push_key(text, name)?;
+    push_signed(text, number)
 }
 
 /// Appends a field with a number, where there is one.

@@ -1,22 +1,22 @@
 //! Packets as objects of JSON.
 ghost use Rattle.std.specs.Prelude.{◌≡◌, ◌++◌, option_map, if◌then◌else◌, codes, OnOk, string_bytes};
-ghost use Rattle.std.specs.Fmt.{signed_decimal};
 ghost use Rattle.pm_frame.specs.FaultWords.{frame_fault_place};
 ghost use Rattle.pm_table.specs.Coefficients.{coefficients_of};
 ghost use Rattle.pm_trace.specs.ShownLines.{judged_in};
-ghost use Rattle.pm_decode.specs.JsonText.{code_fields, coefficients_fields, fault_fields, judged_fields, kind_fields, message_fields, name_field, numbers_json, other_fields, other_payload, payload_fields, plain_fields, sent_direction as spec_sent_direction, sent_fields, text_field, whole_field, whole_words};
+ghost use Rattle.pm_values.specs.Contents.{content_in};
+ghost use Rattle.pm_decode.specs.JsonText.{code_fields, coefficients_fields, fault_fields, judged_fields, content_fields, kind_fields, meaning_fields, message_fields, name_field, numbers_fields, other_fields, other_payload_by, payload_fields, pec_fields as spec_pec_fields, plain_fields, sent_direction as spec_sent_direction, sent_fields, whole_field, whole_words};
 
 use crate::json_fields::{
     push_address_field, push_bytes_field, push_hex_field, push_key, push_number_field,
-    push_number_field_if, push_text_field,
+    push_number_field_if, push_signed_field, push_text_field,
 };
 use crate::json_value::push_value_fields;
 use crate::options::TellOptions;
 use pm_frame::{FrameFault, FrameView, Message};
-use pm_lines::{push_hex, push_signed};
+use pm_lines::push_hex;
 use pm_table::{Code, Coefficients};
 use pm_trace::{Shown, answered, coefficients_in};
-use pm_values::{Lessons, Packet, packet_value, push_spaced};
+use pm_values::{Content, Lessons, Packet, other_value, packet_value, push_spaced, standard_name};
 use std::alloc::AllocError;
 
 /// Appends the fields of a packet as the command table has it.
@@ -29,7 +29,7 @@ pub(crate) fn push_judged_fields(
     shown: &Shown<'_>,
 ) -> Result<(), AllocError>
     ensures { OnOk result (string_bytes text.new ≡ string_bytes text.old
-        ++ judged_fields options.now.vout options.now.values lessons.now packet.now.write.now
+        ++ judged_fields options.now.formats options.now.values lessons.now packet.now.write.now
         (option_map (λ bytes. bytes.now) packet.now.read) (judged_in shown.now)) }
 {
     match shown {
@@ -55,7 +55,7 @@ fn push_message_fields(
     answer: Option<&[u8]>,
 ) -> Result<(), AllocError>
     ensures { OnOk result (string_bytes text.new ≡ string_bytes text.old
-        ++ message_fields options.now.vout options.now.values lessons.now addr view.now
+        ++ message_fields options.now.formats options.now.values lessons.now addr view.now
         (option_map (λ bytes. bytes.now) answer.entry)) }
 {
     match view.message() {
@@ -77,7 +77,7 @@ fn push_plain_fields(
     answer: Option<&[u8]>,
 ) -> Result<(), AllocError>
     ensures { OnOk result (string_bytes text.new ≡ string_bytes text.old
-        ++ plain_fields options.now.vout options.now.values lessons.now addr view.now
+        ++ plain_fields options.now.formats options.now.values lessons.now addr view.now
         (option_map (λ bytes. bytes.now) answer.entry)) }
 {
     push_number_field_if(text, "page", view.page().map(u64::from))?;
@@ -86,7 +86,7 @@ fn push_plain_fields(
     if options.values {
         push_value_fields(
             text,
-            packet_value(options.vout, lessons, addr, view, answer),
+            packet_value(&options.formats, lessons, addr, view, answer),
         )?;
     }
     Ok(())
@@ -115,7 +115,7 @@ fn push_payload_fields(
         None => push_sent_fields(text, payload),
         Some(answer) => {
             push_text_field(text, "direction", "read")?;
-            push_bytes_field(text, "bytes", answer)
+            push_bytes_field(text, "payload", answer)
         }
     }
 }
@@ -126,7 +126,7 @@ fn push_sent_fields(text: &mut String, payload: &[u8]) -> Result<(), AllocError>
     ensures { OnOk result (string_bytes text.new ≡ string_bytes text.old ++ sent_fields payload.now) }
 {
     push_text_field(text, "direction", sent_direction(payload))?;
-    push_bytes_field(text, "bytes", payload)
+    push_bytes_field(text, "payload", payload)
 }
 
 // Whether something was written, or only sent.
@@ -150,32 +150,17 @@ fn push_coefficients_fields(
     push_hex_field(text, "of", code)?;
     push_number_field(text, "side", u64::from(side))?;
     push_payload_fields(text, &[], Some(answer))?;
-    push_numbers_field(text, coefficients_in(answer))
-}
-
-// The three numbers of an answer as a field.
-#[tactic(auto, using(pm_lines::specs::Lemmas::Joins::joins), unfolding(crate::specs::JsonText::text_field))]
-fn push_numbers_field(text: &mut String, coefficients: Coefficients) -> Result<(), AllocError>
-    ensures { OnOk result (string_bytes text.new
-        ≡ string_bytes text.old ++ text_field (codes "value") (numbers_json coefficients)) }
-{
-    push_key(text, "value")?;
-    text.push_str("\"")?;
-    push_numbers(text, coefficients)?;
-    text.push_str("\"")
+    push_numbers(text, coefficients_in(answer))
 }
 
 // The three numbers of an answer.
-#[tactic(auto, using(pm_lines::specs::Lemmas::Joins::signed_joins), unfolding(crate::specs::JsonText::numbers_json))]
+#[tactic(auto, using(pm_lines::specs::Lemmas::Joins::signed_joins))]
 fn push_numbers(text: &mut String, coefficients: Coefficients) -> Result<(), AllocError>
-    ensures { OnOk result (string_bytes text.new ≡ string_bytes text.old ++ numbers_json coefficients) }
+    ensures { OnOk result (string_bytes text.new ≡ string_bytes text.old ++ numbers_fields coefficients) }
 {
-    text.push_str("m ")?;
-    push_signed(text, i128::from(coefficients.m))?;
-    text.push_str(" b ")?;
-    push_signed(text, i128::from(coefficients.b))?;
-    text.push_str(" r ")?;
-    push_signed(text, i128::from(coefficients.r))
+    push_signed_field(text, "m", i128::from(coefficients.m))?;
+    push_signed_field(text, "b", i128::from(coefficients.b))?;
+    push_signed_field(text, "r", i128::from(coefficients.r))
 }
 
 // A packet with a fault.
@@ -229,10 +214,10 @@ fn push_whole_field(text: &mut String, values: bool, packet: &Packet<'_>) -> Res
     ensures { OnOk result (string_bytes text.new ≡ string_bytes text.old
         ++ whole_field values packet.now.write.now (option_map (λ bytes. bytes.now) packet.now.read)) }
 {
-    if !values {
+    if !values || packet.write.is_empty() && packet.read.is_none() {
         return Ok(());
     }
-    push_key(text, "bytes")?;
+    push_key(text, "packet")?;
     text.push_str("\"")?;
     push_whole_words(text, packet)?;
     text.push_str("\"")
@@ -263,54 +248,95 @@ fn push_whole_words(text: &mut String, packet: &Packet<'_>) -> Result<(), AllocE
     }
 }
 
-/// Appends the fields of a packet that is told by its code and bytes.
-#[tactic(auto, using(pm_lines::specs::Lemmas::Joins::joins))]
+/// Appends the fields of a packet that is told by its code and bytes, with what the bytes say where `values` asks for that.
+#[tactic(auto, using(pm_lines::specs::Lemmas::Joins::joins), unfolding(crate::specs::JsonText::other_fields))]
 pub(crate) fn push_other_fields(
     text: &mut String,
+    values: bool,
     addr: u8,
     packet: &Packet<'_>,
 ) -> Result<(), AllocError>
     ensures { OnOk result (string_bytes text.new ≡ string_bytes text.old
-        ++ other_fields addr packet.now.write.now (option_map (λ bytes. bytes.now) packet.now.read)) }
+        ++ other_fields values addr packet.now.write.now (option_map (λ bytes. bytes.now) packet.now.read)) }
 {
-    let code = packet.code();
+    let has_pec = packet.has_pec();
     push_address_field(text, Some(addr))?;
-    push_hex_field(text, "code", code)?;
-    push_name_field(text, code)?;
-    push_other_payload(text, packet)?;
-    push_key(text, "pec")?;
-    text.push_str(truth(packet.has_pec()))
+    push_content_fields(text, values, &packet.content(has_pec))?;
+    text.push_str(pec_fields(has_pec, packet.is_all_ones()))
 }
 
-// A boolean value.
-fn truth(value: bool) -> &'static str
-    ensures { result.now ≡ (if value then codes "true" else codes "false") }
+// Whether a packet has its PEC, and that nobody answered.
+fn pec_fields(is_right: bool, is_ones: bool) -> &'static str
+    ensures { result.now ≡ spec_pec_fields is_right is_ones }
 {
-    if value { "true" } else { "false" }
+    if is_right {
+        ",\"pec\":true"
+    } else if is_ones {
+        ",\"pec\":false,\"answered\":false"
+    } else {
+        ",\"pec\":false"
+    }
 }
 
-// The name of a code that the table has.
-fn push_name_field(text: &mut String, code: u8) -> Result<(), AllocError>
-    ensures { OnOk result (string_bytes text.new ≡ string_bytes text.old ++ name_field code) }
+// The page, the code and the bytes of a packet, and what they say.
+#[tactic(auto, using(pm_lines::specs::Lemmas::Joins::joins), unfolding(crate::specs::JsonText::content_fields))]
+fn push_content_fields(
+    text: &mut String,
+    values: bool,
+    content: &Content<'_>,
+) -> Result<(), AllocError>
+    ensures { OnOk result (string_bytes text.new ≡ string_bytes text.old ++ content_fields values (content_in content.now)) }
 {
-    if !Code(code).is_known() {
+    push_number_field_if(text, "page", content.page.map(u64::from))?;
+    push_hex_field(text, "code", content.code)?;
+    push_name_field(text, standard_name(content.code))?;
+    push_other_payload(text, content.written, content.answer)?;
+    push_meaning_fields(text, values, content)
+}
+
+// The name of a code, where it has one.
+fn push_name_field(text: &mut String, name: &str) -> Result<(), AllocError>
+    ensures { OnOk result (string_bytes text.new ≡ string_bytes text.old ++ name_field name.now) }
+{
+    if name.is_empty() {
         return Ok(());
     }
-    push_text_field(text, "name", Code(code).name())
+    push_text_field(text, "name", name)
 }
 
 // What was written and read.
 #[tactic(auto, using(pm_lines::specs::Lemmas::Joins::joins))]
-fn push_other_payload(text: &mut String, packet: &Packet<'_>) -> Result<(), AllocError>
+fn push_other_payload(
+    text: &mut String,
+    written: &[u8],
+    answer: Option<&[u8]>,
+) -> Result<(), AllocError>
     ensures { OnOk result (string_bytes text.new ≡ string_bytes text.old
-        ++ other_payload packet.now.write.now (option_map (λ bytes. bytes.now) packet.now.read)) }
+        ++ other_payload_by written.now (option_map (λ bytes. bytes.now) answer.entry)) }
 {
-    match packet.answer() {
-        None => push_sent_fields(text, packet.written()),
+    match answer {
+        None => push_sent_fields(text, written),
         Some(answer) => {
             push_text_field(text, "direction", "read")?;
-            push_bytes_field(text, "written", packet.written())?;
-            push_bytes_field(text, "bytes", answer)
+            push_bytes_field(text, "written", written)?;
+            push_bytes_field(text, "payload", answer)
         }
+    }
+}
+
+// What the bytes say, where that is wanted.
+fn push_meaning_fields(
+    text: &mut String,
+    values: bool,
+    content: &Content<'_>,
+) -> Result<(), AllocError>
+    ensures { OnOk result (string_bytes text.new ≡ string_bytes text.old ++ meaning_fields values (content_in content.now)) }
+{
+    if !values {
+        return Ok(());
+    }
+    match content.letters() {
+        Some(letters) => push_text_field(text, "text", letters),
+        None => push_value_fields(text, other_value(content.code, content.said())),
     }
 }

@@ -1,16 +1,14 @@
 //! Values as fields of objects of JSON.
 ghost use Rattle.std.specs.Prelude.{◌≡◌, ◌++◌, codes, OnOk, string_bytes};
-ghost use Rattle.std.specs.Fmt.{signed_decimal};
-ghost use Rattle.pm_values.specs.ValueText.{fraction_text, mode_text, ratio_text};
-ghost use Rattle.pm_decode.specs.JsonText.{key, text_field, value_fields, value_fields_if};
+ghost use Rattle.pm_values.specs.ValueText.{capability_text, mode_text, on_off_text};
+ghost use Rattle.pm_decode.specs.JsonText.{fraction_by, rounded_field, text_field, unit_key as spec_unit_key, value_fields, value_fields_if};
 
-use crate::json_fields::{push_key, push_text_field};
-use pm_lines::push_signed;
+use crate::json_fields::{push_key, push_signed_field, push_text_field};
 use pm_num::Frac;
 use pm_table::VoutMode;
 use pm_values::{
-    Fraction, Status, Value, millionths, operation_words, protection_words, push_fraction,
-    push_mode, push_names, push_ratio,
+    Status, Unit, Value, operation_words, protection_words, push_capability, push_millionths,
+    push_mode, push_names, push_on_off,
 };
 use std::alloc::AllocError;
 
@@ -30,51 +28,52 @@ fn push_fields_of(text: &mut String, value: Value) -> Result<(), AllocError>
     ensures { OnOk result (string_bytes text.new ≡ string_bytes text.old ++ value_fields value) }
 {
     match value {
-        Value::Reading(fraction, unit) => {
-            push_fraction_field(text, fraction)?;
-            push_text_field(text, "unit", unit.text())
-        }
-        Value::Volts(ratio) => push_volts_fields(text, ratio),
+        Value::Measured(ratio, unit) => push_measured_fields(text, ratio, unit),
         Value::Operates(operation) => { push_text_field(text, "value", operation_words(operation)) }
         Value::Protects(byte) => push_text_field(text, "value", protection_words(byte)),
         Value::Scales(mode) => push_mode_field(text, mode),
         Value::Flags(status, bits) => push_flags_field(text, status, bits),
+        Value::Capable(byte) => push_capability_field(text, byte),
+        Value::Controls(byte) => push_on_off_field(text, byte),
     }
 }
 
-// A fraction in lowest terms.
-#[tactic(auto, using(pm_lines::specs::Lemmas::Joins::joins), unfolding(crate::specs::JsonText::text_field))]
-fn push_fraction_field(text: &mut String, fraction: Fraction) -> Result<(), AllocError>
-    ensures { OnOk result (string_bytes text.new
-        ≡ string_bytes text.old ++ text_field (codes "value") (fraction_text fraction)) }
-{
-    push_key(text, "value")?;
-    text.push_str("\"")?;
-    push_fraction(text, fraction)?;
-    text.push_str("\"")
-}
-
-// A fraction as it stands.
-#[tactic(auto, using(pm_lines::specs::Lemmas::Joins::joins), unfolding(crate::specs::JsonText::text_field))]
-fn push_ratio_field(text: &mut String, ratio: Frac) -> Result<(), AllocError>
-    ensures { OnOk result (string_bytes text.new
-        ≡ string_bytes text.old ++ text_field (codes "value") (ratio_text ratio)) }
-{
-    push_key(text, "value")?;
-    text.push_str("\"")?;
-    push_ratio(text, ratio)?;
-    text.push_str("\"")
-}
-
-// A voltage, and its whole microvolts.
+// A number: its fraction as the word has it, and what it is rounded down to a millionth.
 #[tactic(auto, using(pm_lines::specs::Lemmas::Joins::joins))]
-fn push_volts_fields(text: &mut String, ratio: Frac) -> Result<(), AllocError>
-    ensures { OnOk result (string_bytes text.new ≡ string_bytes text.old ++ value_fields (Value.Volts ratio)) }
+fn push_measured_fields(text: &mut String, ratio: Frac, unit: Unit) -> Result<(), AllocError>
+    ensures { OnOk result (string_bytes text.new ≡ string_bytes text.old ++ value_fields (Value.Measured ratio unit)) }
 {
-    push_ratio_field(text, ratio)?;
-    push_key(text, "micro")?;
-    push_signed(text, millionths(ratio))?;
-    push_text_field(text, "unit", "V")
+    push_fraction_by(text, ratio.num(), ratio.den())?;
+    push_rounded_field(text, ratio, unit)
+}
+
+// A fraction by its two numbers.
+#[tactic(auto, using(pm_lines::specs::Lemmas::Joins::signed_joins), unfolding(crate::specs::JsonText::fraction_by))]
+fn push_fraction_by(text: &mut String, num: i128, den: i128) -> Result<(), AllocError>
+    ensures { OnOk result (string_bytes text.new ≡ string_bytes text.old ++ fraction_by num den) }
+{
+    push_signed_field(text, "numerator", num)?;
+    push_signed_field(text, "denominator", den)
+}
+
+// A fraction rounded down to a millionth.
+#[tactic(auto, using(pm_lines::specs::Lemmas::Joins::joins), unfolding(crate::specs::JsonText::rounded_field))]
+fn push_rounded_field(text: &mut String, ratio: Frac, unit: Unit) -> Result<(), AllocError>
+    ensures { OnOk result (string_bytes text.new ≡ string_bytes text.old ++ rounded_field ratio unit) }
+{
+    push_key(text, unit_key(unit))?;
+    push_millionths(text, ratio)
+}
+
+// The key of a number with this unit.
+fn unit_key(unit: Unit) -> &'static str
+    ensures { result.now ≡ spec_unit_key unit }
+{
+    match unit {
+        Unit::Volt => "volts",
+        Unit::Ampere => "amperes",
+        Unit::Celsius => "celsius",
+    }
 }
 
 // The mode of an output.
@@ -86,6 +85,30 @@ fn push_mode_field(text: &mut String, mode: VoutMode) -> Result<(), AllocError>
     push_key(text, "value")?;
     text.push_str("\"")?;
     push_mode(text, mode)?;
+    text.push_str("\"")
+}
+
+// A byte of CAPABILITY.
+#[tactic(auto, using(pm_lines::specs::Lemmas::Joins::joins), unfolding(crate::specs::JsonText::text_field))]
+fn push_capability_field(text: &mut String, byte: u8) -> Result<(), AllocError>
+    ensures { OnOk result (string_bytes text.new
+        ≡ string_bytes text.old ++ text_field (codes "value") (capability_text byte)) }
+{
+    push_key(text, "value")?;
+    text.push_str("\"")?;
+    push_capability(text, byte)?;
+    text.push_str("\"")
+}
+
+// A byte of ON_OFF_CONFIG.
+#[tactic(auto, using(pm_lines::specs::Lemmas::Joins::joins), unfolding(crate::specs::JsonText::text_field))]
+fn push_on_off_field(text: &mut String, byte: u8) -> Result<(), AllocError>
+    ensures { OnOk result (string_bytes text.new
+        ≡ string_bytes text.old ++ text_field (codes "value") (on_off_text byte)) }
+{
+    push_key(text, "value")?;
+    text.push_str("\"")?;
+    push_on_off(text, byte)?;
     text.push_str("\"")
 }
 

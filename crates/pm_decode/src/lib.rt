@@ -14,7 +14,10 @@
 //! ) -> Result<W, TextFault> {
 //!     let options = TellOptions {
 //!         values: true, // a voltage in volts, a status register bit by bit
-//!         vout: None, // the format that the trace itself teaches
+//!         formats: GivenFormats {
+//!             vout: None, // the format that the trace itself teaches
+//!             readings: [None; 8],
+//!         },
 //!         all: false,
 //!         long: false,
 //!         times: false,

@@ -1,11 +1,13 @@
 //! The text of a line.
 ghost use Rattle.std.specs.Prelude.{◌≡◌, ◌++◌, ℕ, Option, Err, Ok, OnOk, codes, decimal, option_map, string_bytes};
 ghost use Rattle.pm_trace.specs.ShownLines.{judged_in};
-ghost use Rattle.pm_trace.specs.Trace.{parts_judged, reading_judged};
+ghost use Rattle.pm_trace.specs.Trace.{reading_judged};
 ghost use Rattle.pm_trace.specs.TraceText.{judged_text};
 ghost use Rattle.pm_values.specs.Taught.{Taught};
-ghost use Rattle.pm_decode.specs.CaptureText.{bytes_text, extra_text, json_line, line_text, plain_line, meaning_text, packet_text_by, read_bytes_text, time_text};
-ghost use Rattle.pm_decode.specs.Hearing.{other_address};
+ghost use Rattle.pm_decode.specs.CaptureText.{bytes_text, extra_text, json_line, lack_text, line_text, plain_line, meaning_text, packet_fields_by, packet_text_by, read_bytes_text, time_text};
+ghost use Rattle.pm_decode.specs.Hearing.{is_without_pec, other_address};
+ghost use Rattle.pm_decode.specs.JsonText.{lack_field as spec_lack_field};
+ghost use Rattle.pm_decode.specs.Readings.{judged_by};
 ghost use Rattle.pm_decode.specs.ShownReadings.{packet_in};
 
 use crate::json_fields::{push_number_field_if, push_text_field};
@@ -88,17 +90,23 @@ pub(crate) fn push_packet_line(
     time: Option<u64>,
     packet: &Packet<'_>,
     shown: &Shown<'_>,
+    lacks: bool,
     other: Option<u8>,
 ) -> Result<(), AllocError>
-    requires shown { judged_in shown.now ≡ parts_judged packet.now.write.now (option_map (λ bytes. bytes.now) packet.now.read) }
+    requires shown { judged_in shown.now ≡ judged_by options.now.all (packet_in packet.now) }
+    requires lacks { lacks ≡ is_without_pec options.now.all (packet_in packet.now) }
     requires other { other ≡ other_address options.now.all (packet_in packet.now) }
     ensures { OnOk result (string_bytes text.new ++ codes "\n" ≡ string_bytes text.old
         ++ line_text options.now lessons.now (number, record { time = time; parts = Ok (packet_in packet.now) })) }
 {
     if options.json {
-        push_packet_json(text, options, lessons, number, time, packet, shown, other)
+        push_packet_json(
+            text, options, lessons, number, time, packet, shown, lacks, other,
+        )
     } else {
-        push_packet_plain(text, options, lessons, number, time, packet, shown, other)
+        push_packet_plain(
+            text, options, lessons, number, time, packet, shown, lacks, other,
+        )
     }
 }
 
@@ -112,9 +120,11 @@ fn push_packet_json(
     time: Option<u64>,
     packet: &Packet<'_>,
     shown: &Shown<'_>,
+    lacks: bool,
     other: Option<u8>,
 ) -> Result<(), AllocError>
-    requires shown { judged_in shown.now ≡ parts_judged packet.now.write.now (option_map (λ bytes. bytes.now) packet.now.read) }
+    requires shown { judged_in shown.now ≡ judged_by options.now.all (packet_in packet.now) }
+    requires lacks { lacks ≡ is_without_pec options.now.all (packet_in packet.now) }
     requires other { other ≡ other_address options.now.all (packet_in packet.now) }
     ensures { OnOk result (string_bytes text.new ++ codes "\n" ≡ string_bytes text.old
         ++ json_line options.now lessons.now (number, record { time = time; parts = Ok (packet_in packet.now) })) }
@@ -122,11 +132,33 @@ fn push_packet_json(
     text.push_str("{\"line\":")?;
     push_decimal(text, number)?;
     push_number_field_if(text, "time", time)?;
-    match other {
-        None => push_judged_fields(text, options, lessons, packet, shown)?,
-        Some(addr) => push_other_fields(text, addr, packet)?,
-    }
+    push_packet_fields(text, options, lessons, packet, shown, lacks, other)?;
     text.push_str("}")
+}
+
+// The fields of a packet.
+#[tactic(auto, using(pm_lines::specs::Lemmas::Joins::joins))]
+fn push_packet_fields(
+    text: &mut String,
+    options: &TellOptions,
+    lessons: &Lessons,
+    packet: &Packet<'_>,
+    shown: &Shown<'_>,
+    lacks: bool,
+    other: Option<u8>,
+) -> Result<(), AllocError>
+    requires shown { judged_in shown.now ≡ judged_by options.now.all (packet_in packet.now) }
+    requires lacks { lacks ≡ is_without_pec options.now.all (packet_in packet.now) }
+    ensures { OnOk result (string_bytes text.new ≡ string_bytes text.old
+        ++ packet_fields_by options.now lessons.now (packet_in packet.now) other) }
+{
+    match other {
+        None => {
+            push_judged_fields(text, options, lessons, packet, shown)?;
+            text.push_str(lack_field(lacks))
+        }
+        Some(addr) => push_other_fields(text, options.values, addr, packet),
+    }
 }
 
 // The same as it is told to a person.
@@ -139,9 +171,11 @@ fn push_packet_plain(
     time: Option<u64>,
     packet: &Packet<'_>,
     shown: &Shown<'_>,
+    lacks: bool,
     other: Option<u8>,
 ) -> Result<(), AllocError>
-    requires shown { judged_in shown.now ≡ parts_judged packet.now.write.now (option_map (λ bytes. bytes.now) packet.now.read) }
+    requires shown { judged_in shown.now ≡ judged_by options.now.all (packet_in packet.now) }
+    requires lacks { lacks ≡ is_without_pec options.now.all (packet_in packet.now) }
     requires other { other ≡ other_address options.now.all (packet_in packet.now) }
     ensures { OnOk result (string_bytes text.new ++ codes "\n" ≡ string_bytes text.old
         ++ plain_line options.now lessons.now (number, record { time = time; parts = Ok (packet_in packet.now) })) }
@@ -152,10 +186,25 @@ fn push_packet_plain(
     match other {
         None => {
             push_shown(text, number, shown)?;
-            push_extra(text, options, lessons, packet, shown)
+            push_extra(text, options, lessons, packet, shown)?;
+            text.push_str(lack_words(lacks))
         }
-        Some(addr) => push_otherwise(text, addr, packet),
+        Some(addr) => push_otherwise(text, options.values, addr, packet),
     }
+}
+
+// What stands behind a packet that lacks its PEC.
+fn lack_words(lacks: bool) -> &'static str
+    ensures { result.now ≡ lack_text lacks }
+{
+    if lacks { ", no PEC" } else { "" }
+}
+
+// The same in JSON.
+fn lack_field(lacks: bool) -> &'static str
+    ensures { result.now ≡ spec_lack_field lacks }
+{
+    if lacks { ",\"pec\":false" } else { "" }
 }
 
 // The time of a packet, where it is known.
@@ -190,7 +239,7 @@ fn push_extra(
         Shown::Accepted { addr, view, answer } => {
             push_known(
                 text,
-                packet_value(options.vout, lessons, *addr, view, *answer),
+                packet_value(&options.formats, lessons, *addr, view, *answer),
             )
         }
         Shown::Faulty { .. } => push_bytes(text, packet),
@@ -198,11 +247,14 @@ fn push_extra(
     }
 }
 
-// All bytes of a packet.
+// All bytes of a packet, where it has a byte, or a read part.
 #[tactic(auto, using(pm_lines::specs::Lemmas::Joins::joins))]
 fn push_bytes(text: &mut String, packet: &Packet<'_>) -> Result<(), AllocError>
     ensures { OnOk result (string_bytes text.new ≡ string_bytes text.old ++ bytes_text (packet_in packet.now)) }
 {
+    if packet.write.is_empty() && packet.read.is_none() {
+        return Ok(());
+    }
     text.push_str(" bytes")?;
     push_spaced(text, packet.write)?;
     let Some(read) = packet.read else {

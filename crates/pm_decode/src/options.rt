@@ -1,13 +1,13 @@
-use pm_num::AnyFormat;
+use pm_values::GivenFormats;
 
 /// How a capture is told.
 #[derive(Clone, Copy, Debug)]
 pub struct TellOptions {
     /// Behind each packet stands what its payload means, and behind one with a fault its bytes.
     pub values: bool,
-    /// The format of voltages whose own format the capture doesn't teach.
-    pub vout: Option<AnyFormat>,
-    /// Packets of codes that the command table doesn't have are told by their bytes.
+    /// The formats of words whose own format the capture doesn't teach.
+    pub formats: GivenFormats,
+    /// Packets without PEC are told as good ones, and those that the command table doesn't have by their code and bytes.
     pub all: bool,
     /// The capture may have more than 1 MiB.
     pub long: bool,

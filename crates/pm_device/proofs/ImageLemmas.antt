@@ -1,7 +1,7 @@
 -- What an image is of: no converter where a test fails, otherwise the one that its numbers mean.
 use Rattle.std.proofs.Common.{◌≡◌, ℕ, ◌<◌, Bool, true, false, cond, ◌&&◌, ◌==◌, nat_lt, is_none, is_some, List, map, Option, Some, None}
 use Rattle.std.proofs.Common.{refl, sym, ap, ap₂, subst, ◌∙◌, arith}
-use Rattle.std.proofs.lemmas.Bool.{and_from}
+use Rattle.std.proofs.lemmas.Bool.{and_from, eq-eqb, lt-ltb}
 use Rattle.pm_table.specs.declared.cell.Cell.TheVariants.{Protect}
 use Rattle.pm_model.specs.Settings.{Settings, settings_in, word_at}
 use Rattle.pm_device.specs.declared.config.Config.{Config}
@@ -67,20 +67,12 @@ pub record MayHold (h : Held) : Type 0 where
   pub protect : word_at h.store Protect ≡ h.config.protect
   pub page : h.page < h.config.count
 
--- a number is itself
-same-true : (a b : ℕ) → a ≡ b → (a == b) ≡ true
-same-true a b e = grind (arith, e)
-
--- a number that is less than another passes the test of that
-less-true : (a b : ℕ) → a < b → nat_lt a b ≡ true
-less-true a b e = grind (arith, e)
-
 -- what a converter may hold, by a fact of each of its parts, passes the test of that
 may-hold : (h : Held) → MayHold h → may_hold h ≡ true
 may-hold h may = and_from _ _ (ap (λ (f : Option ConfigFault). is_none f) may.config)
     (and_from _ _ (and_from _ _ (ap (λ (s : Option Settings). is_some s) may.words.1)
     (ap (λ (s : Option Settings). is_some s) may.store.1))
-    (and_from _ _ (same-true _ _ may.protect) (less-true _ _ may.page)))
+    (and_from _ _ (eq-eqb _ _ may.protect) (lt-ltb h.page h.config.count may.page)))
 
 -- an image of this layout is that of the converter
 pub some-held : (image : Image) → is_current image ≡ true → MayHold (held image) →

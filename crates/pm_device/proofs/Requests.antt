@@ -1,9 +1,11 @@
 -- What a hearing that a repeated start ended leaves.
 use Rattle.std.proofs.Common.{◌≡◌, ℕ, ◌≤◌, Bool, true, false, cond, ◌||◌, Option, Some, None, List, [], ◌∷◌, refl, sym, ◌∙◌, ap}
+use Rattle.std.proofs.lemmas.Bool.{or_right}
 use Rattle.pm_frame.specs.declared.fault.FrameFault.{FrameFault}
 use Rattle.pm_frame.specs.declared.fault.FrameFault.TheVariants as frame
 use Rattle.pm_frame.specs.declared.message.Message.{Message}
-use Rattle.pm_frame.specs.declared.message.Message.TheVariants.{SendByte, WriteByte, WriteWord, PagePlusWrite, ReadCommand, PagePlusRead, ReadCoefficients}
+use Rattle.pm_frame.specs.declared.message.Message.TheVariants.{SendByte, WriteByte, WriteWord, PagePlusWrite, ReadCommand, PagePlusRead}
+use Rattle.pm_frame.specs.declared.message.Message.TheVariants.{ReadCoefficients}
 use Rattle.pm_frame.specs.Fault.{request_fault}
 use Rattle.pm_frame.specs.View.{message_in}
 use Rattle.std.specs.Prelude.{nat_lt}
@@ -27,7 +29,7 @@ IsNoAct Ignores = Unit {0}
 IsNoAct (Refuses fault) = Unit {0}
 IsNoAct (Answers request) = Unit {0}
 
--- that of a fault,
+-- The verdict of a fault asks for no act.
 fault-no_act : (fault : FrameFault) → IsNoAct (fault_verdict fault)
 unfolding IsNoAct
 fault-no_act frame.NotOurs = tt
@@ -39,7 +41,7 @@ fault-no_act (frame.UnknownCode place) = tt
 fault-no_act (frame.WrongDirection place) = tt
 fault-no_act (frame.Nested place) = tt
 
--- that of a request,
+-- The verdict of a request asks for no act.
 read-no_act : (config : Config) (message : Message) → IsNoAct (read_verdict config message)
 unfolding IsNoAct
 read-no_act config (ReadCommand code) = tt
@@ -56,7 +58,7 @@ read-no_act config (WriteByte code byte) = tt
 read-no_act config (WriteWord code word) = tt
 read-no_act config (PagePlusWrite page code payload) = tt
 
--- and that of what a repeated start ended
+-- The verdict of bytes that a repeated start ended asks for no act.
 request-no_act : (config : Config) (words : Words) (page : ℕ) (bytes : List ℕ) → IsNoAct (verdict_of config words page bytes Restart)
 unfolding verdict_of
 request-no_act config words page bytes = go (request_fault config.addr bytes) where
@@ -64,7 +66,7 @@ request-no_act config words page bytes = go (request_fault config.addr bytes) wh
   go (Some fault) = fault-no_act fault
   go None = read-no_act config (message_in bytes)
 
--- without an act nothing changes but the latched bits of STATUS_CML,
+-- A verdict without an act changes nothing but the latched bits of STATUS_CML.
 after-alone : (held : Held) (verdict : Verdict) → IsNoAct verdict
     → after held (Heard verdict) ≡ record held { faults = (after held (Heard verdict)).faults }
 unfolding after IsNoAct
@@ -73,23 +75,18 @@ after-alone held Ignores none = refl
 after-alone held (Refuses fault) none = refl
 after-alone held (Answers request) none = refl
 
--- so it is after a request
+-- A request changes nothing but the latched bits of STATUS_CML.
 pub request-alone : (held : Held) (bytes : List ℕ)
     → next held (Hearing bytes Restart) ≡ record held { faults = (next held (Hearing bytes Restart)).faults }
 unfolding next
 request-alone held bytes =
     after-alone held (verdict_of held.config held.words held.page bytes Restart) (request-no_act held.config held.words held.page bytes)
 
--- what is kept stays
+-- What a restart keeps stays the same after a request.
 pub request-kept : (held : Held) (bytes : List ℕ) → kept_in (next held (Hearing bytes Restart)) ≡ kept_in held
 request-kept held bytes = ap kept_in (request-alone held bytes)
 
--- a bit that is set stays set, whatever sets another
-still_set : (sets before : Bool) → before ≡ true → (sets || before) ≡ true
-still_set true before e = refl
-still_set false before e = e
-
--- without an act none of them is cleared,
+-- A verdict without an act clears no latched bit of STATUS_CML.
 after-rises : (held : Held) (verdict : Verdict) (bit : CmlBit) → IsNoAct verdict → cml_at held.faults bit ≡ true
     → cml_at (after held (Heard verdict)).faults bit ≡ true
 unfolding after IsNoAct
@@ -98,16 +95,16 @@ after-rises held Ignores Command none set = set
 after-rises held Ignores Data none set = set
 after-rises held Ignores Pec none set = set
 after-rises held Ignores OtherCommunication none set = set
-after-rises held (Refuses fault) Command none set = still_set (sets_cml Command (Heard (Refuses fault))) _ set
-after-rises held (Refuses fault) Data none set = still_set (sets_cml Data (Heard (Refuses fault))) _ set
-after-rises held (Refuses fault) Pec none set = still_set (sets_cml Pec (Heard (Refuses fault))) _ set
-after-rises held (Refuses fault) OtherCommunication none set = still_set (sets_cml OtherCommunication (Heard (Refuses fault))) _ set
+after-rises held (Refuses fault) Command none set = or_right (sets_cml Command (Heard (Refuses fault))) _ set
+after-rises held (Refuses fault) Data none set = or_right (sets_cml Data (Heard (Refuses fault))) _ set
+after-rises held (Refuses fault) Pec none set = or_right (sets_cml Pec (Heard (Refuses fault))) _ set
+after-rises held (Refuses fault) OtherCommunication none set = or_right (sets_cml OtherCommunication (Heard (Refuses fault))) _ set
 after-rises held (Answers request) Command none set = set
 after-rises held (Answers request) Data none set = set
 after-rises held (Answers request) Pec none set = set
 after-rises held (Answers request) OtherCommunication none set = set
 
--- and none by a request
+-- A request clears no latched bit of STATUS_CML.
 pub request-rises : (held : Held) (bytes : List ℕ) (bit : CmlBit) → cml_at held.faults bit ≡ true
     → cml_at (next held (Hearing bytes Restart)).faults bit ≡ true
 unfolding next
@@ -122,7 +119,7 @@ next-beside : (held : Held) (faults : CmlFaults) (event : Event)
 unfolding next after
 next-beside held faults event = refl
 
--- one event more of two pasts that came to the same but for those bits
+-- Two pasts that came to the same but for the latched bits of STATUS_CML do so after one event more.
 one_more : (config : Config) (past other : List Event) (event : Event) → now config (event ∷ past) ≡ next (now config past) event
     → now config (event ∷ other) ≡ next (now config other) event
     → now config past ≡ record (now config other) { faults = (now config past).faults }

@@ -10,7 +10,7 @@ use Rattle.std.specs.Result.{result_err, result_ok}
 use Rattle.pm_num.specs.AnyFormat.{Shape, InLinear11}
 use Rattle.pm_num.specs.declared.fault.NumFault.{NumFault}
 use Rattle.pm_table.specs.Address.{IsAddress}
-use Rattle.pm_table.specs.RuleLemmas.{or-none, rule-none}
+use Rattle.pm_table.specs.RuleLemmas.{map-none, or-none, rule-none}
 use Rattle.pm_table.specs.Cell.{is_operation, register_accepts, register_number, cell_accepts, IsCell}
 use Rattle.pm_table.specs.Format.{shape_in}
 use Rattle.pm_table.specs.VoutMode.{mode_of}
@@ -62,11 +62,6 @@ all-start config words one registers protect = one (start_word config) each wher
   each : (cell : Cell) → IsCell 8 cell → word_at words cell ≡ start_word config cell
   each (Out output register) here = registers output register here
   each Protect here = protect
-
--- what a function makes of something is something
-map-none : {X Y : Type 0} (f : X → Y) (x : Option X) → option_map f x ≡ None → x ≡ None
-map-none f None e = refl
-map-none f (Some x) e = cc
 
 -- a test that names no fault passes
 unless-none : {X : Type 0} (b : Bool) (x : X) → cond b None (Some x) ≡ None → b ≡ true

@@ -10,7 +10,8 @@ use Rattle.pm_frame.specs.FaultWords.{frame_fault_text, place_text}
 use Rattle.pm_device.specs.declared.config_fault.ConfigFault.{ConfigFault}
 use Rattle.pm_device.specs.declared.config_fault.ConfigFault.TheVariants.{OutputCount, BadStart, Address, BadMode, BadCoefficients}
 use Rattle.pm_device.specs.declared.fault.DeviceFault.{DeviceFault}
-use Rattle.pm_device.specs.declared.fault.DeviceFault.TheVariants.{Frame, UnsupportedCode, UnsupportedData, BadPage, Protected, Nested, ReadOnly}
+use Rattle.pm_device.specs.declared.fault.DeviceFault.TheVariants.{Frame, UnsupportedCode, UnsupportedData, BadPage, Protected, Nested}
+use Rattle.pm_device.specs.declared.fault.DeviceFault.TheVariants.{ReadOnly}
 
 -- the letter and the name of a refusal
 abbrev pub device_fault_words : DeviceFault → List ℕ

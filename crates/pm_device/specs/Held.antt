@@ -1,6 +1,7 @@
 -- What a converter was made with and what it holds: the words of its cells, its store, PAGE, the readings, and
 -- the status bits that are latched.
-use Rattle.std.specs.Prelude.{ℕ, Bool, false, ◌||◌, ◌&&◌, ◌==◌, nat_lt, List, [], ◌∷◌, length, position, Option, is_some, map, replicate, slice_index, slice_index_or, slice_set, unwrap_or}
+use Rattle.std.specs.Prelude.{ℕ, Bool, false, ◌||◌, ◌&&◌, ◌==◌, nat_lt, List, [], ◌∷◌, length, position, Option, is_some, map, replicate}
+use Rattle.std.specs.Prelude.{slice_index, slice_index_or, slice_set, unwrap_or}
 use Rattle.std.specs.Option.{option_and_then, option_map_or}
 use Rattle.std.specs.Result.{result_ok}
 use Rattle.pm_num.specs.AnyFormat.{Shape, InLinear11, shape_value}

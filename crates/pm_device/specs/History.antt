@@ -1,6 +1,7 @@
 -- A converter's past, newest event first, and what it holds after it; and what one event makes of
 -- what it holds, where the status bits are latched.
-use Rattle.std.specs.Prelude.{◌≡◌, ◌⊎◌, ℕ, ◌<◌, ◌^◌, Bool, false, ◌||◌, true, ◌&&◌, not, ◌==◌, if◌then◌else◌, List, [], ◌∷◌, ◌++◌, map, slice_set, Some}
+use Rattle.std.specs.Prelude.{◌≡◌, ◌⊎◌, ℕ, ◌<◌, ◌^◌, Bool, false, ◌||◌, true, ◌&&◌, not, ◌==◌, if◌then◌else◌, List, [], ◌∷◌, ◌++◌, map}
+use Rattle.std.specs.Prelude.{slice_set, Some}
 use Rattle.std.specs.List.{range_with_len}
 use Rattle.pm_table.specs.declared.cell.Cell.{Cell}
 use Rattle.pm_table.specs.declared.cell.Cell.TheVariants.{Out}
@@ -18,8 +19,10 @@ use Rattle.pm_device.specs.declared.verdict.Verdict.TheVariants.{Takes}
 use Rattle.pm_device.specs.Held.{Held, Measured, CmlFaults, no_readings, no_faults, is_reading, with_reading}
 use Rattle.pm_device.specs.Start.{start_word}
 use Rattle.pm_device.specs.Verdict.{output_in, written_word}
-use Rattle.pm_device.specs.Effect.{Event, Hearing, Restarted, Reading, Outcome, Heard, Restarts, Measures, outcome_in, outcome_of, kept_by, kept_in, started}
-use Rattle.pm_device.specs.Status.{CmlBit, Command, Data, Pec, OtherCommunication, has_bit, kept, is_output_cut, cut_at, vout_in, cml_in, clears, act_clears_cml, sets_cml}
+use Rattle.pm_device.specs.Effect.{Event, Hearing, Restarted, Reading, Outcome, Heard, Restarts, Measures, outcome_in, outcome_of, kept_by}
+use Rattle.pm_device.specs.Effect.{kept_in, started}
+use Rattle.pm_device.specs.Status.{CmlBit, Command, Data, Pec, OtherCommunication, has_bit, kept, is_output_cut, cut_at, vout_in, cml_in}
+use Rattle.pm_device.specs.Status.{clears, act_clears_cml, sets_cml}
 use Rattle.pm_device.specs.Reply.{reply_of}
 
 -- one bit for each of the eight places for an output

@@ -1,6 +1,7 @@
 -- What the laws of this crate say, each by a name that a crate above takes it by. A past is a list
 -- of events, newest first.
-use Rattle.std.specs.Prelude.{◌≡◌, ◌≢◌, ◌⊎◌, ◌↔◌, ◌<◌, ◌≤◌, ℕ, Bool, false, List, [], ◌∷◌, not, ◌&&◌, ◌||◌, true, nat_lt, if◌then◌else◌, Some, None}
+use Rattle.std.specs.Prelude.{◌≡◌, ◌≢◌, ◌⊎◌, ◌↔◌, ◌<◌, ◌≤◌, ℕ, Bool, false, List, [], ◌∷◌, not, ◌&&◌, ◌||◌, true, nat_lt, if◌then◌else◌}
+use Rattle.std.specs.Prelude.{Some, None}
 use Rattle.std.specs.Option.{option_map_or}
 use Rattle.pm_table.specs.declared.cell.Cell.{Cell}
 use Rattle.pm_table.specs.declared.cell.Cell.TheVariants.{Protect}
@@ -28,7 +29,8 @@ use Rattle.pm_device.specs.Held.{Held, no_faults, is_device_reading, is_output_r
 use Rattle.pm_device.specs.Start.{IsSound, config_fault, has_direct}
 use Rattle.pm_device.specs.Verdict.{is_answered, names_no_output, output_in, payload_word, verdict_of, write_verdict, written_word}
 use Rattle.pm_device.specs.Effect.{Event, Hearing, Reading, Restarted, kept_in, kept_after}
-use Rattle.pm_device.specs.Status.{CmlBit, fault_bit, with_bit, cml_at, cml_in, cut_at, vout_in, marked, status_byte, status_cml, status_vout, status_word}
+use Rattle.pm_device.specs.Status.{CmlBit, fault_bit, with_bit, cml_at, cml_in, cut_at, vout_in, marked, status_byte, status_cml}
+use Rattle.pm_device.specs.Status.{status_vout, status_word}
 use Rattle.pm_device.specs.Reply.{payload_for, register_bytes, register_word, reply_of}
 use Rattle.pm_device.specs.History.{AreHeard, IsEverHad, WasCarried, loaded_word, stored_word, next, now, start_of}
 use Rattle.pm_device.specs.History.{is_for_other, without_others, without_requests}

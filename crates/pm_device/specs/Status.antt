@@ -15,7 +15,8 @@ use Rattle.pm_device.specs.declared.act.Act.{Act}
 use Rattle.pm_device.specs.declared.act.Act.TheVariants.{ClearFaults, ClearVout, ClearCml}
 use Rattle.pm_device.specs.declared.config.Config.{Config}
 use Rattle.pm_device.specs.declared.fault.DeviceFault.{DeviceFault}
-use Rattle.pm_device.specs.declared.fault.DeviceFault.TheVariants.{Frame, UnsupportedCode, UnsupportedData, BadPage, Protected, Nested, ReadOnly}
+use Rattle.pm_device.specs.declared.fault.DeviceFault.TheVariants.{Frame, UnsupportedCode, UnsupportedData, BadPage, Protected, Nested}
+use Rattle.pm_device.specs.declared.fault.DeviceFault.TheVariants.{ReadOnly}
 use Rattle.pm_device.specs.declared.verdict.Verdict.TheVariants.{Refuses, Takes}
 use Rattle.pm_device.specs.Held.{Held, CmlFaults, value_for}
 use Rattle.pm_device.specs.Effect.{Event, Kept, Outcome, Heard, Restarts, outcome_of, kept_by, started}

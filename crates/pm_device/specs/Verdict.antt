@@ -1,7 +1,8 @@
 -- What a hearing results in, from the words of the cells and PAGE: silence, the first refusal that
 -- applies, an act that is taken, or a read that is answered. Which refusal stands for which fault,
 -- and their order, are this project's own choice; the acts are those of PMBus 1.3 Part II.
-use Rattle.std.specs.Prelude.{◌≡◌, ℕ, ◌<◌, Bool, true, false, not, ◌&&◌, ◌||◌, ◌==◌, nat_lt, if◌then◌else◌, List, Option, Some, None, unwrap_or}
+use Rattle.std.specs.Prelude.{◌≡◌, ℕ, ◌<◌, Bool, true, false, not, ◌&&◌, ◌||◌, ◌==◌, nat_lt, if◌then◌else◌, List, Option, Some, None}
+use Rattle.std.specs.Prelude.{unwrap_or}
 use Rattle.std.specs.Option.{option_map, option_map_or}
 use Rattle.pm_table.specs.declared.cell.Cell.TheVariants.{Out, Protect}
 use Rattle.pm_table.specs.Cell.{cell_at, cell_accepts, is_voltage_code, IsCell}
@@ -10,7 +11,8 @@ use Rattle.pm_table.specs.Protection.{is_allowed}
 use Rattle.pm_frame.specs.declared.fault.FrameFault.{FrameFault}
 use Rattle.pm_frame.specs.declared.fault.FrameFault.TheVariants as frame
 use Rattle.pm_frame.specs.declared.message.Message.{Message}
-use Rattle.pm_frame.specs.declared.message.Message.TheVariants.{WriteByte, WriteWord, PagePlusWrite, ReadCommand, PagePlusRead, ReadCoefficients}
+use Rattle.pm_frame.specs.declared.message.Message.TheVariants.{WriteByte, WriteWord, PagePlusWrite, ReadCommand, PagePlusRead}
+use Rattle.pm_frame.specs.declared.message.Message.TheVariants.{ReadCoefficients}
 use Rattle.pm_frame.specs.declared.payload.Payload.{Payload}
 use Rattle.pm_frame.specs.declared.payload.Payload.TheVariants.{Empty, Byte, Word}
 use Rattle.pm_frame.specs.Fault.{write_fault, request_fault}
@@ -20,7 +22,8 @@ use Rattle.pm_model.specs.Settings.{Words, word_at}
 use Rattle.pm_device.specs.declared.act.Act.{Act}
 use Rattle.pm_device.specs.declared.act.Act.TheVariants.{Put, Select, ClearFaults, ClearVout, ClearCml, Store, Restore}
 use Rattle.pm_device.specs.declared.config.Config.{Config}
-use Rattle.pm_device.specs.declared.fault.DeviceFault.TheVariants.{Frame, UnsupportedCode, UnsupportedData, BadPage, Protected, Nested, ReadOnly}
+use Rattle.pm_device.specs.declared.fault.DeviceFault.TheVariants.{Frame, UnsupportedCode, UnsupportedData, BadPage, Protected, Nested}
+use Rattle.pm_device.specs.declared.fault.DeviceFault.TheVariants.{ReadOnly}
 use Rattle.pm_device.specs.declared.ending.Ending.{Ending}
 use Rattle.pm_device.specs.declared.ending.Ending.TheVariants.{Stop, Restart}
 use Rattle.pm_device.specs.declared.verdict.Verdict.{Verdict}

@@ -4,6 +4,21 @@
 //! A part lives in the caller's memory, as plain numbers. No call wants anything of what is in that memory: each asks
 //! first whether a part is there, and refuses where none is. The library takes no memory, keeps nothing between calls
 //! and calls nothing. Firmware that links a host needs nothing of it.
+//!
+//! A write and a request, by the exported calls. In C each reference is a pointer, and bytes are a pointer and their
+//! number:
+//!
+//! ```
+//! // A write of 3.3 V for VOUT_COMMAND of output 0, and the request for it, which a repeated start ends.
+//! fn answered(part: &mut Image, config: &ConfigImage, reply: &mut ReplyImage) -> [u8; 3] {
+//!     let made = pm_part_new(part, config); // 0
+//!     let write = &[0xB0, 0x05, 0x04, 0x00, 0x21, 0xCD, 0x34, 0x5A];
+//!     let taken = pm_part_hear(part, write, 0, reply); // 82h
+//!     let request = &[0xB0, 0x06, 0x02, 0x00, 0x21];
+//!     let told = pm_part_hear(part, request, 1, reply); // 83h, and in reply: B1 02 CD 34 B9
+//!     [made, taken, told]
+//! }
+//! ```
 #![tactic(auto)]
 
 mod asked;

@@ -1,5 +1,6 @@
 mod calls;
 mod checks;
+mod example;
 
 use self::calls::{
     CONFIG, commanded, hear, is_on, page, part, restart, set_reading, status, stored, word,

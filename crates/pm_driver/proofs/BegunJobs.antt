@@ -6,12 +6,13 @@ use Rattle.std.specs.Prelude.{IsSomeAnd}
 use Rattle.pm_device.specs.declared.config.Config.{Config}
 use Rattle.pm_model.specs.Commanded.{commanded}
 use Rattle.pm_model.specs.Settings.{word_at}
-use Rattle.pm_device.specs.Held.{Held, value_for}
+use Rattle.pm_device.specs.Held.{CmlFaults, Held, value_for}
 use Rattle.pm_device.specs.History.{start_of}
 use Rattle.pm_device.specs.Start.{IsSound}
 use Rattle.pm_host.specs.declared.command.Command.TheVariants.{ClearFaults, StoreUserAll, RestoreUserAll}
 use Rattle.pm_host.specs.declared.job.Job.{Job}
 use Rattle.pm_host.specs.declared.job_end.JobEnd.{JobEnd}
+use Rattle.pm_host.specs.declared.job_end.JobEnd.TheVariants.{Differs, Done, Learned}
 use Rattle.pm_host.specs.Jobs.{accepted_job}
 use Rattle.pm_host.specs.Now.{now as host_now}
 use Rattle.pm_host.specs.Refusals.{IsSetup, is_busy, job_fault}
@@ -28,7 +29,7 @@ use Rattle.pm_world.specs.Retelling.{CommandsOwn, IsOwnWord}
 use Rattle.pm_world.specs.Setup.{setup_of, start}
 use Rattle.pm_world.specs.State.{State, refused, tells}
 use Rattle.pm_world.specs.Uncertainty.{job_event}
-use Rattle.pm_driver.specs.Acts.{Act, Began, Call, Called, Read, Renewed, Wrote, asked_in, told_all}
+use Rattle.pm_driver.specs.Acts.{Act, Began, Call, Called, Looked, Read, Renewed, Wrote, asked_in, told_all}
 use Rattle.pm_limits.specs.Bounds.{Bounds, IsWithin}
 use Rattle.pm_driver.specs.Driven.{HasLife, HasLifeWithin, HasNoRestartSince, IsTrueOf, MayBegin}
 use Rattle.pm_driver.specs.Bus.{restarts_in}
@@ -36,9 +37,10 @@ use Rattle.pm_driver.specs.Ends.{EndSays}
 use Rattle.pm_driver.specs.Laws.{EndsAreTrue, LawsOfLives, LeadsCompose, NewConvertersMayBegin}
 use Rattle.pm_driver.specs.Lives.{Driven, Goes, IsLife, Leads}
 use Rattle.pm_driver.specs.Steps.{JobsLead, RenewalsLead}
-use Rattle.pm_driver.proofs.EndedJobs.{now-config}
+use Rattle.pm_world.specs.Lemmas.{now-config}
 use Rattle.pm_driver.proofs.Composed.{tells-append}
 use Rattle.pm_driver.proofs.Grown.{IsGrown, grown, of-life}
+use Rattle.pm_driver.proofs.Latched.{same-of}
 
 -- a job that the host accepted
 begun : {config : Config} {passes : ℕ} {before : List Event} {event : Event} {summary : Summary} {held : Held} (job : host.Job) →
@@ -149,7 +151,7 @@ new-lived laws config passes sound made =
     record {
       lived = record { sound = sound; made = made; legal = tt };
       host_is = ap (λ (s : State). s.host) none;
-      held_is = ap (λ (s : State). s.device) none;
+      held_is = same-of (ap (λ (s : State). s.device) none);
     }
 
 -- a driver may begin with a new host beside a converter as it was made
@@ -248,6 +250,16 @@ last-begun job earlier (Began other ∷ acts) rest h =
     let same : Began other ≡ Began job = cc in
     let jobs : other ≡ job = cc in ap (λ j. Some j) jobs
 last-begun job earlier (Renewed ∷ acts) rest h = cc
+last-begun job earlier (Looked request room came ∷ acts) rest h = cc
+
+-- what an end says doesn't ask for latched bits
+says-same : (job : host.Job) (end : JobEnd) (summary : Summary) (held : Held) (faults : CmlFaults) →
+    EndSays job summary (record held { faults = faults }) end → EndSays job summary held end
+says-same (host.Order cell word) Done summary held faults is = is
+says-same (host.Order cell word) (Differs read) summary held faults is = is
+says-same (host.Check cell) Done summary held faults is = is
+says-same (host.Learn output) Learned summary held faults is = is
+says-same job end summary held faults is = is
 
 -- the end of the job that a driver carried out says what it is worth
 pub leads-say : EndsAreTrue → {B : Type 0} (gives : B → Call → B → Type 0) (held : B → Held) (restarts : B → ℕ) (job : host.Job) (end : JobEnd) (old new : Driven B) →
@@ -258,10 +270,11 @@ leads-say law gives held restarts job end old new has leads =
     let events = leads.events ++ has.events in
     let last = ap host.last_job goes.told
     ∙ last-begun job [] leads.acts (life has.config has.passes has.events).entries leads.asks in
-    subst (λ d. EndSays job new.host d end) is.held_is
+    says-same job end new.host (held new.bus) (now has.config has.passes events).device.faults
+    (subst (λ d. EndSays job new.host d end) is.held_is
     (subst (λ h. EndSays job h (now has.config has.passes events).device end) is.host_is
     (law has.config has.passes events job end has.spelled is.lived
-    (tells-append leads.events has.events leads.newest) last goes.ended).says)
+    (tells-append leads.events has.events leads.newest) last goes.ended).says))
 
 -- a host began a job that it didn't refuse
 pub record IsBegun (old : Summary) (asked : Job) (middle : Summary) : Type 0 where

@@ -2,13 +2,14 @@
 use Rattle.std.proofs.Common.{◌≡◌, ℕ, arith, List, [], ◌∷◌, ◌++◌, Option, Some, None, refl, sym, ◌∙◌, ap, ap₂, subst, true}
 use Rattle.pm_device.specs.Held.{Held}
 use Rattle.pm_host.specs.declared.job_end.JobEnd.{JobEnd}
-use Rattle.pm_host.specs.Summary.{Summary, next as host_next}
+use Rattle.pm_host.specs.Summary.{Summary}
 use Rattle.pm_world.specs.declared.event.Event.{Event}
 use Rattle.pm_world.specs.declared.event.Event.TheVariants.{Exchange, Finish}
 use Rattle.pm_world.specs.Job.{asked_by}
+use Rattle.pm_world.specs.State.{host_after}
 use Rattle.pm_world.specs.Uncertainty.{job_event}
 use Rattle.pm_host.specs.declared.job.Job.{Job as Asked}
-use Rattle.pm_driver.specs.Acts.{Act, AreCalls, AreDone, Began, Call, Called, MayDo, Renewed, asked_in, host_by, told_by}
+use Rattle.pm_driver.specs.Acts.{Act, AreCalls, AreDone, Began, Call, Called, Looked, MayDo, Renewed, asked_in, host_by, told_by}
 use Rattle.pm_driver.specs.Laws.{LeadsCompose}
 use Rattle.pm_driver.specs.Lemmas.Restarts.{restarts-on}
 use Rattle.pm_driver.specs.Lives.{Driven, EndsTold, Leads, jobs_asked, jobs_begun, newest_tells, with_job}
@@ -17,7 +18,7 @@ use Rattle.pm_driver.proofs.Grown.{goes-on, stays}
 -- the host after acts and more of them
 host-append : (s : Summary) (second first : List Act) → host_by s (second ++ first) ≡ host_by (host_by s first) second
 host-append s [] first = refl
-host-append s (act ∷ second) first = ap (λ h. host_next h (told_by act)) (host-append s second first)
+host-append s (act ∷ second) first = ap (λ h. host_after h (told_by act)) (host-append s second first)
 
 -- what may be done may be done one after the other
 done-append : (s : Summary) (second first : List Act) → AreDone s first → AreDone (host_by s first) second →
@@ -34,6 +35,8 @@ calls-append gives a b c (Called call ∷ second) first one two =
     (two.0, calls-append gives a b two.0 second first one two.1, two.2)
 calls-append gives a b c (Began job ∷ second) first one two = calls-append gives a b c second first one two
 calls-append gives a b c (Renewed ∷ second) first one two = calls-append gives a b c second first one two
+calls-append gives a b c (Looked request room came ∷ second) first one two =
+    (two.0, calls-append gives a b two.0 second first one two.1, two.2)
 
 -- what is asked for is asked for one after the other
 asked-append : (second first : List Act) → asked_in (second ++ first) ≡ asked_in second ++ asked_in first
@@ -41,6 +44,7 @@ asked-append [] first = refl
 asked-append (Called call ∷ second) first = asked-append second first
 asked-append (Began job ∷ second) first = ap (λ l. Began job ∷ l) (asked-append second first)
 asked-append (Renewed ∷ second) first = ap (λ l. Renewed ∷ l) (asked-append second first)
+asked-append (Looked request room came ∷ second) first = ap (λ l. Looked request room came ∷ l) (asked-append second first)
 
 -- the newest event stays the newest
 pub tells-append : (second first : List Event) → newest_tells second ≡ true → newest_tells (second ++ first) ≡ true
@@ -73,6 +77,7 @@ begun-append (Began job ∷ second) first =
     ap (with_job (asked_by (job_event job))) (begun-append second first)
     ∙ with-append (asked_by (job_event job)) (jobs_begun second) (jobs_begun first)
 begun-append (Renewed ∷ second) first = begun-append second first
+begun-append (Looked request room came ∷ second) first = begun-append second first
 
 -- calls compose
 pub leads-compose : {B : Type 0} (gives : B → Call → B → Type 0) (held : B → Held) (restarts : B → ℕ) → LeadsCompose gives held restarts
@@ -106,3 +111,15 @@ leads-nothing gives held restarts d = record {
   orders = refl;
   lives = λ config passes before life. stays life;
 }
+
+-- by the events of both, and by none
+pub composed-events : {B : Type 0} (gives : B → Call → B → Type 0) (held : B → Held) (restarts : B → ℕ) (first second : List Act)
+    (middle end : Option JobEnd) (a b c : Driven B) (one : Leads gives held restarts first middle a b) (two : Leads gives held restarts second end b c) →
+    (leads-compose gives held restarts first second middle end a b c one two).events ≡ two.events ++ one.events
+unfolding leads-compose
+composed-events gives held restarts first second middle end a b c one two = refl
+
+pub nothing-events : {B : Type 0} (gives : B → Call → B → Type 0) (held : B → Held) (restarts : B → ℕ) (d : Driven B) →
+    (leads-nothing gives held restarts d).events ≡ []
+unfolding leads-nothing
+nothing-events gives held restarts d = refl

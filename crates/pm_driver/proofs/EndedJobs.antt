@@ -12,7 +12,6 @@ use Rattle.pm_table.specs.Laws.{CellsAreToldApart}
 use Rattle.pm_frame.specs.declared.message.Message.{Message}
 use Rattle.pm_device.specs.declared.config.Config.{Config}
 use Rattle.pm_device.specs.Held.{shape_for}
-use Rattle.pm_device.specs.History.{now as device_now}
 use Rattle.pm_host.specs.declared.job_end.JobEnd.{JobEnd}
 use Rattle.pm_host.specs.declared.job_end.JobEnd.TheVariants.{Done, Differs, Unknown, Learned}
 use Rattle.pm_host.specs.declared.standing.Standing.TheVariants.{Confirmed}
@@ -34,7 +33,7 @@ use Rattle.pm_world.specs.State.{State, event_cause, exchange_cause, exchanged, 
 use Rattle.pm_driver.specs.Ends.{Stands}
 use Rattle.pm_driver.specs.Laws.{EndIsTrue, EndsAreTrue, LawsOfLives}
 use Rattle.pm_driver.specs.Lives.{IsLife, newest_tells}
-use Rattle.pm_driver.proofs.Grown.{entries-more}
+use Rattle.pm_world.specs.Lemmas.{entries-more, now-config}
 use Rattle.pm_driver.proofs.ReadBack.{WasRead, check-read, check-wrote, learn-there, order-read, order-wrote, word_in_end}
 
 -- what the newest event told the host
@@ -244,11 +243,6 @@ pub now-end : (config : Config) (passes : ℕ) (events : List Event) →
     (now config passes events).end ≡ end_of (setup_of config passes) (life config passes events).entries
 unfolding now state_of
 now-end config passes events = refl
-
--- the converter stays that of its configuration
-pub now-config : (config : Config) (passes : ℕ) (events : List Event) → (now config passes events).device.config ≡ config
-unfolding now state_of device_now
-now-config config passes events = refl
 
 -- what the end of a job is worth
 pub ends-are-true : CellsAreToldApart → TranscriptsAreFollowed → LawsOfLives → EndsAreTrue

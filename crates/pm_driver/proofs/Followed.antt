@@ -40,12 +40,12 @@ use Rattle.pm_world.specs.Retelling.{open_pending, pending_of}
 use Rattle.pm_world.specs.Setup.{setup_of}
 use Rattle.pm_world.specs.State.{State, asked, share_beside, share_of, tells}
 use Rattle.pm_world.specs.Uncertainty.{job_event}
-use Rattle.pm_driver.proofs.Grown.{entries-more}
+use Rattle.pm_world.specs.Lemmas.{entries-more}
 use Rattle.pm_driver.proofs.UndisturbedOrders.{not-idle}
 use Rattle.pm_driver.specs.Lives.{jobs_asked, jobs_begun, with_job}
 use Rattle.pm_frame.specs.declared.message.Message.{Message}
 use Rattle.pm_frame.specs.Layout.{IsRequest, IsWrite}
-use Rattle.pm_driver.specs.Acts.{Act, AreDone, Began, Call, Called, MayDo, Read, Renewed, Wrote, asked_in, host_by, told_all}
+use Rattle.pm_driver.specs.Acts.{Act, AreDone, Began, Call, Called, Looked, MayDo, Read, Renewed, Wrote, asked_in, host_by, told_all}
 
 -- the jobs of a plan: its next order by what the host knows, and besides checks and learns
 abbrev pub MayRun : PartRegisters → Summary → ℕ → Wants → Job → Type 0
@@ -151,6 +151,7 @@ no-acts s (Called call ∷ rest) idle done none =
     absurd (not-idle s call idle (subst (λ (r : List Act). MayDo (host_by s r) (Called call)) below done.0))
 no-acts s (Began job ∷ rest) idle done none = cc
 no-acts s (Renewed ∷ rest) idle done none = cc
+no-acts s (Looked request room came ∷ rest) idle done none = cc
 
 -- what is told by acts that begin one job
 pub record ToldOne (acts : List Act) (job : Job) : Type 0 where
@@ -176,6 +177,7 @@ told-one s (Began j ∷ rest) job idle done one =
           ∙ ap (λ (r : List Act). Accepted job ∷ told_all r) (no-acts s rest idle done.1 none);
     }
 told-one s (Renewed ∷ rest) job idle done one = cc
+told-one s (Looked request room came ∷ rest) job idle done one = cc
 
 -- ---- Events ----
 
@@ -478,4 +480,6 @@ one-begun (Began j ∷ acts) job h =
       no-more (Called call ∷ list) n = no-more list n
       no-more (Began k ∷ list) n = cc
       no-more (Renewed ∷ list) n = cc
+      no-more (Looked request room came ∷ list) n = cc
 one-begun (Renewed ∷ acts) job h = cc
+one-begun (Looked request room came ∷ acts) job h = cc

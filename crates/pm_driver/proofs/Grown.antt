@@ -8,15 +8,17 @@ use Rattle.pm_device.specs.History.{next as device_next}
 use Rattle.pm_host.specs.declared.job_end.JobEnd.{JobEnd}
 use Rattle.pm_host.specs.Summary.{Summary}
 use Rattle.pm_host.specs.Transcript.{Entry}
+use Rattle.pm_world.specs.Lemmas.{entries-more}
 use Rattle.pm_world.specs.declared.event.Event.{Event}
 use Rattle.pm_world.specs.declared.event.Event.TheVariants.{RestartDevice, Reading}
 use Rattle.pm_world.specs.Life.{life, now}
 use Rattle.pm_world.specs.Lived.{IsLived}
 use Rattle.pm_world.specs.State.{State, Share, HasWord, device_after, end_after, event_cause, hears, host_after, next, share_of}
-use Rattle.pm_driver.specs.Acts.{Act, told_all}
+use Rattle.pm_driver.specs.Acts.{Act, told_all, told_by}
 use Rattle.pm_driver.specs.Bus.{AreAll, held_after, held_by, is_beside}
 use Rattle.pm_driver.specs.Laws.{LawsOfLives}
-use Rattle.pm_driver.specs.Lives.{EndsSo, Goes, IsLife}
+use Rattle.pm_driver.specs.Lives.{EndsSo, Goes, IsLife, IsSameButFaults}
+use Rattle.pm_driver.proofs.Latched.{after-same}
 
 -- what one more event makes of a life, which tells the ends this
 pub record IsGrown (config : Config) (passes : ℕ) (before : List Event) (event : Event) (share : Share) (host : Summary)
@@ -26,20 +28,13 @@ pub record IsGrown (config : Config) (passes : ℕ) (before : List Event) (event
       ≡ option_to_list share.told ++ (life config passes before).entries
   pub ended : (now config passes (event ∷ before)).end ≡ end_after host (now config passes before).end share.told
 
--- what the host was told after one more event
-pub entries-more : (config : Config) (passes : ℕ) (before : List Event) (event : Event) →
-    (life config passes (event ∷ before)).entries
-    ≡ option_to_list (share_of (now config passes before) event).told ++ (life config passes before).entries
-unfolding life now
-entries-more config passes before event = refl
-
 -- an event without a cause against it
 pub grown : LawsOfLives → {config : Config} {passes : ℕ} {before : List Event} {host : Summary} {held : Held} →
     (event : Event) (share : Share) → IsLife config passes before host held →
     event_cause (now config passes before) event ≡ None → HasWord (now config passes before) event →
     share_of (now config passes before) event ≡ share → IsGrown config passes before event share host held
 unfolding next
-grown laws {config = config} {passes = passes} {before = before} event share is free word tells =
+grown laws {config = config} {passes = passes} {before = before} {held = held} event share is free word tells =
     let lived : IsLived config passes (event ∷ before) = record {
       sound = is.lived.sound;
       made = is.lived.made;
@@ -52,8 +47,9 @@ grown laws {config = config} {passes = passes} {before = before} event share is 
         lived = lived;
         host_is = ap (λ (t : State). t.host) more ∙ (ap (λ (w : Share). host_after s.host w.told) tells
             ∙ ap (λ h. host_after h share.told) is.host_is);
-        held_is = ap (λ (t : State). t.device) more ∙ (ap (λ (w : Share). device_after s.device w.heard) tells
-            ∙ ap (λ d. device_after d share.heard) is.held_is);
+        held_is = subst (λ (d : Held). IsSameButFaults d (device_after held share.heard))
+            (sym (ap (λ (t : State). t.device) more ∙ ap (λ (w : Share). device_after s.device w.heard) tells))
+            (after-same s.device held share.heard is.held_is);
       };
       told = entries-more config passes before event
           ∙ ap (λ (w : Share). option_to_list w.told ++ (life config passes before).entries) tells;
@@ -82,7 +78,10 @@ heard-one is = record { is_life = is.is_life; told = is.told; ended = tt }
 told-append : (second first : List Act) (rest : List Entry) →
     told_all (second ++ first) ++ rest ≡ told_all second ++ (told_all first ++ rest)
 told-append [] first rest = refl
-told-append (act ∷ second) first rest = ap (λ l. told_all (act ∷ []) ++ l) (told-append second first rest)
+told-append (act ∷ second) first rest =
+    let told = option_to_list (told_by act) in
+    append_assoc told (told_all (second ++ first)) rest
+    ∙ (ap (λ l. told ++ l) (told-append second first rest) ∙ sym (append_assoc told (told_all second) (told_all first ++ rest)))
 
 -- further events, and then more of them
 pub goes-on : {config : Config} {passes : ℕ} {before first second : List Event} {acts more : List Act} {end other : Option JobEnd}

@@ -2,6 +2,8 @@ mod BegunJobs
 mod Composed
 mod EndedJobs
 mod Grown
+mod Latched
+mod Looked
 mod OpenJobs
 mod ReadBack
 mod SentFrames
@@ -13,7 +15,12 @@ mod Idle
 mod Surveyed
 mod Followed
 mod Chains
+mod PlanOrders
+mod CarriedOut
 mod RailLives
+mod SurveyRuns
+mod ReachedPlans
+mod RailLeads
 mod Parts
 mod Patience
 mod Plan

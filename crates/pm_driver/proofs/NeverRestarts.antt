@@ -2,8 +2,8 @@
 use Rattle.std.proofs.Common.{◌≡◌, arith, eqb, true, Bool, ℕ, zero, suc, List, [], ◌∷◌, take, inl, inr, refl, sym, ◌∙◌, ap}
 use Rattle.std.proofs.lemmas.Bool.{eq-eqb}
 use Rattle.pm_driver.specs.Acts.{Read, Wrote}
-use Rattle.pm_driver.specs.Undisturbed.{AreWithoutRestart, JobsRestartNothing}
-use Rattle.pm_driver.specs.NeverRestarts.{NeverRestartsStays, PatientNeverRestartsStays, patient_device, patient_gives, patient_restarts}
+use Rattle.pm_driver.specs.Undisturbed.{AreWithoutRestart, JobsRestartNothing, ReadsRestartNothing}
+use Rattle.pm_driver.specs.NeverRestarts.{NeverRestartsStays, PatientNeverRestartsStays, ReadsKeepNeverRestarts, patient_device, patient_gives, patient_restarts}
 use Rattle.pm_driver.specs.Patience.{asks_patiently, sends_patiently}
 use Rattle.pm_driver.specs.Plan.{TurnsTo, device_in, gives_so, restarts_of, restarts_so, tries_so}
 use Rattle.pm_driver.specs.declared.buses.fault.Fault.{Fault}
@@ -69,6 +69,13 @@ pub never-stays : JobsRestartNothing gives_so device_in restarts_so → NeverRes
 never-stays law job old new result runs never =
     let all = law (λ bus. none_in bus.plan.now) (λ call old new none gave. count-stays old new gave.turn none) job old new result runs
     (so-none old.bus.plan.now never.none) in
+    record { none = none-so new.bus.plan.now all.0; since = λ cell. all.1 cell (never.since cell) }
+
+-- Each read that is no job keeps a plan without restarts one.
+pub reads-stay : ReadsRestartNothing gives_so device_in restarts_so → ReadsKeepNeverRestarts
+reads-stay law request room answer old new result looks never =
+    let all = law (λ bus. none_in bus.plan.now) (λ call old new none gave. count-stays old new gave.turn none) request room answer old new
+    result looks (so-none old.bus.plan.now never.none) in
     record { none = none-so new.bus.plan.now all.0; since = λ cell. all.1 cell (never.since cell) }
 
 pub patient-never-stays : JobsRestartNothing patient_gives patient_device patient_restarts → PatientNeverRestartsStays

@@ -1,5 +1,5 @@
 -- The converter doesn't restart since a cell was read while the bus counts no restart.
-use Rattle.std.proofs.Common.{◌≡◌, ◌+◌, ◌||◌, ℕ, Bool, true, false, cond, arith, List, [], ◌∷◌, ◌++◌, Option, Some, None, Ok, Err, refl, sym, ◌∙◌, ap, ap₂, subst}
+use Rattle.std.proofs.Common.{◌≡◌, ◌+◌, ◌||◌, ℕ, Bool, true, false, cond, arith, List, [], ◌∷◌, ◌++◌, Option, Some, None, Ok, Err, take, refl, sym, ◌∙◌, ap, ap₂, subst}
 use Rattle.std.specs.Prelude.{IfSome, IsSomeAnd}
 use Rattle.pm_table.specs.declared.cell.Cell.{Cell}
 use Rattle.pm_device.specs.declared.config.Config.{Config}
@@ -13,13 +13,13 @@ use Rattle.pm_world.specs.declared.event.Event.TheVariants.{RestartHost}
 use Rattle.pm_world.specs.Confirmed.{reads_cell, restarted_since, restarts_converter}
 use Rattle.pm_world.specs.Life.{life}
 use Rattle.pm_world.specs.State.{tells}
-use Rattle.pm_driver.specs.Acts.{Act, AreCalls, Began, Call, Called, Renewed}
+use Rattle.pm_driver.specs.Acts.{Act, AreCalls, Began, Call, Called, Looked, Read, Renewed}
 use Rattle.pm_driver.specs.Bus.{restarts_in}
 use Rattle.pm_driver.specs.Driven.{Driving, HasLife, HasNoRestartSince, MayBegin, driven}
 use Rattle.pm_driver.specs.Ends.{cell_read}
 use Rattle.pm_driver.specs.Laws.{EndsAreTrue, LawsOfLives, NewConvertersHaveNoRestart, RestartsAreCounted}
 use Rattle.pm_driver.specs.Lives.{Driven, IsLife, Leads}
-use Rattle.pm_driver.specs.Undisturbed.{AreWithoutRestart, JobsRestartNothing}
+use Rattle.pm_driver.specs.Undisturbed.{AreWithoutRestart, JobsRestartNothing, ReadsRestartNothing}
 use Rattle.pm_driver.proofs.BegunJobs.{last-begun, new-lived, renewed-new}
 use Rattle.pm_driver.proofs.Composed.{tells-append}
 use Rattle.pm_driver.proofs.Grown.{grown}
@@ -145,6 +145,20 @@ calls-none gives restarts is_so all old so (Called call ∷ acts) new calls =
     (one.0 ∙ earlier.0, one.1)
 calls-none gives restarts is_so all old so (Began job ∷ acts) new calls = calls-none gives restarts is_so all old so acts new calls
 calls-none gives restarts is_so all old so (Renewed ∷ acts) new calls = calls-none gives restarts is_so all old so acts new calls
+calls-none gives restarts is_so all old so (Looked request room came ∷ acts) new calls =
+    let earlier = calls-none gives restarts is_so all old so acts calls.0 calls.1 in
+    let one = all (Read request room came) calls.0 new earlier.1 calls.2 in
+    (one.0 ∙ earlier.0, one.1)
+
+-- a read that is no job restarts nothing
+pub reads-none : {B : Type 0} (gives : B → Call → B → Type 0) (held : B → Held) (restarts : B → ℕ) → ReadsRestartNothing gives held restarts
+reads-none gives held restarts is_so all request room answer old new (Err fault) looks so = (
+  subst (λ (d : Driving _). is_so d.bus ≡ true) (sym looks.err.0) so,
+  λ cell is. subst (λ (d : Driving _). HasNoRestartSince cell d.guard.host (held d.bus)) (sym looks.err.0) is,
+)
+reads-none gives held restarts is_so all request room answer old new (Ok count) looks so =
+    let one = all (Read request room (take count answer)) old.bus new.bus so looks.once in
+    (one.1, looks.stays one.0)
 
 -- a job restarts nothing
 pub jobs-none : {B : Type 0} (gives : B → Call → B → Type 0) (held : B → Held) (restarts : B → ℕ) → JobsRestartNothing gives held restarts

@@ -14,7 +14,6 @@ use Rattle.pm_host.specs.declared.job.Job.{Job as Asked}
 use Rattle.pm_host.specs.declared.job.Job.TheVariants as job
 use Rattle.pm_host.specs.declared.job_end.JobEnd.{JobEnd}
 use Rattle.pm_host.specs.Jobs.{accepted_job}
-use Rattle.pm_host.specs.Laws.{EndsAreTold}
 use Rattle.pm_host.specs.Refusals.{is_busy}
 use Rattle.pm_host.specs.Summary.{Summary}
 use Rattle.pm_host.specs.Transcript.{Job, Order, Check, Learn, Entry, Accepted}
@@ -36,11 +35,10 @@ use Rattle.pm_world.specs.Ended.{begins_other}
 use Rattle.pm_world.specs.Honest.{IsSpelled}
 use Rattle.pm_world.specs.Job.{asked_by, job_of}
 use Rattle.pm_world.specs.Life.{life, now}
-use Rattle.pm_world.specs.Lived.{EventsAreLived, IsLived}
-use Rattle.pm_world.specs.Moves.{SettingsMoveByTheOpenJob}
-use Rattle.pm_world.specs.Plans.{Follows, IsReadSince, PlansHoldInLives, held_at}
+use Rattle.pm_world.specs.Lived.{IsLived}
+use Rattle.pm_world.specs.Plans.{Follows, IsReadSince, held_at}
 use Rattle.pm_world.specs.State.{asked}
-use Rattle.pm_world.specs.Surveys.{AreRead, SurveysHoldInLives}
+use Rattle.pm_world.specs.Surveys.{AreRead}
 use Rattle.pm_driver.specs.declared.rails.Course.{Course}
 use Rattle.pm_driver.specs.Acts.{Began, Call, told_all}
 use Rattle.pm_driver.specs.Driven.{Driving, Runs, driven}
@@ -56,7 +54,7 @@ use Rattle.pm_driver.specs.Rails.{Applied, Steps, again, asks_in, is_surveyed_in
 use Rattle.pm_driver.proofs.Chains.{Beyond, follow-on, follows-drop, none-counted, none-first, none-second, split-at}
 use Rattle.pm_driver.specs.Bus.{restarts_in}
 use Rattle.pm_driver.specs.Lemmas.Restarts.{restarts-on}
-use Rattle.pm_driver.specs.RailLaws.{goal_at}
+use Rattle.pm_driver.specs.RailLaws.{LawsOfRails, goal_at}
 use Rattle.pm_driver.specs.declared.apply_end.ApplyEnd.TheVariants.{Reached}
 use Rattle.pm_driver.specs.Rails.{EndsAs}
 use Rattle.pm_model.specs.Commanded.{commanded, selected}
@@ -71,15 +69,6 @@ use Rattle.pm_world.specs.Limited.{commands}
 use Rattle.std.proofs.Common.{append-nil, zero-add}
 use Rattle.pm_driver.proofs.Followed.{Frames, LeavesAlone, LeavesUnread, MayRun, entries-are, follows, found, host-there, one-asked, one-begun, quiet, stays-part, stays-unread, told-drop, told-one, told_in}
 
--- the laws that this rests on
-pub record Below : Type 0 where
-  pub ends : EndsAreTold
-  pub lived : EventsAreLived
-  pub moves : SettingsMoveByTheOpenJob
-  pub plans : PlansHoldInLives
-  pub surveys : SurveysHoldInLives
-  pub apart : CellsAreToldApart
-
 -- ---- One job in a life ----
 
 -- a job was carried out by these further events
@@ -93,7 +82,7 @@ pub record Ran (config : Config) (passes : ℕ) (before events : List Event) (jo
   pub ended : (now config passes (events ++ before)).end ≡ Some end
   pub one : jobs_asked events ≡ with_job (asked_by (job_event job)) []
 
-ran : {B : Type 0} (gives : B → Call → B → Type 0) (held : B → Converter) (restarts : B → ℕ) (config : Config) (passes : ℕ)
+pub ran : {B : Type 0} (gives : B → Call → B → Type 0) (held : B → Converter) (restarts : B → ℕ) (config : Config) (passes : ℕ)
     (before : List Event) (job : Job) (end : JobEnd) (old new : Driven B) →
     (leads : Leads gives held restarts (Began job ∷ []) (Some end) old new) →
     IsLife config passes before old.host (held old.bus) → is_busy old.host ≡ false →
@@ -119,7 +108,7 @@ Stays config passes output before later = (rest part : List Event) (register : R
     held_at config passes (part ++ before) output register ≡ held_at config passes before output register
 
 -- a job that leaves them alone goes on with that
-stays-on : Below → (config : Config) (passes output : ℕ) (before es evs : List Event) (job : Job) (end : JobEnd) (old new : Summary)
+pub stays-on : LawsOfRails → (config : Config) (passes output : ℕ) (before es evs : List Event) (job : Job) (end : JobEnd) (old new : Summary)
     (held : Converter) → output < config.count → ((register : Reg) → LeavesAlone job (Out output register)) →
     Ran config passes (es ++ before) evs job end old new held → list_any restarts_converter evs ≡ false →
     Stays config passes output before es → Stays config passes output before (evs ++ es)
@@ -137,7 +126,7 @@ stays-on laws config passes output before es evs job end old new held here alone
     ]
 
 -- what a survey counts as read once it was told of the end of a job that it asked for
-read-told : Below → (config : Config) (passes : ℕ) (part : PartRegisters) (v : Survey) (before es evs : List Event) (asked' : Asked) (j : Job) (end : JobEnd)
+pub read-told : LawsOfRails → (config : Config) (passes : ℕ) (part : PartRegisters) (v : Survey) (before es evs : List Event) (asked' : Asked) (j : Job) (end : JobEnd)
     (old new : Summary) (held : Converter) → AreRead config passes v es before → v.output < config.count →
     next_job part v old ≡ Some asked' → ((s : Summary) → accepted_job s asked' ≡ Some j) → asked_by (job_event j) ≡ Some asked' →
     Ran config passes (es ++ before) evs j end old new held →
@@ -203,14 +192,14 @@ on {config = config} {passes = passes} {part = part} {output = output} {wanted =
     (ap (λ (x : List Event). x ++ before) is ∙ append_assoc newer later before) more') was)
 
 -- where a job was begun none was open
-idle-check : (g : Guarded) (cell : Cell) → guard_fault g (job.Check cell) ≡ None → is_busy g.host ≡ false
+pub idle-check : (g : Guarded) (cell : Cell) → guard_fault g (job.Check cell) ≡ None → is_busy g.host ≡ false
 idle-check g cell free = go (is_busy g.host) free where
   go : (b : Bool) → first (of_host (first (rule b Busy ∷ rule (not (is_cell g.host.setup.outputs cell)) UnknownOutput ∷ []))
       ∷ missing_cell g.registers cell ∷ []) ≡ None → b ≡ false
   go true e = cc
   go false e = refl
 
-idle-learn : (g : Guarded) (output : ℕ) → guard_fault g (job.Learn output) ≡ None → is_busy g.host ≡ false
+pub idle-learn : (g : Guarded) (output : ℕ) → guard_fault g (job.Learn output) ≡ None → is_busy g.host ≡ false
 idle-learn g output free = go (is_busy g.host) free where
   go : (b : Bool) → of_host (first (rule b Busy ∷ rule (not (nat_lt output g.host.setup.outputs)) UnknownOutput ∷ [])) ≡ None → b ≡ false
   go true e = cc
@@ -233,7 +222,7 @@ pub record Way (config : Config) (passes : ℕ) (part : PartRegisters) (output :
   pub phase : Phase config passes part output wanted before course es
 
 -- none in either is none in both
-none-both : (a b : List Event) → list_any restarts_converter a ≡ false → list_any restarts_converter b ≡ false →
+pub none-both : (a b : List Event) → list_any restarts_converter a ≡ false → list_any restarts_converter b ≡ false →
     list_any restarts_converter (a ++ b) ≡ false
 none-both [] b one two = two
 none-both (x ∷ a) b one two = go (restarts_converter x) (list_any restarts_converter a) one (λ e. none-both a b e two) where
@@ -243,13 +232,13 @@ none-both (x ∷ a) b one two = go (restarts_converter x) (list_any restarts_con
   go false rest e f = f e
 
 -- the jobs that a survey asks for
-data Kind (part : PartRegisters) (v : Survey) : Asked → Type 0 where
+pub data Kind (part : PartRegisters) (v : Survey) : Asked → Type 0 where
   learns : Kind part v (job.Learn v.output)
   checks : (r : Reg) → has_register part r ≡ true → Kind part v (job.Check (Out v.output r))
   protects : Kind part v (job.Check Protect)
 
 -- cells of registers of which the part has one and not the other are two
-two-cells : CellsAreToldApart → (part : PartRegisters) (one other : ℕ) (r m : Reg) → has_register part r ≡ true →
+pub two-cells : CellsAreToldApart → (part : PartRegisters) (one other : ℕ) (r m : Reg) → has_register part r ≡ true →
     has_register part m ≡ false → same_cell (Out one r) (Out other m) ≡ false
 two-cells apart part one other r m has none = go (same_cell (Out one r) (Out other m)) refl where
   go : (b : Bool) → same_cell (Out one r) (Out other m) ≡ b → b ≡ false
@@ -258,7 +247,7 @@ two-cells apart part one other r m has none = go (same_cell (Out one r) (Out oth
       let register : r ≡ m = cc in cc
   go false same = refl
 
-module _ (laws : Below) (config : Config) (passes : ℕ) (part : PartRegisters) (output : ℕ) (wanted : Wanted) (before : List Event)
+module _ (laws : LawsOfRails) (config : Config) (passes : ℕ) (part : PartRegisters) (output : ℕ) (wanted : Wanted) (before : List Event)
     (spelled : IsSpelled config) (here : output < config.count)
     (missing : HoldsMissing part config (now config passes before).device.words output) where
   -- while the words stay, so do those of the registers that the part doesn't have
@@ -419,7 +408,7 @@ module _ (laws : Below) (config : Config) (passes : ℕ) (part : PartRegisters) 
 -- ---- What it is worth ----
 
 -- the restarts that the bus counted are those of the events
-some-counted : {B : Type 0} (gives : B → Call → B → Type 0) (held : B → Converter) (restarts : B → ℕ) (end : JobEnd) (old new : Driving B)
+pub some-counted : {B : Type 0} (gives : B → Call → B → Type 0) (held : B → Converter) (restarts : B → ℕ) (end : JobEnd) (old new : Driving B)
     (o : Option Job) (leads : IsSomeAnd o (λ begun. Leads gives held restarts (Began begun ∷ []) (Some end) (driven old) (driven new))) →
     restarts_in (events_in gives held restarts end old new o leads) + restarts old.bus ≡ restarts new.bus
 some-counted gives held restarts end old new None leads = absurd leads
@@ -448,17 +437,17 @@ none-restarted restarts {old = old} {new = new} runs same =
     none-counted (events_of runs) (restarts old.bus) (restarts new.bus) (counted restarts runs) same
 
 -- an output commands the same by the same words
-same-commands : (config : Config) (passes output : ℕ) (one other : List Event) →
+pub same-commands : (config : Config) (passes output : ℕ) (one other : List Event) →
     held_at config passes one output ≡ held_at config passes other output →
     commands config passes one output ≡ commands config passes other output
 unfolding commanded selected
 same-commands config passes output one other same = ap (λ (h : Held). commands_by (value_for config output) h) same
 
-module _ (laws : Below) (config : Config) (passes : ℕ) (part : PartRegisters) (output : ℕ) (wanted : Wanted) (before : List Event)
+module _ (laws : LawsOfRails) (config : Config) (passes : ℕ) (part : PartRegisters) (output : ℕ) (wanted : Wanted) (before : List Event)
     (spelled : IsSpelled config) (here : output < config.count)
     (missing : HoldsMissing part config (now config passes before).device.words output) where
   -- the registers that the part doesn't have hold their words while the words stay
-  held-missing : (later : List Event) → Stays config passes output before later →
+  pub held-missing : (later : List Event) → Stays config passes output before later →
       HoldsMissing part config (now config passes (later ++ before)).device.words output
   held-missing later stays = holds-missing laws config passes part output wanted before spelled here missing later stays
 

@@ -32,8 +32,9 @@ use Rattle.pm_driver.specs.Acts.{Call, Called, MayDo, Read, Wrote, told_of}
 use Rattle.pm_driver.specs.Bus.{AreAll, answer_of, restarts_in, held_by, is_beside, may_hear}
 use Rattle.pm_driver.specs.Lives.{EndsSo, EndsTold, Goes, IsLife, Leads, jobs_asked, newest_tells, with_job}
 use Rattle.pm_driver.specs.Laws.{LawsOfLives}
-use Rattle.pm_driver.specs.Steps.{CallsGo, FramesLead, IsCalled, StaysOpen}
+use Rattle.pm_driver.specs.Steps.{CallsGo, FramesLead, IsCalled, StaysOpen, back_of}
 use Rattle.pm_driver.proofs.Grown.{beside-one, goes-on, grown, heard-one, of-life, quiet}
+use Rattle.pm_driver.proofs.Latched.{ComesBack, comes-same, own-same}
 use Rattle.pm_driver.proofs.OpenJobs.{stays-open}
 
 -- the room for the whole answer to a message that is being sent
@@ -183,37 +184,31 @@ exchange-tells s request needed arrival back sends =
     } in
     ap (exchanged s arrival back) sends.sending ∙ ap₂ share sends.is.reads (request-frame sends.is)
 
--- what a bus makes of a converter that hears a request
-record Comes (request : List ℕ) (needed : ℕ) (held : Held) (came : List ℕ) (arrival : Arrival) (back : Back) (new : Held) : Type 0 where
-  legal : is_legal_hearing request (heard_bytes request arrival) (ending_of Restart arrival) ≡ true
-  returned : is_legal_return request needed (is_heard_whole request (heard_bytes request arrival) (ending_of Restart arrival))
-      (answer_of held request arrival) (back_bytes (answer_of held request arrival) back) ≡ true
-  came_is : back_bytes (answer_of held request arrival) back ≡ came
-  after : device_next held (device.Hearing (heard_bytes request arrival) (ending_of Restart arrival)) ≡ new
-
 -- a request came back
 answered : LawsOfLives → {config : Config} {passes : ℕ} {before : List Event} {host : Summary} {held new : Held} →
     (request room came : List ℕ) (arrival : Arrival) (back : Back) → SendsRequest host request (length room) →
-    IsLife config passes before host held → Comes request (length room) held came arrival back new →
-    Goes config passes before (Exchange arrival back ∷ []) (Called (Read request room came) ∷ [])
+    IsLife config passes before host held →
+    is_legal_hearing request (heard_bytes request arrival) (ending_of Restart arrival) ≡ true →
+    ComesBack request (length room) held arrival back came →
+    device_next held (device.Hearing (heard_bytes request arrival) (ending_of Restart arrival)) ≡ new →
+    Goes config passes before (Exchange arrival (back_of arrival back came) ∷ []) (Called (Read request room came) ∷ [])
     (end_by (step_of host (Got came))) (host_next host (Got came)) new
 answered laws {config = config} {passes = passes} {before = before} {host = host} {held = held} {new = new} request room came arrival
-    back sends is comes =
+    back sends is legal comes after =
     let needed = length room in
     let s = now config passes before in
+    let so = back_of arrival back came in
     let shown = of-life (λ h. SendsRequest h request needed) is sends in
     let hears_so : device.Event = device.Hearing (heard_bytes request arrival) (ending_of Restart arrival) in
     let share : Share = record { heard = Some hears_so; told = Some (Got came) } in
-    let returned = subst (λ d. is_legal_return request needed (is_heard_whole request (heard_bytes request arrival)
-    (ending_of Restart arrival))
-    (answer_of d request arrival) (back_bytes (answer_of d request arrival) back) ≡ true) (sym is.held_is) comes.returned in
-    let told : share_of s (Exchange arrival back) ≡ share = exchange-tells s request needed arrival back shown
-    ∙ ap (λ (b : List ℕ). record { heard = Some hears_so; told = Some (Got b) })
-    (ap (λ d. back_bytes (answer_of d request arrival) back) is.held_is ∙ comes.came_is) in
-    let one = grown laws (Exchange arrival back) share is
-    (exchange-free s request needed arrival back shown comes.legal returned) tt told in
+    let alike = own-same laws.requests s.device held host sends.message request is.held_is sends.sending sends.is in
+    let same = comes-same request needed held s.device arrival back came alike comes in
+    let told : share_of s (Exchange arrival so) ≡ share = exchange-tells s request needed arrival so shown
+    ∙ ap (λ (b : List ℕ). record { heard = Some hears_so; told = Some (Got b) }) same.came_is in
+    let one = grown laws (Exchange arrival so) share is
+    (exchange-free s request needed arrival so shown legal same.returned) tt told in
     record {
-      is_life = subst (λ d. IsLife config passes (Exchange arrival back ∷ before) (host_next host (Got came)) d) comes.after one.is_life;
+      is_life = subst (λ d. IsLife config passes (Exchange arrival so ∷ before) (host_next host (Got came)) d) after one.is_life;
       told = one.told;
       ended = ends-so (end_by (step_of host (Got came))) _ one.ended;
     }
@@ -226,13 +221,13 @@ hears-none frame (Deliver arrival) is = refl
 hears-none frame event is = cc
 
 -- what happens to a converter beside the bus asks for no job
-beside-none : (event : Event) → is_beside event ≡ true → asked_by event ≡ None
+pub beside-none : (event : Event) → is_beside event ≡ true → asked_by event ≡ None
 beside-none RestartDevice is = refl
 beside-none (Reading output code word) is = refl
 beside-none event is = cc
 
 -- events of a kind that asks for no job ask for no jobs, however many they are
-none-asked : (may : Event → Bool) → ((event : Event) → may event ≡ true → asked_by event ≡ None) → (events : List Event) →
+pub none-asked : (may : Event → Bool) → ((event : Event) → may event ≡ true → asked_by event ≡ None) → (events : List Event) →
     AreAll may events → jobs_asked events ≡ []
 none-asked may none [] all = refl
 none-asked may none (event ∷ events) all =
@@ -266,14 +261,14 @@ call-events laws (Wrote frame acked) host old was new count may is =
 call-events laws (Read request room came) host old was new count may is =
     let sends = sends-request host request room may in
     record {
-      events = Exchange is.arrival is.back ∷ is.before;
+      events = Exchange is.arrival (back_of is.arrival is.back came) ∷ is.before;
       newest = refl;
       orders = none-asked is_beside beside-none is.before is.beside_before;
       count = (let rose = is.count in omega arith);
       goes = λ config passes before life.
           let beside = quiet request is_beside (beside-one laws request) is.before is.beside_before life in
-          goes-on beside (answered laws request room came is.arrival is.back sends beside.is_life
-          (record { legal = is.legal; returned = is.returned; came_is = is.came_is; after = is.after }));
+          goes-on beside (answered laws request room came is.arrival is.back sends beside.is_life is.legal
+          (record { returned = is.returned; came_is = is.came_is }) is.after);
     }
 
 -- they are those that the call names

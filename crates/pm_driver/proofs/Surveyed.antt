@@ -7,6 +7,7 @@ use Rattle.pm_table.specs.declared.cell.Cell.TheVariants.{Out, Protect}
 use Rattle.pm_table.specs.declared.reg.Reg.{Reg}
 use Rattle.pm_table.specs.Cell.{registers}
 use Rattle.pm_table.specs.Rules.{first, rule}
+use Rattle.pm_table.specs.RuleLemmas.{map-none}
 use Rattle.pm_host.specs.declared.fault.HostFault.{HostFault}
 use Rattle.pm_host.specs.declared.fault.HostFault.TheVariants.{Busy, UnknownOutput}
 use Rattle.pm_host.specs.declared.job.Job.{Job}
@@ -22,7 +23,7 @@ use Rattle.pm_rail.specs.declared.wanted.Wanted.{Wanted}
 use Rattle.pm_rail.specs.Lemmas.Steps.{first-of}
 use Rattle.pm_rail.specs.Known.{Cells, cells_of, known_at, known_of}
 use Rattle.pm_rail.specs.Orders.{is_unknown, missing_fault, planned_in, unknown_fault, unless}
-use Rattle.pm_rail.specs.Lemmas.Known.{IsPlanned, all-off, is-planned, unmapped}
+use Rattle.pm_rail.specs.Lemmas.Known.{IsPlanned, all-off, is-planned}
 use Rattle.pm_rail.specs.declared.orders.PlanOrder.{PlanOrder}
 use Rattle.pm_num.specs.AnyFormat.{Shape}
 use Rattle.pm_limits.specs.declared.part_registers.PartRegisters.{PartRegisters}
@@ -189,7 +190,7 @@ stuck-plan v output wanted g order own plan stuck is = by (format_at g.host v.ou
   by None e s = cc
   by (Some shape) e s =
       let cells = cells_of g.registers shape g.host in
-      let free = all-off (is_unknown cells output (known_of cells output) (wants_of wanted)) (unmapped _ _ (known-of shape (ap (λ (o : ℕ). format_at g.host o) (sym own) ∙ e))) in
+      let free = all-off (is_unknown cells output (known_of cells output) (wants_of wanted)) (map-none _ _ (known-of shape (ap (λ (o : ℕ). format_at g.host o) (sym own) ∙ e))) in
       let none = never (is_unknown cells output (known_of cells output) (wants_of wanted)) (λ r. not (has_register g.registers r)) registers free in
       let same = ap (λ (o : ℕ). is_stuck_in g.registers o cells (known_of cells o) (wants_of (wanted_in v.plan))) own
       ∙ ap (λ (p : Option Wanted). is_stuck_in g.registers output cells (known_of cells output) (wants_of (wanted_in p))) plan in

@@ -1,31 +1,29 @@
 -- An order over a bus whose calls nothing disturbs.
 use Rattle.std.proofs.Common.{◌≡◌, ◌||◌, ◌&&◌, arith, cond, eqb, ℕ, Bool, true, false, List, [], ◌∷◌, ◌++◌, Option, Some, None, length}
 use Rattle.std.proofs.Common.{is_none, is_some, refl, sym, ◌∙◌, ap, ap₂, subst}
-use Rattle.std.specs.Prelude.{bytes_eq, nat_eq, nat_lt}
-use Rattle.std.specs.List.{starts_with}
+use Rattle.std.specs.Prelude.{bytes_eq, nat_lt}
 use Rattle.std.specs.Prelude.{option_map}
-use Rattle.std.proofs.lemmas.Bool.Decides.{nat_tests}
-use Rattle.pm_table.specs.Rules.{rule}
 use Rattle.pm_frame.specs.declared.fault.FrameFault.{FrameFault}
-use Rattle.pm_frame.specs.declared.fault.FrameFault.TheVariants.{Short, Long}
 use Rattle.pm_frame.specs.View.{answer_payload}
 use Rattle.std.proofs.lemmas.Bool.{eq-eqb}
 use Rattle.std.proofs.lemmas.List.{length-replicate}
+use Rattle.std.proofs.lemmas.Slice.Eq.{bytes_eq-Decides}
 use Rattle.pm_table.specs.declared.cell.Cell.{Cell}
-use Rattle.pm_table.specs.declared.cell.Cell.TheVariants.{Out, Protect}
+use Rattle.pm_table.specs.declared.cell.Cell.TheVariants.{Protect}
 use Rattle.pm_table.specs.Cell.{cell_code}
 use Rattle.pm_table.specs.Protection.{is_allowed}
 use Rattle.pm_frame.specs.Betrayal.{is_betrayed}
+use Rattle.pm_frame.specs.Lemmas.{length_fault-found}
 use Rattle.pm_frame.specs.Fault.{address_fault, answer_fault, length_fault, whole_answer}
-use Rattle.pm_frame.specs.Layout.{IsRequest, IsWrite, is_read_message, read_address}
+use Rattle.pm_frame.specs.Layout.{IsRequest, IsWrite, read_address}
 use Rattle.pm_model.specs.Settings.{word_at}
-use Rattle.pm_device.specs.declared.ending.Ending.TheVariants.{Stop, Restart}
 use Rattle.pm_device.specs.Held.{Held}
 use Rattle.pm_host.specs.declared.job.Job.TheVariants as asked
 use Rattle.pm_host.specs.declared.job_end.JobEnd.TheVariants.{Done, Differs}
+use Rattle.pm_host.specs.Lemmas.{reads_cell, writes_cell}
 use Rattle.pm_host.specs.Answers.{good_payload, good_word, word_in}
 use Rattle.pm_host.specs.Marks.{Good}
-use Rattle.pm_host.specs.Messages.{cell_read, cell_write}
+use Rattle.pm_host.specs.Messages.{cell_read}
 use Rattle.pm_host.specs.Refusals.{cell_fault, is_busy, job_fault, order_fault}
 use Rattle.pm_host.specs.Summary.{Summary, ends, idle, marked, next as host_next, read_back, writes as writes_again}
 use Rattle.pm_host.specs.Transcript.{Accepted, Entry, Finished, Got, Order, Setup, end_of}
@@ -34,11 +32,12 @@ use Rattle.pm_world.specs.declared.back.Back.TheVariants as back
 use Rattle.pm_world.specs.declared.event.Event.{Event}
 use Rattle.pm_world.specs.declared.event.Event.TheVariants as event
 use Rattle.pm_world.specs.GoodBus.{GoodFramesEndJobs}
-use Rattle.pm_world.specs.Legal.{is_legal_hearing, is_legal_return}
+use Rattle.pm_world.specs.Legal.{is_legal_return}
+use Rattle.pm_world.specs.Lemmas.{whole-hearing, write-heard}
 use Rattle.pm_world.specs.Life.{life}
 use Rattle.pm_world.specs.Setup.{setup_of}
 use Rattle.pm_world.specs.WholeFrames.{WholeFramesAreUndisturbed}
-use Rattle.pm_driver.specs.Acts.{Act, AreCalls, AreDone, Began, Call, Called, MayDo, Read, Renewed, Wrote, asked_in, host_by, told_all}
+use Rattle.pm_driver.specs.Acts.{Act, AreCalls, AreDone, Began, Call, Called, Looked, MayDo, Read, Renewed, Wrote, asked_in, host_by, told_all}
 use Rattle.pm_driver.specs.Bus.{IsAsked, IsSent, answer_of}
 use Rattle.pm_driver.specs.Driven.{HasLife, driven}
 use Rattle.pm_driver.specs.Lives.{Leads}
@@ -52,39 +51,22 @@ use Rattle.pm_driver.proofs.WithinLimits.{first-none, guard-free, later-none}
 
 -- ---- frames that come whole
 
--- bytes begin with themselves, and equal themselves
-starts-self : (xs : List ℕ) → starts_with nat_eq xs xs ≡ true
-starts-self [] = refl
-starts-self (x ∷ xs) = ap₂ (λ a b. a && b) (eq-eqb x x refl) (starts-self xs)
-
-bytes-self : (xs : List ℕ) → bytes_eq xs xs ≡ true
-bytes-self [] = refl
-bytes-self (x ∷ xs) = ap₂ (λ a b. a && b) (eq-eqb x x refl) (bytes-self xs)
-
--- whole frames are heard legally, ended by a stop or by a repeated start
-whole-legal : (frame : List ℕ) → is_legal_hearing frame frame Stop ≡ true
-unfolding is_legal_hearing
-whole-legal frame = ap (λ b. b || is_betrayed [] frame) (starts-self frame)
-
-request-legal : (request : List ℕ) → is_legal_hearing request request Restart ≡ true
-unfolding is_legal_hearing
-request-legal request = refl
-
 -- the own answer to a request comes back legally
 answer-legal : (request : List ℕ) (needed : ℕ) (answer : List ℕ) →
     is_legal_return request needed (bytes_eq request request) answer answer ≡ true
 unfolding is_legal_return
 answer-legal request needed answer =
-    ap₂ (λ a b. a && b || (nat_lt (length answer) needed || is_betrayed request answer)) (bytes-self request) (bytes-self answer)
+    ap₂ (λ a b. a && b || (nat_lt (length answer) needed || is_betrayed request answer))
+    ((bytes_eq-Decides request request).1 refl) ((bytes_eq-Decides answer answer).1 refl)
 
 pub whole-legal-all : WholeFramesAreLegal
-whole-legal-all = record { write = whole-legal; request = request-legal; answer = answer-legal }
+whole-legal-all = record { write = write-heard; request = whole-hearing; answer = answer-legal }
 
 -- a write that comes whole, and a read
 sent-whole : (held : Held) (frame : List ℕ) → IsSent frame held 0 (wrote_whole held frame) 0
 sent-whole held frame = record {
   events = event.Deliver Whole ∷ [];
-  may = (whole-legal frame, tt);
+  may = (write-heard frame, tt);
   after = refl;
   count = refl;
 }
@@ -96,7 +78,7 @@ asked-so held request needed = record {
   arrival = Whole;
   back = back.Whole;
   beside_before = tt;
-  legal = request-legal request;
+  legal = whole-hearing request;
   returned = answer-legal request needed (answer_of held request Whole);
   came_is = refl;
   after = refl;
@@ -104,19 +86,6 @@ asked-so held request needed = record {
 }
 
 -- ---- a good answer is a whole one
-
--- bytes with no fault of their length have this many
-long-so : (wanted : ℕ) (bytes : List ℕ) → length_fault wanted bytes ≡ None → length bytes ≡ wanted
-unfolding length_fault
-long-so wanted bytes none = go (nat_lt (length bytes) wanted) (nat_lt wanted (length bytes)) refl refl
-    (first-none (rule (nat_lt (length bytes) wanted) (Short (length bytes))) _ none)
-    (first-none (rule (nat_lt wanted (length bytes)) (Long wanted)) None (later-none (rule (nat_lt (length bytes) wanted) (Short (length bytes))) _ none))
-  where
-    go : (short long : Bool) → nat_lt (length bytes) wanted ≡ short → nat_lt wanted (length bytes) ≡ long →
-        rule short (Short (length bytes)) ≡ None → rule long (Long wanted) ≡ None → length bytes ≡ wanted
-    go true long s l one two = cc
-    go false true s l one two = cc
-    go false false s l one two = grind (arith, nat_tests)
 
 -- a good answer for a cell is as long as a whole one
 good-long : (addr : ℕ) (cell : Cell) (word : ℕ) (bytes : List ℕ) → good_word addr cell bytes ≡ Some word →
@@ -127,7 +96,7 @@ good-long addr cell word bytes good = go (answer_fault addr (cell_read cell) byt
       option_map word_in (cond (is_none fault) (Some (answer_payload (cell_read cell) bytes)) None) ≡ Some word →
       length bytes ≡ whole_answer (cell_read cell)
   go (Some fault) e h = cc
-  go None e h = long-so (whole_answer (cell_read cell)) bytes
+  go None e h = length_fault-found (whole_answer (cell_read cell)) bytes
       (first-none (length_fault (whole_answer (cell_read cell)) bytes) _
       (later-none (address_fault (read_address addr) bytes) _ e))
 
@@ -217,6 +186,7 @@ idle-acts host idle (Called call ∷ before) none done =
     absurd (not-idle host call idle (subst (λ (l : List Act). MayDo (host_by host l) (Called call)) earlier done.0))
 idle-acts host idle (Began job ∷ before) none done = cc
 idle-acts host idle (Renewed ∷ before) none done = cc
+idle-acts host idle (Looked request room came ∷ before) none done = cc
 
 -- a host that doesn't refuse an order is idle
 idle-so : (host : Summary) (cell : Cell) (word : ℕ) → order_fault host cell word ≡ None → is_busy host ≡ false
@@ -236,15 +206,6 @@ data Came (host : Summary) (held : Held) (cell : Cell) (word : ℕ) (acts : List
       MayDo (host_next host (Accepted (Order cell word))) (Called (Wrote frame true)) →
       MayDo (host_next (host_next host (Accepted (Order cell word))) (Finished true)) (Called (Read request room [])) →
       Came host held cell word acts new
-
--- the read of a cell reads, and the write of one doesn't
-reads-so : (cell : Cell) → is_read_message (cell_read cell) ≡ true
-reads-so (Out output register) = refl
-reads-so Protect = refl
-
-writes-so : (cell : Cell) (word : ℕ) → is_read_message (cell_write cell word) ≡ false
-writes-so (Out output register) word = refl
-writes-so Protect word = refl
 
 -- what comes of the two frames, whichever they are
 GoesThrough : Summary → Held → Cell → ℕ → List Entry → Setup → Type 0
@@ -266,11 +227,11 @@ step host held cell word entries setup goes acts middle new (Wrote frame acked) 
 step host held cell word entries setup goes acts middle new (Read request room came) (begun is at) may so =
     let shown = subst (λ (l : List Act). MayDo (host_by host l) (Called (Read request room came))) is may in
     let reads = shown.0.reads in
-    let no = writes-so cell word in cc
+    let no = writes_cell cell word in cc
 step host held cell word entries setup goes acts middle new (Wrote other acked) (wrote frame is at writes) may so =
     let shown = subst (λ (l : List Act). MayDo (host_by host l) (Called (Wrote other acked))) is may in
     let no = shown.writes in
-    let reads = reads-so cell in cc
+    let reads = reads_cell cell in cc
 step host held cell word entries setup goes acts middle new (Read request room came) (wrote frame is at writes) may so =
     let reads = subst (λ (l : List Act). MayDo (host_by host l) (Called (Read request room came))) is may in
     let two = goes frame request room writes reads in
@@ -303,6 +264,7 @@ came-so host cell word entries setup gives held is_so all old so quiet goes (Beg
     let at : old ≡ new = subst (λ (l : List Act). AreCalls gives old l new) none calls in
     (begun (ap₂ (λ j l. Began j ∷ l) same none) (ap held at), subst (λ b. is_so b ≡ true) at so)
 came-so host cell word entries setup gives held is_so all old so quiet goes (Renewed ∷ before) new asks done calls = cc
+came-so host cell word entries setup gives held is_so all old so quiet goes (Looked request room came ∷ before) new asks done calls = cc
 
 -- an order over a bus whose calls nothing disturbs is done, and its word is held
 pub undisturbed-orders : LawsOfLives → GoodFramesEndJobs → WholeFramesAreUndisturbed → CallsGo → {B : Type 0} →

@@ -27,7 +27,8 @@ use Rattle.pm_limits.specs.declared.part_registers.PartRegisters.{PartRegisters}
 use Rattle.pm_limits.specs.Bounds.{Bounds, IsWithin, is_wider}
 use Rattle.pm_limits.specs.Guard.{Guarded, LetsBegin, guard_fault, guarded_order, judged, limits_at, missing_cell, missing_ordered, of_host, word_fault}
 use Rattle.pm_limits.specs.Lemmas.Guarded.{guarded-voltage}
-use Rattle.pm_limits.specs.Lemmas.Order.{through}
+use Rattle.pm_num.specs.Lemmas.Over.{at_most-trans}
+use Rattle.pm_world.specs.Lemmas.{in-format}
 use Rattle.pm_world.specs.declared.event.Event.{Event}
 use Rattle.pm_world.specs.declared.event.Event.TheVariants.{RestartHost}
 use Rattle.pm_world.specs.Job.{asked_by}
@@ -35,7 +36,7 @@ use Rattle.pm_world.specs.Life.{now}
 use Rattle.pm_world.specs.Limited.{OrdersWithin, OwnWithin, StartsWithin, WordWithin}
 use Rattle.pm_world.specs.State.{asked, tells}
 use Rattle.pm_world.specs.Uncertainty.{job_event}
-use Rattle.pm_driver.specs.Acts.{Act, Began, Call, Called, Renewed, asked_in}
+use Rattle.pm_driver.specs.Acts.{Act, Began, Call, Called, Looked, Renewed, asked_in}
 use Rattle.pm_driver.specs.Driven.{AreAsNarrow, Driving, HasLife, HasLifeWithin, HasNoRestartSince, MayBegin, Runs, driven}
 use Rattle.pm_driver.specs.Ends.{EndSays, cell_read}
 use Rattle.pm_driver.specs.Laws.{EndsAreTrue, LawsOfLives, LeadsCompose, NewConvertersAreWithin}
@@ -119,8 +120,8 @@ narrower own bounds value narrow within =
     go true high l h none = cc
     go false true l h none = cc
     go false false l h none = record {
-      from_least = through (micros bounds.least) (micros own.least) value (omega arith) (grind (arith, ints, nat_tests)) within.from_least;
-      to_greatest = through value (micros own.most) (micros bounds.most) (omega arith) within.to_greatest (grind (arith, ints, nat_tests));
+      from_least = at_most-trans (micros bounds.least) (micros own.least) value (omega arith) (grind (arith, ints, nat_tests)) within.from_least;
+      to_greatest = at_most-trans value (micros own.most) (micros bounds.most) (omega arith) within.to_greatest (grind (arith, ints, nat_tests));
     }
 
 -- a word within an output's own limits in a known format lies within any limits that those are as narrow as
@@ -130,14 +131,6 @@ all-narrower : (limits : Option Bounds) (bounds : Bounds) (shape : Option Shape)
 all-narrower None bounds shape word narrow within = absurd narrow
 all-narrower (Some own) bounds None word narrow within = absurd (within own refl)
 all-narrower (Some own) bounds (Some shape) word narrow within = narrower own bounds (shape_value shape word) narrow (within own refl)
-
--- a word within limits in the format that a host knows lies within them in the output's own, which is the same
-in-format : (known : Option Shape) (own : Shape) (word : ℕ) (bounds : Bounds) →
-    ((shape : Shape) → known ≡ Some shape → shape ≡ own) →
-    IsSomeAnd known (λ shape. IsWithin bounds (shape_value shape word)) → IsWithin bounds (shape_value own word)
-in-format None own word bounds agree within = absurd within
-in-format (Some shape) own word bounds agree within =
-    subst (λ (s : Shape). IsWithin bounds (shape_value s word)) (agree shape refl) within
 
 -- whatever host takes the job as an order of a voltage of the output, the word has a value within these limits
 abbrev JobWithin : Config → ℕ → Bounds → Job → Type 0
@@ -199,6 +192,7 @@ asked-begun [] = refl
 asked-begun (Called call ∷ acts) = asked-begun acts
 asked-begun (Began job ∷ acts) = ap (with_job (asked_by (job_event job))) (asked-begun acts)
 asked-begun (Renewed ∷ acts) = asked-begun acts
+asked-begun (Looked request room came ∷ acts) = asked-begun acts
 
 -- of a job that began the word is within
 begun-within : (config : Config) (output : ℕ) (bounds : Bounds) (begun : host.Job) →
@@ -238,27 +232,26 @@ job-within laws gives held restarts g asked begun end bus new free is leads outp
 
 -- ---- what a call does
 
--- a job that is carried out
-pub runs-so : LawsOfLives → EndsAreTrue → {B : Type 0} (gives : B → Call → B → Type 0) (held : B → Held) (restarts : B → ℕ) →
+-- a job that is carried out, which nothing refused and which its guard began
+pub runs-by : LawsOfLives → EndsAreTrue → {B : Type 0} (gives : B → Call → B → Type 0) (held : B → Held) (restarts : B → ℕ) →
     JobsLead gives held restarts → LeadsCompose gives held restarts → (asked : Job) (end : JobEnd) (old new : Driving B) (middle : Guarded) →
-    HasLife old.guard.host (held old.bus) → LetsBegin old.guard asked (Ok tt) middle →
+    HasLife old.guard.host (held old.bus) → guard_fault old.guard asked ≡ None → IsBegun old.guard.host asked middle.host →
     Leads gives held restarts [] (Some end) (record { host = middle.host; bus = old.bus }) (driven new) → frames_left new.guard.host ≡ 0 →
-    new.guard.limits ≡ middle.limits → new.guard.registers ≡ middle.registers → new.guard.host.setup ≡ middle.host.setup →
+    new.guard.limits ≡ old.guard.limits → new.guard.registers ≡ old.guard.registers → new.guard.host.setup ≡ old.guard.host.setup →
     Runs gives held restarts asked old (Ok end) new
-runs-so laws law gives held restarts jobs compose asked end old new middle has begins leads over limits registers kept =
-    let led = job-leads gives held restarts jobs compose asked end (driven old) (driven new) middle.host
-    (guard-begun old.guard middle asked begins) leads in
+runs-by laws law gives held restarts jobs compose asked end old new middle has free begun leads over limits registers kept =
+    let led = job-leads gives held restarts jobs compose asked end (driven old) (driven new) middle.host begun leads in
     record {
-      fault = begins.fault;
+      fault = sym free;
       leads = led;
       says = says (accepted_job old.guard.host asked) led;
       read = read (accepted_job old.guard.host asked) led;
       stays = job-since gives held restarts (accepted_job old.guard.host asked) end (driven old) (driven new) led;
       over = over;
       err = tt;
-      limits = limits ∙ begins.limits;
-      registers = registers ∙ begins.registers;
-      kept = kept ∙ begins.kept;
+      limits = limits;
+      registers = registers;
+      kept = kept;
       within = λ output bounds narrow lived. stays (accepted_job old.guard.host asked) refl led output bounds narrow lived;
     } where
       says : (o : Option host.Job) →
@@ -279,16 +272,17 @@ runs-so laws law gives held restarts jobs compose asked end old new middle has b
           HasLifeWithin output bounds old.guard.host (held old.bus) → HasLifeWithin output bounds new.guard.host (held new.bus)
       stays None e is output bounds narrow lived = absurd is
       stays (Some begun) e is output bounds narrow lived =
-          job-within laws gives held restarts old.guard asked begun end old.bus (driven new) (sym begins.fault) e is output bounds narrow lived
+          job-within laws gives held restarts old.guard asked begun end old.bus (driven new) free e is output bounds narrow lived
 
--- a restart
-pub restart-within : LawsOfLives → {B : Type 0} (gives : B → Call → B → Type 0) (held : B → Held) (restarts : B → ℕ) (old new : Driven B) →
-    Leads gives held restarts (Renewed ∷ []) None old new → (output : ℕ) (bounds : Bounds) →
+-- what asks for no job
+pub jobless-within : LawsOfLives → {B : Type 0} (gives : B → Call → B → Type 0) (held : B → Held) (restarts : B → ℕ) (asked : List Act)
+    (old new : Driven B) → jobs_begun asked ≡ [] →
+    Leads gives held restarts asked None old new → (output : ℕ) (bounds : Bounds) →
     HasLifeWithin output bounds old.host (held old.bus) → HasLifeWithin output bounds new.host (held new.bus)
-restart-within laws gives held restarts old new leads output bounds lived =
-    led-within laws gives held restarts (Renewed ∷ []) None old new output bounds lived leads
+jobless-within laws gives held restarts asked old new none leads output bounds lived =
+    led-within laws gives held restarts asked None old new output bounds lived leads
     (subst (JobsWithin lived.has.config output bounds)
-    (sym (leads.orders ∙ (asked-begun leads.acts ∙ ap jobs_begun leads.asks))) tt)
+    (sym (leads.orders ∙ (asked-begun leads.acts ∙ (ap jobs_begun leads.asks ∙ none)))) tt)
 
 -- ---- the beginning
 
@@ -340,3 +334,14 @@ new-within laws config passes output bounds sound spelled made starts = record {
   };
   within = starts-own config passes output bounds starts;
 }
+
+-- one that its guard let begin
+pub runs-so : LawsOfLives → EndsAreTrue → {B : Type 0} (gives : B → Call → B → Type 0) (held : B → Held) (restarts : B → ℕ) →
+    JobsLead gives held restarts → LeadsCompose gives held restarts → (asked : Job) (end : JobEnd) (old new : Driving B) (middle : Guarded) →
+    HasLife old.guard.host (held old.bus) → LetsBegin old.guard asked (Ok tt) middle →
+    Leads gives held restarts [] (Some end) (record { host = middle.host; bus = old.bus }) (driven new) → frames_left new.guard.host ≡ 0 →
+    new.guard.limits ≡ middle.limits → new.guard.registers ≡ middle.registers → new.guard.host.setup ≡ middle.host.setup →
+    Runs gives held restarts asked old (Ok end) new
+runs-so laws law gives held restarts jobs compose asked end old new middle has begins leads over limits registers kept =
+    runs-by laws law gives held restarts jobs compose asked end old new middle has (sym begins.fault)
+    (guard-begun old.guard middle asked begins) leads over (limits ∙ begins.limits) (registers ∙ begins.registers) (kept ∙ begins.kept)

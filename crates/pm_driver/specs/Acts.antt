@@ -1,11 +1,12 @@
--- What a driver does, call by call: the calls of its bus, with what they answered, and the jobs and restarts of its
--- host. Lists are newest first.
-use Rattle.std.specs.Prelude.{◌≡◌, ℕ, Bool, List, [], ◌∷◌, None, IsSomeAnd, replicate}
-use Rattle.pm_frame.specs.Fault.{whole_answer}
+-- What a driver does, call by call: the calls of its bus, with what they answered, the jobs and restarts of its host, and
+-- the reads that are no job. Lists are newest first.
+use Rattle.std.specs.Prelude.{◌≡◌, ◌≢◌, ◌++◌, ℕ, Bool, false, List, [], ◌∷◌, Option, Some, None, IsSomeAnd, option_to_list, replicate, take}
+use Rattle.pm_frame.specs.Fault.{whole_answer, write_fault}
 use Rattle.pm_frame.specs.Layout.{IsWrite, IsRequest}
-use Rattle.pm_host.specs.Refusals.{job_fault}
-use Rattle.pm_host.specs.Summary.{Summary, sending_in, next as host_next}
+use Rattle.pm_host.specs.Refusals.{is_busy, job_fault}
+use Rattle.pm_host.specs.Summary.{Summary, sending_in}
 use Rattle.pm_host.specs.Transcript.{Job, Entry, Accepted, Finished, Got, Restarted}
+use Rattle.pm_world.specs.State.{host_after}
 
 -- one call of a bus, and what it answered
 pub data Call : Type 0 where
@@ -16,34 +17,42 @@ pub data Call : Type 0 where
 
 -- one act of a driver
 pub data Act : Type 0 where
-  -- a call of its bus
+  -- a call of its bus for a frame of its host's
   Called : (call : Call) → Act
   -- its host accepted a job
   Began : (job : Job) → Act
   -- its host restarted
   Renewed : Act
+  -- a read that is no job: this request was sent with this room for its answer, and these bytes came back
+  Looked : (request : List ℕ) (room : List ℕ) (came : List ℕ) → Act
 
--- what the host is told by a call, and by an act
+-- what the host is told by a call, and by an act: nothing of a read that is no job
 abbrev pub told_of : Call → Entry
 told_of (Wrote frame acked) = Finished acked
 told_of (Read request room came) = Got came
 
-abbrev pub told_by : Act → Entry
-told_by (Called call) = told_of call
-told_by (Began job) = Accepted job
-told_by Renewed = Restarted
+abbrev pub told_by : Act → Option Entry
+told_by (Called call) = Some (told_of call)
+told_by (Began job) = Some (Accepted job)
+told_by Renewed = Some Restarted
+told_by (Looked request room came) = None
 
 abbrev pub told_all : List Act → List Entry
 told_all [] = []
-told_all (act ∷ before) = told_by act ∷ told_all before
+told_all (act ∷ before) = option_to_list (told_by act) ++ told_all before
 
 -- what the host holds after acts
 abbrev pub host_by : Summary → List Act → Summary
 host_by s [] = s
-host_by s (act ∷ before) = host_next (host_by s before) (told_by act)
+host_by s (act ∷ before) = host_after (host_by s before) (told_by act)
+
+-- No beginning of these bytes is a write to this address: wherever a stop cuts them off, the converter takes nothing.
+pub record IsNoWrite (addr : ℕ) (bytes : List ℕ) : Type 0 where
+  pub cut : (count : ℕ) → write_fault addr (take count bytes) ≢ None
 
 -- A call sends the frame of the message that the host was sending, and a read has room for just a whole answer, all
--- zero. A job is one that the host doesn't refuse.
+-- zero. A job is one that the host doesn't refuse. A read that is no job comes while no job is open, and no beginning of
+-- its request is a write.
 abbrev pub MayDo : Summary → Act → Type 0
 MayDo s (Called (Wrote frame acked)) =
     IsSomeAnd (sending_in s) (λ message. IsWrite s.setup.addr message frame)
@@ -52,6 +61,7 @@ MayDo s (Called (Read request room came)) =
     × IsSomeAnd (sending_in s) (λ message. room ≡ replicate (whole_answer message) 0)
 MayDo s (Began job) = job_fault s job ≡ None
 MayDo s Renewed = Unit {0}
+MayDo s (Looked request room came) = (is_busy s ≡ false) × IsNoWrite s.setup.addr request
 
 -- so does each of the acts
 abbrev pub AreDone : Summary → List Act → Type 0
@@ -66,10 +76,13 @@ AreCalls {B = B} gives old (Called call ∷ before) new =
     (bus : B) × AreCalls gives old before bus × gives bus call new
 AreCalls gives old (Began job ∷ before) new = AreCalls gives old before new
 AreCalls gives old (Renewed ∷ before) new = AreCalls gives old before new
+AreCalls {B = B} gives old (Looked request room came ∷ before) new =
+    (bus : B) × AreCalls gives old before bus × gives bus (Read request room came) new
 
--- what the host was asked for: the acts that are no calls
+-- what the driver was asked for: the acts that are no frames of its host's
 abbrev pub asked_in : List Act → List Act
 asked_in [] = []
 asked_in (Called call ∷ before) = asked_in before
 asked_in (Began job ∷ before) = Began job ∷ asked_in before
 asked_in (Renewed ∷ before) = Renewed ∷ asked_in before
+asked_in (Looked request room came ∷ before) = Looked request room came ∷ asked_in before

@@ -39,7 +39,7 @@ pub record Driving (B : Type 0) : Type 0 where
 abbrev pub driven : {B : Type 0} → Driving B → Driven B
 driven d = record { host = d.guard.host; bus = d.bus }
 
--- some life led to this host and this converter
+-- Some life led to this host and this converter, but for its latched bits of STATUS_CML (`IsLife`).
 pub record HasLife (host : Summary) (held : Held) : Type 0 where
   pub config : Config
   pub passes : ℕ

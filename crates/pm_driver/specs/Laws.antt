@@ -1,10 +1,12 @@
 -- The laws of a driver, over the definitions alone.
 use Rattle.std.specs.Prelude.{◌≡◌, ℕ, true, false, IfSome, List, ◌++◌, Option, Some}
+use Rattle.pm_frame.specs.Laws.{BetrayalIsRefused, RequestsAreExact}
 use Rattle.pm_limits.specs.Bounds.{Bounds}
 use Rattle.pm_device.specs.declared.config.Config.{Config}
 use Rattle.pm_device.specs.Held.{Held}
 use Rattle.pm_device.specs.Start.{IsSound}
 use Rattle.pm_device.specs.History as history
+use Rattle.pm_device.specs.Laws.{RequestsLatchAtMost}
 use Rattle.pm_host.specs.declared.job_end.JobEnd.{JobEnd}
 use Rattle.pm_host.specs.Refusals.{IsSetup}
 use Rattle.pm_host.specs.Summary.{start}
@@ -24,7 +26,7 @@ use Rattle.pm_driver.specs.Driven.{HasLifeWithin, HasNoRestartSince, MayBegin}
 use Rattle.pm_driver.specs.Ends.{EndSays, cell_read}
 use Rattle.pm_driver.specs.Lives.{Driven, Leads, newest_tells}
 
--- the laws of lives that a driver keeps its promises by
+-- the laws of lives, of frames and of hearings that a driver keeps its promises by
 pub record LawsOfLives : Type 0 where
   pub followed : LivesAreFollowed
   pub orders : LivesAreOrders
@@ -32,6 +34,9 @@ pub record LawsOfLives : Type 0 where
   pub confirmed : ConfirmedSettingsAreHeld
   pub possible : PossibleWordsAreHeld
   pub limited : LivesStayLimited
+  pub requests : RequestsAreExact
+  pub betrayal : BetrayalIsRefused
+  pub latch : RequestsLatchAtMost
 
 -- What leads on from where something led is one that leads from its beginning: calls compose.
 abbrev pub LeadsCompose : {B : Type 0} → (B → Call → B → Type 0) → (B → Held) → (B → ℕ) → Type 0

@@ -5,6 +5,7 @@ pub mod Acts
 pub mod Lives
 pub mod Ends
 pub mod Driven
+pub mod Looks
 pub mod Laws
 pub mod Undisturbed
 -- How it is kept.
@@ -21,3 +22,6 @@ pub mod PlanEnds
 -- Rails.
 pub mod Rails
 pub mod RailLaws
+pub mod SurveyLaws
+pub mod Reached
+pub mod RailLeads

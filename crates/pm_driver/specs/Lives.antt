@@ -20,11 +20,17 @@ pub record Driven (B : Type 0) : Type 0 where
   pub host : Summary
   pub bus : B
 
--- These events were lived through, and lead to this host and this converter.
+-- The converters hold the same, but for the latched bits of STATUS_CML.
+abbrev pub IsSameButFaults : Held → Held → Type 0
+IsSameButFaults one other = one ≡ record other { faults = one.faults }
+
+-- These events were lived through, and lead to this host and to this converter, but for its latched bits of STATUS_CML: a
+-- read that is no job may have latched some, and is none of the events. Words, store, PAGE, readings and the latches of
+-- STATUS_VOUT are those that the events lead to.
 pub record IsLife (config : Config) (passes : ℕ) (events : List Event) (host : Summary) (held : Held) : Type 0 where
   pub lived : IsLived config passes events
   pub host_is : (now config passes events).host ≡ host
-  pub held_is : (now config passes events).device ≡ held
+  pub held_is : IsSameButFaults (now config passes events).device held
 
 -- the newest event is one that the host was told of, so nothing happened after it
 abbrev pub newest_tells : List Event → Bool
@@ -63,9 +69,9 @@ jobs_begun [] = []
 jobs_begun (Began job ∷ acts) = with_job (asked_by (job_event job)) (jobs_begun acts)
 jobs_begun (act ∷ acts) = jobs_begun acts
 
--- A driver leads from one host and bus to another, asked for just these jobs and restarts of its host. There are
--- acts, with these jobs and restarts among them, whose calls lead from the one bus to the other, each of the frame
--- that the host was sending, and what each answered is what the host was told. And there are further events by
+-- A driver leads from one host and bus to another, asked for just these jobs, restarts of its host and reads that are no
+-- job. There are acts, with these among them, whose calls lead from the one bus to the other, each other one of the frame
+-- that the host was sending, and what each of those answered is what the host was told. And there are further events by
 -- which every life that led to the old host and its converter leads to the new ones. A life's events that tell a
 -- host something are those of the acts, and so are the jobs that they ask for (`orders`); the others are deliveries, restarts of the converter and readings. The bus counts the restarts among them (`count`).
 pub record Leads {B : Type 0} (gives : B → Call → B → Type 0) (held : B → Held) (restarts : B → ℕ) (asked : List Act) (end : Option JobEnd) (old new : Driven B) : Type 0 where

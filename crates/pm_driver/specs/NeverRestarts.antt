@@ -1,12 +1,14 @@
 -- Plans by which the converter never restarts: this project's own choice.
-use Rattle.std.specs.Prelude.{◌≡◌, ℕ, Result}
+use Rattle.std.specs.Prelude.{◌≡◌, ℕ, List, Result}
 use Rattle.pm_table.specs.declared.cell.Cell.{Cell}
 use Rattle.pm_device.specs.Held.{Held}
+use Rattle.pm_host.specs.declared.fault.HostFault.{HostFault}
 use Rattle.pm_host.specs.declared.job.Job.{Job}
 use Rattle.pm_host.specs.declared.job_end.JobEnd.{JobEnd}
 use Rattle.pm_limits.specs.declared.fault.LimitFault.{LimitFault}
 use Rattle.pm_driver.specs.Acts.{Call}
 use Rattle.pm_driver.specs.Driven.{Driving, HasNoRestartSince, Runs}
+use Rattle.pm_driver.specs.Looks.{Looks}
 use Rattle.pm_driver.specs.Patience.{gives_patiently}
 use Rattle.pm_driver.specs.Plan.{device_in, gives_so, restarts_of, restarts_so, tries_so}
 use Rattle.pm_driver.specs.declared.buses.patient.Patient.{Patient}
@@ -21,6 +23,11 @@ pub record NeverRestarts (driver : Driving SimulatedBus) : Type 0 where
 abbrev pub NeverRestartsStays : Type 0
 NeverRestartsStays = (job : Job) (old new : Driving SimulatedBus) (result : Result JobEnd LimitFault) →
     Runs gives_so device_in restarts_so job old result new → NeverRestarts old → NeverRestarts new
+
+-- So does each read of one that is no job.
+abbrev pub ReadsKeepNeverRestarts : Type 0
+ReadsKeepNeverRestarts = (request room answer : List ℕ) (old new : Driving SimulatedBus) (result : Result ℕ HostFault) →
+    Looks gives_so device_in restarts_so request room old result answer new → NeverRestarts old → NeverRestarts new
 
 -- what a patient bus over a simulated one has at its other end, how often that restarted, and what its calls give
 abbrev pub patient_device : Patient SimulatedBus → Held

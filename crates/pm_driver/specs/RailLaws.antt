@@ -2,26 +2,40 @@
 use Rattle.std.specs.Prelude.{◌≡◌, ◌<◌, ℕ, List, ◌++◌, Some}
 use Rattle.pm_table.specs.declared.cell.Cell.TheVariants.{Out}
 use Rattle.pm_table.specs.declared.reg.Reg.{Reg}
+use Rattle.pm_table.specs.Laws.{CellsAreToldApart}
 use Rattle.pm_model.specs.Settings.{word_at}
 use Rattle.pm_device.specs.declared.config.Config.{Config}
 use Rattle.pm_device.specs.Held.{Held, value_for}
+use Rattle.pm_host.specs.Laws.{EndsAreTold}
 use Rattle.pm_num.specs.Ratio.{Ratio}
 use Rattle.pm_rail.specs.declared.wanted.Wanted.{Wanted}
-use Rattle.pm_rail.specs.Laws.{IsStep}
+use Rattle.pm_rail.specs.Laws.{IsStep, SurveysEndKnown}
 use Rattle.pm_rail.specs.Plan.{commands_by, goal_of}
 use Rattle.pm_rail.specs.Registers.{wants_of}
 use Rattle.pm_world.specs.declared.event.Event.{Event}
 use Rattle.pm_world.specs.Bands.{HoldsMissing}
 use Rattle.pm_world.specs.Honest.{IsSpelled}
 use Rattle.pm_world.specs.Limited.{commands}
-use Rattle.pm_world.specs.Plans.{held_at}
-use Rattle.pm_world.specs.Surveys.{MissingUnread}
+use Rattle.pm_world.specs.Lived.{EventsAreLived}
+use Rattle.pm_world.specs.Moves.{SettingsMoveByTheOpenJob}
+use Rattle.pm_world.specs.Plans.{PlansHoldInLives, held_at}
+use Rattle.pm_world.specs.Surveys.{MissingUnread, SurveysHoldInLives}
 use Rattle.pm_driver.specs.declared.apply_end.ApplyEnd.TheVariants.{Reached}
 use Rattle.pm_driver.specs.declared.rails.Course.{Course}
 use Rattle.pm_driver.specs.Acts.{Call}
 use Rattle.pm_driver.specs.Driven.{Driving}
 use Rattle.pm_driver.specs.Lives.{IsLife}
 use Rattle.pm_driver.specs.Rails.{Applied, EndsAs, course_of, events_of}
+
+-- the laws of lives, and those below, that a rail over a bus keeps its promises by
+pub record LawsOfRails : Type 0 where
+  pub ends : EndsAreTold
+  pub lived : EventsAreLived
+  pub moves : SettingsMoveByTheOpenJob
+  pub plans : PlansHoldInLives
+  pub surveys : SurveysHoldInLives
+  pub apart : CellsAreToldApart
+  pub known : SurveysEndKnown
 
 -- what an output commands where each of its registers has the word that is wanted of it, and otherwise the one that it
 -- held after these events

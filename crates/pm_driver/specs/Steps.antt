@@ -8,10 +8,14 @@ use Rattle.pm_host.specs.Refusals.{is_busy, job_fault}
 use Rattle.pm_host.specs.Summary.{Summary, next as host_next, step_of}
 use Rattle.pm_host.specs.Transcript.{Job, Accepted, Restarted}
 use Rattle.pm_device.specs.declared.config.Config.{Config}
+use Rattle.pm_world.specs.declared.arrival.Arrival.{Arrival}
+use Rattle.pm_world.specs.declared.arrival.Arrival.TheVariants.{Whole}
+use Rattle.pm_world.specs.declared.back.Back.{Back}
+use Rattle.pm_world.specs.declared.back.Back.TheVariants as back
 use Rattle.pm_world.specs.declared.event.Event.{Event}
 use Rattle.pm_world.specs.declared.event.Event.TheVariants.{Exchange, Finish}
 use Rattle.pm_world.specs.State.{end_by}
-use Rattle.pm_driver.specs.Acts.{Began, Call, Called, MayDo, Read, Renewed, Wrote, told_of}
+use Rattle.pm_driver.specs.Acts.{Began, Call, Called, Looked, MayDo, Read, Renewed, Wrote, told_of}
 use Rattle.pm_driver.specs.Bus.{IsSent, IsAsked}
 use Rattle.pm_driver.specs.Lives.{Goes, IsLife, Leads}
 
@@ -30,10 +34,16 @@ abbrev pub IsCalled : Call → Held → ℕ → Held → ℕ → Type 0
 IsCalled (Wrote frame acked) old was new is = IsSent frame old was new is
 IsCalled (Read request room came) old was new is = IsAsked request (length room) old was came new is
 
+-- What came back of a request, by how that arrived: of one that came whole a part of its answer, and of any other these
+-- bytes, which may tell of bits that are latched.
+abbrev pub back_of : Arrival → Back → List ℕ → Back
+back_of Whole so came = so
+back_of arrival so came = back.Bytes (record { items = came })
+
 -- the events of a call, by what the bus did
 abbrev pub events_by : (call : Call) (old : Held) (was : ℕ) (new : Held) (is : ℕ) → IsCalled call old was new is → List Event
 events_by (Wrote frame acked) old was new is called = Finish acked ∷ called.events
-events_by (Read request room came) old was new is called = Exchange called.arrival called.back ∷ called.before
+events_by (Read request room came) old was new is called = Exchange called.arrival (back_of called.arrival called.back came) ∷ called.before
 
 -- By a call of the frame that the host was sending a life goes on by just these events.
 abbrev pub CallsGo : Type 0
@@ -49,6 +59,15 @@ FramesLead {B = B} gives held restarts = (call : Call) (host : Summary) (old new
     MayDo host (Called call) → IsCalled call (held old) (restarts old) (held new) (restarts new) → gives old call new →
     Leads gives held restarts [] (end_by (step_of host (told_of call)))
     (record { host = host; bus = old }) (record { host = host_next host (told_of call); bus = new })
+
+-- A read that is no job leads on, while no job is open and where no beginning of its request is a write.
+abbrev pub LooksLead : {B : Type 0} → (B → Call → B → Type 0) → (B → Held) → (B → ℕ) → Type 0
+LooksLead {B = B} gives held restarts = (request room came : List ℕ) (host : Summary) (old new : B) →
+    MayDo host (Looked request room came) →
+    IsAsked request (length room) (held old) (restarts old) came (held new) (restarts new) →
+    gives old (Read request room came) new →
+    Leads gives held restarts (Looked request room came ∷ []) None
+    (record { host = host; bus = old }) (record { host = host; bus = new })
 
 -- A restart of the host leads on.
 abbrev pub RenewalsLead : {B : Type 0} → (B → Call → B → Type 0) → (B → Held) → (B → ℕ) → Type 0

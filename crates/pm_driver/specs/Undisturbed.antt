@@ -9,6 +9,7 @@ use Rattle.pm_device.specs.declared.ending.Ending.TheVariants.{Stop, Restart}
 use Rattle.pm_device.specs.Effect as device
 use Rattle.pm_device.specs.Held.{Held}
 use Rattle.pm_device.specs.History.{next as device_next}
+use Rattle.pm_host.specs.declared.fault.HostFault.{HostFault}
 use Rattle.pm_host.specs.declared.job.Job.{Job}
 use Rattle.pm_host.specs.declared.job.Job.TheVariants.{Order}
 use Rattle.pm_host.specs.declared.job_end.JobEnd.{JobEnd}
@@ -19,6 +20,7 @@ use Rattle.pm_world.specs.Legal.{is_legal_hearing, is_legal_return}
 use Rattle.pm_driver.specs.Acts.{Call, Wrote, Read}
 use Rattle.pm_driver.specs.Bus.{answer_of}
 use Rattle.pm_driver.specs.Driven.{Driving, HasLife, HasNoRestartSince, Runs}
+use Rattle.pm_driver.specs.Looks.{Looks}
 
 -- what a converter holds once it heard a write as it was sent, and a request
 abbrev pub wrote_whole : Held → List ℕ → Held
@@ -61,6 +63,15 @@ UndisturbedOrdersAreDone {B = B} gives held restarts = (is_so : B → Bool) → 
 abbrev pub AreWithoutRestart : {B : Type 0} → (B → Call → B → Type 0) → (B → ℕ) → (B → Bool) → Type 0
 AreWithoutRestart {B = B} gives restarts is_so = (call : Call) (old new : B) → is_so old ≡ true → gives old call new →
     (restarts new ≡ restarts old) × (is_so new ≡ true)
+
+-- Over a bus whose calls restart nothing no read that is no job ends it that the converter didn't restart since a cell was
+-- read.
+abbrev pub ReadsRestartNothing : {B : Type 0} → (B → Call → B → Type 0) → (B → Held) → (B → ℕ) → Type 0
+ReadsRestartNothing {B = B} gives held restarts = (is_so : B → Bool) → AreWithoutRestart gives restarts is_so →
+    (request room answer : List ℕ) (old new : Driving B) (result : Result ℕ HostFault) →
+    Looks gives held restarts request room old result answer new → is_so old.bus ≡ true →
+    (is_so new.bus ≡ true) × ((cell : Cell) → HasNoRestartSince cell old.guard.host (held old.bus) →
+    HasNoRestartSince cell new.guard.host (held new.bus))
 
 -- Over a bus whose calls restart nothing no job ends it that the converter didn't restart since a cell was read.
 abbrev pub JobsRestartNothing : {B : Type 0} → (B → Call → B → Type 0) → (B → Held) → (B → ℕ) → Type 0

@@ -1,4 +1,4 @@
-ghost use Rattle.std.specs.Prelude.{◌≡◌, ℕ, List, [], ◌∷◌, None, OnOk, OnErr, replicate};
+ghost use Rattle.std.specs.Prelude.{◌≡◌, ◌≤◌, ◌<◌, ℕ, List, [], ◌∷◌, None, OnOk, OnErr, length, replicate};
 ghost use Rattle.std.specs.Result.{result_err};
 ghost use Rattle.pm_host.specs.declared.job.Job.TheVariants as asked;
 ghost use Rattle.pm_host.specs.declared.command.Command.TheVariants as command;
@@ -8,15 +8,20 @@ ghost use Rattle.pm_table.specs.declared.cell.Cell.{Cell as Place};
 ghost use Rattle.pm_limits.specs.Bounds.{Bounds};
 ghost use Rattle.pm_limits.specs.Guard.{narrow_fault, narrowed};
 ghost use Rattle.pm_limits.specs.Part.{all_registers};
-ghost use Rattle.pm_driver.specs.Acts.{Renewed};
+ghost use Rattle.pm_driver.specs.Acts.{IsNoWrite, Renewed};
 ghost use Rattle.pm_driver.specs.Driven.{HasLifeWithin, HasNoRestartSince, IsTrueOf, MayBegin, Runs, driven};
 ghost use Rattle.pm_driver.specs.Lives.{Leads};
+ghost use Rattle.pm_driver.specs.Looks.{Looks};
+ghost use Rattle.pm_driver.specs.Rails.{OrdersNext};
 
 use crate::bus::Bus;
 use crate::frames::carry_out;
-use crate::laws::{ends_are_true, jobs_lead, laws_of_lives, leads_compose, renewals_lead};
-use pm_host::{Command, Host, Job, JobEnd};
+use crate::laws::{
+    ends_are_true, jobs_lead, laws_of_lives, leads_compose, looks_lead, renewals_lead,
+};
+use pm_host::{Command, Host, HostFault, Job, JobEnd};
 use pm_limits::{Guard, LimitFault};
+use pm_rail::{PlanFault, PlanOrder, Wanted, begin_next, plans_are_accepted};
 use pm_table::Cell;
 use std::marker::Model;
 
@@ -141,6 +146,71 @@ impl<B: Bus> Driver<B> {
         ensures { Runs B.gives B.held B.restarts (asked.Send command.RestoreUserAll) self.old result self.new }
     {
         self.run(Job::Send(Command::RestoreUserAll))
+    }
+
+    /// Begins a plan's next order, by the call that gives it, and carries it out: the order, and how it ended. `None` where
+    /// none is left: then, and where it is refused, nothing changes. The output is there.
+    pub(crate) fn order_next(
+        &mut self,
+        output: u8,
+        wanted: &Wanted,
+    ) -> Result<Option<(PlanOrder, JobEnd)>, PlanFault>
+        requires { output < self.old.guard.host.setup.outputs }
+        ensures { OrdersNext B.gives B.held B.restarts output wanted.now self.old result self.new }
+    {
+        // These calls hand their laws to the prover.
+        ends_are_true();
+        jobs_lead::<B>();
+        leads_compose::<B>();
+        laws_of_lives();
+        plans_are_accepted();
+        match begin_next(&mut self.guard, output, wanted) {
+            Err(fault) => Err(fault),
+            Ok(None) => Ok(None),
+            Ok(Some(order)) => match carry_out(&mut self.guard, &mut self.bus) {
+                Some(end) => Ok(Some((order, end))),
+                None => unreachable!(),
+            },
+        }
+    }
+
+    /// Reads what no job asks for, as a status or a measured value: one [`Bus::read`] of this request, of which the host isn't
+    /// told. How many bytes came, the read address with them; [`read_plain`](pm_frame::read_plain) and
+    /// [`read_block`](pm_frame::read_block) judge them. Refused with H3 where a job is open, which changes nothing. There is
+    /// room for a byte at least.
+    ///
+    /// No beginning of the request is a write to the converter, since the bus may cut it off there by a stop: that of
+    /// [`code_request`](pm_frame::code_request) never is one, nor bytes whose code isn't written, as PAGE_PLUS_READ, nor the
+    /// request of a message that reads ([`requests_are_no_writes`](crate::requests_are_no_writes)).
+    ///
+    /// The converter latches bits of STATUS_CML at most. Settings, store and PAGE stay, unless it restarts, which the bus
+    /// counts; what the host calls confirmed holds on as between two jobs.
+    ///
+    /// STATUS_WORD of the output that PAGE selects, output 0 once the part started:
+    ///
+    /// ```
+    /// fn status<B: Bus>(driver: &mut Driver<B>) -> Option<u16> {
+    ///     let code = Code::STATUS_WORD.0;
+    ///     let mut room = [0; 4]; // the read address, two bytes and the PEC
+    ///     // law: no beginning of the request is a write
+    ///     requests_are_no_writes();
+    ///     let count = driver.read(&code_request(0x58, code), &mut room).ok()?; // H3: a job is open
+    ///     let payload = read_plain(0x58, code, 2, &room[..count]).ok()?; // F5 where a bit changed
+    ///     Some(u16::from_le_bytes([payload[0], payload[1]]))
+    /// }
+    /// ```
+    pub fn read(&mut self, request: &[u8], answer: &mut [u8]) -> Result<usize, HostFault>
+        requires room { 1 ≤ length answer.old }
+        requires reads { IsNoWrite self.old.guard.host.setup.addr request.now }
+        ensures { Looks B.gives B.held B.restarts request.now answer.old self.old result answer.new self.new }
+    {
+        // These calls hand their laws to the prover.
+        looks_lead::<B>();
+        laws_of_lives();
+        if self.is_busy() {
+            return Err(HostFault::Busy);
+        }
+        Ok(self.bus.read(request, answer))
     }
 
     /// Restarts the host, as after a reset of the firmware: nothing is known of the converter then. The limits stay.

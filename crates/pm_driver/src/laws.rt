@@ -2,10 +2,13 @@
 
 ghost use Rattle.pm_driver.specs.Laws.{EndsAreTrue, LeadsCompose, NewConvertersAreWithin, NewConvertersHaveNoRestart, NewConvertersMayBegin};
 ghost use Rattle.pm_driver.specs.Laws.{LawsOfLives, RestartsAreCounted};
-ghost use Rattle.pm_driver.specs.Steps.{CallsGo, FramesLead, JobsLead, RenewalsLead};
-ghost use Rattle.pm_driver.specs.Undisturbed.{JobsRestartNothing, UndisturbedOrdersAreDone, WholeFramesAreLegal};
+ghost use Rattle.pm_driver.specs.Looks.{RequestsAreNoWrites};
+ghost use Rattle.pm_driver.specs.Steps.{CallsGo, FramesLead, JobsLead, LooksLead, RenewalsLead};
+ghost use Rattle.pm_driver.specs.Undisturbed.{JobsRestartNothing, ReadsRestartNothing, UndisturbedOrdersAreDone, WholeFramesAreLegal};
 
 use crate::bus::Bus;
+use pm_device::requests_latch_at_most;
+use pm_frame::{betrayal_is_refused, damage_is_refused, requests_are_exact};
 use pm_host::transcripts_are_followed;
 use pm_table::cells_are_told_apart;
 use pm_world::{
@@ -14,7 +17,7 @@ use pm_world::{
     whole_frames_are_undisturbed,
 };
 
-/// What `pm_world` says of each life, which the laws below are had from.
+/// What `pm_world` says of each life, and the crates below of frames and hearings, which the laws below are had from.
 pub(crate) fn laws_of_lives()
     ensures { LawsOfLives }
 {
@@ -24,6 +27,9 @@ pub(crate) fn laws_of_lives()
     confirmed_settings_are_held();
     possible_words_are_held();
     lives_stay_limited();
+    requests_are_exact();
+    betrayal_is_refused();
+    requests_latch_at_most();
 }
 
 /// What leads on from where something led is one that leads from its beginning: calls compose.
@@ -45,6 +51,16 @@ pub fn ends_are_true()
     cells_are_told_apart();
     transcripts_are_followed();
     laws_of_lives();
+}
+
+/// No beginning of a request is a write: of up to two bytes, as a plain read or a block read of any code sends, of bytes whose
+/// code isn't written, and of a message that reads. What
+/// [`Driver::read`](crate::Driver::read) asks of its request.
+pub fn requests_are_no_writes()
+    ensures { RequestsAreNoWrites }
+{
+    requests_are_exact();
+    damage_is_refused();
 }
 
 /// A new host may begin beside a converter as it was made.
@@ -88,6 +104,11 @@ pub fn jobs_restart_nothing<B: Bus>()
     ensures { JobsRestartNothing B.gives B.held B.restarts }
 {}
 
+/// Nor does a read that is no job.
+pub fn reads_restart_nothing<B: Bus>()
+    ensures { ReadsRestartNothing B.gives B.held B.restarts }
+{}
+
 /// By a call of the frame that the host was sending a life goes on by just the events that the bus's clause names.
 pub(crate) fn calls_go()
     ensures { CallsGo }
@@ -105,6 +126,13 @@ pub(crate) fn frames_lead<B: Bus>()
 /// A job that the host accepts leads on.
 pub(crate) fn jobs_lead<B: Bus>()
     ensures { JobsLead B.gives B.held B.restarts }
+{
+    laws_of_lives();
+}
+
+/// A read that is no job leads on.
+pub(crate) fn looks_lead<B: Bus>()
+    ensures { LooksLead B.gives B.held B.restarts }
 {
     laws_of_lives();
 }

@@ -16,7 +16,9 @@
 //!
 //! [`Driver::survey`] reads what decides what an output commands, and [`Driver::apply`] carries a plan out: while the bus
 //! counts no restart, the output commands at each moment what it commanded before or what is wanted
-//! ([`applied_plans_keep_rails`], [`applied_plans_come_true`]).
+//! ([`applied_plans_keep_rails`]), and what is wanted once all is reached ([`applied_plans_come_true`],
+//! [`reached_plans_are_commanded`]); what it commands is in the band that a survey ends with, which has one value then
+//! ([`surveys_are_true`]).
 //!
 //! It has no clock and no memory: a bus decides how long it waits, and whether it tries a write again. There is one host
 //! and one converter; a second master on the bus is no part of it. Of its own buses a
@@ -66,14 +68,19 @@ pub use bus::Bus;
 pub use buses::{
     DeadBus, Fault, Patient, Retrying, SimulatedBus, driver_over, never_restarts_stays,
     order_patiently_through, order_through, orders_go_through, parts_compose,
-    patient_never_restarts_stays, patient_orders_go_through, requests_may_be_lost,
-    run_patiently_without_restart, run_without_restart,
+    patient_never_restarts_stays, patient_orders_go_through, read_without_restart,
+    reads_keep_never_restarts, requests_may_be_lost, run_patiently_without_restart,
+    run_without_restart,
 };
 pub use driver::Driver;
 pub use frames::carry_out;
 pub use laws::{
     ends_are_true, jobs_restart_nothing, leads_compose, new_converters_are_within,
-    new_converters_have_no_restart, new_converters_may_begin, restarts_are_counted,
-    undisturbed_orders_are_done, whole_frames_are_legal,
+    new_converters_have_no_restart, new_converters_may_begin, reads_restart_nothing,
+    requests_are_no_writes, restarts_are_counted, undisturbed_orders_are_done,
+    whole_frames_are_legal,
 };
-pub use rail_laws::{applied_plans_come_true, applied_plans_keep_rails};
+pub use rail_laws::{
+    applied_plans_come_true, applied_plans_keep_rails, rails_lead, reached_plans_are_commanded,
+    surveys_are_true,
+};

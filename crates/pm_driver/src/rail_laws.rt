@@ -1,35 +1,67 @@
-//! What a plan is worth that a driver carries out: each law is the contract of a function that does nothing when it runs.
+//! What a survey and a plan are worth that a driver carries out: each law is the contract of a function that does nothing
+//! when it runs.
 
-ghost use Rattle.pm_driver.specs.RailLaws.{AppliedPlansComeTrue, AppliedPlansKeepRails};
+ghost use Rattle.pm_driver.specs.RailLaws.{AppliedPlansComeTrue, AppliedPlansKeepRails, LawsOfRails};
+ghost use Rattle.pm_driver.specs.RailLeads.{RailsLead};
+ghost use Rattle.pm_driver.specs.Reached.{ReachedPlansAreCommanded};
+ghost use Rattle.pm_driver.specs.SurveyLaws.{SurveysAreTrue};
 
 use crate::bus::Bus;
 use pm_host::ends_are_told;
+use pm_rail::surveys_end_known;
 use pm_table::cells_are_told_apart;
 use pm_world::{
     events_are_lived, plans_hold_in_lives, settings_move_by_the_open_job, surveys_hold_in_lives,
 };
+
+// What the crates below say, which the laws here are had from.
+fn laws_of_rails()
+    ensures { LawsOfRails }
+{
+    cells_are_told_apart();
+    ends_are_told();
+    surveys_end_known();
+    events_are_lived();
+    settings_move_by_the_open_job();
+    plans_hold_in_lives();
+    surveys_hold_in_lives();
+}
 
 /// Where the bus counted no restart since a plan began to be carried out, the output commands at each moment what it
 /// commanded before or what is wanted, and changes once at most, however its jobs ended and wherever it stopped.
 pub fn applied_plans_keep_rails<B: Bus>()
     ensures { AppliedPlansKeepRails B.gives B.held B.restarts }
 {
-    cells_are_told_apart();
-    ends_are_told();
-    events_are_lived();
-    settings_move_by_the_open_job();
-    plans_hold_in_lives();
-    surveys_hold_in_lives();
+    laws_of_rails();
 }
 
 /// Where it ended `Reached` too, the converter holds each wanted word.
 pub fn applied_plans_come_true<B: Bus>()
     ensures { AppliedPlansComeTrue B.gives B.held B.restarts }
 {
-    cells_are_told_apart();
-    ends_are_told();
-    events_are_lived();
-    settings_move_by_the_open_job();
-    plans_hold_in_lives();
-    surveys_hold_in_lives();
+    laws_of_rails();
 }
+
+/// Where it ended `Reached` too, the output commands what is wanted: by the wanted words and, of the registers of which no
+/// word is wanted, by those that they held before.
+pub fn reached_plans_are_commanded<B: Bus>()
+    ensures { ReachedPlansAreCommanded B.gives B.held B.restarts }
+{
+    laws_of_rails();
+}
+
+/// Where the bus counted no restart since a survey began, the output commanded at each moment of it what it commands at its
+/// end, and what that is lies in the output's band. Where the survey has ended by its own rule, the band has one value.
+/// Where it has no tries left, the band rests on answers of before it too, and the converter must not have restarted since
+/// those. A survey that has read nothing begins so in any life, and goes on in the life that it led to.
+pub fn surveys_are_true<B: Bus>()
+    ensures { SurveysAreTrue B.gives B.held B.restarts }
+{
+    laws_of_rails();
+}
+
+/// A survey is one way from first to last, asked for its jobs and nothing else, and so is a plan that is carried out: by the
+/// events that the laws on their worth speak of.
+pub fn rails_lead<B: Bus>()
+    ensures { RailsLead B.gives B.held B.restarts }
+{}

@@ -8,13 +8,13 @@ ghost use Rattle.pm_host.specs.Summary.{possible_at};
 ghost use Rattle.pm_rail.specs.Known.{known_word};
 ghost use Rattle.pm_rail.specs.Survey.{is_stuck};
 ghost use Rattle.pm_driver.specs.Driven.{Runs};
-ghost use Rattle.pm_driver.specs.Rails.{Applies, GoesOn, asks_in, is_surveyed_in, SurveysTo, course_of, measure, once_more as spec_once_more, ordered_by, plan_in};
+ghost use Rattle.pm_driver.specs.Rails.{Applies, GoesOn, asks_in, is_surveyed_in, SurveysTo, course_of, measure, once_more as spec_once_more, ordered_by, plan_in, reached_if, read_again};
 
 use crate::apply_end::{ApplyEnd, StopCause};
 use crate::bus::Bus;
 use crate::driver::Driver;
 use pm_host::{HostFault, Job, JobEnd};
-use pm_rail::{PlanFault, PlanOrder, Survey, Wanted, next_order, plans_are_accepted};
+use pm_rail::{PlanFault, PlanOrder, Survey, Wanted, next_order};
 use pm_table::{Cell, Reg};
 
 // An order of a register that differed, and the word that was read.
@@ -59,6 +59,18 @@ impl Course {
             differed: self.differed,
             twice: self.twice,
         }
+    }
+
+    // No order is left: all is reached where nothing was ordered since the survey began; otherwise all is read once more.
+    fn carried_out(&mut self, output: u8, wanted: Wanted) -> Option<ApplyEnd>
+        ensures end { result ≡ reached_if self.old }
+        ensures after { self.new ≡ read_again output wanted self.old }
+    {
+        if !self.ordered {
+            return Some(ApplyEnd::Reached);
+        }
+        *self = self.once_more(output, wanted);
+        None
     }
 
     // An order of this register ended so.
@@ -107,7 +119,7 @@ impl<B: Bus> Driver<B> {
             match asked.next(self.guard()) {
                 None => return Ok(survey.is_done(self.guard())),
                 Some(job) => {
-                    let end = self.read(survey, job);
+                    let end = self.run_read(survey, job);
                     asked.told(end);
                     *survey = asked;
                 }
@@ -181,7 +193,7 @@ impl<B: Bus> Driver<B> {
         }
         let mut asked = course.survey;
         if let Some(job) = asked.next(self.guard()) {
-            let end = self.read(&course.survey, job);
+            let end = self.run_read(&course.survey, job);
             asked.told(end);
             course.survey = asked;
             return None;
@@ -233,26 +245,46 @@ impl<B: Bus> Driver<B> {
         ensures registers { self.new.guard.registers ≡ self.old.guard.registers }
         ensures kept { self.new.guard.host.setup ≡ self.old.guard.host.setup }
     {
+        if course.survey.left == 0 {
+            return self.go_on_spent(course, output, wanted);
+        }
+        match self.order_next(output, wanted) {
+            Err(fault) => {
+                let why = StopCause::Refused(fault);
+                Some(ApplyEnd::Stopped { why })
+            }
+            Ok(None) => course.carried_out(output, *wanted),
+            Ok(Some((order, end))) => {
+                self.is_idle();
+                course.ordered(order.register, end);
+                None
+            }
+        }
+    }
+
+    // The same where no try is left.
+    fn go_on_spent(&mut self, course: &mut Course, output: u8, wanted: &Wanted) -> Option<ApplyEnd>
+        requires there { output < self.old.guard.host.setup.outputs }
+        requires own { course.old.survey.output ≡ output }
+        requires plan { course.old.survey.plan ≡ Some wanted.now }
+        requires once { course.old.twice ≡ None }
+        requires surveyed { is_surveyed_in course.old.survey self.old.guard ≡ true }
+        requires spent { course.old.survey.left ≡ 0 }
+        ensures goes { GoesOn B.gives B.held B.restarts output wanted.now course.old self.old result course.new self.new }
+        ensures own { course.new.survey.output ≡ output }
+        ensures plan { course.new.survey.plan ≡ Some wanted.now }
+        ensures less { result ≡ None → measure course.new < measure course.old }
+        ensures same { self.new ≡ self.old }
+    {
         match self.next_in(output, wanted) {
             Err(fault) => {
                 let why = StopCause::Refused(fault);
                 Some(ApplyEnd::Stopped { why })
             }
-            Ok(None) => {
-                if !course.ordered {
-                    return Some(ApplyEnd::Reached);
-                }
-                *course = course.once_more(output, *wanted);
-                None
-            }
-            Ok(Some(order)) => {
-                if course.survey.left == 0 {
-                    let why = StopCause::Spent;
-                    return Some(ApplyEnd::Stopped { why });
-                }
-                let end = self.write(output, wanted, order);
-                course.ordered(order.register, end);
-                None
+            Ok(None) => course.carried_out(output, *wanted),
+            Ok(Some(_)) => {
+                let why = StopCause::Spent;
+                Some(ApplyEnd::Stopped { why })
             }
         }
     }
@@ -266,7 +298,7 @@ impl<B: Bus> Driver<B> {
     }
 
     // Carries out a job that a survey asks for.
-    fn read(&mut self, survey: &Survey, job: Job) -> JobEnd
+    fn run_read(&mut self, survey: &Survey, job: Job) -> JobEnd
         requires idle { spec_is_busy self.old.guard.host ≡ false }
         requires there { survey.now.output < self.old.guard.host.setup.outputs }
         requires asked { asks_in survey.now self.old.guard ≡ Some job }
@@ -282,26 +314,8 @@ impl<B: Bus> Driver<B> {
         }
     }
 
-    // Carries out a plan's next order.
-    fn write(&mut self, output: u8, wanted: &Wanted, order: PlanOrder) -> JobEnd
-        requires there { output < self.old.guard.host.setup.outputs }
-        requires next { plan_in output wanted.now self.old.guard ≡ Ok (Some order) }
-        ensures runs { Runs B.gives B.held B.restarts (Job.Order (Cell.Out output order.register) order.word) self.old (Ok result) self.new }
-        ensures idle { spec_is_busy self.new.guard.host ≡ false }
-    {
-        // law: nothing refuses what a plan orders
-        plans_are_accepted();
-        match self.order(Cell::Out(output, order.register), order.word) {
-            Ok(end) => {
-                self.is_idle();
-                end
-            }
-            Err(_) => unreachable!(),
-        }
-    }
-
     // Whether a job is open.
-    fn is_busy(&self) -> bool
+    pub(crate) fn is_busy(&self) -> bool
         ensures { result ≡ spec_is_busy self.now.guard.host }
     {
         self.host().stage().is_some()

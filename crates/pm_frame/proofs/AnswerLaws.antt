@@ -16,7 +16,8 @@ use Rattle.pm_frame.proofs.Parts.{last_of, take-front}
 use Rattle.pm_table.specs.RuleLemmas.{none-or, none-rule, or-none, rule-none}
 use Rattle.pm_frame.proofs.RuleLemmas.{address_fault-none, address_fault-found, length_fault-none}
 use Rattle.pm_table.specs.RuleLemmas.{}
-use Rattle.pm_frame.proofs.RuleLemmas.{length_fault-found, pec_fault-none, pec_fault-found}
+use Rattle.pm_frame.specs.Lemmas.{length_fault-found}
+use Rattle.pm_frame.proofs.RuleLemmas.{pec_fault-none, pec_fault-found}
 use Rattle.pm_frame.proofs.WriteLaws.{empty_of}
 
 -- an answer with its address and count in front

@@ -9,10 +9,11 @@ use Rattle.std.specs.Int.{bit_at}
 use Rattle.std.specs.Int.Bits.{xor_assoc, xor_zero_l, xor_zero_r, xor_self}
 use Rattle.pm_frame.specs.Layout.{AreBytes}
 use Rattle.pm_frame.specs.Damage.{message_bit, DifferWithinEight, EndsInPec}
+use Rattle.pm_frame.specs.Lemmas.{doubled-lt, pec_of-lt, residues_of-lt}
 use Rattle.pm_frame.specs.Pec.{doubled, residues_of, pec_of}
 use Rattle.pm_frame.proofs.Carryless.{bit_at-xor}
-use Rattle.pm_frame.proofs.Residues.{doubled_times, doubled_times-zero, doubled-lt, residues_of-lt, residues_of-after, residues_of-last}
-use Rattle.pm_frame.proofs.Residues.{pec_of-lt, pec_of-append_byte}
+use Rattle.pm_frame.proofs.Residues.{doubled_times, doubled_times-zero, residues_of-after, residues_of-last}
+use Rattle.pm_frame.proofs.Residues.{pec_of-append_byte}
 use Rattle.pm_frame.proofs.Numbers.{number_of, number_of-lt, number_of-one, bit_at-number, residues_of-xor, residues_of-more}
 use Rattle.pm_frame.proofs.Numbers.{residues_of-moved, pec_of-number}
 

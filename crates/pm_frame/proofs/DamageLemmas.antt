@@ -3,9 +3,9 @@
 use Rattle.std.proofs.Common.{◌≡◌, ◌≢◌, ℕ, ◌*◌, Bool, true, false, eqb, List, [], ◌∷◌, ◌++◌, length, take, get_or, bit_xor, refl, sym, ◌∙◌}
 use Rattle.std.proofs.Common.{ap, arith, append_assoc}
 use Rattle.std.proofs.lemmas.Bool.{eqb-true, not-false}
-use Rattle.std.specs.Int.Bits.{xor_assoc, xor_self, xor_zero_l}
 use Rattle.pm_frame.specs.Betrayal.{is_betrayed}
 use Rattle.pm_frame.specs.Damage.{EndsInPec}
+use Rattle.pm_frame.specs.Lemmas.{cancel_left}
 use Rattle.pm_frame.specs.Pec.{pec_of}
 use Rattle.pm_frame.proofs.BetrayalLemmas.{last_of}
 use Rattle.pm_frame.proofs.Burst.{ends-none}
@@ -26,20 +26,13 @@ unbetrayed-ends before byte bytes h =
           ∙ ap (λ x. before ++ front ++ x ∷ []) is;
     }
 
--- a term that stands on both sides of a sum without carry
-same_from_sum : (t a b : ℕ) → bit_xor t a ≡ bit_xor t b → a ≡ b
-same_from_sum t a b h =
-    let back : (x : ℕ) → bit_xor t (bit_xor t x) ≡ x =
-    λ x. sym (xor_assoc t t x) ∙ ap (λ (y : ℕ). bit_xor y x) (xor_self t) ∙ xor_zero_l x in
-    sym (back a) ∙ ap (bit_xor t) h ∙ back b
-
 -- what came before adds the same to the codes of two parts of one length
 same_from_before : (before sent heard : List ℕ) → length sent ≡ length heard → pec_of (before ++ sent) ≡ pec_of (before ++ heard)
     → pec_of sent ≡ pec_of heard
 same_from_before before sent heard size same =
     let term : doubled_times (8 * length heard) (pec_of before) ≡ doubled_times (8 * length sent) (pec_of before) =
     ap (λ (n : ℕ). doubled_times (8 * n) (pec_of before)) (sym size) in
-    same_from_sum (doubled_times (8 * length sent) (pec_of before)) (pec_of sent) (pec_of heard)
+    cancel_left (doubled_times (8 * length sent) (pec_of before)) (pec_of sent) (pec_of heard)
     (sym (pec_of-append before sent) ∙ same ∙ pec_of-append before heard ∙ ap (λ (t : ℕ). bit_xor t (pec_of heard)) term)
 
 -- two parts of one length that aren't betrayed have one code

@@ -3,12 +3,8 @@ use Rattle.std.proofs.Common.{◌≡◌, ℕ, zero, suc, ◌<◌, ◌^◌, List,
 use Rattle.std.specs.Int.Count.{ones, ones_in}
 use Rattle.pm_frame.specs.Laws.{FarBitsPass}
 use Rattle.pm_frame.specs.Layout.{AreBytes}
+use Rattle.pm_frame.specs.Lemmas.{bytes-more}
 use Rattle.pm_frame.specs.Pec.{doubled, residue, residues_of, pec_of}
-
--- bytes and one before them
-bytes-more : (byte : ℕ) (bytes : List ℕ) → byte < 2 ^ 8 → AreBytes bytes → AreBytes (byte ∷ bytes)
-bytes-more byte bytes h rest zero = h
-bytes-more byte bytes h rest (suc place) = rest place
 
 -- bytes and zeros before them
 bytes-zeros : (count : ℕ) (bytes : List ℕ) → AreBytes bytes → AreBytes (replicate count 0 ++ bytes)

@@ -13,8 +13,9 @@ use Rattle.std.specs.Int.Bits.{xor_zero_l, xor_zero_r}
 use Rattle.pm_frame.specs.Layout.{AreBytes}
 use Rattle.pm_frame.specs.Damage.{changed_bits}
 use Rattle.pm_frame.specs.Pec.{doubled, residue, residues_of, pec_of}
+use Rattle.pm_frame.specs.Lemmas.{residue-lt}
 use Rattle.pm_frame.proofs.Carryless.{bit_at-xor}
-use Rattle.pm_frame.proofs.Residues.{doubled_times, doubled_times-xor, doubled_times-residue, residue-lt}
+use Rattle.pm_frame.proofs.Residues.{doubled_times, doubled_times-xor, doubled_times-residue}
 use Rattle.pm_frame.proofs.Numbers.{number_of, number_of-lt, bytes_rest, residues_of-same_bits, residues_of-zero}
 use Rattle.pm_frame.proofs.Burst.{same_from_xor, doubled_times-none, change-none, change-lt, same_from_change}
 

@@ -1,8 +1,9 @@
 -- Requests with one code, and what comes back for them.
-use Rattle.std.proofs.Common.{◌≡◌, ℕ, ◌+◌, ◌-◌, ◌*◌, ◌<◌, ◌^◌, Bool, true, not, ◌&&◌, cond, eqb, None, List, [], ◌∷◌, ◌++◌, length, take, get_or, bit_xor, refl, sym, ap, ◌∙◌}
+use Rattle.std.proofs.Common.{◌≡◌, ℕ, ◌+◌, ◌-◌, ◌*◌, Bool, true, not, ◌&&◌, cond, eqb, None, List, [], ◌∷◌, ◌++◌, length, take}
+use Rattle.std.proofs.Common.{get_or, bit_xor, sym, ap, ◌∙◌}
 use Rattle.std.specs.Prelude.{Option}
 use Rattle.std.proofs.lemmas.Nat.{xor_lt}
-use Rattle.std.specs.Int.Bits.{xor_assoc, xor_zero_r, xor_self}
+use Rattle.std.specs.Int.Bits.{xor_self}
 use Rattle.pm_table.specs.Rules.{first, rule}
 use Rattle.pm_frame.specs.declared.fault.FrameFault.{FrameFault}
 use Rattle.pm_frame.specs.declared.fault.FrameFault.TheVariants.{WrongCount}
@@ -10,18 +11,19 @@ use Rattle.pm_frame.specs.declared.message.Message.{Message}
 use Rattle.pm_frame.specs.Fault.{address_fault, length_fault, pec_fault, answer_fault}
 use Rattle.pm_frame.specs.LateAnswers.{request_code, HaveOneForm}
 use Rattle.pm_frame.specs.Layout.{IsAnswer, is_read_message, fits_layout, sent, answered, with_pec, read_address, has_count, answer_length}
+use Rattle.pm_frame.specs.Lemmas.{cancel_right, pec_of-lt}
 use Rattle.pm_frame.specs.Pec.{pec_of}
 use Rattle.pm_frame.proofs.AnswerLaws.{answer-last}
 use Rattle.pm_frame.proofs.Burst.{same_from_xor, doubled_times-none}
-use Rattle.pm_frame.proofs.Residues.{doubled_times, doubled_times-xor, pec_of-append, pec_of-lt}
+use Rattle.pm_frame.proofs.Residues.{doubled_times, doubled_times-xor, pec_of-append}
 
--- what follows is added to both codes alike,
+-- Messages of one code have one code after the same bytes.
 onward : (before other rest : List ℕ) → pec_of before ≡ pec_of other → pec_of (before ++ rest) ≡ pec_of (other ++ rest)
 onward before other rest same =
     pec_of-append before rest ∙ ap (λ (n : ℕ). bit_xor (doubled_times (8 * length rest) n) (pec_of rest)) same
     ∙ sym (pec_of-append other rest)
 
--- and can be taken away again: no step of the register loses anything
+-- Messages that have one code after the same bytes have one code before them, since no step of the register loses anything.
 back : (before other rest : List ℕ) → pec_of (before ++ rest) ≡ pec_of (other ++ rest) → pec_of before ≡ pec_of other
 back before other rest same =
     let n : ℕ = 8 * length rest in
@@ -33,20 +35,14 @@ back before other rest same =
     let none : doubled_times n (bit_xor a b) ≡ 0 =
     doubled_times-xor n a b ∙ ap (λ (x : ℕ). bit_xor x (doubled_times n b)) one ∙ xor_self (doubled_times n b) in
     same_from_xor a b (doubled_times-none n (bit_xor a b) (xor_lt 8 a b (pec_of-lt before) (pec_of-lt other)) none)
-  where
-    added_behind : (x z : ℕ) → bit_xor (bit_xor x z) z ≡ x
-    added_behind x z = xor_assoc x z z ∙ ap (bit_xor x) (xor_self z) ∙ xor_zero_r x
 
-    cancel_right : (z x y : ℕ) → bit_xor x z ≡ bit_xor y z → x ≡ y
-    cancel_right z x y h = sym (added_behind x z) ∙ ap (λ (t : ℕ). bit_xor t z) h ∙ added_behind y z
-
--- two requests that have one code up to the read address have one code
+-- Two requests that have one code up to the read address have one code without it.
 same_sent : (addr : ℕ) (request other : Message) → request_code addr request ≡ request_code addr other
     → pec_of (sent addr request) ≡ pec_of (sent addr other)
 unfolding request_code
 same_sent addr request other same = back (sent addr request) (sent addr other) (read_address addr ∷ []) same
 
--- and back
+-- Two requests of one code have one code up to the read address.
 same_code : (addr : ℕ) (request other : Message) → pec_of (sent addr request) ≡ pec_of (sent addr other)
     → request_code addr request ≡ request_code addr other
 unfolding request_code

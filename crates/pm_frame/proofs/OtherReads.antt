@@ -1,27 +1,29 @@
 -- What came back for a read that is no message has no fault exactly where it has its layout, with the payload between.
-use Rattle.std.proofs.Common.{◌≡◌, ℕ, ◌+◌, ◌-◌, ◌<◌, ◌≤◌, false, None, List, [], ◌∷◌, ◌++◌, length, length-append, get_or, refl, sym, ◌∙◌, ap, subst, arith}
+use Rattle.std.proofs.Common.{◌≡◌, ℕ, ◌+◌, ◌≤◌, None, List, [], ◌∷◌, ◌++◌, length, length-append, get_or, refl, sym, ◌∙◌}
+use Rattle.std.proofs.Common.{ap, subst, arith}
 use Rattle.std.proofs.lemmas.Bool.{le-ltb, ltb-false}
-use Rattle.std.specs.Prelude.{slice_range, nat_lt}
 use Rattle.pm_table.specs.RuleLemmas.{none-or, none-rule, or-none, rule-none}
 use Rattle.pm_frame.specs.declared.fault.FrameFault.TheVariants.{WrongCount}
 use Rattle.pm_frame.specs.BlockRead.{IsBlockAnswer, block_payload, block_fault}
-use Rattle.pm_frame.specs.Fault.{address_fault, opening_fault, length_fault, pec_fault}
+use Rattle.pm_frame.specs.Fault.{address_fault, opening_fault, pec_fault}
 use Rattle.pm_frame.specs.Layout.{read_address, with_pec}
+use Rattle.pm_frame.specs.Lemmas.{length_fault-found}
 use Rattle.pm_frame.specs.Pec.{pec_of}
 use Rattle.pm_frame.specs.PlainRead.{IsPlainAnswer, code_request, most_read, plain_payload, plain_read_fault}
 use Rattle.pm_frame.proofs.Parts.{last_of, take-front}
 use Rattle.pm_frame.proofs.RuleLemmas.{address_fault-none, address_fault-found, opening_fault-none, opening_fault-found}
-use Rattle.pm_frame.proofs.RuleLemmas.{length_fault-none, length_fault-found, pec_fault-none, pec_fault-found}
+use Rattle.pm_frame.proofs.RuleLemmas.{length_fault-none, pec_fault-none, pec_fault-found}
 
--- the payload of a plain answer stands where the definition looks for it,
-pub plain-payload : (addr code size : ℕ) (payload bytes : List ℕ) → IsPlainAnswer addr code size payload bytes → plain_payload bytes ≡ payload
+-- The payload of a plain answer stands where the definition looks for it.
+pub plain-payload : (addr code size : ℕ) (payload bytes : List ℕ) → IsPlainAnswer addr code size payload bytes
+    → plain_payload bytes ≡ payload
 plain-payload addr code size payload bytes h =
     subst (λ xs. plain_payload xs ≡ payload) (sym h.spelled) (at (pec_of (code_request addr code ++ read_address addr ∷ payload)))
   where
     at : (last : ℕ) → plain_payload ((read_address addr ∷ payload) ++ last ∷ []) ≡ payload
     at last = take-front payload last _ (omega (arith, length-append payload (last ∷ [])))
 
--- and that of a block answer so
+-- The payload of a block answer stands where the definition looks for it.
 pub block-payload : (addr code : ℕ) (payload bytes : List ℕ) → IsBlockAnswer addr code payload bytes → block_payload bytes ≡ payload
 block-payload addr code payload bytes h =
     subst (λ xs. block_payload xs ≡ payload) (sym h.spelled)
@@ -30,7 +32,7 @@ block-payload addr code payload bytes h =
     at : (last : ℕ) → block_payload ((read_address addr ∷ length payload ∷ payload) ++ last ∷ []) ≡ payload
     at last = take-front payload last _ (omega (arith, length-append payload (last ∷ [])))
 
--- bytes of the layout have no fault,
+-- Bytes of a plain answer's layout have no fault.
 pub plain_read_fault-spelled : (addr code size : ℕ) (payload bytes : List ℕ) → IsPlainAnswer addr code size payload bytes
     → plain_read_fault addr code size bytes ≡ None
 unfolding plain_read_fault
@@ -43,7 +45,7 @@ plain_read_fault-spelled addr code size payload bytes h =
     (none-or _ _ (length_fault-none (size + 2) bytes whole)
     (none-or _ _ (ap (pec_fault before) h.spelled ∙ pec_fault-none before front) refl))
 
--- of a block too
+-- Bytes of a block answer's layout have no fault.
 pub block_fault-spelled : (addr code : ℕ) (payload bytes : List ℕ) → IsBlockAnswer addr code payload bytes
     → block_fault addr code bytes ≡ None
 unfolding block_fault
@@ -58,7 +60,7 @@ block_fault-spelled addr code payload bytes h =
     (none-or _ _ (length_fault-none (get_or bytes 1 0 + 3) bytes whole)
     (none-or _ _ (ap (pec_fault before) h.spelled ∙ pec_fault-none before front) refl)))
 
--- Bytes with no fault have the layout of a plain answer, with the payload that stands in its place,
+-- Bytes with no fault of a plain read have the layout of a plain answer, with the payload that stands in its place.
 pub plain_read_fault-found : (addr code size : ℕ) (bytes : List ℕ) → plain_read_fault addr code size bytes ≡ None
     → IsPlainAnswer addr code size (plain_payload bytes) bytes
 unfolding plain_read_fault
@@ -80,7 +82,7 @@ plain_read_fault-found addr code size bytes h =
     } in
     subst (λ xs. IsPlainAnswer addr code size xs bytes) (sym (plain-payload addr code size parts.0 bytes is)) is
 
--- and so has a block.
+-- Bytes with no fault of a block read have the layout of a block answer, with the payload that stands in its place.
 pub block_fault-found : (addr code : ℕ) (bytes : List ℕ) → block_fault addr code bytes ≡ None
     → IsBlockAnswer addr code (block_payload bytes) bytes
 unfolding block_fault

@@ -21,7 +21,8 @@ use Rattle.pm_frame.proofs.Codes.{read-is_no_page_plus_write, written-is_no_page
 use Rattle.pm_table.specs.RuleLemmas.{none-or, none-rule, or-none, rule-none}
 use Rattle.pm_frame.proofs.RuleLemmas.{opening_fault-none, opening_fault-found, length_fault-none}
 use Rattle.pm_table.specs.RuleLemmas.{}
-use Rattle.pm_frame.proofs.RuleLemmas.{length_fault-found, plain_fault-none, plain_fault-found, carried_fault-none, carried_fault-found}
+use Rattle.pm_frame.specs.Lemmas.{length_fault-found}
+use Rattle.pm_frame.proofs.RuleLemmas.{plain_fault-none, plain_fault-found, carried_fault-none, carried_fault-found}
 use Rattle.pm_frame.proofs.WriteLaws.{empty_of, write-first}
 
 -- a plain request that fits has no fault

@@ -8,18 +8,11 @@ use Rattle.std.specs.Int.{bit_at}
 use Rattle.std.proofs.lemmas.Nat.{xor_lt, xor_mod, pow_pos, mod-pow-add}
 use Rattle.std.proofs.lemmas.Nat.Bits.{bit_at-lt}
 use Rattle.std.specs.Int.Bits.{xor_assoc, xor_zero_l, xor_zero_r}
+use Rattle.pm_frame.specs.Lemmas.{pec_of-lt}
 use Rattle.pm_frame.specs.Pec.{doubled, residue, residues_of, pec_of}
 use Rattle.pm_frame.proofs.Carryless.{xor_exchange, xor_of_parts, twice-xor, bit_at-xor, bit_times-xor}
 
 -- ---- one step
-
--- a register stays a byte
-pub doubled-lt : (r : ℕ) → doubled r < 2 ^ 8
-unfolding doubled
-doubled-lt r =
-    let top : bit_at r 7 < 2 = bit_at-lt r 7 in
-    let added : bit_at r 7 * 7 < 2 ^ 8 = omega arith in
-    xor_lt 8 (2 * r % 2 ^ 8) (bit_at r 7 * 7) (mod-lt (2 * r) (pow_pos 8)) added
 
 -- `doubled` is linear
 pub doubled-xor : (a b : ℕ) → doubled (bit_xor a b) ≡ bit_xor (doubled a) (doubled b)
@@ -72,12 +65,6 @@ doubled_times-residue (suc count) i =
 
 -- ---- the residues of a byte
 
--- a remainder is a byte,
-pub residue-lt : (i : ℕ) → residue i < 2 ^ 8
-unfolding residue
-residue-lt zero = omega arith
-residue-lt (suc i) = doubled-lt (residue i)
-
 -- a bit that 8 bits hold is its own residue
 residue-low : (i : ℕ) → i < 8 → residue i ≡ 2 ^ i
 unfolding residue doubled
@@ -90,19 +77,6 @@ residue-low (suc (suc (suc (suc (suc zero))))) h = refl
 residue-low (suc (suc (suc (suc (suc (suc zero)))))) h = refl
 residue-low (suc (suc (suc (suc (suc (suc (suc zero))))))) h = refl
 residue-low (suc (suc (suc (suc (suc (suc (suc (suc i)))))))) h = absurd (omega arith)
-
--- a sum of remainders too,
-pub residues_of-lt : (byte after count : ℕ) → residues_of byte after count < 2 ^ 8
-unfolding residues_of
-residues_of-lt byte after zero = omega arith
-residues_of-lt byte after (suc j) =
-    xor_lt 8 _ _ (bit_lt (bit_at byte j) (residue (8 + (after + j))) (bit_at-lt byte j) (residue-lt (8 + (after + j))))
-    (residues_of-lt byte after j)
-  where
-    bit_lt : (p r : ℕ) → p < 2 → r < 2 ^ 8 → p * r < 2 ^ 8
-    bit_lt zero r hp hr = omega arith
-    bit_lt (suc zero) r hp hr = omega arith
-    bit_lt (suc (suc p)) r hp hr = absurd (omega arith)
 
 -- more bits after a byte double its residues as often
 pub residues_of-after : (byte more after count : ℕ)
@@ -139,12 +113,6 @@ residues_of-last byte (suc j) h =
     ∙ ap (doubled_times 8) (sym parts)
 
 -- ---- the packet error code
-
--- the PEC is a byte
-pub pec_of-lt : (bytes : List ℕ) → pec_of bytes < 2 ^ 8
-unfolding pec_of
-pec_of-lt [] = omega arith
-pec_of-lt (byte ∷ bytes) = xor_lt 8 _ _ (residues_of-lt byte (8 * length bytes) 8) (pec_of-lt bytes)
 
 -- the code of one byte
 pub pec_of-byte : (byte : ℕ) → byte < 2 ^ 8 → pec_of (byte ∷ []) ≡ doubled_times 8 byte

@@ -1,7 +1,7 @@
 -- What follows where a rule of a frame doesn't apply, and where it's the first one that does.
-use Rattle.std.proofs.Common.{◌≡◌, ℕ, ◌-◌, ◌<◌, ◌≤◌, true, false, not, eqb, None, List, [], ◌∷◌, ◌++◌, length}
+use Rattle.std.proofs.Common.{◌≡◌, ℕ, ◌-◌, ◌<◌, true, false, not, eqb, None, List, [], ◌∷◌, ◌++◌, length}
 use Rattle.std.proofs.Common.{length-append, take, get_or, refl, sym, ◌∙◌, ap, arith}
-use Rattle.std.proofs.lemmas.Bool.{eq-eqb, ne_eqb, eqb-true, not-false, or_parts, or_from, not_from_true, le-ltb, ltb-false}
+use Rattle.std.proofs.lemmas.Bool.{eq-eqb, ne_eqb, eqb-true, not-false, or_parts, or_from, not_from_true, le-ltb}
 use Rattle.std.proofs.lemmas.List.{take-append-le, get_or-append_right, take_all}
 use Rattle.pm_frame.specs.declared.direction.Direction.{Direction}
 use Rattle.pm_frame.specs.declared.fault.FrameFault.TheVariants.{NotOurs, Short, Long, WrongPec, UnknownCode, WrongDirection, Nested}
@@ -57,15 +57,6 @@ unfolding length_fault
 length_fault-none wanted bytes h =
     none-or _ _ (none-rule _ (Short (length bytes)) (le-ltb (length bytes) wanted (omega arith)))
     (none-or _ _ (none-rule _ (Long wanted) (le-ltb wanted (length bytes) (omega arith))) refl)
-
--- bytes with no fault on the length are as many as wanted
-pub length_fault-found : (wanted : ℕ) (bytes : List ℕ) → length_fault wanted bytes ≡ None → length bytes ≡ wanted
-unfolding length_fault
-length_fault-found wanted bytes h =
-    let both = or-none _ _ h in
-    let above : wanted ≤ length bytes = ltb-false _ _ (rule-none _ (Short (length bytes)) both.0) in
-    let below : length bytes ≤ wanted = ltb-false _ _ (rule-none _ (Long wanted) (or-none _ _ both.1).0) in
-    omega arith
 
 -- what the rule on the PEC says where the last byte is seen
 pub pec_fault-last : (before front : List ℕ) (last : ℕ)

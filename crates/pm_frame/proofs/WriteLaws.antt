@@ -31,7 +31,8 @@ use Rattle.pm_frame.proofs.RuleLemmas.{eqb-below, opening_fault-none, opening_fa
 use Rattle.pm_table.specs.RuleLemmas.{}
 use Rattle.pm_frame.proofs.RuleLemmas.{plain_fault-none, plain_fault-found, carried_fault-none, carried_fault-found, length_fault-none}
 use Rattle.pm_table.specs.RuleLemmas.{}
-use Rattle.pm_frame.proofs.RuleLemmas.{length_fault-found, pec_fault-none, pec_fault-found}
+use Rattle.pm_frame.specs.Lemmas.{length_fault-found}
+use Rattle.pm_frame.proofs.RuleLemmas.{pec_fault-none, pec_fault-found}
 
 -- each group of rules leaves the bytes alone
 record Faultless (addr : ℕ) (bytes : List ℕ) : Type 0 where

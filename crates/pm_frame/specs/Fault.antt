@@ -2,7 +2,8 @@
 -- the number of a byte, from 0, or how many bytes there are. The rules, their order and their
 -- places are this project's own choice. A byte past the end counts as 0 here; no rule that asks for
 -- one applies before the rules on the length.
-use Rattle.std.specs.Prelude.{ℕ, ◌+◌, ◌-◌, Bool, not, ◌&&◌, ◌||◌, ◌==◌, nat_lt, if◌then◌else◌, List, [], ◌∷◌, ◌++◌, length, take, slice_index, Option, Some, None}
+use Rattle.std.specs.Prelude.{ℕ, ◌+◌, ◌-◌, Bool, not, ◌&&◌, ◌||◌, ◌==◌, nat_lt, if◌then◌else◌, List, [], ◌∷◌, ◌++◌, length, take}
+use Rattle.std.specs.Prelude.{slice_index, Option, Some, None}
 use Rattle.std.specs.Option.{option_or}
 use Rattle.pm_table.specs.Codes as command
 use Rattle.pm_table.specs.Commands.{is_known, is_read, is_written, payload_length}
@@ -10,7 +11,8 @@ use Rattle.pm_table.specs.Rules.{first, rule}
 use Rattle.pm_frame.specs.declared.direction.Direction.{Direction}
 use Rattle.pm_frame.specs.declared.direction.Direction.TheVariants.{Write, Read}
 use Rattle.pm_frame.specs.declared.fault.FrameFault.{FrameFault}
-use Rattle.pm_frame.specs.declared.fault.FrameFault.TheVariants.{NotOurs, Short, Long, WrongCount, WrongPec, UnknownCode, WrongDirection, Nested}
+use Rattle.pm_frame.specs.declared.fault.FrameFault.TheVariants.{NotOurs, Short, Long, WrongCount, WrongPec, UnknownCode, WrongDirection}
+use Rattle.pm_frame.specs.declared.fault.FrameFault.TheVariants.{Nested}
 use Rattle.pm_frame.specs.declared.message.Message.{Message}
 use Rattle.pm_frame.specs.Layout.{write_address, read_address, is_carried, is_plain_write, sent, answer_length, has_count}
 use Rattle.pm_frame.specs.Pec.{pec_of}

@@ -2,7 +2,8 @@
 -- place `F5 WrongPec 7`. This project's own choice.
 use Rattle.std.specs.Prelude.{ℕ, List, [], ◌++◌, Option, Some, None, codes, decimal}
 use Rattle.pm_frame.specs.declared.fault.FrameFault.{FrameFault}
-use Rattle.pm_frame.specs.declared.fault.FrameFault.TheVariants.{NotOurs, Short, Long, WrongCount, WrongPec, UnknownCode, WrongDirection, Nested}
+use Rattle.pm_frame.specs.declared.fault.FrameFault.TheVariants.{NotOurs, Short, Long, WrongCount, WrongPec, UnknownCode, WrongDirection}
+use Rattle.pm_frame.specs.declared.fault.FrameFault.TheVariants.{Nested}
 
 -- the letter and the name
 abbrev pub frame_fault_words : FrameFault → List ℕ

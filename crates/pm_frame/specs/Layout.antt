@@ -3,11 +3,13 @@
 -- the request and the answer, with a repeated start between them, which is no byte; one packet
 -- error code stands at the end of the answer and covers both. That each packet has a PEC and an exact
 -- length is this project's own choice, and so are the four codes that PAGE_PLUS doesn't carry.
-use Rattle.std.specs.Prelude.{◌≡◌, ℕ, ◌+◌, ◌*◌, ◌/◌, ◌%◌, Bool, true, false, not, ◌&&◌, ◌||◌, ◌==◌, if◌then◌else◌, List, [], ◌∷◌, ◌++◌, length, slice_index, ◌<◌, ◌^◌}
+use Rattle.std.specs.Prelude.{◌≡◌, ℕ, ◌+◌, ◌*◌, ◌/◌, ◌%◌, Bool, true, false, not, ◌&&◌, ◌||◌, ◌==◌, if◌then◌else◌, List, [], ◌∷◌, ◌++◌}
+use Rattle.std.specs.Prelude.{length, slice_index, ◌<◌, ◌^◌}
 use Rattle.pm_table.specs.Codes as command
 use Rattle.pm_table.specs.Commands.{is_read, is_written, payload_length}
 use Rattle.pm_frame.specs.declared.message.Message.{Message}
-use Rattle.pm_frame.specs.declared.message.Message.TheVariants.{SendByte, WriteByte, WriteWord, PagePlusWrite, ReadCommand, PagePlusRead, ReadCoefficients}
+use Rattle.pm_frame.specs.declared.message.Message.TheVariants.{SendByte, WriteByte, WriteWord, PagePlusWrite, ReadCommand, PagePlusRead}
+use Rattle.pm_frame.specs.declared.message.Message.TheVariants.{ReadCoefficients}
 use Rattle.pm_frame.specs.declared.payload.Payload.{Payload}
 use Rattle.pm_frame.specs.declared.payload.Payload.TheVariants.{Empty, Byte, Word}
 use Rattle.pm_frame.specs.Pec.{pec_of}

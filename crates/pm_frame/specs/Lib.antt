@@ -11,4 +11,5 @@ pub mod Pec
 pub mod PlainRead
 pub mod View
 -- How it is kept.
+pub mod Lemmas
 pub mod Whole

@@ -2,7 +2,7 @@
 use Rattle.std.proofs.Common.{rules, ◌≡◌, ℕ, suc, ◌+◌, ◌*◌, ◌/◌, ◌%◌, ◌≤◌, Bool, true, false, not, cond, eqb, List, [], ◌∷◌, length, set}
 use Rattle.std.proofs.Common.{Option, Some, None, Result, Ok, Err, is_none, option_map, option_and_then, option_to_list, refl}
 use Rattle.std.proofs.Common.{add-one}
-use Rattle.std.specs.Option.{option_or, option_map_or}
+use Rattle.std.specs.Option.{option_map_or}
 use Rattle.std.proofs.lemmas.Bool.{false≢true}
 use Rattle.pm_num.specs.AnyFormat.{Shape}
 use Rattle.pm_table.specs.declared.cell.Cell.{Cell}
@@ -10,6 +10,7 @@ use Rattle.pm_table.specs.declared.fault.TableFault.{TableFault}
 use Rattle.pm_table.specs.declared.vout_mode.VoutMode.{VoutMode}
 use Rattle.pm_table.specs.declared.vout_mode.VoutMode.TheVariants.{Linear, Direct}
 use Rattle.pm_table.specs.VoutMode.{mode_of}
+use Rattle.pm_table.specs.RuleLemmas.{or-none}
 use Rattle.pm_frame.specs.Layout.{is_read_message}
 use Rattle.pm_host.specs.declared.stage.Stage.{Stage}
 use Rattle.pm_host.specs.declared.job_end.JobEnd.{JobEnd}
@@ -196,17 +197,13 @@ check_read : {s : Summary} {cell : Cell} {told : List Entry} {bytes : List ℕ} 
     → CheckRead s cell told bytes payload last → GotFollows s (Some (Check cell)) told bytes
 check_read = search rules
 
--- where neither is there, the first isn't
-first_none : {X : Type 0} (first second : Option X) → option_or first second ≡ None → first ≡ None
-first_none = search rules
-
 -- coefficients are read only after a mode
 no_coefficients : (setup : Setup) (output : ℕ) (told : List Entry) → mode_told setup output told ≡ None
     → coefficients_told setup output told ≡ None
 no_coefficients setup output [] none = refl
 no_coefficients setup output (Got bytes ∷ told) none =
     let before : mode_told setup output told ≡ None =
-    first_none (mode_told setup output told) (good_mode setup.addr output bytes) none in
+    (or-none (mode_told setup output told) (good_mode setup.addr output bytes) none).0 in
     rw (no_coefficients setup output told before, before) refl
 no_coefficients setup output (Finished acked ∷ told) none = no_coefficients setup output told none
 no_coefficients setup output (Accepted job ∷ told) none = no_coefficients setup output told none

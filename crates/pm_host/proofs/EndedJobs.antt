@@ -5,7 +5,7 @@ use Rattle.std.proofs.Common.{Option, Some, None, Result, Ok, Err, is_some, opti
 use Rattle.std.specs.Option.{option_map_or}
 use Rattle.std.specs.Result.{result_ok}
 use Rattle.std.proofs.lemmas.Bool.{eqb-true, false≢true, eq-eqb}
-use Rattle.std.proofs.lemmas.List.{get_or-set_same, get_or-set_other, length-replicate}
+use Rattle.std.proofs.lemmas.List.{get_or-set_same, get_or-set_other}
 use Rattle.pm_num.specs.AnyFormat.{Shape, InUlinear16}
 use Rattle.pm_table.specs.declared.cell.Cell.{Cell}
 use Rattle.pm_table.specs.declared.fault.TableFault.{TableFault}
@@ -30,8 +30,9 @@ use Rattle.pm_host.specs.Answers.{good_payload, good_word, word_in}
 use Rattle.pm_host.specs.Ended.{IsRead, StepTells, job_in, stage_job}
 use Rattle.pm_host.specs.Known.{Known, HasPlaces, all_any, known_now, known_possible}
 use Rattle.pm_host.specs.Laws.{TranscriptsAreFollowed}
+use Rattle.pm_host.specs.Lemmas.{all_any-length, reads_cell, reads_question, writes_cell}
 use Rattle.pm_host.specs.Marks.{Good, marks}
-use Rattle.pm_host.specs.Messages.{cell_read, cell_write, command_message}
+use Rattle.pm_host.specs.Messages.{command_message}
 use Rattle.pm_host.specs.Possible.{is_possible, only, possible_of}
 use Rattle.pm_host.specs.Now.{now, stage_of, job_stage, AreTold}
 use Rattle.pm_host.specs.Standing.{standing_of}
@@ -51,11 +52,6 @@ use Rattle.pm_table.specs.Lemmas.{IsCell-eight}
 -- what a change says of the job, from this stage on
 abbrev Tells : Summary → Option Stage → Entry → Change → Type 0
 Tells s stage entry change = StepTells (record s { stage = stage }) entry change.step change.after
-
--- any word in each place
-all_any-length : length all_any ≡ places
-unfolding all_any
-all_any-length = length-replicate places Any
 
 -- there is a place for each cell, whether the answer was possible or not
 before-length : (known : Known) (expected : Bool) → HasPlaces known → length (cond expected known.possible all_any) ≡ places
@@ -182,21 +178,9 @@ sent_tells s command tries true last l = (refl, ((refl, refl), refl))
 sent_tells s command tries false true l = rw l (refl, ((refl, refl), refl))
 sent_tells s command tries false false l = rw l (refl, refl)
 
--- what may come where a frame of this kind is being sent
-reads_cell : (cell : Cell) → is_read_message (cell_read cell) ≡ true
-reads_cell = search rules
-
--- a write is none, and no command
-writes_cell : (cell : Cell) (word : ℕ) → is_read_message (cell_write cell word) ≡ false
-writes_cell = search rules
-
--- no command is one
+-- the message of a command is no request
 sends_command : (command : Command) → is_read_message (command_message command) ≡ false
 sends_command = search rules
-
--- each question is a request
-reads_question : (question : Question) → is_read_message (question_message question) ≡ true
-reads_question = search rules
 
 -- the end of a write
 finished_tells : (s : Summary) (stage : Option Stage) (acked : Bool)

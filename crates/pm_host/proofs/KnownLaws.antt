@@ -12,6 +12,7 @@ use Rattle.pm_host.specs.declared.standing.Standing.TheVariants.{Confirmed, Unkn
 use Rattle.pm_table.specs.Cell.{IsCell, place_of, places, same_cell}
 use Rattle.pm_table.specs.Laws.{CellsHavePlaces}
 use Rattle.pm_host.specs.Cells.{table}
+use Rattle.pm_host.specs.Lemmas.{possible_of-put_other}
 use Rattle.pm_host.specs.Marks.{Mark, Put, Good, Restored, Restart}
 use Rattle.pm_host.specs.Standing.{standing_of}
 use Rattle.pm_host.specs.Possible.{is_listed, is_possible, once, possible_from, words_since, possible_of, restart_seen_of, only, joined}
@@ -46,12 +47,6 @@ pub possible_of-put_same : (before : List Mark) (cell : Cell) (word : ℕ)
     → possible_of (Put cell word ∷ before) cell ≡ joined (possible_of before cell) word
 unfolding possible_of
 possible_of-put_same before cell word = rw (same_cell-itself cell) (joined-from word (words_since before cell))
-
--- a write leaves the words of another cell
-possible_of-put_other : (before : List Mark) (cell d : Cell) (word : ℕ) → same_cell cell d ≡ false
-    → possible_of (Put cell word ∷ before) d ≡ possible_of before d
-unfolding possible_of
-possible_of-put_other = search rules
 
 -- a good answer leaves its word alone
 possible_of-good_same : (before : List Mark) (cell : Cell) (word : ℕ) → possible_of (Good cell word ∷ before) cell ≡ only word

@@ -3,6 +3,7 @@ pub mod CellLemmas
 pub mod Changes
 pub mod EndedJobs
 pub mod Follows
+pub mod FormatLemmas
 pub mod FrameLemmas
 pub mod Kept
 pub mod KnownLaws

@@ -1,43 +1,14 @@
 -- Whether a number lies in a format's range, as a test and as a fact.
-use Rattle.std.proofs.Common.{rules, ◌≡◌, ℕ, ◌+◌, ◌*◌, ◌<◌, ◌≤◌, ℤ, pos, ◌*ℤ◌, ◌+ℤ◌, ◌≤ℤ◌, ◌<ℤ◌, true, false, Some, refl}
-use Rattle.std.proofs.Common.{ap, arith}
-use Rattle.std.proofs.Math.Nat.{mul-le-mul_right}
-use Rattle.std.proofs.lemmas.Int.{ints, by_lt_z}
-use borrow.Author.Differences.{up, down, product_is, le_out, lt_out}
+use Rattle.std.proofs.Common.{rules, ◌≡◌, ◌<◌, pos, ◌*ℤ◌, true, false, Some, refl}
+use Rattle.std.proofs.Common.{arith}
+use Rattle.std.proofs.lemmas.Int.{ints}
 use Rattle.pm_num.specs.declared.fault.NumFault.{NumFault}
 use Rattle.pm_num.specs.declared.fault.NumFault.TheVariants.{ZeroSlope, ExponentRange, BelowLeast, AboveGreatest, TooLarge}
+use Rattle.pm_num.specs.Lemmas.Integers.{le_from_times, le-times, lt-times, times-swap}
 use Rattle.pm_num.specs.Nearest.{IsOutside}
 use Rattle.pm_num.specs.Ratio.{Ratio, AtMost, LessThan}
 use Rattle.pm_num.specs.NearestWord.{is_at_most}
 use Rattle.pm_host.specs.Refusals.{outside_fault}
-
--- whole numbers times positive ones
-times-times : (a : ℤ) (m n : ℕ) → (a *ℤ pos m) *ℤ pos n ≡ a *ℤ pos (m * n)
-times-times a m n =
-    let e = ap (λ (k : ℕ). k * n) (product_is a (pos m)).0 in
-    let f = ap (λ (k : ℕ). k * n) (product_is a (pos m)).1 in
-    omega (arith, ints)
-
--- in either order
-times-swap : (a : ℤ) (m n : ℕ) → (a *ℤ pos m) *ℤ pos n ≡ (a *ℤ pos n) *ℤ pos m
-times-swap a m n = let e = times-times a m n in let f = times-times a n m in omega (arith, ints)
-
--- order is kept by the product with a positive number, both ways
-le-times : (a b : ℤ) (n : ℕ) → a ≤ℤ b → (a *ℤ pos n) ≤ℤ (b *ℤ pos n)
-le-times a b n h =
-    let k : (up a + down b) * n ≤ (up b + down a) * n = mul-le-mul_right n (le_out a b h) in
-    omega (arith, ints)
-
--- strict order too
-lt-times : (a b : ℤ) (n : ℕ) → a <ℤ b → (a *ℤ pos n +ℤ pos n) ≤ℤ (b *ℤ pos n)
-lt-times a b n h =
-    let j : up a + down b + 1 ≤ up b + down a = omega (arith, lt_out a b h) in
-    let k : (up a + down b + 1) * n ≤ (up b + down a) * n = mul-le-mul_right n j in
-    omega (arith, ints)
-
--- the other direction: a factor that both sides have can be left out
-le_from_times : (a b : ℤ) (n : ℕ) → 0 < n → (a *ℤ pos n) ≤ℤ (b *ℤ pos n) → a ≤ℤ b
-le_from_times a b n h le = by_lt_z b a (λ less. let k = lt-times b a n less in absurd (omega (arith, ints))) (λ p. p)
 
 -- what lies above the greatest isn't below the least
 pub AtMost-above : (l h x : Ratio) → 0 < h.den → AtMost l h → LessThan h x → AtMost l x

@@ -3,7 +3,8 @@
 use Rattle.std.specs.Prelude.{ℕ, List, codes}
 use Rattle.pm_num.specs.FaultWords.{num_fault_number, num_fault_words}
 use Rattle.pm_host.specs.declared.fault.HostFault.{HostFault}
-use Rattle.pm_host.specs.declared.fault.HostFault.TheVariants.{OutputCount, Passes, Busy, UnknownOutput, BadWord, TooUncertain, FormatUnknown, Num}
+use Rattle.pm_host.specs.declared.fault.HostFault.TheVariants.{OutputCount, Passes, Busy, UnknownOutput, BadWord, TooUncertain}
+use Rattle.pm_host.specs.declared.fault.HostFault.TheVariants.{FormatUnknown, Num}
 use Rattle.pm_host.specs.declared.untold.Untold.{Untold}
 use Rattle.pm_host.specs.declared.untold.Untold.TheVariants.{NothingSent, WrongKind}
 

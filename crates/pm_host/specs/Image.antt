@@ -1,13 +1,16 @@
 -- The image of a host: plain numbers in a caller's memory, and what they mean. Every number has a
 -- meaning, so that memory of any bytes is an image; that it is a host's is asked apart. This project's
 -- own choice.
-use Rattle.std.specs.Prelude.{ℕ, ℤ, pos, neg_ℤ, int_le, Bool, true, false, ◌&&◌, nat_lt, if◌then◌else◌, ◌==◌, List, map, take, Option, Some, None, option_map, option_and_then}
+use Rattle.std.specs.Prelude.{ℕ, Bool, true, false, ◌&&◌, nat_lt, if◌then◌else◌, ◌==◌, List, map, take, Option, Some, None, Result, Ok, Err, option_map, option_and_then}
 use Rattle.std.specs.Result.{result_ok}
-use Rattle.pm_num.specs.AnyFormat.{Shape, InUlinear16}
+use Rattle.pm_num.specs.AnyFormat.{Shape}
 use Rattle.pm_table.specs.declared.cell.Cell.{Cell}
-use Rattle.pm_table.specs.declared.vout_mode.VoutMode.TheVariants.{Direct}
+use Rattle.pm_table.specs.declared.fault.TableFault.{TableFault}
+use Rattle.pm_table.specs.declared.vout_mode.VoutMode.{VoutMode}
 use Rattle.pm_table.specs.Cell.{cell_at, cell_accepts, is_cell}
+use Rattle.pm_table.specs.Coefficients.{coefficients_of}
 use Rattle.pm_table.specs.Format.{shape_in}
+use Rattle.pm_table.specs.VoutMode.{mode_of}
 use Rattle.pm_host.specs.declared.format_image.FormatImage.{FormatImage}
 use Rattle.pm_host.specs.declared.image.Image.{Image}
 use Rattle.pm_host.specs.declared.knowledge.Knowledge.{Knowledge}
@@ -50,17 +53,14 @@ known_held k = record {
   seen = k.seen == 1;
 }
 
--- the exponents that ULINEAR16 may have
-abbrev pub is_exponent : ℤ → Bool
-is_exponent n = int_le (neg_ℤ (pos 16)) n && int_le n (pos 15)
+-- the format of what VOUT_MODE said, with these bytes of COEFFICIENTS
+abbrev pub format_in : Result VoutMode TableFault → List ℕ → Option Shape
+format_in (Ok mode) bytes = result_ok (shape_in mode (coefficients_of bytes))
+format_in (Err fault) bytes = None
 
--- kind 1 is ULINEAR16, kind 2 DIRECT, each with numbers that it may have; any other is no format
+-- the format that the bytes of VOUT_MODE and COEFFICIENTS mean
 abbrev pub format_held : FormatImage → Option Shape
-format_held i =
-    if i.kind == 1 then (if is_exponent i.exponent then Some (InUlinear16 i.exponent) else None)
-    else (if i.kind == 2
-    then result_ok (shape_in Direct (record { m = i.m; b = i.b; r = i.exponent }))
-    else None)
+format_held i = format_in (mode_of i.mode) i.coefficients
 
 unfoldable pub formats_held : List FormatImage → List (Option Shape)
 formats_held formats = map format_held formats
@@ -131,7 +131,7 @@ abbrev pub image_mark : ℕ
 image_mark = 0x504D
 
 abbrev pub image_version : ℕ
-image_version = 5
+image_version = 6
 
 -- the image has this layout
 abbrev pub is_current : Image → Bool

@@ -105,7 +105,7 @@ pub record OpenRestoresAreUncertain : Type 0 where
   pub possible : (setup : Setup) (entries : List Entry) (output : ℕ) (register : Reg)
       → AreTold setup entries → open_job setup entries ≡ Some (Send RestoreUserAll)
       → possible_of (marks setup entries) (Out output register) ≡ Any
-  -- and none is confirmed
+  -- no word is confirmed for any cell of an output
   pub unknown : (setup : Setup) (entries : List Entry) (output : ℕ) (register : Reg)
       → AreTold setup entries → open_job setup entries ≡ Some (Send RestoreUserAll)
       → standing_of (marks setup entries) (Out output register) ≡ Unknown

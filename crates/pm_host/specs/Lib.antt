@@ -21,6 +21,7 @@ pub mod Transcript
 pub mod Turn
 -- How it is kept.
 pub mod Known
+pub mod Lemmas
 pub mod Memory
 pub mod Progress
 pub mod Sound

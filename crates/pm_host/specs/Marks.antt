@@ -5,7 +5,8 @@ use Rattle.pm_table.specs.declared.cell.Cell.{Cell}
 use Rattle.pm_host.specs.declared.command.Command.{Command}
 use Rattle.pm_host.specs.declared.command.Command.TheVariants.{RestoreUserAll}
 use Rattle.pm_host.specs.Answers.{good_word}
-use Rattle.pm_host.specs.Transcript.{Setup, Job, Order, Check, Send, Entry, Accepted, Finished, Got, Restarted, open_job, told_since, is_write_turn}
+use Rattle.pm_host.specs.Transcript.{Setup, Job, Order, Check, Send, Entry, Accepted, Finished, Got, Restarted, open_job, told_since}
+use Rattle.pm_host.specs.Transcript.{is_write_turn}
 
 pub data Mark : Type 0 where
   -- a write of the cell began to be sent

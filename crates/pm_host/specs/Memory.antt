@@ -1,9 +1,10 @@
 -- What stands in a host's memory, as a function of what it means: a number without a meaning is 0, and so is each
 -- behind a count. Two hosts that mean the same are then equal byte for byte. This project's own choice.
-use Rattle.std.specs.Prelude.{◌≡◌, ℕ, pos, ◌-◌, true, is_some, if◌then◌else◌, List, ◌++◌, length, map, replicate, Option, Some, None, option_map}
+use Rattle.std.specs.Prelude.{◌≡◌, ℕ, ℤ, pos, negsuc, ◌-◌, true, is_some, if◌then◌else◌, List, ◌++◌, length, map, replicate, Option, Some, None, option_map}
 use Rattle.pm_num.specs.AnyFormat.{Shape, InUlinear16, InDirect}
 use Rattle.pm_table.specs.declared.cell.Cell.{Cell}
 use Rattle.pm_table.specs.Cell.{cell_code, output_of}
+use Rattle.pm_table.specs.Coefficients.{coefficient_bytes}
 use Rattle.pm_host.specs.declared.command.Command.{Command}
 use Rattle.pm_host.specs.declared.command.Command.TheVariants.{ClearFaults}
 use Rattle.pm_host.specs.declared.format_image.FormatImage.{FormatImage}
@@ -47,11 +48,19 @@ known_image known = record {
   seen = if known.seen then 1 else 0;
 }
 
--- the format of an output's voltages, which is never LINEAR11
+-- the byte of VOUT_MODE that names ULINEAR16 with this exponent
+abbrev pub mode_byte : ℤ → ℕ
+mode_byte (pos n) = n
+mode_byte (negsuc n) = 31 - n
+
+-- the bytes that mean a format, which is never LINEAR11; FFh where there is none
 abbrev pub format_image : Option Shape → FormatImage
-format_image (Some (InUlinear16 n)) = record { kind = 1; exponent = n; m = pos 0; b = pos 0 }
-format_image (Some (InDirect m b r)) = record { kind = 2; exponent = r; m = m; b = b }
-format_image _ = record { kind = 0; exponent = pos 0; m = pos 0; b = pos 0 }
+format_image (Some (InUlinear16 n)) = record { mode = mode_byte n; coefficients = replicate 5 0xFF }
+format_image (Some (InDirect m b r)) = record {
+  mode = 0x40;
+  coefficients = coefficient_bytes (record { m = m; b = b; r = r });
+}
+format_image _ = record { mode = 0xFF; coefficients = replicate 5 0xFF }
 
 -- where an open job stands at a cell, at an output, and with a command
 abbrev pub cell_stage : ℕ → Cell → ℕ → ℕ → StageImage

@@ -8,7 +8,8 @@ use Rattle.pm_host.specs.Known.{known_now}
 use Rattle.pm_host.specs.Marks.{marks}
 use Rattle.pm_host.specs.Refusals.{may_come}
 use Rattle.pm_host.specs.Summary.{Summary}
-use Rattle.pm_host.specs.Transcript.{Setup, Job, Order, Check, Learn, Send, Entry, open_job, told_since, is_write_turn, mode_told, coefficients_tries, format_of_output}
+use Rattle.pm_host.specs.Transcript.{Setup, Job, Order, Check, Learn, Send, Entry, open_job, told_since, is_write_turn, mode_told}
+use Rattle.pm_host.specs.Transcript.{coefficients_tries, format_of_output}
 
 -- where an open job stands, by what was told since it was accepted
 abbrev pub job_stage : Setup → Job → List Entry → Stage

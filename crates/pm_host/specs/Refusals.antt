@@ -1,5 +1,6 @@
 -- When a call is refused, and which entries may come: this project's own choice.
-use Rattle.std.specs.Prelude.{ℕ, ◌^◌, ◌≤◌, ℤ, unsigned_abs, Bool, true, false, not, nat_lt, ◌||◌, if◌then◌else◌, [], ◌∷◌, Option, Some, None, is_none, is_some, option_map, option_and_then}
+use Rattle.std.specs.Prelude.{ℕ, ◌^◌, ◌≤◌, ℤ, unsigned_abs, Bool, true, false, not, nat_lt, ◌||◌, if◌then◌else◌, [], ◌∷◌, Option, Some}
+use Rattle.std.specs.Prelude.{None, is_none, is_some, option_map, option_and_then}
 use Rattle.std.specs.Option.{option_map_or}
 use Rattle.pm_num.specs.declared.fault.NumFault.{NumFault}
 use Rattle.pm_num.specs.declared.fault.NumFault.TheVariants.{BelowLeast, AboveGreatest, TooLarge}
@@ -13,7 +14,8 @@ use Rattle.pm_table.specs.Rules.{first, rule}
 use Rattle.pm_frame.specs.Layout.{is_read_message}
 use Rattle.pm_host.specs.declared.command.Command.{Command}
 use Rattle.pm_host.specs.declared.fault.HostFault.{HostFault}
-use Rattle.pm_host.specs.declared.fault.HostFault.TheVariants.{OutputCount, Passes, Busy, UnknownOutput, BadWord, TooUncertain, FormatUnknown, Num}
+use Rattle.pm_host.specs.declared.fault.HostFault.TheVariants.{OutputCount, Passes, Busy, UnknownOutput, BadWord, TooUncertain}
+use Rattle.pm_host.specs.declared.fault.HostFault.TheVariants.{FormatUnknown, Num}
 use Rattle.pm_host.specs.declared.question.Question.{Question}
 use Rattle.pm_host.specs.Cells.{is_command}
 use Rattle.pm_host.specs.Possible.{has_room}

@@ -1,6 +1,7 @@
 -- What a host holds of its transcript, and what one more entry makes of it: this project's own choice
 -- of how an order, a check, a learn and a command that is sent go.
-use Rattle.std.specs.Prelude.{ℕ, ◌+◌, Bool, if◌then◌else◌, ◌==◌, List, replicate, slice_index_or, slice_set, Option, Some, None, Result, Ok, Err, option_map}
+use Rattle.std.specs.Prelude.{ℕ, ◌+◌, Bool, if◌then◌else◌, ◌==◌, List, replicate, slice_index_or, slice_set, Option, Some, None, Result, Ok}
+use Rattle.std.specs.Prelude.{Err, option_map}
 use Rattle.std.specs.Result.{result_ok}
 use Rattle.pm_num.specs.AnyFormat.{Shape, InUlinear16}
 use Rattle.pm_table.specs.declared.cell.Cell.{Cell}

@@ -1,7 +1,8 @@
 -- The transcript of a host: what it accepted and was told, newest first. What a host sends, how a job
 -- ends and which formats were learned is found in it by looking back. The frames are those of PMBus
 -- 1.3 Part II; jobs, passes and ends are this project's own choice.
-use Rattle.std.specs.Prelude.{ℕ, suc, ◌*◌, ◌%◌, Bool, false, not, if◌then◌else◌, ◌==◌, List, [], ◌∷◌, length, Option, Some, None, Result, Ok, Err, is_some, is_none, option_map, option_and_then}
+use Rattle.std.specs.Prelude.{ℕ, suc, ◌*◌, ◌%◌, Bool, false, not, if◌then◌else◌, ◌==◌, List, [], ◌∷◌, length, Option, Some, None, Result}
+use Rattle.std.specs.Prelude.{Ok, Err, is_some, is_none, option_map, option_and_then}
 use Rattle.std.specs.Option.{option_or, option_map_or}
 use Rattle.std.specs.Result.{result_ok}
 use Rattle.pm_num.specs.AnyFormat.{Shape, InUlinear16}
@@ -107,14 +108,14 @@ send_end setup told =
     if is_acked told then Some Done
     else (if length told == setup.passes then Some Unknown else None)
 
--- A learn reads VOUT_MODE up to the first good answer, which is this byte,
+-- A learn reads VOUT_MODE up to the first good answer, which is this byte.
 abbrev pub mode_told : Setup → ℕ → List Entry → Option ℕ
 mode_told setup output [] = None
 mode_told setup output (Got bytes ∷ before) =
     option_or (mode_told setup output before) (good_mode setup.addr output bytes)
 mode_told setup output (_ ∷ before) = mode_told setup output before
 
--- and from then on, for DIRECT, COEFFICIENTS up to the first good answer, which is this,
+-- A learn that has read VOUT_MODE reads COEFFICIENTS from then on, for DIRECT, up to the first good answer, which is this.
 abbrev pub coefficients_told : Setup → ℕ → List Entry → Option Coefficients
 coefficients_told setup output [] = None
 coefficients_told setup output (Got bytes ∷ before) =

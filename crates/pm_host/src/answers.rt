@@ -2,12 +2,10 @@
 
 ghost use Rattle.std.specs.Prelude.{◌≡◌, true, length, option_map, IfSome};
 ghost use Rattle.pm_table.specs.Address.{IsAddress};
-ghost use Rattle.pm_table.specs.Coefficients.{coefficients_of};
 ghost use Rattle.pm_frame.specs.Layout.{answer_length, fits_layout, is_read_message};
 ghost use Rattle.pm_host.specs.Answers.{word_in as spec_word_in, good_payload};
 
 use pm_frame::{Message, read_answer};
-use pm_table::Coefficients;
 
 /// The payload of a good answer; `None` for every other answer.
 #[tactic(auto, unfolding(crate::specs::Answers::good_payload))]
@@ -54,12 +52,4 @@ pub(crate) fn byte_in(payload: &[u8]) -> u8
     ensures { result ≡ spec_word_in payload.now }
 {
     payload[0]
-}
-
-/// The coefficients of a payload of five bytes.
-pub(crate) fn coefficients_in(payload: &[u8]) -> Coefficients
-    requires { length payload.now ≡ 5 }
-    ensures { result ≡ coefficients_of payload.now }
-{
-    Coefficients::read([payload[0], payload[1], payload[2], payload[3], payload[4]])
 }

@@ -1,79 +1,68 @@
-ghost use Rattle.std.specs.Prelude.{◌≡◌, option_map};
+ghost use Rattle.std.specs.Prelude.{◌≡◌, ◌<◌, length, Some, option_map};
 ghost use Rattle.std.specs.Result.{result_ok};
-ghost use Rattle.pm_num.specs.AnyFormat.{shape_of};
+ghost use Rattle.pm_num.specs.AnyFormat.{shape_of, InUlinear16};
+ghost use Rattle.pm_table.specs.Coefficients.{coefficients_of};
 ghost use Rattle.pm_table.specs.Format.{shape_in};
-ghost use Rattle.pm_table.specs.VoutMode.{IsMode};
+ghost use Rattle.pm_table.specs.VoutMode.{exponent_of};
 ghost use Rattle.pm_host.specs.Image.{format_held};
 ghost use Rattle.pm_host.specs.Memory.{IsFormat};
 
-use pm_num::AnyFormat;
+use pm_num::{AnyFormat, Ulinear16};
 use pm_table::{Coefficients, VoutMode, format_of};
 
-/// What stands for coefficients where a format has none.
-pub(crate) const NO_COEFFICIENTS: Coefficients = Coefficients { m: 0, b: 0, r: 0 };
-
-/// The format of an output's voltages, as plain numbers.
+/// What a host learned of the format of an output's voltages: the bytes that the device answered.
 #[repr(C)]
 #[derive(Clone, Copy, Debug, PartialEq, Eq)]
 pub struct FormatImage {
-    /// 1 for ULINEAR16, 2 for DIRECT; with any other number no format is known.
-    pub kind: u8,
-    /// The exponent of ULINEAR16, or R of DIRECT.
-    pub exponent: i8,
-    /// The slope m of DIRECT.
-    pub m: i16,
-    /// The offset b of DIRECT.
-    pub b: i16,
+    /// The byte of VOUT_MODE; FFh, which names no format, where none is known.
+    pub mode: u8,
+    /// The five bytes of COEFFICIENTS where the mode is DIRECT; otherwise FFh each.
+    pub coefficients: [u8; 5],
 }
 
 impl FormatImage {
+    // The byte of VOUT_MODE that names DIRECT.
+    const DIRECT: u8 = 0x40;
+
     /// None is known.
     pub(crate) const NONE: FormatImage = FormatImage {
-        kind: 0,
-        exponent: 0,
-        m: 0,
-        b: 0,
+        mode: 0xFF,
+        coefficients: [0xFF; 5],
     };
 
-    /// The format of a mode, at a device with these coefficients, as `format_of` finds it.
-    pub(crate) fn of(mode: VoutMode, c: Coefficients) -> FormatImage
-        requires { IsMode mode }
-        ensures held { format_held result ≡ result_ok (shape_in mode c) }
+    /// ULINEAR16, by the byte of VOUT_MODE that was read.
+    pub(crate) fn linear(mode: u8) -> FormatImage
+        requires { mode < 32 }
+        ensures held { format_held result ≡ Some (InUlinear16 (exponent_of mode)) }
         ensures written { IsFormat result }
     {
-        match mode {
-            VoutMode::Linear(exponent) => FormatImage {
-                kind: 1,
-                exponent,
-                m: 0,
-                b: 0,
-            },
-            VoutMode::Direct => FormatImage {
-                kind: 2,
-                exponent: c.r,
-                m: c.m,
-                b: c.b,
-            },
+        FormatImage {
+            mode,
+            ..FormatImage::NONE
         }
     }
 
-    /// What the numbers mean.
+    /// DIRECT, by the bytes of COEFFICIENTS that were read.
+    pub(crate) fn direct(payload: &[u8]) -> FormatImage
+        requires { length payload.now ≡ 5 }
+        ensures held { format_held result ≡ result_ok (shape_in VoutMode.Direct (coefficients_of payload.now)) }
+        ensures written { IsFormat result }
+    {
+        FormatImage {
+            mode: FormatImage::DIRECT,
+            coefficients: [payload[0], payload[1], payload[2], payload[3], payload[4]],
+        }
+    }
+
+    /// What the bytes mean.
     pub fn format(&self) -> Option<AnyFormat>
         ensures { option_map shape_of result ≡ format_held self.now }
     {
-        match self.kind {
-            1 if (-16..=15).contains(&self.exponent) => {
-                format_of(VoutMode::Linear(self.exponent), NO_COEFFICIENTS).ok()
-            }
-            2 => format_of(
-                VoutMode::Direct,
-                Coefficients {
-                    m: self.m,
-                    b: self.b,
-                    r: self.exponent,
-                },
-            )
-            .ok(),
+        if self.mode == FormatImage::DIRECT {
+            return format_of(VoutMode::Direct, Coefficients::read(self.coefficients)).ok();
+        }
+        match VoutMode::read(self.mode) {
+            Ok(VoutMode::Linear(exponent)) => { Ulinear16::new(exponent).map(AnyFormat::Ulinear16) }
             _ => None,
         }
     }

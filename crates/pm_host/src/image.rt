@@ -44,7 +44,7 @@ impl Image {
     pub const MARK: u16 = 0x504D;
 
     /// The number of the layout that this is a part of: `pm_host_c` keeps registers and limits behind it.
-    pub const VERSION: u16 = 5;
+    pub const VERSION: u16 = 6;
 
     /// Zeros, which are the image of no host.
     #[tactic(auto, unfolding(crate::specs::Image::host_of))]

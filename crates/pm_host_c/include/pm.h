@@ -52,7 +52,7 @@ extern "C" {
 /* The versions of a host's layout and a survey's, their sizes in bytes, and the stack that a call takes at most: PM_STACK, and PM_NAME_STACK
  * of pm_refusal_name, in which a loader may bind memmove. docs/c.md has what calls take on each processor, and an
  * archive says its own bound as stack-bytes in its section .comment. */
-#define PM_HOST_VERSION 5
+#define PM_HOST_VERSION 6
 #define PM_HOST_SIZE 2064
 #define PM_SURVEY_VERSION 1
 #define PM_SURVEY_SIZE 40

@@ -2,7 +2,8 @@
 use Rattle.std.proofs.Common.{◌≡◌, ◌<◌, Bool, true, false, ℤ, pos, ◌+ℤ◌, ◌≤ℤ◌, refl, arith}
 use Rattle.std.proofs.lemmas.Int.{ints}
 use Rattle.pm_num.specs.Ratio.{Ratio, AtMost, is_above, micros}
-use Rattle.pm_limits.specs.Lemmas.Order.{above-at-most, at-most, not-above, through}
+use Rattle.pm_num.specs.Lemmas.Order.{above-at-most, at-most, not-above}
+use Rattle.pm_num.specs.Lemmas.Over.{at_most-trans}
 use Rattle.pm_host_c.specs.Voltages.{IsCeil, IsFloor}
 
 -- a value that isn't above its floor
@@ -10,7 +11,7 @@ pub exact : (value : Ratio) (x : ℤ) → 0 < value.den → IsFloor value x → 
 exact value x positive is same = record {
   reached = at-most value (micros x) same;
   least = λ k above.
-      let below : AtMost (micros x) (micros k) = through (micros x) value (micros k) positive is.reached above in
+      let below : AtMost (micros x) (micros k) = at_most-trans (micros x) value (micros k) positive is.reached above in
       omega (arith, ints);
 }
 
@@ -33,5 +34,5 @@ next value x is more = record {
         omega (arith, ints)
     beyond k true h above =
         let down : AtMost (micros k) (micros x) = let strict = above-at-most (micros (x +ℤ pos 1)) (micros k) h in grind (arith, ints) in
-        let never = not-above value (micros x) (through value (micros k) (micros x) (omega (arith)) above down) in
+        let never = not-above value (micros x) (at_most-trans value (micros k) (micros x) (omega (arith)) above down) in
         cc

@@ -12,7 +12,8 @@ use Rattle.pm_host.specs.Summary.{Summary}
 use Rattle.pm_limits.specs.Bounds.{Bounds}
 use Rattle.pm_limits.specs.Guard.{Guarded, limits_at}
 use Rattle.pm_rail.specs.declared.fault.PlanFault.{PlanFault}
-use Rattle.pm_rail.specs.declared.fault.PlanFault.TheVariants.{Busy, MissingRegister, FormatUnknown, BelowLimit, AboveLimit, NotKnown, BelowMin, AboveMax, Protected}
+use Rattle.pm_rail.specs.declared.fault.PlanFault.TheVariants.{Busy, MissingRegister, FormatUnknown, BelowLimit, AboveLimit, NotKnown}
+use Rattle.pm_rail.specs.declared.fault.PlanFault.TheVariants.{BelowMin, AboveMax, Protected}
 use Rattle.pm_rail.specs.declared.orders.PlanOrder.{PlanOrder}
 use Rattle.pm_rail.specs.FaultWords.{plan_fault_number}
 use Rattle.pm_rail.specs.Laws.{PlansAreAccepted}
@@ -36,7 +37,8 @@ pub decides : (image : GuardImage) (s : Summary) (output : ℕ) (wants : Wants) 
     (answer : Result (Option PlanOrder) PlanFault) → IsAt image s output → limits ≡ slice_index_or (limits_kept image) output None
     → answer ≡ plan_of (registers_held image.registers) s limits output wants → numbered answer ≡ plan_in (guard_of image) output wants
 decides image s output wants limits answer at same is =
-    ap numbered (is ∙ ap (λ (l : Option Bounds). plan_of (registers_held image.registers) s l output wants) same) ∙ rw (at.found, at.idle, at.there) refl
+    ap numbered (is ∙ ap (λ (l : Option Bounds). plan_of (registers_held image.registers) s l output wants) same)
+    ∙ rw (at.found, at.idle, at.there) refl
 
 -- an order is one of the plan
 unnumbered : (r : Result (Option PlanOrder) PlanFault) (next : Option PlanOrder) → numbered r ≡ Ok next → r ≡ Ok next

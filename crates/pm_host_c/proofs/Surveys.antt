@@ -1,5 +1,6 @@
 -- What a survey asks for, and how its memory is kept.
-use Rattle.std.proofs.Common.{◌≡◌, ◌≢◌, ◌<◌, ℕ, Bool, true, false, List, [], ◌∷◌, Option, Some, None, option_map, refl, sym, ap, subst, ◌∙◌, rules}
+use Rattle.std.proofs.Common.{◌≡◌, ◌≢◌, ◌<◌, ℕ, Bool, true, false, List, [], ◌∷◌, Option, Some, None, option_map, refl, sym, ap, subst, ◌∙◌}
+use Rattle.std.proofs.Common.{rules}
 use Rattle.std.proofs.lemmas.Bool.{and_parts}
 use Rattle.std.specs.Prelude.{nat_lt, ◌==◌, ◌&&◌, not, if◌then◌else◌, is_some, is_none, find}
 use Rattle.pm_table.specs.declared.cell.Cell.TheVariants.{Out, Protect}
@@ -19,6 +20,7 @@ use Rattle.pm_rail.specs.declared.wanted.Wanted.{Wanted}
 use Rattle.pm_rail.specs.Known.{cells_of, known_at, known_of}
 use Rattle.pm_rail.specs.Registers.{wants_of}
 use Rattle.pm_rail.specs.Survey.{asking, due_by, due_job, ended, is_surveyed, is_unread, is_unsure, next_job, survey_of, wanted_in}
+use Rattle.pm_rail.specs.Lemmas.Surveyed.{found}
 use Rattle.pm_host_c.specs.declared.guard_image.GuardImage.{GuardImage}
 use Rattle.pm_host_c.specs.declared.survey_image.SurveyImage.{SurveyImage}
 use Rattle.pm_num.specs.AnyFormat.{Shape}
@@ -31,16 +33,6 @@ use Rattle.pm_host_c.specs.Numbers.{accepted, flag}
 use Rattle.pm_host_c.specs.Survey.{asked_code, asked_held, asked_kind, asked_number, survey_image, survey_in, AsksNext}
 use Rattle.pm_host_c.specs.Wanted.{wanted_image, wanted_meant, wish_image, wish_meant}
 use Rattle.pm_host_c.proofs.Plans.{IsAt}
-
--- a register that was found passes the test
-found : (test : Reg → Bool) (listed : List Reg) (register : Reg) → find test listed ≡ Some register → test register ≡ true
-found test [] register is = cc
-found test (one ∷ listed) register is = by (test one) refl is (found test listed register)
-  where
-    by : (b : Bool) → test one ≡ b → (if b then Some one else find test listed) ≡ Some register
-        → (find test listed ≡ Some register → test register ≡ true) → test register ≡ true
-    by true passes same further = let one_is : one ≡ register = cc in subst (λ (r : Reg). test r ≡ true) one_is passes
-    by false fails same further = further same
 
 -- what holds of nothing, of a learn and of a check of each cell of an output that the part has
 pub record HoldsOfEach (part : PartRegisters) (output : ℕ) (P : Option Job → Type 0) : Type 0 where
@@ -160,7 +152,7 @@ plan-kept : (plan : Option Wanted)
 plan-kept None = refl
 plan-kept (Some w) = ap (λ (x : Wanted). Some x) (wanted-kept w)
 
--- so is a survey whose job reads as the one that it asked for
+-- a survey is read back from its numbers where its job reads as the one that it asked for
 kept : (v : Survey) → v.output < 8 → asked_held (asked_kind v.asked) (asked_code v.asked) v.output ≡ v.asked
     → survey_in (survey_image v) ≡ Some v
 kept v below asked =

@@ -1,6 +1,8 @@
--- A host, which registers its part has and the limits of its outputs, as plain numbers, and what they mean. Numbers that are no limits say that
--- an output has none, so that memory of any bytes means something. This project's own choice.
-use Rattle.std.specs.Prelude.{List, map, replicate, slice_index_or, Option, Some, None, option_map, option_and_then, is_none, if◌then◌else◌, not, ◌==◌}
+-- A host, which registers its part has and the limits of its outputs, as plain numbers, and what they mean. Numbers
+-- that are no limits say that an output has none, so that memory of any bytes means something. This project's own
+-- choice.
+use Rattle.std.specs.Prelude.{List, map, replicate, slice_index_or, Option, Some, None, option_map, option_and_then, is_none, if◌then◌else◌}
+use Rattle.std.specs.Prelude.{not, ◌==◌}
 use Rattle.pm_host.specs.declared.job.Job.{Job}
 use Rattle.pm_host.specs.Image.{host_of}
 use Rattle.pm_limits.specs.declared.part_registers.PartRegisters.{PartRegisters}

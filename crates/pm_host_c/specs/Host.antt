@@ -1,6 +1,7 @@
 -- What the calls of a host answer and do, by the host's own model. Memory that holds no host, a code
 -- that is no cell's and a frame of the other kind are refused first; then the host decides.
-use Rattle.std.specs.Prelude.{◌≡◌, ◌≢◌, ◌≤◌, ℕ, Bool, true, false, if◌then◌else◌, ◌∷◌, take, Option, Some, None, option_map, option_and_then, MatchOption}
+use Rattle.std.specs.Prelude.{◌≡◌, ◌≢◌, ◌≤◌, ℕ, Bool, true, false, if◌then◌else◌, ◌∷◌, take, Option, Some, None, option_map}
+use Rattle.std.specs.Prelude.{option_and_then, MatchOption}
 use Rattle.std.specs.Option.{option_map_or}
 use Rattle.pm_table.specs.declared.cell.Cell.{Cell}
 use Rattle.pm_frame.specs.declared.message.Message.{Message}

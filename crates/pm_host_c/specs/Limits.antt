@@ -10,7 +10,8 @@ use Rattle.pm_limits.specs.declared.within.Within.TheVariants.{Yes, No, NotKnown
 use Rattle.pm_limits.specs.Band.{band_at, within_of}
 use Rattle.pm_limits.specs.Guard.{Guarded, limits_at, narrow_fault}
 use Rattle.pm_host_c.specs.declared.limits.BandImage.{BandImage}
-use Rattle.pm_host_c.specs.Numbers.{accepted, limit_outcome, no_band_there, no_host, no_limits_there, within_no, within_not_known, within_yes}
+use Rattle.pm_host_c.specs.Numbers.{accepted, limit_outcome, no_band_there, no_host, no_limits_there, within_no, within_not_known}
+use Rattle.pm_host_c.specs.Numbers.{within_yes}
 use Rattle.pm_host.specs.FaultWords.{host_fault_number}
 use Rattle.pm_num.specs.FaultWords.{num_fault_number}
 use Rattle.pm_host_c.specs.Voltages.{is_far, IsCeil, IsFloor}

@@ -1,9 +1,11 @@
 -- The names of the numbers that calls answer: of each fault its own words, found by its number. This project's own
 -- choice.
-use Rattle.std.specs.Prelude.{◌≡◌, ℕ, List, [], ◌∷◌, ◌==◌, ◌/◌, if◌then◌else◌, find, length, take, drop, replicate, codes, Option, Some, None, option_map, is_none}
+use Rattle.std.specs.Prelude.{◌≡◌, ℕ, List, [], ◌∷◌, ◌==◌, ◌/◌, if◌then◌else◌, find, length, take, drop, replicate, codes, Option, Some}
+use Rattle.std.specs.Prelude.{None, option_map, is_none}
 use Rattle.pm_num.specs.declared.fault.NumFault.TheVariants.{ZeroSlope, ExponentRange, BelowLeast, AboveGreatest, TooLarge}
 use Rattle.pm_frame.specs.declared.fault.FrameFault.{FrameFault}
-use Rattle.pm_frame.specs.declared.fault.FrameFault.TheVariants.{NotOurs, Short, Long, WrongCount, WrongPec, UnknownCode, WrongDirection, Nested}
+use Rattle.pm_frame.specs.declared.fault.FrameFault.TheVariants.{NotOurs, Short, Long, WrongCount, WrongPec, UnknownCode, WrongDirection}
+use Rattle.pm_frame.specs.declared.fault.FrameFault.TheVariants.{Nested}
 use Rattle.pm_frame.specs.FaultWords.{frame_fault_number, frame_fault_words}
 use Rattle.pm_host.specs.declared.fault.HostFault.TheVariants.{OutputCount, Passes, Busy, UnknownOutput, BadWord, TooUncertain, Num}
 use Rattle.pm_host.specs.declared.fault.HostFault.TheVariants as host
@@ -22,7 +24,8 @@ use Rattle.pm_rail.specs.declared.fault.PlanFault.TheVariants as plan
 use Rattle.pm_rail.specs.FaultWords.{plan_fault_number, plan_fault_words}
 use Rattle.pm_device.specs.FaultWords.{config_fault_number, config_fault_words, device_fault_number, device_fault_words}
 use Rattle.pm_limits.specs.declared.fault.LimitFault.{LimitFault}
-use Rattle.pm_limits.specs.declared.fault.LimitFault.TheVariants.{LimitsInverted, BelowLimit, AboveLimit, NotKnownWithin, LimitsWidened, MissingRegister, Host}
+use Rattle.pm_limits.specs.declared.fault.LimitFault.TheVariants.{LimitsInverted, BelowLimit, AboveLimit, NotKnownWithin, LimitsWidened}
+use Rattle.pm_limits.specs.declared.fault.LimitFault.TheVariants.{MissingRegister, Host}
 use Rattle.pm_limits.specs.declared.fault.LimitFault.TheVariants as limits
 use Rattle.pm_limits.specs.FaultWords.{limit_fault_number, limit_fault_words}
 use Rattle.pm_host_c.specs.declared.name_image.NameImage.{NameImage}

@@ -3,7 +3,8 @@ use Rattle.std.specs.Prelude.{◌≡◌, ◌+◌, ◌*◌, ℕ, nat_lt, if◌the
 use Rattle.std.specs.Option.{option_map, option_map_or}
 use Rattle.pm_frame.specs.declared.fault.FrameFault.{FrameFault}
 use Rattle.pm_frame.specs.declared.message.Message.{Message}
-use Rattle.pm_frame.specs.declared.message.Message.TheVariants.{SendByte, WriteByte, WriteWord, PagePlusWrite, ReadCommand, PagePlusRead, ReadCoefficients}
+use Rattle.pm_frame.specs.declared.message.Message.TheVariants.{SendByte, WriteByte, WriteWord, PagePlusWrite, ReadCommand, PagePlusRead}
+use Rattle.pm_frame.specs.declared.message.Message.TheVariants.{ReadCoefficients}
 use Rattle.pm_frame.specs.declared.payload.Payload.{Payload}
 use Rattle.pm_frame.specs.declared.payload.Payload.TheVariants.{Empty, Byte, Word}
 use Rattle.pm_frame.specs.Fault.{answer_fault}
@@ -69,7 +70,7 @@ answer_number address message bytes =
 abbrev pub payload_of : PayloadImage → List ℕ
 payload_of payload = take payload.length payload.bytes
 
--- and the word that the first two are, the low one first
+-- A payload has the word that its first two bytes are, the low one first.
 abbrev pub HasPayload : PayloadImage → Type 0
 HasPayload payload = payload.word ≡ slice_index payload.bytes 0 + 256 * slice_index payload.bytes 1
 

@@ -1,6 +1,7 @@
 -- A survey as plain numbers in a caller's memory, and what they mean; what its calls answer and write, by the definitions
 -- of pm_rail. This project's own choice.
-use Rattle.std.specs.Prelude.{◌≡◌, ◌≢◌, ◌<◌, ℕ, Bool, ◌&&◌, nat_lt, if◌then◌else◌, ◌==◌, [], ◌∷◌, find, Option, Some, None, is_some, option_map, option_and_then}
+use Rattle.std.specs.Prelude.{◌≡◌, ◌≢◌, ◌<◌, ℕ, Bool, ◌&&◌, nat_lt, if◌then◌else◌, ◌==◌, [], ◌∷◌, find, Option, Some, None, is_some}
+use Rattle.std.specs.Prelude.{option_map, option_and_then}
 use Rattle.std.specs.Option.{option_map_or}
 use Rattle.pm_table.specs.Cell.{cell_at, cell_code}
 use Rattle.pm_host.specs.declared.fault.HostFault.TheVariants.{Busy, UnknownOutput}

@@ -1,15 +1,17 @@
 -- The word of a voltage and the voltage of a word, in the format that an image means.
-use Rattle.std.specs.Prelude.{◌≡◌, ℕ, ℤ, pos, neg_ℤ, ◌≤ℤ◌, ◌^◌, Bool, ◌||◌, nat_lt, if◌then◌else◌, ◌==◌, Option, Some, None}
+use Rattle.std.specs.Prelude.{◌≡◌, ℕ, ℤ, pos, neg_ℤ, ◌≤ℤ◌, ◌^◌, int_le, Bool, ◌&&◌, ◌||◌, nat_lt, if◌then◌else◌, ◌==◌, Option, Some, None}
 use Rattle.std.specs.Option.{option_map_or}
+use Rattle.std.specs.Result.{result_ok}
 use Rattle.pm_num.specs.declared.fault.NumFault.TheVariants.{TooLarge}
-use Rattle.pm_num.specs.AnyFormat.{Shape, InLinear11, shape_highest, shape_lowest, shape_value}
+use Rattle.pm_num.specs.AnyFormat.{Shape, InLinear11, InUlinear16, InDirect, shape_highest, shape_lowest, shape_value}
 use Rattle.pm_num.specs.Bounds.{at_least_fault, at_most_fault}
 use Rattle.pm_num.specs.Ratio.{Ratio, AtMost, is_above, micros}
+use Rattle.pm_table.specs.declared.vout_mode.VoutMode.TheVariants.{Direct}
+use Rattle.pm_table.specs.Format.{shape_in}
 use Rattle.pm_host.specs.declared.fault.HostFault.TheVariants.{FormatUnknown, UnknownOutput}
 use Rattle.pm_host.specs.Refusals.{range_fault}
-use Rattle.pm_host.specs.declared.format_image.FormatImage.{FormatImage}
-use Rattle.pm_host.specs.Image.{format_held}
 use Rattle.pm_host.specs.Summary.{Summary}
+use Rattle.pm_host_c.specs.declared.format_numbers.FormatNumbers.{FormatNumbers}
 use Rattle.pm_host_c.specs.Numbers.{accepted, no_host, outcome}
 use Rattle.pm_num.specs.FaultWords.{num_fault_number}
 use Rattle.pm_host.specs.FaultWords.{host_fault_number}
@@ -48,10 +50,24 @@ pub record IsSmall (x : ℤ) : Type 0 where
   pub above : neg_ℤ (pos (10 ^ 16)) ≤ℤ x
   pub below : x ≤ℤ pos (10 ^ 16)
 
--- The format that numbers of a caller's own mean: of kind 3 LINEAR11, which readings of PMBus have and no output's
--- voltage has; of any other kind what they mean in a host.
-abbrev pub format_meant : FormatImage → Option Shape
-format_meant i = if i.kind == 3 then Some InLinear11 else format_held i
+-- the exponents that ULINEAR16 may have
+abbrev pub is_exponent : ℤ → Bool
+is_exponent n = int_le (neg_ℤ (pos 16)) n && int_le n (pos 15)
+
+-- The format that a caller's numbers mean: kind 1 is ULINEAR16, kind 2 DIRECT, each with numbers that it may have, and
+-- kind 3 LINEAR11, which readings of PMBus have and no output's voltage has; any other is no format.
+abbrev pub format_meant : FormatNumbers → Option Shape
+format_meant i =
+    if i.kind == 1 then (if is_exponent i.exponent then Some (InUlinear16 i.exponent) else None)
+    else (if i.kind == 2 then result_ok (shape_in Direct (record { m = i.m; b = i.b; r = i.exponent }))
+    else (if i.kind == 3 then Some InLinear11 else None))
+
+-- the numbers of a format; zeros where none is known
+abbrev pub format_numbers : Option Shape → FormatNumbers
+format_numbers None = record { kind = 0; exponent = pos 0; m = pos 0; b = pos 0 }
+format_numbers (Some (InUlinear16 n)) = record { kind = 1; exponent = n; m = pos 0; b = pos 0 }
+format_numbers (Some (InDirect m b r)) = record { kind = 2; exponent = r; m = m; b = b }
+format_numbers (Some InLinear11) = record { kind = 3; exponent = pos 0; m = pos 0; b = pos 0 }
 
 -- the value is beyond 10^15 microvolts in size
 abbrev pub is_far : Ratio → Bool
@@ -66,9 +82,10 @@ abbrev pub value_number : Option Shape → ℕ → ℕ
 value_number None word = host_fault_number FormatUnknown
 value_number (Some shape) word = floor_number (shape_value shape word)
 
--- the numbers mean the format that is known; of kind 0 where none is, whatever the memory has there
-abbrev pub IsFormat : Option Shape → FormatImage → Type 0
-IsFormat known format = (format_held format ≡ known) × (known ≡ None → format.kind ≡ 0)
+-- the numbers are those of the format that is known, and mean it
+pub record IsFormat (known : Option Shape) (format : FormatNumbers) : Type 0 where
+  pub numbers : format ≡ format_numbers known
+  pub meant : format_meant format ≡ known
 
 -- what is asked of an output
 abbrev pub output_number : Option Summary → ℕ → ℕ

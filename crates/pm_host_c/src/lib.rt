@@ -4,9 +4,24 @@
 //! A host lives in the caller's memory, as plain numbers that are worked on in place. No call wants
 //! anything of what is in that memory: a call of a host asks first whether a host is there, and refuses
 //! where none is. The library takes no memory, keeps nothing between calls and calls nothing.
+//!
+//! An order, by the exported calls. In C each reference is a pointer, and bytes are a pointer and their number:
+//!
+//! ```
+//! // 3.3 V for VOUT_COMMAND of output 0, by a host of a part at address 58h with two outputs.
+//! fn ordered(host: &mut GuardImage, frame: &mut SendingImage) -> HostStep {
+//!     pm_host_new(host, 0x58, 2, 2); // the last number: two passes
+//!     pm_host_order(host, 0, 0x21, 0x34CD);
+//!     pm_host_sending(host, frame); // a write: B0 05 04 00 21 CD 34 5A
+//!     pm_host_finished(host, 0); // no acknowledgement came; the host reads the cell back
+//!     pm_host_sending(host, frame); // a request: B0 06 02 00 21
+//!     pm_host_got(host, &[0xB1, 0x02, 0xCD, 0x34, 0xB9]) // kind 1 Done
+//! }
+//! ```
 #![tactic(auto)]
 
 mod answer;
+mod format_numbers;
 mod guard_image;
 mod host;
 mod host_step;

@@ -2,8 +2,6 @@
 
 ghost use Rattle.std.specs.Prelude.{◌≡◌, ◌≢◌, ◌<◌, None, IsSomeAnd};
 ghost use Rattle.pm_host.specs.Image.{held, host_of};
-ghost use Rattle.pm_host.specs.Summary.{possible_at};
-ghost use Rattle.pm_rail.specs.Rail.{are_off as spec_are_off, are_on as spec_are_on, is_off as spec_is_off, power_by as spec_power_by, power_of as spec_power_of};
 ghost use Rattle.pm_host_c.specs.Guard.{guard_of, limits_kept, registers_held};
 ghost use Rattle.pm_host_c.specs.Rail.{power_word, IsRail};
 ghost use Rattle.pm_host_c.specs.Voltages.{output_number};
@@ -11,10 +9,9 @@ ghost use Rattle.pm_host_c.specs.Voltages.{output_number};
 use crate::guard_image::GuardImage;
 use crate::limits::{BandImage, of_within, put_known};
 use crate::numbers::{ACCEPTED, NO_HOST};
-use pm_host::{HostFault, State};
+use pm_host::HostFault;
 use pm_limits::{band_in, within_limits};
-use pm_rail::Power;
-use pm_table::{Cell, Operation, Reg};
+use pm_rail::{Power, power_in};
 
 /// What an output commands, by what is known, as plain numbers. It has no padding.
 #[repr(C)]
@@ -79,63 +76,4 @@ fn of_power(power: Power) -> u8
         Power::Off => 2,
         Power::NotKnown => 0,
     }
-}
-
-// Whether an output is on.
-fn power_in(host: &State, output: u8) -> Power
-    requires { output < 8 }
-    ensures { result ≡ spec_power_of (possible_at (held None host.now) (Cell.Out output Reg.Operation)) }
-{
-    match host
-        .known
-        .possible(Cell::Out(output, Reg::Operation))
-        .listed()
-    {
-        Some(bytes) => power_by(bytes),
-        None => Power::NotKnown,
-    }
-}
-
-// The same by the bytes that OPERATION may be.
-fn power_by(bytes: &[u16]) -> Power
-    ensures { result ≡ spec_power_by bytes.now }
-{
-    if are_on(bytes) {
-        Power::On
-    } else if are_off(bytes) {
-        Power::Off
-    } else {
-        Power::NotKnown
-    }
-}
-
-// Whether each byte has the output on.
-fn are_on(bytes: &[u16]) -> bool
-    ensures { result ≡ spec_are_on bytes.now }
-{
-    for byte in bytes {
-        if !Operation::has_on(*byte) {
-            return false;
-        }
-    }
-    true
-}
-
-// Whether each byte has the output off.
-fn are_off(bytes: &[u16]) -> bool
-    ensures { result ≡ spec_are_off bytes.now }
-{
-    for byte in bytes {
-        if !is_off(*byte) {
-            return false;
-        }
-    }
-    true
-}
-
-// Whether a byte is one that OPERATION takes, and has the output off.
-fn is_off(byte: u16) -> bool
-    ensures { result ≡ spec_is_off byte }
-{
-    Cell::Out(0, Reg::Operation).accepts(byte) && !Operation::has_on(byte)
 }

@@ -1,24 +1,26 @@
 mod calls;
 mod checks;
+mod example;
 mod limits;
 mod packets;
 mod rails;
 
 use self::calls::{
-    at_least, at_most, band, check, clear, finished, format, got, host, learn, limits, microvolts,
-    narrow, nearest, new, order, order_micro, possible, restart, restart_seen, restore, shown,
-    standing, store, within,
+    at_least, at_most, band, check, clear, finished, format, got, host, kept, learn, limits,
+    microvolts, narrow, nearest, new, order, order_micro, possible, restart, restart_seen, restore,
+    shown, standing, store, within,
 };
 use self::checks::{equal, is_true};
+use crate::format_numbers::FormatNumbers;
 use crate::guard_image::GuardImage;
 use crate::host::{pm_host_size, pm_host_version, pm_version};
 use crate::survey::{pm_survey_size, pm_survey_version};
-use pm_host::{FormatImage, WordsImage};
+use pm_host::WordsImage;
 
 #[test]
 fn sizes_are_those_of_the_header(rt: HostRuntime) {
     equal(&rt, &pm_host_size(), &2064, &1);
-    equal(&rt, &(pm_version(), pm_host_version()), &(0x0001, 5), &2);
+    equal(&rt, &(pm_version(), pm_host_version()), &(0x0001, 6), &2);
     equal(&rt, &pm_survey_size(), &40, &3);
     equal(&rt, &pm_survey_version(), &1, &4);
 }
@@ -229,23 +231,55 @@ fn memory_that_holds_no_host_is_refused(rt: HostRuntime) {
 }
 
 // What damaged memory says of output 1, that still reads as a host: a count past the words, a flag that is
-// neither, an exponent that no format has.
+// neither, a mode that names no format.
 #[test]
 fn damaged_memory_says_what_can_be_read(rt: HostRuntime) {
     let mut image = host(2);
     let state = &mut image.host.state;
     state.known.possible[7].count = 0x0400;
     state.known.standing[7].is_confirmed = 2;
-    state.formats[1].kind = 1;
-    state.formats[1].exponent = 99;
+    state.formats[1].mode = 0x60;
     equal(&rt, &possible(&image, 1, 0x21), &(0, 0, 0), &1);
     equal(&rt, &standing(&image, 1, 0x21), &(0, 0, 0), &2);
     equal(&rt, &format(&image, 1), &(0, 0, 0), &3);
 }
 
+// A host's memory has the byte of VOUT_MODE and the five bytes of COEFFICIENTS as they were answered, FFh where there is
+// none; a caller is told numbers, here of ULINEAR16 with -12 and of DIRECT with R 1.
+#[test]
+fn a_format_is_kept_as_it_was_learned(rt: HostRuntime) {
+    let mut image = host(1);
+    equal(&rt, &kept(&image, 1), &(0xFF, [0xFF; 5]), &1);
+    equal(&rt, &learn(&mut image, 0), &0, &2);
+    equal(
+        &rt,
+        &got(&mut image, &[0xB1, 0x01, 0x14, 0x4E]),
+        &(4, 0),
+        &3,
+    );
+    equal(&rt, &kept(&image, 0), &(0x14, [0xFF; 5]), &4);
+    equal(&rt, &format(&image, 0), &(0, 1, -12), &5);
+    equal(&rt, &learn(&mut image, 1), &0, &6);
+    equal(
+        &rt,
+        &got(&mut image, &[0xB1, 0x01, 0x40, 0x87]),
+        &(0, 0),
+        &7,
+    );
+    let answer = [0xB1, 0x05, 0x99, 0x01, 0x02, 0x00, 0x01, 0x19];
+    equal(&rt, &got(&mut image, &answer), &(4, 0), &8);
+    equal(
+        &rt,
+        &kept(&image, 1),
+        &(0x40, [0x99, 0x01, 0x02, 0x00, 0x01]),
+        &9,
+    );
+    equal(&rt, &format(&image, 1), &(0, 2, 1), &10);
+}
+
 #[test]
 fn numbers_stand_alone(rt: HostRuntime) {
-    let format = FormatImage {
+    let format = FormatNumbers {
         kind: 1,
         exponent: -12,
         m: 0,
@@ -270,13 +304,13 @@ fn numbers_stand_alone(rt: HostRuntime) {
         &(0x15, 7),
         &5,
     );
-    let none = FormatImage {
+    let none = FormatNumbers {
         kind: 2,
         exponent: 0,
         m: 0,
         b: 0,
     };
-    let linear11 = FormatImage { kind: 3, ..none };
+    let linear11 = FormatNumbers { kind: 3, ..none };
     equal(&rt, &microvolts(&linear11, 0xD300), &(0, 12_000_000), &8);
     equal(&rt, &nearest(&linear11, -500_000), &(0, 0xFFFF), &9);
     equal(&rt, &nearest(&none, 1), &(7, 7), &6);
@@ -298,7 +332,7 @@ static LARGE: [(i16, u16, (u8, i64)); 5] = [
 #[test]
 fn what_is_beyond_the_most_is_refused(rt: HostRuntime) {
     for &(b, word, wanted) in &LARGE {
-        let format = FormatImage {
+        let format = FormatNumbers {
             kind: 2,
             exponent: -9,
             m: 1,

@@ -1,32 +1,30 @@
 //! Words and microvolts, both ways.
 
-ghost use Rattle.std.specs.Prelude.{◌≡◌, ◌≢◌, ◌<◌, pos, Some, IsSomeAnd, option_map};
-ghost use Rattle.pm_num.specs.AnyFormat.{shape_of, shape_value, shape_rank};
+ghost use Rattle.std.specs.Prelude.{◌≡◌, ◌≢◌, ◌<◌, pos, Some, IsSomeAnd};
+ghost use Rattle.pm_num.specs.AnyFormat.{shape_value, shape_rank};
 ghost use Rattle.pm_num.specs.Bounds.{IsAtLeast, IsAtMost};
 ghost use Rattle.pm_num.specs.NearestWord.{nearest_word as spec_nearest_word};
 ghost use Rattle.pm_num.specs.Ratio.{is_above as spec_is_above, micros, InBounds};
-ghost use Rattle.pm_host.specs.Image.{format_held, host_of};
+ghost use Rattle.pm_host.specs.Image.{host_of};
 ghost use Rattle.pm_host.specs.Summary.{format_at};
 ghost use Rattle.pm_host_c.specs.Voltages.{at_least_number, at_most_number, floor_number, is_far as spec_is_far, output_number, format_meant, value_number, word_number, IsCeil, IsFloor, IsFormat, IsNear, IsSmall};
 
+use crate::format_numbers::FormatNumbers;
 use crate::guard_image::GuardImage;
 use crate::numbers::{ACCEPTED, NO_HOST};
-use pm_host::{FormatImage, HostFault, nearest_word};
-use pm_num::{AnyFormat, Frac, NumFault, NumFormat, at_least, at_most, micro};
+use pm_host::{HostFault, nearest_word};
+use pm_num::{Frac, NumFault, NumFormat, at_least, at_most, micro};
 use std::cmp::Ordering;
 
 // The greatest number of microvolts that is answered, in size.
 const LIMIT: i128 = 1_000_000_000_000_000;
-
-// The kind of LINEAR11, which no host learns.
-const LINEAR11: u8 = 3;
 
 // Microvolts in a volt.
 const MILLION: i128 = 1_000_000;
 
 /// The format of an output's voltages, as far as the host learned it. E0h, H4.
 #[unsafe(no_mangle)]
-pub extern "C" fn pm_host_format(host: &GuardImage, output: u8, format: &mut FormatImage) -> u8
+pub extern "C" fn pm_host_format(host: &GuardImage, output: u8, format: &mut FormatNumbers) -> u8
     ensures number { result ≡ output_number (host_of host.now.host) output }
     ensures said { result ≡ 0 → IsSomeAnd (host_of host.now.host)
         (λ s. IsFormat (format_at s output) format.new) }
@@ -38,47 +36,20 @@ pub extern "C" fn pm_host_format(host: &GuardImage, output: u8, format: &mut For
     if host.host.state.outputs <= output {
         return HostFault::UnknownOutput.number();
     }
-    *format = kinded(host.host.state.format(output));
+    *format = FormatNumbers::of(&host.host.state.format(output));
     ACCEPTED
-}
-
-// The same with kind 0 for numbers that mean no format, which damaged memory may have.
-fn kinded(format: FormatImage) -> FormatImage
-    ensures { IsFormat (format_held format) result }
-{
-    if format.format().is_some() {
-        format
-    } else {
-        FormatImage {
-            kind: 0,
-            exponent: 0,
-            m: 0,
-            b: 0,
-        }
-    }
-}
-
-// What the numbers mean: beside the formats that a host learns LINEAR11, which readings of PMBus have.
-fn format_of(format: &FormatImage) -> Option<AnyFormat>
-    ensures { option_map shape_of result ≡ format_meant format.now }
-{
-    if format.kind == LINEAR11 {
-        Some(AnyFormat::Linear11)
-    } else {
-        format.format()
-    }
 }
 
 /// The whole microvolts of a word, rounded down. H7 where the numbers mean no format, N5 exactly where
 /// the word's value is beyond 10^15 microvolts in size.
 #[unsafe(no_mangle)]
-pub extern "C" fn pm_microvolts(format: &FormatImage, word: u16, microvolts: &mut i64) -> u8
+pub extern "C" fn pm_microvolts(format: &FormatNumbers, word: u16, microvolts: &mut i64) -> u8
     ensures number { result ≡ value_number (format_meant format.now) word }
     ensures floor { result ≡ 0 → IsSomeAnd (format_meant format.now)
         (λ shape. IsFloor (shape_value shape word) microvolts.new) }
     ensures refused { result ≢ 0 → microvolts.new ≡ microvolts.old }
 {
-    let Some(format) = format_of(format) else {
+    let Some(format) = format.format() else {
         return HostFault::FormatUnknown.number();
     };
     put_floor(&format.value_of(word), microvolts)
@@ -149,14 +120,14 @@ fn is_far(value: &Frac) -> bool
 
 /// The word nearest to a number of microvolts. H7 where the numbers mean no format, N5, N3, N4.
 #[unsafe(no_mangle)]
-pub extern "C" fn pm_nearest_word(format: &FormatImage, microvolts: i64, word: &mut u16) -> u8
+pub extern "C" fn pm_nearest_word(format: &FormatNumbers, microvolts: i64, word: &mut u16) -> u8
     ensures number { result ≡ word_number (format_meant format.now) microvolts }
     ensures nearest { result ≡ 0 → IsSomeAnd (format_meant format.now)
         (λ shape. spec_nearest_word (shape_value shape) (shape_rank shape) (micros microvolts)
         ≡ Some word.new) }
     ensures refused { result ≢ 0 → word.new ≡ word.old }
 {
-    let Some(format) = format_of(format) else {
+    let Some(format) = format.format() else {
         return HostFault::FormatUnknown.number();
     };
     match nearest_word(&format, microvolts) {
@@ -171,13 +142,13 @@ pub extern "C" fn pm_nearest_word(format: &FormatImage, microvolts: i64, word: &
 /// The word of the greatest value that isn't above a number of microvolts, as of a bound from above. H7 where the numbers mean
 /// no format, N5, N3; above the greatest value it is that value's word.
 #[unsafe(no_mangle)]
-pub extern "C" fn pm_at_most(format: &FormatImage, microvolts: i64, word: &mut u16) -> u8
+pub extern "C" fn pm_at_most(format: &FormatNumbers, microvolts: i64, word: &mut u16) -> u8
     ensures number { result ≡ at_most_number (format_meant format.now) microvolts }
     ensures word { result ≡ 0 → IsSomeAnd (format_meant format.now)
         (λ shape. IsAtMost (shape_value shape) (shape_rank shape) (micros microvolts) word.new) }
     ensures refused { result ≢ 0 → word.new ≡ word.old }
 {
-    let Some(format) = format_of(format) else {
+    let Some(format) = format.format() else {
         return HostFault::FormatUnknown.number();
     };
     match at_most(&format, microvolts) {
@@ -192,13 +163,13 @@ pub extern "C" fn pm_at_most(format: &FormatImage, microvolts: i64, word: &mut u
 /// The word of the least value that isn't below a number of microvolts, as of a bound from below. H7 where the numbers mean no
 /// format, N5, N4; below the least value it is that value's word.
 #[unsafe(no_mangle)]
-pub extern "C" fn pm_at_least(format: &FormatImage, microvolts: i64, word: &mut u16) -> u8
+pub extern "C" fn pm_at_least(format: &FormatNumbers, microvolts: i64, word: &mut u16) -> u8
     ensures number { result ≡ at_least_number (format_meant format.now) microvolts }
     ensures word { result ≡ 0 → IsSomeAnd (format_meant format.now)
         (λ shape. IsAtLeast (shape_value shape) (shape_rank shape) (micros microvolts) word.new) }
     ensures refused { result ≢ 0 → word.new ≡ word.old }
 {
-    let Some(format) = format_of(format) else {
+    let Some(format) = format.format() else {
         return HostFault::FormatUnknown.number();
     };
     match at_least(&format, microvolts) {

@@ -3,7 +3,8 @@
 use Rattle.std.specs.Prelude.{ℕ, List, codes}
 use Rattle.pm_host.specs.FaultWords.{host_fault_number, host_fault_words}
 use Rattle.pm_limits.specs.declared.fault.LimitFault.{LimitFault}
-use Rattle.pm_limits.specs.declared.fault.LimitFault.TheVariants.{Host, LimitsInverted, FormatUnknown, BelowLimit, AboveLimit, NotKnownWithin, LimitsWidened, MissingRegister}
+use Rattle.pm_limits.specs.declared.fault.LimitFault.TheVariants.{Host, LimitsInverted, FormatUnknown, BelowLimit, AboveLimit}
+use Rattle.pm_limits.specs.declared.fault.LimitFault.TheVariants.{NotKnownWithin, LimitsWidened, MissingRegister}
 
 -- a refusal of the host is told as that
 abbrev pub limit_fault_words : LimitFault → List ℕ

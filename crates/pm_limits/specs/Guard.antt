@@ -1,5 +1,6 @@
 -- What a guard holds and when it refuses: this project's own choice.
-use Rattle.std.specs.Prelude.{◌≡◌, ◌*◌, ◌≤◌, ◌==◌, ℕ, ℤ, Bool, false, not, ◌&&◌, nat_lt, List, [], ◌∷◌, slice_index_or, slice_set, Option, Some, None, option_map, option_and_then, is_none, is_some, IsSomeAnd, IfOk, IfErr, Result, OnOk, OnErr}
+use Rattle.std.specs.Prelude.{◌≡◌, ◌*◌, ◌≤◌, ◌==◌, ℕ, ℤ, Bool, false, not, ◌&&◌, nat_lt, List, [], ◌∷◌, slice_index_or, slice_set, Option}
+use Rattle.std.specs.Prelude.{Some, None, option_map, option_and_then, is_none, is_some, IsSomeAnd, IfOk, IfErr, Result, OnOk, OnErr}
 use Rattle.std.specs.Option.{option_map_or}
 use Rattle.std.specs.Result.{result_err}
 use Rattle.pm_num.specs.AnyFormat.{Shape, shape_value}
@@ -136,7 +137,8 @@ pub record IsJudged (registers : PartRegisters) (limits : Option Bounds) (s : Su
   pub nearest : OnOk result (HasNearestWord s job)
 
 -- how a job begins that is refused exactly for this
-pub record BeginsUnless (refusal : Option LimitFault) (old : Guarded) (job : Job) (result : Result (Unit {0}) LimitFault) (new : Guarded) : Type 0 where
+pub record BeginsUnless (refusal : Option LimitFault) (old : Guarded) (job : Job) (result : Result (Unit {0}) LimitFault) (new : Guarded) :
+    Type 0 where
   pub fault : result_err result ≡ refusal
   -- otherwise the host accepts it
   pub ok : OnOk result (IsSomeAnd (accepted_job old.host job) (λ begun. new.host ≡ next old.host (accepted.Accepted begun)))

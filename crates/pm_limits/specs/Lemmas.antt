@@ -2,5 +2,4 @@ pub mod Bands
 pub mod Cuts
 pub mod Farthest
 pub mod Guarded
-pub mod Order
 pub mod Selected

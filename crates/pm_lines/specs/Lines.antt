@@ -1,5 +1,6 @@
 -- The lines of a text and the words of a line. The forms are this project's own choice.
-use Rattle.std.specs.Prelude.{◌≡◌, ◌++◌, ℕ, ◌-◌, Bool, true, false, ◌&&◌, ◌||◌, not, List, [], ◌∷◌, length, map, take, filter, if◌then◌else◌, ◌==◌, nat_eq, bytes_eq, codes}
+use Rattle.std.specs.Prelude.{◌≡◌, ◌++◌, ℕ, ◌-◌, Bool, true, false, ◌&&◌, ◌||◌, not, List, [], ◌∷◌, length, map, take, filter}
+use Rattle.std.specs.Prelude.{if◌then◌else◌, ◌==◌, nat_eq, bytes_eq, codes}
 use Rattle.std.specs.List.{slice_split, starts_with, ends_with, list_all, enumerate_from}
 
 -- the bytes that end a line, that part words, and that a line's end may have besides

@@ -1,34 +1,25 @@
 -- Words that are accepted at each place are those of settings, and the words of settings are accepted.
-use Rattle.std.proofs.Common.{◌≡◌, ℕ, ◌+◌, ◌<◌, ◌≤◌, Bool, true, false, not, ◌||◌, cond, length, get_or, Some, None, refl, sym, ap, subst}
-use Rattle.std.proofs.Common.{◌∙◌, arith}
+use Rattle.std.proofs.Common.{◌≡◌, ℕ, ◌<◌, ◌≤◌, Bool, true, false, not, ◌||◌, cond, length, get_or, Some, None, refl, sym, ap, subst}
+use Rattle.std.proofs.Common.{◌∙◌, arith, zero-add}
 use Rattle.std.specs.List.{range_with_len}
-use Rattle.std.proofs.lemmas.Bool.{and_from, le-leb, ltb-true}
+use Rattle.std.proofs.lemmas.Bool.{and_from, le-leb}
 use Rattle.std.proofs.lemmas.List.Sums.{AllPass-from_list_all, list_all-from_AllPass}
 use Rattle.std.proofs.lemmas.List.FromFn.{length-range_with_len, get_or-range_with_len}
 use Rattle.pm_table.specs.declared.cell.Cell.{Cell}
 use Rattle.pm_table.specs.declared.cell.Cell.TheVariants.{Out, Protect}
 use Rattle.pm_table.specs.Cell.{IsCell, cell_accepts, cell_in, is_cell, place_of, places}
 use Rattle.pm_table.specs.Laws.{CellsHavePlaces}
-use Rattle.pm_table.specs.Lemmas.{IsCell-eight}
+use Rattle.pm_table.specs.Lemmas.{IsCell-eight, is_cell-there}
 use Rattle.pm_model.specs.Settings.{Settings, Words, AreSettings, AreWords, are_accepted, is_accepted_at, settings_in, word_at}
-
--- nothing is added
-zero-on : (n : ℕ) → 0 + n ≡ n
-zero-on n = omega arith
 
 -- the place of this number is that number
 place-at : (place : ℕ) → place < places → get_or (range_with_len 0 places) place 0 ≡ place
-place-at place below = get_or-range_with_len 0 places place 0 below ∙ zero-on place
+place-at place below = get_or-range_with_len 0 places place 0 below ∙ zero-add place
 
--- a cell that there is passes the test, and what passes it is there
+-- a cell that there is passes the test
 there-true : (count : ℕ) (cell : Cell) → IsCell count cell → is_cell count cell ≡ true
 there-true count (Out output register) here = grind (arith, here)
 there-true count Protect here = refl
-
--- a cell that passes the test is there
-true-there : (count : ℕ) (cell : Cell) → is_cell count cell ≡ true → IsCell count cell
-true-there count (Out output register) e = ltb-true output count e
-true-there count Protect e = tt
 
 -- what is accepted at each place is accepted at this one
 accepted-at : (count : ℕ) (words : Words) (place : ℕ) → are_accepted count words ≡ true → place < places →
@@ -72,7 +63,7 @@ settings-at stand s are place below = go (is_cell s.count (cell_in place)) refl 
   go false e = refl
   go true e =
       subst (λ (at : ℕ). cell_accepts (cell_in place) (get_or s.words at 0) ≡ true) (stand.again place below)
-      (are.accepted (cell_in place) (true-there s.count (cell_in place) e))
+      (are.accepted (cell_in place) (is_cell-there s.count (cell_in place) e))
 
 -- the words of settings are accepted
 all-accepted : CellsHavePlaces → (s : Settings) → AreSettings s → are_accepted s.count s.words ≡ true
@@ -81,7 +72,7 @@ all-accepted stand s are =
     list_all-from_AllPass (is_accepted_at s.count s.words) (range_with_len 0 places) (λ place d below.
     let within = subst (λ (n : ℕ). place < n) (length-range_with_len 0 places) below in
     subst (λ (at : ℕ). is_accepted_at s.count s.words at ≡ true)
-    (sym (get_or-range_with_len 0 places place d within ∙ zero-on place)) (settings-at stand s are place within))
+    (sym (get_or-range_with_len 0 places place d within ∙ zero-add place)) (settings-at stand s are place within))
 
 -- settings are read back from their words
 pub settings_again : CellsHavePlaces → (s : Settings) → AreSettings s → settings_in s.count s.words ≡ Some s

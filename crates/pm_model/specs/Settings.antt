@@ -1,6 +1,7 @@
 -- The settings of a converter as a map from its cells to words. Which cells there are is this
 -- project's own choice.
-use Rattle.std.specs.Prelude.{◌≡◌, ℕ, ◌≤◌, Bool, true, not, ◌||◌, ◌&&◌, nat_le, if◌then◌else◌, List, length, map, slice_index, slice_set, Option, Some, None}
+use Rattle.std.specs.Prelude.{◌≡◌, ℕ, ◌≤◌, Bool, true, not, ◌||◌, ◌&&◌, nat_le, if◌then◌else◌, List, length, map, slice_index, slice_set}
+use Rattle.std.specs.Prelude.{Option, Some, None}
 use Rattle.std.specs.List.{list_all, range_with_len}
 use Rattle.pm_table.specs.declared.reg.Reg.{Reg}
 use Rattle.pm_table.specs.declared.cell.Cell.{Cell}
@@ -63,7 +64,7 @@ abbrev pub is_accepted_at : ℕ → Words → ℕ → Bool
 is_accepted_at count words place =
     not (is_cell count (cell_in place)) || cell_accepts (cell_in place) (slice_index words place)
 
--- so is the word at each place
+-- the word at each place is one that its cell accepts, where a converter with this many outputs has the cell
 unfoldable pub are_accepted : ℕ → Words → Bool
 are_accepted count words = list_all (is_accepted_at count words) (range_with_len 0 places)
 

@@ -13,7 +13,7 @@ use Rattle.pm_num.specs.Lemmas.Over.{at_most-trans}
 abbrev pub AllBetween : (ℕ → Ratio) → Ratio → Ratio → Type 0
 AllBetween value least greatest = (u : ℕ) → u < 2 ^ 16 → IsBetween least greatest (value u)
 
--- The word for a capped number is the word for the number, rounded down,
+-- The word that a capped number is rounded down to is the one that the number itself is rounded down to.
 pub IsAtMost-capped : {value : ℕ → Ratio} {rank : ℕ → ℕ} {least greatest x y : Ratio} {w : ℕ} → 0 < greatest.den
     → AllBetween value least greatest → IsCapped least greatest x y → IsAtMost value rank y w → IsAtMost value rank x w
 IsAtMost-capped {value = value} {rank = rank} {greatest = greatest} {x = x} {y = y} {w = w} den between capped is =
@@ -29,7 +29,7 @@ IsAtMost-capped {value = value} {rank = rank} {greatest = greatest} {x = x} {y =
     })
     capped.either
 
--- and the word for a raised one is the word for the number, rounded up.
+-- The word that a raised number is rounded up to is the one that the number itself is rounded up to.
 pub IsAtLeast-raised : {value : ℕ → Ratio} {rank : ℕ → ℕ} {least greatest x y : Ratio} {w : ℕ} → 0 < least.den
     → AllBetween value least greatest → IsRaised least greatest x y → IsAtLeast value rank y w → IsAtLeast value rank x w
 IsAtLeast-raised {value = value} {rank = rank} {least = least} {x = x} {y = y} {w = w} den between raised is =
@@ -45,16 +45,16 @@ IsAtLeast-raised {value = value} {rank = rank} {least = least} {x = x} {y = y} {
     })
     raised.either
 
--- The order, at the bounds that the code passed.
+-- One bound is at most the other, also as the code passed them.
 pub ordered_along : (l m g k : Ratio) → l ≡ m → g ≡ k → AtMost m k → AtMost l g
 ordered_along l m g k e f h = subst (λ (v : Ratio). AtMost v g) (sym e) (subst (λ (v : Ratio). AtMost m v) (sym f) h)
 
--- The capped number likewise,
+-- A number that is capped at the bounds that the code passed is capped at the bounds that are meant.
 pub capped_along : {x y : Ratio} (l m g k : Ratio) → l ≡ m → g ≡ k → IsCapped l g x y → IsCapped m k x y
 capped_along {x} {y} l m g k e f h =
     subst (λ (v : Ratio). IsCapped v k x y) e (subst (λ (v : Ratio). IsCapped l v x y) f h)
 
--- and the raised one.
+-- A number that is raised at the bounds that the code passed is raised at the bounds that are meant.
 pub raised_along : {x y : Ratio} (l m g k : Ratio) → l ≡ m → g ≡ k → IsRaised l g x y → IsRaised m k x y
 raised_along {x} {y} l m g k e f h =
     subst (λ (v : Ratio). IsRaised v k x y) e (subst (λ (v : Ratio). IsRaised l v x y) f h)
@@ -75,17 +75,17 @@ nearest_for_same {value} {rank} x w word den own same spelling =
       spelling = spelling;
     }
 
--- The word for a number rounded down is the one that is sent for its own value,
+-- The word that a number is rounded down to is the nearest word for that word's own value.
 pub nearest-at_most : {value : ℕ → Ratio} {rank : ℕ → ℕ} {x : Ratio} {w : ℕ} → 0 < (value w).den → IsAtMost value rank x w
     → IsNearest value rank (value w) w
 nearest-at_most {value} {rank} {x} {w} den is = nearest_for_same (value w) w is.word den den (omega (arith, ints)) is.spelling
 
--- so is that for a number rounded up,
+-- The word that a number is rounded up to is the nearest word for that word's own value.
 pub nearest-at_least : {value : ℕ → Ratio} {rank : ℕ → ℕ} {x : Ratio} {w : ℕ} → 0 < (value w).den → IsAtLeast value rank x w
     → IsNearest value rank (value w) w
 nearest-at_least {value} {rank} {x} {w} den is = nearest_for_same (value w) w is.word den den (omega (arith, ints)) is.spelling
 
--- and of two of them each is the nearest word for the value of the first.
+-- Of two words that a number is rounded down to the second is the nearest word for the value of the first.
 pub nearest-at_most_both : {value : ℕ → Ratio} {rank : ℕ → ℕ} {x : Ratio} {u w : ℕ} → 0 < (value u).den → 0 < (value w).den
     → IsAtMost value rank x u → IsAtMost value rank x w → IsNearest value rank (value u) w
 nearest-at_most_both {value} {rank} {x} {u} {w} den own first second =
@@ -93,7 +93,7 @@ nearest-at_most_both {value} {rank} {x} {u} {w} den own first second =
     let q = second.greatest u first.word first.reached in
     nearest_for_same (value u) w second.word den own (at_most_both (value w) (value u) p q) second.spelling
 
--- Rounded up it is so too.
+-- Of two words that a number is rounded up to the second is the nearest word for the value of the first.
 pub nearest-at_least_both : {value : ℕ → Ratio} {rank : ℕ → ℕ} {x : Ratio} {u w : ℕ} → 0 < (value u).den → 0 < (value w).den
     → IsAtLeast value rank x u → IsAtLeast value rank x w → IsNearest value rank (value u) w
 nearest-at_least_both {value} {rank} {x} {u} {w} den own first second =
@@ -101,7 +101,7 @@ nearest-at_least_both {value} {rank} {x} {u} {w} den own first second =
     let q = second.least u first.word first.reached in
     nearest_for_same (value u) w second.word den own (at_most_both (value w) (value u) q p) second.spelling
 
--- At and beyond the greatest value the word rounded down has that value,
+-- A number at or above the greatest value is rounded down to a word of that value.
 pub end-at_most : {value : ℕ → Ratio} {rank : ℕ → ℕ} {lowest highest x : Ratio} {w : ℕ} → AllBetween value lowest highest
     → IsValue value highest → AtMost highest x → IsAtMost value rank x w → SameValue (value w) highest
 end-at_most {value} {rank} {highest = highest} {x = x} {w = w} between met beyond is =
@@ -109,7 +109,7 @@ end-at_most {value} {rank} {highest = highest} {x = x} {w = w} between met beyon
     let reached = subst (λ (v : Ratio). AtMost v (value w)) met.2 (is.greatest met.0 met.1 at) in
     at_most_both (value w) highest (between w is.word).to_greatest reached
 
--- and at and beyond the least the word rounded up has that.
+-- A number at or below the least value is rounded up to a word of that value.
 pub end-at_least : {value : ℕ → Ratio} {rank : ℕ → ℕ} {lowest highest x : Ratio} {w : ℕ} → AllBetween value lowest highest
     → IsValue value lowest → AtMost x lowest → IsAtLeast value rank x w → SameValue (value w) lowest
 end-at_least {value} {rank} {lowest = lowest} {x = x} {w = w} between met beyond is =
@@ -117,14 +117,14 @@ end-at_least {value} {rank} {lowest = lowest} {x = x} {w = w} between met beyond
     let reached = subst (λ (v : Ratio). AtMost (value w) v) met.2 (is.least met.0 met.1 at) in
     at_most_both (value w) lowest reached (between w is.word).from_least
 
--- Where a word has the number's value, so has the word rounded down,
+-- Where some word has the number's value, the word that the number is rounded down to has it.
 pub hit-at_most : {value : ℕ → Ratio} {rank : ℕ → ℕ} {x : Ratio} {u w : ℕ} → u < 2 ^ 16 → 0 < (value u).den → SameValue (value u) x
     → IsAtMost value rank x w → SameValue (value w) x
 hit-at_most {value} {rank} {x} {u} {w} word den same is =
     let up = is.greatest u word (omega (arith, ints)) in
     at_most_both (value w) x is.reached (at_most-trans x (value u) (value w) den (omega (arith, ints)) up)
 
--- and the word rounded up.
+-- Where some word has the number's value, the word that the number is rounded up to has it.
 pub hit-at_least : {value : ℕ → Ratio} {rank : ℕ → ℕ} {x : Ratio} {u w : ℕ} → u < 2 ^ 16 → 0 < (value u).den → SameValue (value u) x
     → IsAtLeast value rank x w → SameValue (value w) x
 hit-at_least {value} {rank} {x} {u} {w} word den same is =

@@ -1,5 +1,6 @@
 -- Floors and rounded quotients of whole numbers.
-use Rattle.std.proofs.Common.{◌≡◌, ℕ, ◌*◌, ◌<◌, ◌≤◌, ℤ, ◌-◌, ◌^◌, pos, negsuc, ◌+ℤ◌, ◌-ℤ◌, ◌*ℤ◌, ◌<ℤ◌, ◌≤ℤ◌, unsigned_abs, ap, ◌∙◌, subst, sym, arith}
+use Rattle.std.proofs.Common.{◌≡◌, ℕ, ◌*◌, ◌<◌, ◌≤◌, ℤ, ◌-◌, ◌^◌, pos, negsuc, ◌+ℤ◌, ◌-ℤ◌, ◌*ℤ◌, ◌<ℤ◌, ◌≤ℤ◌, unsigned_abs, ap, ◌∙◌, subst}
+use Rattle.std.proofs.Common.{sym, arith}
 use Rattle.std.specs.Int.{int_div_euclid}
 use Rattle.std.proofs.lemmas.Int.{ints, by_lt_z, to_z-of_z, unsigned_abs-mul}
 use mir.Syntax.{w128}
@@ -17,7 +18,7 @@ floor-int_div_euclid (negsuc a) (pos d) h =
     let positive : 0 < d = omega (arith, ints) in
     record { reached = omega (arith, ints); next_above = omega (arith, ints) }
 
--- No whole multiple of the divisor is nearer than the rounded one,
+-- No whole multiple of the divisor is nearer than the rounded one.
 pub nearest_from_rounded : (a q : ℤ) (d : ℕ) → IsRounded a (pos d) q → (j : ℤ)
     → unsigned_abs (a -ℤ q *ℤ pos d) ≤ unsigned_abs (a -ℤ j *ℤ pos d)
 nearest_from_rounded a q d h j =
@@ -26,18 +27,18 @@ nearest_from_rounded a q d h j =
     (λ at_most. by_lt_z q j (λ less. let k = lt-times q j d less in omega (arith, ints))
     (λ p. let same : q ≡ j = omega (arith, ints) in let e = ap (λ (z : ℤ). unsigned_abs (a -ℤ z *ℤ pos d)) same in omega arith))
 
--- no number that is as near is lower
+-- No whole number whose multiple is as near is lower than the rounded quotient.
 pub lower_from_rounded : (a q : ℤ) (d : ℕ) → IsRounded a (pos d) q → (j : ℤ)
     → unsigned_abs (a -ℤ j *ℤ pos d) ≤ unsigned_abs (a -ℤ q *ℤ pos d) → q ≤ℤ j
 lower_from_rounded a q d h j near =
     by_lt_z j q (λ less. let k = lt-times j q d less in absurd (omega (arith, ints))) (λ p. p)
 
--- A whole bound of the quotient bounds the rounded one, from below,
+-- A whole number that is at most the quotient is at most the rounded one.
 pub above_from_rounded : (a q : ℤ) (d : ℕ) → 0 < d → IsRounded a (pos d) q → (l : ℤ) → (l *ℤ pos d) ≤ℤ a → l ≤ℤ q
 above_from_rounded a q d positive h l le =
     by_lt_z q l (λ less. let k = lt-times q l d less in absurd (omega (arith, ints))) (λ p. p)
 
--- a multiple above bounds the rounded number from above
+-- A whole number that is at least the quotient is at least the rounded one.
 pub below_from_rounded : (a q : ℤ) (d : ℕ) → 0 < d → IsRounded a (pos d) q → (g : ℤ) → a ≤ℤ (g *ℤ pos d) → q ≤ℤ g
 below_from_rounded a q d positive h g le =
     by_lt_z g q (λ less. let k = lt-times g q d less in absurd (omega (arith, ints))) (λ p. p)
@@ -71,7 +72,7 @@ same_product a b fits_p fits_q e is_p is_q = let f = simp to_z-of_z at e in cc
 pub product_at : {p q r s : ℤ} (a b : ℤ) → r ≡ p *ℤ q → p ≡ a → q ≡ b → s ≡ r → s ≡ a *ℤ b
 product_at {q = q} a b e is_p is_q is_s = is_s ∙ e ∙ ap (λ (z : ℤ). z *ℤ q) is_p ∙ ap (λ (z : ℤ). a *ℤ z) is_q
 
--- a product that fits is kept by its own factors
+-- A product that fits is kept by its casts, whichever equal factors it is written with.
 pub product_kept : {p q : ℤ} (a b : ℤ) → p ≡ a → q ≡ b → SFits w128 (a *ℤ b) → to_z w128 (of_z w128 (p *ℤ q)) ≡ a *ℤ b
 product_kept {p} {q} a b e f h = ap (λ (z : ℤ). to_z w128 (of_z w128 (z *ℤ q))) e ∙ ap (λ (z : ℤ). to_z w128 (of_z w128 (a *ℤ z))) f
     ∙ to_z-of_z w128 (a *ℤ b) h
@@ -92,19 +93,19 @@ pub record IsWithinWhole (a : ℤ) (d : ℕ) (k : ℤ) : Type 0 where
   pub above : (l : ℤ) → (l *ℤ pos d) ≤ℤ a → l ≤ℤ k
   pub below : (g : ℤ) → a ≤ℤ (g *ℤ pos d) → k ≤ℤ g
 
--- They bound the rounded quotient,
+-- Whole bounds of the quotient bound the rounded quotient.
 pub IsWithinWhole-rounded : (a k : ℤ) (d : ℕ) → 0 < d → IsRounded a (pos d) k → IsWithinWhole a d k
 IsWithinWhole-rounded a k d positive h =
     record { above = above_from_rounded a k d positive h; below = below_from_rounded a k d positive h }
 
--- the quotient rounded down,
+-- Whole bounds of the quotient bound the quotient rounded down.
 pub IsWithinWhole-floor : (a k : ℤ) (d : ℕ) → 0 < d → IsFloor a (pos d) k → IsWithinWhole a d k
 IsWithinWhole-floor a k d positive h = record {
   above = λ l le. by_lt_z k l (λ less. let i = lt-times k l d less in absurd (omega (arith, ints))) (λ p. p);
   below = λ g le. by_lt_z g k (λ less. let i = lt-times g k d less in absurd (omega (arith, ints))) (λ p. p);
 }
 
--- and the quotient rounded up.
+-- Whole bounds of the quotient bound the quotient rounded up.
 pub IsWithinWhole-ceiling : (a k : ℤ) (d : ℕ) → 0 < d → IsCeiling a (pos d) k → IsWithinWhole a d k
 IsWithinWhole-ceiling a k d positive h = record {
   above = λ l le. by_lt_z k l (λ less. let i = lt-times k l d less in absurd (omega (arith, ints))) (λ p. p);

@@ -1,7 +1,8 @@
 -- DIRECT's words on their grid.
 use Rattle.std.proofs.Common.{◌≡◌, ℕ, ◌+◌, ◌*◌, ◌^◌, ◌<◌, ◌≤◌, suc, ℤ, pos, negsuc, neg_ℤ, ◌-ℤ◌, ◌*ℤ◌, ◌≤ℤ◌}
-use Rattle.std.proofs.Common.{unsigned_abs, ap, ◌∙◌, subst, arith}
+use Rattle.std.proofs.Common.{unsigned_abs, to_z, of_z, ap, ◌∙◌, subst, arith}
 use Rattle.std.proofs.lemmas.Int.{ints}
+use mir.Syntax.{w8}
 use Rattle.std.proofs.Math.Nat.{pow-le-pow_right}
 use Rattle.std.proofs.lemmas.Nat.{mul-le}
 use borrow.Author.Differences.{product_is}
@@ -39,13 +40,13 @@ direct-at_place m b r w =
     let g : sign m *ℤ (y -ℤ c) ≡ (sign m *ℤ signed 16 w) *ℤ pos (lower 10 r) -ℤ sign m *ℤ c = omega (arith, ints) in
     ap (λ (z : ℤ). let v : Ratio = record { num = z; den = unsigned_abs m * upper 10 r } in v) g
 
--- A place of the grid is at least that of a word whose value is at most x,
+-- The place of x is at least that of a word whose value is at most x.
 from_least : (m b r : ℤ) (x : Ratio) (q : ℤ) → IsWithinPlaces (direct_spacing m b r) x q → (w : ℕ) → AtMost (direct_value m b r w) x
     → (sign m *ℤ signed 16 w) ≤ℤ q
 from_least m b r x q h w le =
     h.above (sign m *ℤ signed 16 w) (subst (λ (v : Ratio). AtMost v x) (direct-at_place m b r w) le)
 
--- a place is at most that of a word whose value is at least x
+-- The place of x is at most that of a word whose value is at least x.
 to_greatest : (m b r : ℤ) (x : Ratio) (q : ℤ) → IsWithinPlaces (direct_spacing m b r) x q → (w : ℕ) → AtMost x (direct_value m b r w)
     → q ≤ℤ (sign m *ℤ signed 16 w)
 to_greatest m b r x q h w le =
@@ -57,7 +58,7 @@ pub record FitsWord (m q : ℤ) : Type 0 where
   pub above : neg_ℤ (pos 32768) ≤ℤ (sign m *ℤ q)
   pub below : (sign m *ℤ q) ≤ℤ pos 32767
 
--- a number in the range has a place that a word has
+-- A number in the range has a place that a word has.
 direct-fits : (m b r : ℤ) (x : Ratio) (q : ℤ) → IsWithinPlaces (direct_spacing m b r) x q
     → IsBetween (direct_value m b r (direct_least m)) (direct_value m b r (direct_greatest m)) x → FitsWord m q
 direct-fits (pos n) b r x q h between =
@@ -92,14 +93,14 @@ direct-nearest {x} {q} {w} m b r den is_s place word is =
     nearest_word (λ u. sign m *ℤ signed 16 u) (direct_spacing m b r) (λ u _. direct-at_place m b r u) den word
     (sign_back m (signed 16 w) q is) h.nearest h.lowest
 
--- The word at the place rounded down is the number rounded down,
+-- The word at the place that was rounded down is the one that the number is rounded down to.
 pub direct-at_most : {x : Ratio} {q : ℤ} {w : ℕ} {s : Spacing} (m b r : ℤ) → s ≡ direct_spacing m b r → IsPlaceBelow s x q → w < 2 ^ 16
     → signed 16 w ≡ sign m *ℤ q → IsAtMost (direct_value m b r) one_rank x w
 direct-at_most {x} {q} {w} m b r is_s place word is =
     let h = subst (λ (t : Spacing). IsPlaceBelow t x q) is_s place in
     word_below (λ u. sign m *ℤ signed 16 u) (direct_spacing m b r) (λ u _. direct-at_place m b r u) word (sign_back m (signed 16 w) q is) h
 
--- and that at the place rounded up is the number rounded up.
+-- The word at the place that was rounded up is the one that the number is rounded up to.
 pub direct-at_least : {x : Ratio} {q : ℤ} {w : ℕ} {s : Spacing} (m b r : ℤ) → s ≡ direct_spacing m b r → IsPlaceAbove s x q → w < 2 ^ 16
     → signed 16 w ≡ sign m *ℤ q → IsAtLeast (direct_value m b r) one_rank x w
 direct-at_least {x} {q} {w} m b r is_s place word is =
@@ -111,6 +112,10 @@ pub direct-ordered : (m b r : ℤ) → AtMost (direct_value m b r (direct_least 
 direct-ordered m b r =
     let met = direct-least_met m b r in
     subst (λ (v : Ratio). AtMost v (direct_value m b r (direct_greatest m))) met.2 (direct-within m b r met.0 met.1).to_greatest
+
+-- A power's numerator, at the exponent itself where its cast keeps the exponent.
+pub kept_power : {p : ℤ} (r : ℤ) → to_z w8 (of_z w8 r) ≡ r → p ≡ pos (upper 10 (to_z w8 (of_z w8 r))) → p ≡ pos (upper 10 r)
+kept_power r same is = is ∙ ap (λ (z : ℤ). pos (upper 10 z)) same
 
 -- A coefficient times a part of a power of ten is in bounds.
 pub coefficient_times_ten : (a b : ℕ) → a ≤ 2 ^ 15 → b ≤ 10 ^ 12 → a * b ≤ 2 ^ 55

@@ -22,19 +22,19 @@ moved_num g x = x.num *ℤ pos g.den +ℤ g.offset *ℤ pos x.den
 Over-at_place : (g : Spacing) (k : ℤ) → 0 < g.den → Over g.den (place_num g k) (at_place g k)
 Over-at_place g k h = record { common = h; den = h; is = refl }
 
--- How far x is from a place, over both denominators,
+-- The difference of x and a place's number, over both denominators.
 distance : (g : Spacing) (x : Ratio) (k : ℤ) → x.num *ℤ pos g.den -ℤ place_num g k *ℤ pos x.den ≡ moved_num g x -ℤ k *ℤ pos (g.step * x.den)
 distance g x k =
     let e = sub-times (k *ℤ pos g.step) g.offset x.den in
     let f = times-times k g.step x.den in
     omega (arith, ints)
 
--- and the size of that.
+-- The distance of x and a place's number, over both denominators.
 apart-at_place : (g : Spacing) (x : Ratio) (k : ℤ)
     → apart g.den x (place_num g k) ≡ unsigned_abs (moved_num g x -ℤ k *ℤ pos (g.step * x.den))
 apart-at_place g x k = ap unsigned_abs (distance g x k)
 
--- The rounded place is the nearest,
+-- The rounded place has the nearest number.
 pub nearest_on_grid : (g : Spacing) (x : Ratio) (q : ℤ) → 0 < g.den → IsRounded (moved_num g x) (pos (g.step * x.den)) q → (j : ℤ)
     → Near x (at_place g q) (at_place g j)
 nearest_on_grid g x q h r j =
@@ -43,7 +43,7 @@ nearest_on_grid g x q h r j =
     let n = nearest_from_rounded (moved_num g x) q (g.step * x.den) r j in
     near_over x (Over-at_place g q h) (Over-at_place g j h) (omega arith)
 
--- the lowest of those,
+-- The rounded place is the lowest of those whose numbers are as near.
 pub lowest_on_grid : (g : Spacing) (x : Ratio) (q : ℤ) → 0 < g.den → IsRounded (moved_num g x) (pos (g.step * x.den)) q → (j : ℤ)
     → Near x (at_place g j) (at_place g q) → q ≤ℤ j
 lowest_on_grid g x q h r j near =
@@ -52,14 +52,14 @@ lowest_on_grid g x q h r j near =
     let n = near_over_back x (Over-at_place g j h) (Over-at_place g q h) near in
     lower_from_rounded (moved_num g x) q (g.step * x.den) r j (omega arith)
 
--- and whole bounds of x are bounds of what has those of its quotient.
+-- A whole number that the bounds of the quotient bound is a place that the bounds of x bound.
 pub within_from_whole : (g : Spacing) (x : Ratio) (q : ℤ) → IsWithinWhole (moved_num g x) (g.step * x.den) q → IsWithinPlaces g x q
 within_from_whole g x q whole = record {
   above = λ j le. let e = distance g x j in whole.above j (omega (arith, ints));
   below = λ j le. let e = distance g x j in whole.below j (omega (arith, ints));
 }
 
--- The place rounded down is the greatest whose number isn't above x,
+-- The place rounded down is the greatest one whose number isn't above x.
 pub IsPlaceBelow-floor : (g : Spacing) (x : Ratio) (q : ℤ) → 0 < g.step * x.den → IsFloor (moved_num g x) (pos (g.step * x.den)) q
     → IsPlaceBelow g x q
 IsPlaceBelow-floor g x q h r =
@@ -69,7 +69,7 @@ IsPlaceBelow-floor g x q h r =
       within = within_from_whole g x q (IsWithinWhole-floor (moved_num g x) q (g.step * x.den) h r);
     }
 
--- and the place rounded up the least whose number isn't below it.
+-- The place rounded up is the least one whose number isn't below x.
 pub IsPlaceAbove-ceiling : (g : Spacing) (x : Ratio) (q : ℤ) → 0 < g.step * x.den → IsCeiling (moved_num g x) (pos (g.step * x.den)) q
     → IsPlaceAbove g x q
 IsPlaceAbove-ceiling g x q h r =
@@ -101,7 +101,7 @@ nearest_word {value = value} {w = w} {q = q} place g values den word is nearest 
       spelling = λ u h same. omega arith;
     }
 
--- The word of the greatest number that isn't above x is x rounded down,
+-- The word of the greatest number that isn't above x is the word that x is rounded down to.
 pub word_below : {value : ℕ → Ratio} {x : Ratio} {w : ℕ} {q : ℤ} (place : ℕ → ℤ) (g : Spacing)
     → ((u : ℕ) → u < 2 ^ 16 → value u ≡ at_place g (place u)) → w < 2 ^ 16 → q ≡ place w → IsPlaceBelow g x q
     → IsAtMost value one_rank x w
@@ -116,7 +116,7 @@ word_below {value = value} {w = w} {q = q} place g values word is h =
       spelling = λ u k same. omega arith;
     }
 
--- and the word of the least number that isn't below it is x rounded up.
+-- The word of the least number that isn't below x is the word that x is rounded up to.
 pub word_above : {value : ℕ → Ratio} {x : Ratio} {w : ℕ} {q : ℤ} (place : ℕ → ℤ) (g : Spacing)
     → ((u : ℕ) → u < 2 ^ 16 → value u ≡ at_place g (place u)) → w < 2 ^ 16 → q ≡ place w → IsPlaceAbove g x q
     → IsAtLeast value one_rank x w

@@ -1,5 +1,6 @@
 -- The LINEAR11 words of bounds.
-use Rattle.std.proofs.Common.{◌≡◌, ℕ, ◌+◌, ◌-◌, ◌*◌, ◌^◌, ◌<◌, ◌≤◌, ℤ, pos, negsuc, neg_ℤ, ◌-ℤ◌, ◌*ℤ◌, ◌≤ℤ◌, unsigned_abs, ap, sym, ◌∙◌, subst, ⊎_elim, arith}
+use Rattle.std.proofs.Common.{◌≡◌, ℕ, ◌-◌, ◌*◌, ◌^◌, ◌<◌, ◌≤◌, ℤ, pos, neg_ℤ, ◌*ℤ◌, ◌≤ℤ◌, ap, sym, ◌∙◌}
+use Rattle.std.proofs.Common.{subst, ⊎_elim, arith}
 use Rattle.std.proofs.lemmas.Int.{ints, by_lt_z}
 use Rattle.std.proofs.lemmas.Bool.{cases_lt}
 use Rattle.std.proofs.Math.Nat.{pow-le-pow_right}
@@ -9,7 +10,8 @@ use Rattle.pm_num.specs.Value.{exponent, mantissa, linear11_value}
 use Rattle.pm_num.specs.Nearest.{linear11_rank}
 use Rattle.pm_num.specs.Steps.{IsFloor, IsCeiling, place_of, IsSpelling, IsPreferred, IsPlaceFor}
 use Rattle.pm_num.specs.Lemmas.Integers.{le-times}
-use Rattle.pm_num.specs.Lemmas.Over.{at_most_over, same_over_back, at_most_from_cross, cross_from_at_most, at_least_from_cross, cross_from_at_least}
+use Rattle.pm_num.specs.Lemmas.Over.{at_most_over, same_over_back, at_most_from_cross, cross_from_at_most, at_least_from_cross}
+use Rattle.pm_num.specs.Lemmas.Over.{cross_from_at_least}
 use Rattle.pm_num.specs.Lemmas.Spelling.{IsExponent-exponent, IsSpelling-word, Over-linear11}
 use Rattle.pm_num.proofs.Rounding.{IsWithinWhole, IsWithinWhole-floor, IsWithinWhole-ceiling}
 use Rattle.pm_num.proofs.Spellings.{split_power, lowered, unit_times, preferred_first, spelled, unit_above}
@@ -94,18 +96,18 @@ pub record IsSpelled (p : ℕ) (k y : ℤ) (i w : ℕ) : Type 0 where
   pub same : y *ℤ pos (2 ^ i) ≡ k *ℤ pos (2 ^ p)
   pub preferred : IsPreferred y i
 
--- It spells that number,
+-- The word that was put together spells the number that the mantissa has at its place.
 spelled-is : {p : ℕ} {k y : ℤ} {i w : ℕ} → IsSpelled p k y i w → spelled w ≡ k *ℤ pos (2 ^ p)
 spelled-is {y = y} {w = w} is =
     ap (λ (z : ℤ). z *ℤ pos (2 ^ place_of (exponent w))) is.mantissa_is ∙ ap (λ (n : ℕ). y *ℤ pos (2 ^ n)) is.place_is ∙ is.same
 
--- and prefers its spelling.
+-- The word that was put together prefers its spelling.
 spelled-preferred : {p : ℕ} {k y : ℤ} {i w : ℕ} → IsSpelled p k y i w → IsPreferred (mantissa w) (place_of (exponent w))
 spelled-preferred {y = y} {w = w} is =
     subst (λ (z : ℤ). IsPreferred z (place_of (exponent w))) (sym is.mantissa_is)
     (subst (λ (n : ℕ). IsPreferred y n) (sym is.place_is) is.preferred)
 
--- The word of the mantissa that was rounded down is the number rounded down,
+-- The word of the mantissa that was rounded down is the one that the number is rounded down to.
 pub linear11-at_most : {x : Ratio} {p : ℕ} {k y : ℤ} {i w : ℕ} → IsPlaceFor x p
     → IsFloor (x.num *ℤ pos (2 ^ 16)) (pos (x.den * 2 ^ p)) k → IsSpelled p k y i w → IsAtMost linear11_value linear11_rank x w
 linear11-at_most {x} {p} {k} {y} {i} {w} place rounded is =
@@ -123,7 +125,7 @@ linear11-at_most {x} {p} {k} {y} {i} {w} place rounded is =
       spelling = first_spelled is.word (spelled-preferred is);
     }
 
--- and that of the mantissa that was rounded up is the number rounded up.
+-- The word of the mantissa that was rounded up is the one that the number is rounded up to.
 pub linear11-at_least : {x : Ratio} {p : ℕ} {k y : ℤ} {i w : ℕ} → IsPlaceFor x p
     → IsCeiling (x.num *ℤ pos (2 ^ 16)) (pos (x.den * 2 ^ p)) k → IsSpelled p k y i w → IsAtLeast linear11_value linear11_rank x w
 linear11-at_least {x} {p} {k} {y} {i} {w} place rounded is =

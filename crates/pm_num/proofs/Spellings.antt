@@ -45,7 +45,7 @@ Covers-multiple a d p j t e =
     let g = ap (λ (z : ℤ). unsigned_abs (a -ℤ z)) f in
     record { multiple = j; no_nearer = omega arith; no_lower = λ h. omega (arith, ints) }
 
--- So does a multiple that lies between t and the number.
+-- A multiple that is neither below t nor above the number covers t.
 Covers-below : (a : ℤ) (d p : ℕ) (j t : ℤ) → 0 < d → t ≤ℤ (j *ℤ pos (2 ^ p)) → (j *ℤ pos (d * 2 ^ p)) ≤ℤ a → Covers a d p t
 Covers-below a d p j t positive le above =
     let e = unit_times j d p in
@@ -56,7 +56,7 @@ Covers-below a d p j t positive le above =
       no_lower = λ h. le_from_times (j *ℤ pos (2 ^ p)) t d positive (omega (arith, ints));
     }
 
--- And so does one between the number and t.
+-- A multiple that is neither below the number nor above t covers t.
 Covers-above : (a : ℤ) (d p : ℕ) (j t : ℤ) → (j *ℤ pos (2 ^ p)) ≤ℤ t → a ≤ℤ (j *ℤ pos (d * 2 ^ p)) → Covers a d p t
 Covers-above a d p j t le below =
     let e = unit_times j d p in
@@ -85,7 +85,7 @@ Covers-word x p den h y i s =
     (λ at_least. Covers-multiple (x.num *ℤ pos (2 ^ 16)) x.den p (y *ℤ pos (2 ^ (i - p))) (y *ℤ pos (2 ^ i)) (lowered y p i at_least))
     (cases_lt i p)
 
--- The rounded multiple is as near as each number that is covered,
+-- The rounded multiple is as near as each number that is covered.
 nearest_by_cover : (a : ℤ) (d p : ℕ) (k t : ℤ) → IsRounded a (pos (d * 2 ^ p)) k → Covers a d p t
     → unsigned_abs (a -ℤ (k *ℤ pos (2 ^ p)) *ℤ pos d) ≤ unsigned_abs (a -ℤ t *ℤ pos d)
 nearest_by_cover a d p k t r c =
@@ -94,7 +94,7 @@ nearest_by_cover a d p k t r c =
     let h = c.no_nearer in
     omega arith
 
--- and the lowest of those.
+-- The rounded multiple is the lowest of the covered numbers that are as near.
 lowest_by_cover : (a : ℤ) (d p : ℕ) (k t : ℤ) → IsRounded a (pos (d * 2 ^ p)) k → Covers a d p t
     → unsigned_abs (a -ℤ t *ℤ pos d) ≤ unsigned_abs (a -ℤ (k *ℤ pos (2 ^ p)) *ℤ pos d) → (k *ℤ pos (2 ^ p)) ≤ℤ t
 lowest_by_cover a d p k t r c near =
@@ -105,7 +105,7 @@ lowest_by_cover a d p k t r c near =
     let g = le-times k c.multiple (2 ^ p) (lower_from_rounded a k (d * 2 ^ p) r c.multiple (omega arith)) in
     omega (arith, ints)
 
--- An odd mantissa has no spelling at a greater place,
+-- The number of an odd mantissa has no spelling at a greater place.
 odd_highest : (y z : ℤ) (i j : ℕ) → int_rem y (pos 2) ≢ pos 0 → z *ℤ pos (2 ^ j) ≡ y *ℤ pos (2 ^ i) → j ≤ i
 odd_highest y z i j odd same =
     ⊎_elim
@@ -117,7 +117,7 @@ odd_highest y z i j odd same =
     (λ p. p)
     (cases_lt i j)
 
--- and a large one none at a lower place.
+-- The number of a large mantissa has no spelling at a lower place.
 large_lowest : (y z : ℤ) (i j : ℕ) → IsLarge y → IsSpelling z j → z *ℤ pos (2 ^ j) ≡ y *ℤ pos (2 ^ i) → i ≤ j
 large_lowest y z i j large s same =
     ⊎_elim
@@ -188,7 +188,7 @@ pub record IsUnsettled (p : ℕ) (k : ℤ) : Type 0 where
   pub below : k ≤ℤ pos 1024
   pub far : 16 < p → IsFar k
 
--- Above the lowest place the mantissa is a large one, whichever way it was rounded,
+-- Above the lowest place a mantissa is a large one, whichever way it was rounded.
 mantissa_far : (x : Ratio) (p : ℕ) (k : ℤ) → IsPlaceFor x p → IsWithinWhole (x.num *ℤ pos (2 ^ 16)) (x.den * 2 ^ p) k → 0 < p → IsFar k
 mantissa_far x p k h whole positive =
     let e = ap (λ (n : ℕ). x.den * n) (split_power 1 p (omega arith)) in
@@ -197,7 +197,7 @@ mantissa_far x p k h whole positive =
     (λ negative. inl (whole.below (neg_ℤ (pos 512)) (omega (arith, ints))))
     (λ at_least. inr (whole.above (pos 512) (omega (arith, ints))))
 
--- and within its bounds at any.
+-- A mantissa lies within its bounds at any place, whichever way it was rounded.
 pub IsUnsettled-whole : (x : Ratio) (p : ℕ) (k : ℤ) → IsPlaceFor x p → IsWithinWhole (x.num *ℤ pos (2 ^ 16)) (x.den * 2 ^ p) k
     → IsUnsettled p k
 IsUnsettled-whole x p k h whole =
@@ -212,19 +212,19 @@ IsUnsettled-whole x p k h whole =
 pub unit_above : (x : Ratio) (p : ℕ) → IsPlaceFor x p → 0 < x.den * 2 ^ p
 unit_above x p h = mul-pos h.den (pow_pos p)
 
--- A rounded mantissa is so,
+-- A mantissa that was rounded to the nearest is one before it is settled.
 pub IsUnsettled-rounded : (x : Ratio) (p : ℕ) (k : ℤ) → IsPlaceFor x p → IsRounded (x.num *ℤ pos (2 ^ 16)) (pos (x.den * 2 ^ p)) k
     → IsUnsettled p k
 IsUnsettled-rounded x p k h r =
     IsUnsettled-whole x p k h (IsWithinWhole-rounded (x.num *ℤ pos (2 ^ 16)) k (x.den * 2 ^ p) (unit_above x p h) r)
 
--- one that is rounded down,
+-- A mantissa that was rounded down is one before it is settled.
 pub IsUnsettled-floor : (x : Ratio) (p : ℕ) (k : ℤ) → IsPlaceFor x p → IsFloor (x.num *ℤ pos (2 ^ 16)) (pos (x.den * 2 ^ p)) k
     → IsUnsettled p k
 IsUnsettled-floor x p k h r =
     IsUnsettled-whole x p k h (IsWithinWhole-floor (x.num *ℤ pos (2 ^ 16)) k (x.den * 2 ^ p) (unit_above x p h) r)
 
--- and one that is rounded up.
+-- A mantissa that was rounded up is one before it is settled.
 pub IsUnsettled-ceiling : (x : Ratio) (p : ℕ) (k : ℤ) → IsPlaceFor x p → IsCeiling (x.num *ℤ pos (2 ^ 16)) (pos (x.den * 2 ^ p)) k
     → IsUnsettled p k
 IsUnsettled-ceiling x p k h r =

@@ -2,7 +2,8 @@ use Rattle.std.specs.Prelude.{ℕ, ℤ}
 use Rattle.pm_num.specs.declared.any_format.AnyFormat.{AnyFormat}
 use Rattle.pm_num.specs.declared.any_format.AnyFormat.TheVariants.{Linear11, Ulinear16, Direct}
 use Rattle.pm_num.specs.Ratio.{Ratio}
-use Rattle.pm_num.specs.Value.{linear11_value, linear11_least, linear11_greatest, ulinear16_value, direct_value, direct_least, direct_greatest}
+use Rattle.pm_num.specs.Value.{linear11_value, linear11_least, linear11_greatest, ulinear16_value, direct_value, direct_least}
+use Rattle.pm_num.specs.Value.{direct_greatest}
 use Rattle.pm_num.specs.Nearest.{linear11_rank, one_rank}
 
 -- What a format is, with no fact on its numbers: LINEAR11, ULINEAR16 with the exponent n, or DIRECT

@@ -5,6 +5,7 @@ pub mod Found
 pub mod Integers
 pub mod Over
 pub mod OneWord
+pub mod Order
 pub mod Unsigned
 pub mod Slope
 pub mod Spelling

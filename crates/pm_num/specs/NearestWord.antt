@@ -1,6 +1,7 @@
 -- The word that a fraction is encoded as, as a function of the fraction: the definition of the
 -- nearest word as a test, and the word that passes it, sought among all words.
-use Rattle.std.specs.Prelude.{ℕ, zero, suc, ◌*◌, ◌^◌, ◌*ℤ◌, pos, Bool, true, not, ◌&&◌, ◌||◌, nat_le, int_le, Option, Some, None, if◌then◌else◌}
+use Rattle.std.specs.Prelude.{ℕ, zero, suc, ◌*◌, ◌^◌, ◌*ℤ◌, pos, Bool, true, not, ◌&&◌, ◌||◌, nat_le, int_le, Option, Some, None}
+use Rattle.std.specs.Prelude.{if◌then◌else◌}
 use Rattle.std.specs.Ordering.{int_eq}
 use Rattle.pm_num.specs.Ratio.{Ratio}
 use Rattle.pm_num.specs.Nearest.{gap}

@@ -6,7 +6,8 @@ use Rattle.pm_host.specs.FaultWords.{host_fault_number, host_fault_words}
 use Rattle.pm_limits.specs.declared.fault.LimitFault.TheVariants as limit
 use Rattle.pm_limits.specs.FaultWords.{limit_fault_number, limit_fault_words}
 use Rattle.pm_rail.specs.declared.fault.PlanFault.{PlanFault}
-use Rattle.pm_rail.specs.declared.fault.PlanFault.TheVariants.{Busy, MissingRegister, FormatUnknown, BelowLimit, AboveLimit, NotKnown, BelowMin, AboveMax, Protected}
+use Rattle.pm_rail.specs.declared.fault.PlanFault.TheVariants.{Busy, MissingRegister, FormatUnknown, BelowLimit, AboveLimit, NotKnown}
+use Rattle.pm_rail.specs.declared.fault.PlanFault.TheVariants.{BelowMin, AboveMax, Protected}
 
 -- an open job is told as by the host, and a register that the part doesn't have as by a guard
 abbrev pub plan_fault_words : PlanFault → List ℕ

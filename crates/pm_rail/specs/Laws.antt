@@ -1,5 +1,6 @@
 -- What the laws of this crate say.
-use Rattle.std.specs.Prelude.{◌≡◌, ◌≢◌, ◌⊎◌, ◌<◌, ◌+◌, ℕ, Bool, true, false, Option, Some, None, IsSomeAnd, is_none, is_some, option_map, Ok}
+use Rattle.std.specs.Prelude.{◌≡◌, ◌≢◌, ◌⊎◌, ◌<◌, ◌+◌, ℕ, Bool, true, false, Option, Some, None, IsSomeAnd, is_none, is_some, option_map}
+use Rattle.std.specs.Prelude.{Ok}
 use Rattle.pm_num.specs.AnyFormat.{Shape, shape_value}
 use Rattle.pm_num.specs.Ratio.{Ratio}
 use Rattle.pm_table.specs.declared.reg.Reg.{Reg}
@@ -11,6 +12,7 @@ use Rattle.pm_host.specs.declared.job.Job.TheVariants.{Order, Check}
 use Rattle.pm_host.specs.Possible.{is_possible}
 use Rattle.pm_host.specs.Summary.{Summary, format_at, possible_at}
 use Rattle.pm_limits.specs.declared.part_registers.PartRegisters.{PartRegisters}
+use Rattle.pm_limits.specs.Band.{band_at}
 use Rattle.pm_limits.specs.Bounds.{Bounds}
 use Rattle.pm_limits.specs.Guard.{Guarded, guard_fault, limits_at}
 use Rattle.pm_limits.specs.Part.{all_registers, has_register}
@@ -78,11 +80,13 @@ MayHold part s output wants held = (shape : Shape) → format_at s output ≡ So
 -- ones these are: the next order is theirs (`next`), the output isn't cut by the words at the end (`uncut`), and where
 -- no order is left each wanted word is held (`done`). By these the other laws speak of what a plan answers.
 pub record PlansAreOfWhatIsHeld : Type 0 where
-  pub next : (part : PartRegisters) (s : Summary) (limits : Option Bounds) (output : ℕ) (wants : Wants) (order : Option PlanOrder) (held : Held) →
+  pub next : (part : PartRegisters) (s : Summary) (limits : Option Bounds) (output : ℕ) (wants : Wants) (order : Option PlanOrder)
+      (held : Held) →
       wants Operation ≡ None → MayHold part s output wants held → plan_of part s limits output wants ≡ Ok order →
       IsSomeAnd (format_at s output)
       (λ shape. option_map (order_of held wants) (next_register (shape_value shape) held wants) ≡ order)
-  pub uncut : (part : PartRegisters) (s : Summary) (limits : Option Bounds) (output : ℕ) (wants : Wants) (order : Option PlanOrder) (held : Held) →
+  pub uncut : (part : PartRegisters) (s : Summary) (limits : Option Bounds) (output : ℕ) (wants : Wants) (order : Option PlanOrder)
+      (held : Held) →
       wants Operation ≡ None → MayHold part s output wants held → plan_of part s limits output wants ≡ Ok order →
       IsSomeAnd (format_at s output) (λ shape. is_cut_by (shape_value shape) (goal_of held wants) ≡ false)
   pub done : (part : PartRegisters) (s : Summary) (limits : Option Bounds) (output : ℕ) (wants : Wants) (held : Held)
@@ -103,6 +107,7 @@ PlansAreAccepted = (g : Guarded) (output : ℕ) (wants : Wants) (register : Reg)
 -- WRITE_PROTECT was read and is known too (`protection`). Where it has tries left it asks as long as this isn't so, and
 -- each job takes one (`asks`), unless it is stuck at a register that is needed and that the part doesn't have; a part
 -- with every register never is the reason (`whole`). It never asks for a register that the part doesn't have (`unread`).
+-- Where it has ended by its own rule the output has a band (`band`).
 pub record SurveysEndKnown : Type 0 where
   pub format : (part : PartRegisters) (v : Survey) (s : Summary) → is_surveyed part v s ≡ true →
       (v.learned ≡ true) × (is_none (format_at s v.output) ≡ false)
@@ -120,3 +125,5 @@ pub record SurveysEndKnown : Type 0 where
   pub whole : (v : Survey) (s : Summary) → is_stuck all_registers v s ≡ false
   pub unread : (part : PartRegisters) (v : Survey) (s : Summary) (output : ℕ) (register : Reg) →
       next_job part v s ≡ Some (Check (Out output register)) → has_register part register ≡ true
+  pub band : (part : PartRegisters) (v : Survey) (s : Summary) → is_surveyed part v s ≡ true →
+      is_none (band_at part s v.output) ≡ false

@@ -70,7 +70,7 @@ abbrev pub stepped : Scale → Wants → Held → Held
 stepped value wants held =
     option_map_or (λ register. put held register (goal_of held wants register)) (next_register value held wants) held
 
--- and after this many
+-- the words after this many orders took
 abbrev pub after : Scale → Wants → Held → ℕ → Held
 after value wants held zero = held
 after value wants held (suc n) = stepped value wants (after value wants held n)

@@ -1,5 +1,5 @@
 -- The words of an output's registers, and those that are wanted of them. This project's own choice.
-use Rattle.std.specs.Prelude.{ℕ, Option, None}
+use Rattle.std.specs.Prelude.{ℕ, Option, Some, None}
 use Rattle.pm_table.specs.declared.reg.Reg.{Reg}
 use Rattle.pm_table.specs.declared.reg.Reg.TheVariants.{Operation, VoutCommand, VoutMax, MarginHigh, MarginLow, VoutMin}
 use Rattle.pm_rail.specs.declared.registers.Registers.{Registers}
@@ -29,3 +29,16 @@ wants_of w VoutMax = w.max
 wants_of w MarginHigh = w.margin_high
 wants_of w MarginLow = w.margin_low
 wants_of w VoutMin = w.min
+
+-- no word is wanted
+abbrev pub nothing : Wanted
+nothing = record { command = None; max = None; margin_high = None; margin_low = None; min = None }
+
+-- the words that are wanted, with this one for a register; none is wanted of OPERATION
+abbrev pub with_word : Wanted → Reg → ℕ → Wanted
+with_word w Operation word = w
+with_word w VoutCommand word = record w { command = Some word }
+with_word w VoutMax word = record w { max = Some word }
+with_word w MarginHigh word = record w { margin_high = Some word }
+with_word w MarginLow word = record w { margin_low = Some word }
+with_word w VoutMin word = record w { min = Some word }

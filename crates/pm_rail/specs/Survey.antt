@@ -1,5 +1,6 @@
 -- Which registers a survey of an output reads, and when it ends: this project's own choice.
-use Rattle.std.specs.Prelude.{ℕ, ◌-◌, Bool, true, false, not, ◌&&◌, ◌||◌, ◌==◌, if◌then◌else◌, [], ◌∷◌, find, Option, Some, None, is_none, is_some, option_map}
+use Rattle.std.specs.Prelude.{ℕ, ◌-◌, Bool, true, false, not, ◌&&◌, ◌==◌, if◌then◌else◌, [], ◌∷◌, find, Option, Some, None, is_none}
+use Rattle.std.specs.Prelude.{is_some, option_map}
 use Rattle.std.specs.List.{list_any}
 use Rattle.pm_table.specs.declared.cell.Cell.{Cell}
 use Rattle.pm_table.specs.declared.cell.Cell.TheVariants.{Out, Protect}
@@ -20,11 +21,7 @@ use Rattle.pm_rail.specs.declared.survey.Survey.{Survey}
 use Rattle.pm_rail.specs.declared.wanted.Wanted.{Wanted}
 use Rattle.pm_rail.specs.Known.{Cells, cells_of, known_at, known_of}
 use Rattle.pm_rail.specs.Orders.{is_needed, is_unknown}
-use Rattle.pm_rail.specs.Registers.{Held, Wants, wants_of}
-
--- no word is wanted
-abbrev pub nothing : Wanted
-nothing = record { command = None; max = None; margin_high = None; margin_low = None; min = None }
+use Rattle.pm_rail.specs.Registers.{Held, Wants, nothing, wants_of}
 
 -- the words that are wanted by the plan that a survey is for; none where it is for no plan
 abbrev pub wanted_in : Option Wanted → Wanted
@@ -41,7 +38,16 @@ has_read r MarginLow = r.margin_low
 has_read r VoutMin = r.min
 
 abbrev pub nothing_read : Reads
-nothing_read = record { operation = false; command = false; max = false; margin_high = false; margin_low = false; min = false; protect = false }
+nothing_read = record {
+  operation = false;
+  command = false;
+  max = false;
+  margin_high = false;
+  margin_low = false;
+  min = false;
+  protect =
+      false;
+}
 
 -- one more cell is read
 abbrev pub and_read : Reads → Cell → Reads

@@ -1,6 +1,9 @@
 //! The laws of a plan, over the definitions alone: each is the contract of a function that does nothing.
 
 ghost use Rattle.pm_rail.specs.Laws.{PlansAreAccepted, PlansAreOfWhatIsHeld, PlansAreWithoutGlitch, PlansCutNothing, PlansEnd, SurveysEndKnown};
+ghost use Rattle.pm_rail.specs.SurveyLength.{SurveysAreShort};
+
+use pm_table::{cells_are_told_apart, cells_have_places};
 
 /// Where the output isn't cut by the words at the end, each order of the plan leaves what it commands, or makes it
 /// what it commands at the end (`one`), and so does any number of them from any moment on (`any`). So it never commands
@@ -37,7 +40,18 @@ pub fn plans_are_accepted()
 /// (`format`), each register that is needed was read and is known (`known`), and for a plan WRITE_PROTECT too
 /// (`protection`). Where it has tries left it asks as long as this isn't so, and each job takes one (`asks`), unless it is
 /// stuck at a needed register that the part doesn't have; of a part with every register it never is (`whole`). It never
-/// asks for a register that the part doesn't have (`unread`).
+/// asks for a register that the part doesn't have (`unread`). Where it has ended by its own rule the output has a band
+/// (`band`).
 pub fn surveys_end_known()
     ensures { SurveysEndKnown }
 {}
+
+/// A survey that has read nothing takes a check for each cell that it reads, where each has a good answer of a word that
+/// its cell takes and none surprises (`calm`); and one less than two for each where one surprises at most (`short`), as it
+/// is unless the converter restarts after the first of them.
+pub fn surveys_are_short()
+    ensures { SurveysAreShort }
+{
+    cells_are_told_apart();
+    cells_have_places();
+}

@@ -45,11 +45,11 @@ mod wanted;
 pub use fault::PlanFault;
 pub use laws::{
     plans_are_accepted, plans_are_of_what_is_held, plans_are_without_glitch, plans_cut_nothing,
-    plans_end, surveys_end_known,
+    plans_end, surveys_are_short, surveys_end_known,
 };
 pub use orders::{PlanOrder, begin_next, next_order, next_order_in};
 pub use plan::next_register;
-pub use power::{Power, Rail, rail_of};
+pub use power::{Power, Rail, power_in, rail_of};
 pub use registers::Registers;
 pub use survey::{Reads, Survey};
 pub use wanted::Wanted;

@@ -1,10 +1,11 @@
 ghost use Rattle.std.specs.Prelude.{◌≡◌, ◌<◌};
+ghost use Rattle.pm_host.specs.Image.{held};
 ghost use Rattle.pm_host.specs.Summary.{possible_at};
 ghost use Rattle.pm_limits.specs.Band.{band_at, within_of};
 ghost use Rattle.pm_limits.specs.Guard.{limits_at};
 ghost use Rattle.pm_rail.specs.Rail.{are_off as spec_are_off, are_on as spec_are_on, is_off as spec_is_off, power_by as spec_power_by, power_of as spec_power_of};
 
-use pm_host::Host;
+use pm_host::State;
 use pm_limits::{Band, Guard, Within};
 use pm_table::{Cell, Operation, Reg};
 
@@ -40,18 +41,22 @@ pub fn rail_of(guard: &Guard, output: u8) -> Rail
     ensures within { result.within ≡ within_of (limits_at guard.now output) (band_at guard.now.registers guard.now.host output) }
 {
     Rail {
-        power: power_of(guard.host(), output),
+        power: power_in(guard.host().state(), output),
         band: guard.band(output),
         within: guard.within(output),
     }
 }
 
-// Whether an output is on.
-fn power_of(host: &Host, output: u8) -> Power
-    requires { output < host.now.setup.outputs }
-    ensures { result ≡ spec_power_of (possible_at host.now (Cell.Out output Reg.Operation)) }
+/// Whether an output is on, by what is held beside the open job. The output's number is below 8.
+pub fn power_in(host: &State, output: u8) -> Power
+    requires { output < 8 }
+    ensures { result ≡ spec_power_of (possible_at (held None host.now) (Cell.Out output Reg.Operation)) }
 {
-    match host.listed(Cell::Out(output, Reg::Operation)) {
+    match host
+        .known
+        .possible(Cell::Out(output, Reg::Operation))
+        .listed()
+    {
         Some(bytes) => power_by(bytes),
         None => Power::NotKnown,
     }

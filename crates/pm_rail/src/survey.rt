@@ -295,12 +295,6 @@ fn wanted_of(plan: Option<Wanted>) -> Wanted
 {
     match plan {
         Some(wanted) => wanted,
-        None => Wanted {
-            command: None,
-            max: None,
-            margin_high: None,
-            margin_low: None,
-            min: None,
-        },
+        None => Wanted::nothing(),
     }
 }

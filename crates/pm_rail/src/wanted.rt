@@ -18,7 +18,36 @@ pub struct Wanted {
 }
 
 impl Wanted {
-    ghost use Rattle.pm_rail.specs.Registers.{wants_of};
+    ghost use Rattle.pm_rail.specs.Registers.{nothing as nothing_wanted, wants_of, with_word};
+
+    /// No word: each register is to stay as it is.
+    pub fn nothing() -> Wanted
+        ensures { result ≡ nothing_wanted }
+    {
+        Wanted {
+            command: None,
+            max: None,
+            margin_high: None,
+            margin_low: None,
+            min: None,
+        }
+    }
+
+    /// The same words, and this one for a register; none is wanted of OPERATION, which stays as it is.
+    pub fn with(self, register: Reg, word: u16) -> Wanted
+        ensures { result ≡ with_word self register word }
+    {
+        let mut more = self;
+        match register {
+            Reg::Operation => {}
+            Reg::VoutCommand => more.command = Some(word),
+            Reg::VoutMax => more.max = Some(word),
+            Reg::MarginHigh => more.margin_high = Some(word),
+            Reg::MarginLow => more.margin_low = Some(word),
+            Reg::VoutMin => more.min = Some(word),
+        }
+        more
+    }
 
     /// The word that is wanted of a register; none of OPERATION.
     pub fn word(&self, register: Reg) -> Option<u16>

@@ -3,6 +3,15 @@
 //!
 //! It stands below the world, which makes both, so that what only tells such a fault doesn't wait for the
 //! world: the texts do. `pm_world` exports it. It takes no memory.
+//!
+//! ```
+//! fn both(config: Config, passes: u8) -> Result<(Converter, Host), SetupFault> {
+//!     let (addr, outputs) = (config.addr, config.count);
+//!     let converter = Converter::new(config)?; // V1 to V5: SetupFault::Device
+//!     let host = Host::new(addr, outputs, passes)?; // H2 for no passes: SetupFault::Host
+//!     Ok((converter, host))
+//! }
+//! ```
 #![tactic(auto)]
 
 mod setup_fault;

@@ -1,7 +1,8 @@
 -- The cells: the settings of a power converter that hold a word. An output has one for each of its
 -- registers, and WRITE_PROTECT is the device's. The list of registers stands here alone: every other
 -- question on them asks it, or their line of the command table.
-use Rattle.std.specs.Prelude.{ℕ, ◌+◌, ◌-◌, ◌*◌, ◌/◌, ◌%◌, ◌<◌, nat_lt, map, Bool, true, false, ◌&&◌, ◌||◌, List, [], ◌∷◌, length, find, position, slice_index_or, unwrap_or, Option, Some, if◌then◌else◌, ◌==◌}
+use Rattle.std.specs.Prelude.{ℕ, ◌+◌, ◌-◌, ◌*◌, ◌/◌, ◌%◌, ◌<◌, nat_lt, map, Bool, true, false, ◌&&◌, ◌||◌, List, [], ◌∷◌, length, find}
+use Rattle.std.specs.Prelude.{position, slice_index_or, unwrap_or, Option, Some, if◌then◌else◌, ◌==◌}
 use Rattle.std.specs.List.{range_with_len}
 use Rattle.std.specs.Option.{option_map, option_map_or}
 use Rattle.pm_table.specs.declared.reg.Reg.{Reg}

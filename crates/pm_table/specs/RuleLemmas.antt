@@ -1,6 +1,6 @@
 -- What follows where a rule doesn't apply: proofs above take these by name, and no public clause cites them.
 use Rattle.std.specs.Prelude.{◌≡◌, Bool, true, false, Option, Some, None, refl}
-use Rattle.std.specs.Option.{option_or}
+use Rattle.std.specs.Option.{option_map, option_or}
 use Rattle.std.proofs.Common.{ap, ◌∙◌}
 use Rattle.pm_table.specs.Rules.{rule}
 
@@ -21,3 +21,8 @@ rule-none true fault h = cc
 -- a rule that does not apply names no fault
 pub none-rule : {X : Type 0} (applies : Bool) (fault : X) → applies ≡ false → rule applies fault ≡ None
 none-rule applies fault h = ap (λ b. rule b fault) h
+
+-- where what a fault is made into is none, so is the fault
+pub map-none : {X Y : Type 0} (f : X → Y) (fault : Option X) → option_map f fault ≡ None → fault ≡ None
+map-none f None h = refl
+map-none f (Some x) h = cc

@@ -16,7 +16,8 @@ use Rattle.pm_world.specs.declared.back.Back.TheVariants as returns
 use Rattle.pm_world.specs.declared.event.Event.{Event}
 use Rattle.pm_world.specs.declared.event.Event.TheVariants.{Deliver, Finish, Exchange, RestartDevice, RestartHost, Reading as Measure}
 use Rattle.pm_lines.specs.Digits.{hex_of, signed_of, small_of}
-use Rattle.pm_text.specs.Kinds.{output_or_device, register_named, device_cell_named, output_reading_named, device_reading_named, cell_word, frame_bytes}
+use Rattle.pm_text.specs.Kinds.{output_or_device, register_named, device_cell_named, output_reading_named, device_reading_named, cell_word}
+use Rattle.pm_text.specs.Kinds.{frame_bytes}
 use Rattle.pm_text.specs.Readers.{◌>>=◌, Field, field, gives, lines_into, made_into, named, one_of}
 use Rattle.pm_text.specs.declared.form.Form.{Form}
 use Rattle.pm_text.specs.declared.scenario.reading.Measured.{Measured}

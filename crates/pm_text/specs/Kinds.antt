@@ -1,6 +1,7 @@
 -- The kinds of a scenario's words. The forms are this project's own choice; names are printed as in
 -- PMBus 1.3 Part II.
-use Rattle.std.specs.Prelude.{ℕ, ◌*◌, ◌&&◌, ◌==◌, nat_le, if◌then◌else◌, List, [], ◌∷◌, length, map, take, Option, Some, None, option_map, option_and_then, bytes_eq, codes}
+use Rattle.std.specs.Prelude.{ℕ, ◌*◌, ◌&&◌, ◌==◌, nat_le, if◌then◌else◌, List, [], ◌∷◌, length, map, take, Option, Some, None, option_map}
+use Rattle.std.specs.Prelude.{option_and_then, bytes_eq, codes}
 use Rattle.pm_table.specs.declared.cell.Cell.{Cell}
 use Rattle.pm_table.specs.declared.cell.Cell.TheVariants.{Protect}
 use Rattle.pm_table.specs.declared.reg.Reg.{Reg}

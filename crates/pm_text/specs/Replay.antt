@@ -59,7 +59,8 @@ run_of scenario = ran_by scenario.version scenario.config scenario.passes scenar
 
 -- The events of lines came upon a world, one after another, up to the first that isn't taken: the lines say
 -- these events, the taken ones were taken, so many, and left this world, and they stopped so.
-pub record HasLived (form : Form) (lines : List Numbered) (old : State) (events : List Event) (taken : ℕ) (stop : Option Stop) (new : State) : Type 0 where
+pub record HasLived (form : Form) (lines : List Numbered) (old : State) (events : List Event) (taken : ℕ) (stop : Option Stop) (new : State)
+    : Type 0 where
   pub reads : events_in form lines ≡ Ok events
   pub after : new ≡ after_all old (taken_events events stop)
   pub all : AreTakenFrom old (taken_events events stop)

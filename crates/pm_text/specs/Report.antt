@@ -1,6 +1,7 @@
 -- What is written of a world after a scenario: what its converter holds, commands and shows, and what
 -- its host knows. The form is this project's own choice; names are printed as in PMBus 1.3 Part II.
-use Rattle.std.specs.Prelude.{ℕ, ℤ, pos, ◌*ℤ◌, ◌%◌, ◌^◌, Bool, if◌then◌else◌, List, ◌++◌, flat_map, is_some, decimal, codes, Option, Some, None}
+use Rattle.std.specs.Prelude.{ℕ, ℤ, pos, ◌*ℤ◌, ◌%◌, ◌^◌, Bool, if◌then◌else◌, List, ◌++◌, flat_map, is_some, decimal, codes, Option, Some}
+use Rattle.std.specs.Prelude.{None}
 use Rattle.std.specs.Fmt.{signed_decimal}
 use Rattle.std.specs.Int.{int_div_euclid}
 use Rattle.std.specs.List.{range_with_len}

@@ -1,6 +1,7 @@
 -- The text of a scenario, line by line: what both ends are made from, and what happens between them.
 -- The form is this project's own choice.
-use Rattle.std.specs.Prelude.{⊤, ◌≡◌, ℕ, suc, nat_lt, min, if◌then◌else◌, List, [], ◌∷◌, ◌++◌, length, replicate, slice_index, slice_set, take, Option, Some, None, Result, Ok, Err, IsOk, IsOkAnd, codes}
+use Rattle.std.specs.Prelude.{⊤, ◌≡◌, ℕ, suc, nat_lt, min, if◌then◌else◌, List, [], ◌∷◌, ◌++◌, length, replicate, slice_index, slice_set}
+use Rattle.std.specs.Prelude.{take, Option, Some, None, Result, Ok, Err, IsOk, IsOkAnd, codes}
 use Rattle.pm_num.specs.Value.{direct_least}
 use Rattle.pm_table.specs.Cell.{register_count, register_number}
 use Rattle.pm_table.specs.declared.cell.Cell.TheVariants.{Out}
@@ -93,7 +94,8 @@ output_line form c = one_of ((codes "output", some_start form c) ∷ (codes "beg
 -- ---- the outputs and the events
 
 -- an output, or `begin`, and the outputs that follow it
-abbrev pub start_before : Result (Option OutputStart) ScenarioFault → Result (List OutputStart × Rest) ScenarioFault → Rest → Result (List OutputStart × Rest) ScenarioFault
+abbrev pub start_before : Result (Option OutputStart) ScenarioFault → Result (List OutputStart × Rest) ScenarioFault → Rest
+    → Result (List OutputStart × Rest) ScenarioFault
 start_before (Err first) rest left = Err first
 start_before (Ok None) rest left = Ok ([], left)
 start_before (Ok (Some start)) (Err first) left = Err first

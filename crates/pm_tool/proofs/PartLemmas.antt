@@ -8,41 +8,49 @@ use Rattle.std.specs.Borrow.{Bor}
 use Rattle.std.specs.Str.{bytes_eq}
 use Rattle.std.proofs.lemmas.Str.Pattern.{IsSplitOnceResult, split_parts}
 use Rattle.pm_lines.specs.Digits.{are_digits, decimal_of, digit, fits, natural_of, place_sum, signed_of}
-use Rattle.pm_tool.specs.Question.{before_parts, direct_format, exponent_format, format_by, parts}
+use Rattle.pm_tool.specs.Question.{before_parts, direct_format, exponent_format, format_by, items, parts, parts_by}
 
 -- a text by its bytes
 abbrev Text : Type 0
 Text = List ℕ
 
--- no colon stands in the text
-abbrev NoColon : Text → Type 0
-NoColon text = (i : ℕ) → i < length text → get_or text i 0 ≢ 58
+-- no mark stands in the text
+abbrev NoMark : ℕ → Text → Type 0
+NoMark mark text = (i : ℕ) → i < length text → get_or text i 0 ≢ mark
 
--- no colon stands in what follows the first character of a text without one
-later : (c : ℕ) (cs : Text) → NoColon (c ∷ cs) → NoColon cs
-later c cs none i lt = none (suc i) (omega arith)
+-- no mark stands in what follows the first character of a text without one
+later : (mark c : ℕ) (cs : Text) → NoMark mark (c ∷ cs) → NoMark mark cs
+later mark c cs none i lt = none (suc i) (omega arith)
 
--- a text with no colon is its own one part
-parts_plain : (text : Text) → NoColon text → parts text ≡ text ∷ []
-parts_plain [] none = refl
-parts_plain (c ∷ cs) none =
-    let here : eqb c 58 ≡ false = ne_eqb c 58 (none 0 (omega arith)) in
-    rw (here, parts_plain cs (later c cs none)) refl
+-- a text with no mark is its own one part
+parts_plain : (mark : ℕ) (text : Text) → NoMark mark text → parts_by mark text ≡ text ∷ []
+parts_plain mark [] none = refl
+parts_plain mark (c ∷ cs) none =
+    let here : eqb c mark ≡ false = ne_eqb c mark (none 0 (omega arith)) in
+    rw (here, parts_plain mark cs (later mark c cs none)) refl
 
--- what stands before the first colon is the first part
-parts_split : (front rest : Text) → NoColon front → parts (front ++ 58 ∷ rest) ≡ front ∷ parts rest
-parts_split [] rest none = refl
-parts_split (c ∷ cs) rest none =
-    let here : eqb c 58 ≡ false = ne_eqb c 58 (none 0 (omega arith)) in
-    rw (here, parts_split cs rest (later c cs none)) refl
+-- what stands before the first mark is the first part
+parts_split : (mark : ℕ) (front rest : Text) → eqb mark mark ≡ true → NoMark mark front
+    → parts_by mark (front ++ mark ∷ rest) ≡ front ∷ parts_by mark rest
+parts_split mark [] rest same none = rw same refl
+parts_split mark (c ∷ cs) rest same none =
+    let here : eqb c mark ≡ false = ne_eqb c mark (none 0 (omega arith)) in
+    rw (here, parts_split mark cs rest same (later mark c cs none)) refl
 
 -- what `split_once` says, in these words
 pub cut_at_colon : (text : Text) (r : Option (Bor Text × Bor Text)) → IsSplitOnceResult 58 text r
     → MatchOption r (parts text ≡ text ∷ []) (λ found. parts text ≡ found.0.now ∷ parts found.1.now)
-cut_at_colon text None h = parts_plain text (split_parts 58 text None h (omega arith))
+cut_at_colon text None h = parts_plain 58 text (split_parts 58 text None h (omega arith))
 cut_at_colon text (Some found) h =
     let p = split_parts 58 text (Some found) h (omega arith) in
-    ap parts p.0 ∙ parts_split found.0.now found.1.now p.1
+    ap parts p.0 ∙ parts_split 58 found.0.now found.1.now refl p.1
+
+pub cut_at_comma : (text : Text) (r : Option (Bor Text × Bor Text)) → IsSplitOnceResult 44 text r
+    → MatchOption r (items text ≡ text ∷ []) (λ found. items text ≡ found.0.now ∷ items found.1.now)
+cut_at_comma text None h = parts_plain 44 text (split_parts 44 text None h (omega arith))
+cut_at_comma text (Some found) h =
+    let p = split_parts 44 text (Some found) h (omega arith) in
+    ap items p.0 ∙ parts_split 44 found.0.now found.1.now refl p.1
 
 -- ---- a text with a colon writes no number
 
@@ -100,13 +108,13 @@ pub record Several (text : Text) : Type 0 where
   pub colon : has_colon text ≡ true
 
 -- each text has a first part
-some_parts : (text : Text) → (first : Text) × (more : List Text) × (parts text ≡ first ∷ more)
-some_parts [] = ([], [], refl)
-some_parts (c ∷ cs) = go (eqb c 58) (some_parts cs)
+pub some_parts : (mark : ℕ) (text : Text) → (first : Text) × (more : List Text) × (parts_by mark text ≡ first ∷ more)
+some_parts mark [] = ([], [], refl)
+some_parts mark (c ∷ cs) = go (eqb c mark) (some_parts mark cs)
   where
-    go : (b : Bool) → (first : Text) × (more : List Text) × (parts cs ≡ first ∷ more)
-        → (first : Text) × (more : List Text) × (cond b ([] ∷ parts cs) (before_parts c (parts cs)) ≡ first ∷ more)
-    go true p = ([], parts cs, refl)
+    go : (b : Bool) → (first : Text) × (more : List Text) × (parts_by mark cs ≡ first ∷ more)
+        → (first : Text) × (more : List Text) × (cond b ([] ∷ parts_by mark cs) (before_parts c (parts_by mark cs)) ≡ first ∷ more)
+    go true p = ([], parts_by mark cs, refl)
     go false p = (c ∷ p.0, p.1, ap (before_parts c) p.2)
 
 -- a text is its own one part, or has several
@@ -115,7 +123,7 @@ shape [] = inl refl
 shape (c ∷ cs) = go (eqb c 58) refl (shape cs)
   where
     go : (b : Bool) → eqb c 58 ≡ b → (parts cs ≡ cs ∷ []) ⊎ Several cs → (parts (c ∷ cs) ≡ (c ∷ cs) ∷ []) ⊎ Several (c ∷ cs)
-    go true is rest = let p = some_parts cs in inr (record {
+    go true is rest = let p = some_parts 58 cs in inr (record {
       first = [];
       second = p.0;
       more = p.1;
@@ -166,7 +174,7 @@ direct_parts m b r = go (shape r)
 -- no other name has numbers after it
 pub other_parts : (name text : Text) → bytes_eq name (codes "ulinear16") ≡ false → bytes_eq name (codes "direct") ≡ false
     → format_by (name ∷ parts text) ≡ None
-other_parts name text apart differs = let p = some_parts text in ap (λ (ps : List Text). format_by (name ∷ ps)) p.2 ∙ go p.0 p.1
+other_parts name text apart differs = let p = some_parts 58 text in ap (λ (ps : List Text). format_by (name ∷ ps)) p.2 ∙ go p.0 p.1
   where
     go : (first : Text) (more : List Text) → format_by (name ∷ first ∷ more) ≡ None
     go first [] = rw apart refl

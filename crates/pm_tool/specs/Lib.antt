@@ -5,6 +5,7 @@ pub mod NumberFaults
 pub mod NumberText
 pub mod Outcome
 pub mod Question
+pub mod ReadingList
 pub mod Script
 pub mod Telling
 -- How it is kept.

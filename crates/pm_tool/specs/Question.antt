@@ -25,10 +25,17 @@ abbrev pub before_parts : ℕ → List Text → List Text
 before_parts c [] = (c ∷ []) ∷ []
 before_parts c (part ∷ others) = (c ∷ part) ∷ others
 
--- the parts of a text between its colons, of which there is one more than there are colons (58)
+-- the parts of a text between marks, of which there is one more than there are marks
+abbrev pub parts_by : ℕ → Text → List Text
+parts_by mark [] = [] ∷ []
+parts_by mark (c ∷ cs) = if c == mark then [] ∷ parts_by mark cs else before_parts c (parts_by mark cs)
+
+-- the parts of a text between its colons (58), and between its commas (44)
 abbrev pub parts : Text → List Text
-parts [] = [] ∷ []
-parts (c ∷ cs) = if c == 58 then [] ∷ parts cs else before_parts c (parts cs)
+parts = parts_by 58
+
+abbrev pub items : Text → List Text
+items = parts_by 44
 
 -- ULINEAR16, where the exponent is -16 to 15
 abbrev pub exponent_format : ℤ → Option FormatText

@@ -1,6 +1,6 @@
 -- `decode` with options: the words that are read for them, the command as the parser reads it, and the telling that
 -- they ask for. This project's own choice.
-use Rattle.std.specs.Prelude.{◌≡◌, ◌∷◌, ℕ, Bool, true, false, if◌then◌else◌, List, codes}
+use Rattle.std.specs.Prelude.{◌≡◌, ◌∷◌, [], ℕ, Bool, true, false, if◌then◌else◌, List, codes, flat_map}
 use Rattle.std.specs.Prelude.{Option, Some, None, option_and_then, option_map, Result, Ok, Err}
 use Rattle.std.specs.Result.{result_map_both, result_ok}
 use Rattle.std.specs.Str.{bytes_eq}
@@ -13,9 +13,10 @@ use Rattle.pm_table.specs.declared.vout_mode.VoutMode.TheVariants as mode
 use Rattle.pm_decode.specs.declared.options.TellOptions.{TellOptions}
 use Rattle.pm_console.specs.Options.{option_rule}
 use Rattle.pm_tool.specs.Question.{format_of, text_at}
+use Rattle.pm_tool.specs.ReadingList.{Entry, entries_of, if_any}
 use Rattle.pm_tool.specs.declared.commandline.telling.TellTexts.{TellTexts}
 use Rattle.pm_tool.specs.declared.commandline.tell_fault.TellFault.{TellFault}
-use Rattle.pm_tool.specs.declared.commandline.tell_fault.TellFault.TheVariants.{VoutAlone, Vout}
+use Rattle.pm_tool.specs.declared.commandline.tell_fault.TellFault.TheVariants.{VoutAlone, Vout, ReadingsAlone, Readings}
 use Rattle.pm_tool.specs.declared.numbers.question.FormatText.{FormatText}
 use Rattle.pm_tool.specs.declared.numbers.question.FormatText.TheVariants.{Linear11, Ulinear16, Direct}
 
@@ -35,8 +36,8 @@ abbrev pub flag_rule : Text → Rule
 flag_rule name = record (new_rule name) { long = Some name; action = Some SetTrue }
 
 abbrev pub tell_app : App
-tell_app = with_rule (with_rule (with_rule (with_rule (with_rule (with_rule (new_app (codes "pmb decode"))
-    (flag_rule (codes "values"))) (option_rule (codes "vout"))) (flag_rule (codes "all")))
+tell_app = with_rule (with_rule (with_rule (with_rule (with_rule (with_rule (with_rule (new_app (codes "pmb decode"))
+    (flag_rule (codes "values"))) (option_rule (codes "vout"))) (option_rule (codes "readings"))) (flag_rule (codes "all")))
     (flag_rule (codes "long"))) (flag_rule (codes "times"))) (flag_rule (codes "json"))
 
 -- Whether a flag is given, by the text that the parser has for it: `true` where it is among the words, and otherwise
@@ -49,6 +50,7 @@ IsFlag (Some text) given = (text ≡ codes "true" → given ≡ true) × (text �
 pub record HasTexts (given : TellTexts) (rows : List Row) : Type 0 where
   pub values : IsFlag (one_of (codes "values") rows) given.values
   pub vout : text_at given.vout ≡ first_of (codes "vout") rows
+  pub readings : text_at given.readings ≡ first_of (codes "readings") rows
   pub all : IsFlag (one_of (codes "all") rows) given.all
   pub long : IsFlag (one_of (codes "long") rows) given.long
   pub times : IsFlag (one_of (codes "times") rows) given.times
@@ -79,26 +81,52 @@ vout_asked given = vout_of given.values (text_at given.vout)
 abbrev pub vout_seen : Result (Option AnyFormat) TellFault → Result (Option Shape) TellFault
 vout_seen made = result_map_both (option_map shape_of) (λ fault. fault) made
 
+-- ---- the formats of `--readings`
+
+abbrev pub listed_or_fault : Option (List Entry) → Result (List Entry) TellFault
+listed_or_fault (Some entries) = Ok entries
+listed_or_fault None = Err Readings
+
+-- the entries that the two options ask for, or the first fault
+abbrev pub readings_of : Bool → Option Text → Result (List Entry) TellFault
+readings_of values None = Ok []
+readings_of false (Some text) = Err ReadingsAlone
+readings_of true (Some text) = listed_or_fault (entries_of text)
+
+abbrev pub readings_asked : TellTexts → Result (List Entry) TellFault
+readings_asked given = readings_of given.values (text_at given.readings)
+
 -- ---- the telling that the options ask for
 
 pub record IsTelling (given : TellTexts) (options : TellOptions) : Type 0 where
   pub values : options.values ≡ given.values
-  pub vout : vout_asked given ≡ Ok (option_map shape_of options.vout)
+  pub vout : vout_asked given ≡ Ok (option_map shape_of options.formats.vout)
+  pub readings : readings_asked given ≡ Ok (flat_map if_any options.formats.readings)
   pub all : options.all ≡ given.all
   pub long : options.long ≡ given.long
   pub times : options.times ≡ given.times
   pub json : options.json ≡ given.json
 
+-- the first fault of two options, one behind the other
+abbrev pub first_fault : {A B : Type 0} → Result A TellFault → Result B TellFault → Option TellFault
+first_fault (Err fault) second = Some fault
+first_fault (Ok first) (Err fault) = Some fault
+first_fault (Ok first) (Ok second) = None
+
 -- the telling, or the first fault of the options
 abbrev pub IsAsked : TellTexts → Result TellOptions TellFault → Type 0
 IsAsked given (Ok options) = IsTelling given options
-IsAsked given (Err fault) = vout_asked given ≡ Err fault
+IsAsked given (Err fault) = first_fault (vout_asked given) (readings_asked given) ≡ Some fault
 
 -- what is said of a fault of the options, and the status that goes with it
 abbrev pub tell_fault_words : TellFault → List ℕ
 tell_fault_words VoutAlone = codes "give --vout with --values"
 tell_fault_words Vout = codes "bad vout"
+tell_fault_words ReadingsAlone = codes "give --readings with --values"
+tell_fault_words Readings = codes "bad readings"
 
 abbrev pub tell_fault_status : TellFault → ℕ
 tell_fault_status VoutAlone = 2
 tell_fault_status Vout = 2
+tell_fault_status ReadingsAlone = 2
+tell_fault_status Readings = 2

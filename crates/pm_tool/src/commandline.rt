@@ -17,6 +17,7 @@ ghost use Rattle.pm_tool.specs.Commandline.{UnlessMemory, is_once, number_words,
 mod choice;
 mod commands;
 mod helps;
+mod readings;
 mod tell_fault;
 mod telling;
 

@@ -18,7 +18,7 @@ use answer::{Answer, answer_in, line};
 pub use fault::NumberFault;
 use pm_num::{Direct, Linear11, NumFault, Ulinear16};
 use pm_text::{Sink, TextFault};
-pub(crate) use question::{FormatText, read_format};
+pub(crate) use question::{FormatText, first_item, first_part, read_format};
 use question::{Question, read_question};
 use std::alloc::Global;
 use std::io::Write;

@@ -4,13 +4,17 @@ use crate::checks::equal;
 use pm_decode::{TellOptions, tell};
 use pm_lines::{Sink, Source, TextFault};
 use pm_trace::DecodeEnd;
+use pm_values::GivenFormats;
 use std::alloc::Global;
 use std::process::Abort;
 
 // How a row is told: nothing beside the packets.
 const PLAIN: TellOptions = TellOptions {
     values: false,
-    vout: None,
+    formats: GivenFormats {
+        vout: None,
+        readings: [None; 8],
+    },
     all: false,
     long: false,
     times: false,
@@ -57,12 +61,12 @@ fn without_an_option_packets_are_told_as_before(rt: HostRuntime) {
 
 static MEANINGS: [(&str, &str); 9] = [
     (
-        "B0 88 / B1 30 D3 0F",
-        "1 58 READ_VIN read D330 51/4 V\ncount READ_VIN 1\nlines 1 accepted 1 faults 0 bad 0\n",
+        "B0 88 / B1 30 D3 0F\nB0 20 / B1 14 ED\nB0 88 / B1 30 D3 0F",
+        "1 58 READ_VIN read D330\n2 58 VOUT_MODE read 14 ULINEAR16 -12\n3 58 READ_VIN read D330 12.75 V\ncount READ_VIN 2\ncount VOUT_MODE 1\nlines 3 accepted 3 faults 0 bad 0\n",
     ),
     (
-        "B0 8C / B1 FB FF E9",
-        "1 58 READ_IOUT read FFFB -5/2 A\ncount READ_IOUT 1\nlines 1 accepted 1 faults 0 bad 0\n",
+        "B0 20 / B1 14 ED\nB0 8C / B1 FB FF E9",
+        "1 58 VOUT_MODE read 14 ULINEAR16 -12\n2 58 READ_IOUT read FFFB -2.5 A\ncount VOUT_MODE 1\ncount READ_IOUT 1\nlines 2 accepted 2 faults 0 bad 0\n",
     ),
     (
         "B0 01 94 1A",
@@ -90,7 +94,7 @@ static MEANINGS: [(&str, &str); 9] = [
     ),
     (
         "B0 05 04 01 21 CD 34 4C\nB0 06 02 01 20 / B1 01 14 2C\nB0 05 04 01 21 CD 34 4C\nB0 06 02 01 20 / B1 01 40 87\nB0 05 04 01 21 CD 34 4C\nB0 30 02 21 00 / B1 05 01 00 00 00 03 6B\nB0 05 04 01 21 CD 34 4C\nB0 21 CD 34 38\n",
-        "1 58 page 1 VOUT_COMMAND write 34CD\n2 58 page 1 VOUT_MODE read 14 ULINEAR16 -12\n3 58 page 1 VOUT_COMMAND write 34CD 13517/4096 3300048 uV\n4 58 page 1 VOUT_MODE read 40 DIRECT\n5 58 page 1 VOUT_COMMAND write 34CD\n6 58 COEFFICIENTS of 21 side 0 read m 1 b 0 r 3\n7 58 page 1 VOUT_COMMAND write 34CD 13517/1000 13517000 uV\n8 58 VOUT_COMMAND write 34CD\ncount VOUT_COMMAND 5\ncount VOUT_MODE 2\ncount COEFFICIENTS 1\nlines 8 accepted 8 faults 0 bad 0\n",
+        "1 58 page 1 VOUT_COMMAND write 34CD\n2 58 page 1 VOUT_MODE read 14 ULINEAR16 -12\n3 58 page 1 VOUT_COMMAND write 34CD 3.300048 V\n4 58 page 1 VOUT_MODE read 40 DIRECT\n5 58 page 1 VOUT_COMMAND write 34CD\n6 58 COEFFICIENTS of 21 side 0 read m 1 b 0 r 3\n7 58 page 1 VOUT_COMMAND write 34CD 13.517 V\n8 58 VOUT_COMMAND write 34CD\ncount VOUT_COMMAND 5\ncount VOUT_MODE 2\ncount COEFFICIENTS 1\nlines 8 accepted 8 faults 0 bad 0\n",
     ),
 ];
 
@@ -103,7 +107,7 @@ static OTHERS: [(&str, &str); 2] = [
     ("", "lines 0 accepted 0 other 0 faults 0 bad 0\n"),
     (
         "B0 D4 01 02 03\nB0 D4\nB0 96 / B1 34 12 B1\nB0 86 02 01 02 / B1 03 04 1E\nB0 21 CD 34\nB0\nB0 03 47\nB0 96 / B1\n",
-        "1 58 code D4 write 01 02 03, no PEC\n2 58 code D4 send, no PEC\n3 58 code 96 read 34 12, PEC right\n4 58 code 86 write 02 01 02 read 03 04, PEC right\n5 58 code 21 VOUT_COMMAND write CD 34, no PEC\n6 58 write F2 Short 1\n7 58 write F5 WrongPec 2\n8 58 code 96 read, no PEC\ncount code 21 1\ncount code 86 1\ncount code 96 2\ncount code D4 2\nlines 8 accepted 0 other 6 faults 2 bad 0\n",
+        "1 58 code D4 write 01 02 03, no PEC\n2 58 code D4 send, no PEC\n3 58 code 96 READ_POUT read 34 12, PEC right\n4 58 code 86 READ_EIN write 02 01 02 read 03 04, PEC right\n5 58 VOUT_COMMAND write 34CD, no PEC\n6 58 write F2 Short 1\n7 58 write F5 WrongPec 2\n8 58 code 96 READ_POUT read, no PEC\ncount VOUT_COMMAND 1\ncount code 86 1\ncount code 96 2\ncount code D4 2\nlines 8 accepted 1 other 5 faults 2 bad 0\n",
     ),
 ];
 
@@ -136,20 +140,20 @@ static OBJECTS: [(&str, &str); 2] = [
     ),
     (
         "B0 05 04 01 21 CD 34 4C\nB0 06 02 01 20 / B1 01 14 2C\nB0 05 04 01 21 CD 34 4C\nB0 79 / B1 42 80 2C\nB0 78 / B1 00 F4\nB0 30 02 21 00 / B1 05 01 00 00 00 03 6B\nB0 88 / B1 30 D3 0F\nB0 05 04 01 21 CD 34 5A\nB0 0\nB0 96 / B1 34 12 B1\nB0 86 02 01 02 / B1 03 04 1E\nB0 D4\nB0 03 46\n/\n",
-        "{\"line\":1,\"address\":\"58\",\"page\":1,\"code\":\"21\",\"name\":\"VOUT_COMMAND\",\"direction\":\"write\",\"bytes\":\"CD 34\"}\n\
-{\"line\":2,\"address\":\"58\",\"page\":1,\"code\":\"20\",\"name\":\"VOUT_MODE\",\"direction\":\"read\",\"bytes\":\"14\",\"value\":\"ULINEAR16 -12\"}\n\
-{\"line\":3,\"address\":\"58\",\"page\":1,\"code\":\"21\",\"name\":\"VOUT_COMMAND\",\"direction\":\"write\",\"bytes\":\"CD 34\",\"value\":\"13517/4096\",\"micro\":3300048,\"unit\":\"V\"}\n\
-{\"line\":4,\"address\":\"58\",\"code\":\"79\",\"name\":\"STATUS_WORD\",\"direction\":\"read\",\"bytes\":\"42 80\",\"flags\":[\"VOUT\",\"OFF\",\"CML\"]}\n\
-{\"line\":5,\"address\":\"58\",\"code\":\"78\",\"name\":\"STATUS_BYTE\",\"direction\":\"read\",\"bytes\":\"00\",\"flags\":[]}\n\
-{\"line\":6,\"address\":\"58\",\"code\":\"30\",\"name\":\"COEFFICIENTS\",\"of\":\"21\",\"side\":0,\"direction\":\"read\",\"bytes\":\"01 00 00 00 03\",\"value\":\"m 1 b 0 r 3\"}\n\
-{\"line\":7,\"address\":\"58\",\"code\":\"88\",\"name\":\"READ_VIN\",\"direction\":\"read\",\"bytes\":\"30 D3\",\"value\":\"51/4\",\"unit\":\"V\"}\n\
-{\"line\":8,\"address\":\"58\",\"direction\":\"write\",\"bytes\":\"B0 05 04 01 21 CD 34 5A\",\"fault\":\"F5 WrongPec\",\"place\":7}\n\
+        "{\"line\":1,\"address\":\"58\",\"page\":1,\"code\":\"21\",\"name\":\"VOUT_COMMAND\",\"direction\":\"write\",\"payload\":\"CD 34\"}\n\
+{\"line\":2,\"address\":\"58\",\"page\":1,\"code\":\"20\",\"name\":\"VOUT_MODE\",\"direction\":\"read\",\"payload\":\"14\",\"value\":\"ULINEAR16 -12\"}\n\
+{\"line\":3,\"address\":\"58\",\"page\":1,\"code\":\"21\",\"name\":\"VOUT_COMMAND\",\"direction\":\"write\",\"payload\":\"CD 34\",\"numerator\":13517,\"denominator\":4096,\"volts\":3.300048}\n\
+{\"line\":4,\"address\":\"58\",\"code\":\"79\",\"name\":\"STATUS_WORD\",\"direction\":\"read\",\"payload\":\"42 80\",\"flags\":[\"VOUT\",\"OFF\",\"CML\"]}\n\
+{\"line\":5,\"address\":\"58\",\"code\":\"78\",\"name\":\"STATUS_BYTE\",\"direction\":\"read\",\"payload\":\"00\",\"flags\":[]}\n\
+{\"line\":6,\"address\":\"58\",\"code\":\"30\",\"name\":\"COEFFICIENTS\",\"of\":\"21\",\"side\":0,\"direction\":\"read\",\"payload\":\"01 00 00 00 03\",\"m\":1,\"b\":0,\"r\":3}\n\
+{\"line\":7,\"address\":\"58\",\"code\":\"88\",\"name\":\"READ_VIN\",\"direction\":\"read\",\"payload\":\"30 D3\",\"numerator\":816,\"denominator\":64,\"volts\":12.75}\n\
+{\"line\":8,\"address\":\"58\",\"direction\":\"write\",\"packet\":\"B0 05 04 01 21 CD 34 5A\",\"fault\":\"F5 WrongPec\",\"place\":7}\n\
 {\"line\":9,\"fault\":\"X2 BadHex\"}\n\
-{\"line\":10,\"address\":\"58\",\"code\":\"96\",\"direction\":\"read\",\"bytes\":\"34 12\",\"pec\":true}\n\
-{\"line\":11,\"address\":\"58\",\"code\":\"86\",\"direction\":\"read\",\"written\":\"02 01 02\",\"bytes\":\"03 04\",\"pec\":true}\n\
+{\"line\":10,\"address\":\"58\",\"code\":\"96\",\"name\":\"READ_POUT\",\"direction\":\"read\",\"payload\":\"34 12\",\"pec\":true}\n\
+{\"line\":11,\"address\":\"58\",\"code\":\"86\",\"name\":\"READ_EIN\",\"direction\":\"read\",\"written\":\"02 01 02\",\"payload\":\"03 04\",\"pec\":true}\n\
 {\"line\":12,\"address\":\"58\",\"code\":\"D4\",\"direction\":\"send\",\"pec\":false}\n\
 {\"line\":13,\"address\":\"58\",\"code\":\"03\",\"name\":\"CLEAR_FAULTS\",\"direction\":\"send\"}\n\
-{\"line\":14,\"direction\":\"write\",\"bytes\":\"/\",\"fault\":\"F1 NotOurs\"}\n\
+{\"line\":14,\"direction\":\"write\",\"packet\":\"/\",\"fault\":\"F1 NotOurs\"}\n\
 {\"count\":\"VOUT_COMMAND\",\"lines\":2}\n{\"count\":\"VOUT_MODE\",\"lines\":1}\n{\"count\":\"STATUS_WORD\",\"lines\":1}\n{\"count\":\"STATUS_BYTE\",\"lines\":1}\n{\"count\":\"COEFFICIENTS\",\"lines\":1}\n{\"count\":\"READ_VIN\",\"lines\":1}\n{\"count\":\"CLEAR_FAULTS\",\"lines\":1}\n\
 {\"code\":\"86\",\"lines\":1}\n{\"code\":\"96\",\"lines\":1}\n{\"code\":\"D4\",\"lines\":1}\n\
 {\"lines\":14,\"accepted\":8,\"other\":3,\"faults\":2,\"bad\":1}\n",

@@ -4,14 +4,14 @@ use crate::checks::equal;
 use pm_decode::{TellOptions, tell};
 use pm_test_streams::{blank_paper, in_pieces};
 use pm_tool::{Sink, Source, TextFault, run};
-use pm_values::{Packet, push_otherwise};
+use pm_values::{GivenFormats, Packet, push_otherwise};
 use std::alloc::{AllocError, Global};
 use std::io::{Read, Write};
 use std::test::Fail;
 
 fn told_by_bytes(alloc: Global, write: &[u8]) -> Result<String, AllocError> {
     let mut text = String::new(alloc);
-    push_otherwise(&mut text, 0x58, &Packet { write, read: None })?;
+    push_otherwise(&mut text, false, 0x58, &Packet { write, read: None })?;
     Ok(text)
 }
 
@@ -22,7 +22,10 @@ fn told<R: Read + Drop, W: Write + Drop>(
 ) -> Result<W, TextFault> {
     let options = TellOptions {
         values: true, // a voltage in volts, a status register bit by bit
-        vout: None, // the format that the trace itself teaches
+        formats: GivenFormats {
+            vout: None, // the format that the trace itself teaches
+            readings: [None; 8],
+        },
         all: false,
         long: false,
         times: false,
@@ -49,7 +52,7 @@ fn the_examples_of_the_roots_run(rt: HostRuntime) -> Result<(), Fail> {
 
     let trace = b"B0 06 02 00 20 / B1 01 14 4E\nB0 05 04 00 21 CD 34 5A\n";
     let said =
-        "1 58 page 0 VOUT_MODE read 14 ULINEAR16 -12\n2 58 page 0 VOUT_COMMAND write 34CD 13517/4096 3300048 uV\ncount VOUT_MODE 1\ncount VOUT_COMMAND 1\nlines 2 accepted 2 faults 0 bad 0\n";
+        "1 58 page 0 VOUT_MODE read 14 ULINEAR16 -12\n2 58 page 0 VOUT_COMMAND write 34CD 3.300048 V\ncount VOUT_MODE 1\ncount VOUT_COMMAND 1\nlines 2 accepted 2 faults 0 bad 0\n";
     let paper = told(
         rt.alloc(),
         in_pieces(trace, 7),

@@ -1,11 +1,13 @@
 //! Facts of `decode`, each in a row that was written by hand from the standard: the definitions say them too, so that no
 //! proof would see one that is wrong in both.
 
+mod codes;
 mod lines;
 mod values;
 
 use crate::checks::is_true;
 use crate::run::run_on;
+use codes::CODES;
 use lines::LINES;
 use std::alloc::{AllocError, Global};
 use std::process::Abort;
@@ -71,5 +73,6 @@ fn are_told(rt: &(impl Abort + AllocGlobal), rows: &[Row]) -> Result<(), Fail> {
 #[test]
 fn each_fact_of_a_capture_is_told(rt: HostRuntime) -> Result<(), Fail> {
     are_told(&rt, &VALUES)?;
+    are_told(&rt, &CODES)?;
     are_told(&rt, &LINES)
 }

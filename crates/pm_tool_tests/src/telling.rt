@@ -7,20 +7,20 @@ use pm_tool::{Source, TellTexts};
 use std::test::Fail;
 
 /// The words, what is read, the status, what is printed and what is said.
-static TOLD: [(&[&str], &str, u8, &str, &str); 12] = [
+static TOLD: [(&[&str], &str, u8, &str, &str); 20] = [
     // An output's mode teaches its format, and no other's.
     (
         &["pmb", "decode", "--values"],
         "B0 06 02 00 20 / B1 01 14 4E\nB0 05 04 00 21 CD 34 5A\nB0 05 04 01 21 CD 34 4C\n",
         0,
-        "1 58 page 0 VOUT_MODE read 14 ULINEAR16 -12\n2 58 page 0 VOUT_COMMAND write 34CD 13517/4096 3300048 uV\n3 58 page 1 VOUT_COMMAND write 34CD\ncount VOUT_MODE 1\ncount VOUT_COMMAND 2\nlines 3 accepted 3 faults 0 bad 0\n",
+        "1 58 page 0 VOUT_MODE read 14 ULINEAR16 -12\n2 58 page 0 VOUT_COMMAND write 34CD 3.300048 V\n3 58 page 1 VOUT_COMMAND write 34CD\ncount VOUT_MODE 1\ncount VOUT_COMMAND 2\nlines 3 accepted 3 faults 0 bad 0\n",
         "",
     ),
     (
         &["pmb", "decode", "--vout=direct:1:0:3", "--values"],
         "B0 05 04 00 21 CD 34 5A\n",
         0,
-        "1 58 page 0 VOUT_COMMAND write 34CD 13517/1000 13517000 uV\ncount VOUT_COMMAND 1\nlines 1 accepted 1 faults 0 bad 0\n",
+        "1 58 page 0 VOUT_COMMAND write 34CD 13.517 V\ncount VOUT_COMMAND 1\nlines 1 accepted 1 faults 0 bad 0\n",
         "",
     ),
     (
@@ -56,7 +56,7 @@ static TOLD: [(&[&str], &str, u8, &str, &str); 12] = [
         &["pmb", "decode", "--json", "--values"],
         "B0 06 02 00 20 / B1 01 14 4E\nB0 05 04 00 21 CD 34 5A\n",
         0,
-        "{\"line\":1,\"address\":\"58\",\"page\":0,\"code\":\"20\",\"name\":\"VOUT_MODE\",\"direction\":\"read\",\"bytes\":\"14\",\"value\":\"ULINEAR16 -12\"}\n{\"line\":2,\"address\":\"58\",\"page\":0,\"code\":\"21\",\"name\":\"VOUT_COMMAND\",\"direction\":\"write\",\"bytes\":\"CD 34\",\"value\":\"13517/4096\",\"micro\":3300048,\"unit\":\"V\"}\n{\"count\":\"VOUT_MODE\",\"lines\":1}\n{\"count\":\"VOUT_COMMAND\",\"lines\":1}\n{\"lines\":2,\"accepted\":2,\"faults\":0,\"bad\":0}\n",
+        "{\"line\":1,\"address\":\"58\",\"page\":0,\"code\":\"20\",\"name\":\"VOUT_MODE\",\"direction\":\"read\",\"payload\":\"14\",\"value\":\"ULINEAR16 -12\"}\n{\"line\":2,\"address\":\"58\",\"page\":0,\"code\":\"21\",\"name\":\"VOUT_COMMAND\",\"direction\":\"write\",\"payload\":\"CD 34\",\"numerator\":13517,\"denominator\":4096,\"volts\":3.300048}\n{\"count\":\"VOUT_MODE\",\"lines\":1}\n{\"count\":\"VOUT_COMMAND\",\"lines\":1}\n{\"lines\":2,\"accepted\":2,\"faults\":0,\"bad\":0}\n",
         "",
     ),
     // The options are judged in their order.
@@ -90,6 +90,84 @@ static TOLD: [(&[&str], &str, u8, &str, &str); 12] = [
     ),
     (
         &["pmb", "decode", "--values", "--vout=ulinear16:16"],
+        "B0 05 04 00 21 CD 34 5A\n",
+        2,
+        "",
+        "pmb: bad vout\n",
+    ),
+    // `--readings`: entries of an address and a code, of a code, and of all; the first that fits.
+    (
+        &[
+            "pmb",
+            "decode",
+            "--values",
+            "--readings=58:8D:direct:1:0:1,8d:linear11,8C:direct:-1:0:0",
+        ],
+        "B0 8D / B1 19 00 65\nB2 8D / B3 19 00 77\nB0 8C / B1 FB FF E9\nB0 88 / B1 00 D3 F6\n",
+        0,
+        "1 58 READ_TEMPERATURE_1 read 0019 2.5 C\n2 59 READ_TEMPERATURE_1 read 0019 25 C\n3 58 READ_IOUT read FFFB 5 A\n4 58 READ_VIN read D300\ncount READ_TEMPERATURE_1 2\ncount READ_IOUT 1\ncount READ_VIN 1\nlines 4 accepted 4 faults 0 bad 0\n",
+        "",
+    ),
+    (
+        &["pmb", "decode", "--readings", "linear11", "--values"],
+        "B0 8D / B1 19 00 65\nB2 8D / B3 19 00 77\nB0 8C / B1 FB FF E9\nB0 88 / B1 00 D3 F6\n",
+        0,
+        "1 58 READ_TEMPERATURE_1 read 0019 25 C\n2 59 READ_TEMPERATURE_1 read 0019 25 C\n3 58 READ_IOUT read FFFB -2.5 A\n4 58 READ_VIN read D300 12 V\ncount READ_TEMPERATURE_1 2\ncount READ_IOUT 1\ncount READ_VIN 1\nlines 4 accepted 4 faults 0 bad 0\n",
+        "",
+    ),
+    (
+        &[
+            "pmb",
+            "decode",
+            "--values",
+            "--readings=77:88:linear11,77:88:linear11,77:88:linear11,77:88:linear11,77:88:linear11,77:88:linear11,77:88:linear11,direct:2:0:0",
+        ],
+        "B0 88 / B1 05 00 80\n",
+        0,
+        "1 58 READ_VIN read 0005 2.5 V\ncount READ_VIN 1\nlines 1 accepted 1 faults 0 bad 0\n",
+        "",
+    ),
+    (
+        &[
+            "pmb",
+            "decode",
+            "--values",
+            "--readings=linear11,linear11,linear11,linear11,linear11,linear11,linear11,linear11,linear11",
+        ],
+        "B0 05 04 00 21 CD 34 5A\n",
+        2,
+        "",
+        "pmb: bad readings\n",
+    ),
+    (
+        &["pmb", "decode", "--values", "--readings=58:8B:linear11"],
+        "B0 05 04 00 21 CD 34 5A\n",
+        2,
+        "",
+        "pmb: bad readings\n",
+    ),
+    (
+        &["pmb", "decode", "--values", "--readings=07:88:linear11"],
+        "B0 05 04 00 21 CD 34 5A\n",
+        2,
+        "",
+        "pmb: bad readings\n",
+    ),
+    (
+        &["pmb", "decode", "--readings=float"],
+        "B0 05 04 00 21 CD 34 5A\n",
+        2,
+        "",
+        "pmb: give --readings with --values\n",
+    ),
+    (
+        &[
+            "pmb",
+            "decode",
+            "--readings=float",
+            "--values",
+            "--vout=float",
+        ],
         "B0 05 04 00 21 CD 34 5A\n",
         2,
         "",
@@ -169,6 +247,7 @@ fn options_are_read_as_they_are_written(rt: HostRuntime) -> Result<(), Fail> {
     let wanted = TellTexts {
         values: false,
         vout: Some("linear11"),
+        readings: None,
         all: false,
         long: false,
         times: true,
@@ -181,7 +260,7 @@ fn options_are_read_as_they_are_written(rt: HostRuntime) -> Result<(), Fail> {
         ..wanted
     };
     let options = more.options()?;
-    is_true(&rt, options.values && options.vout.is_some(), &more);
+    is_true(&rt, options.values && options.formats.vout.is_some(), &more);
     is_true(&rt, options.times && options.json, &more);
     is_true(&rt, !options.all && !options.long, &more);
     Ok(())

@@ -160,13 +160,14 @@ static DECODE_HELP: &str = "Tells what the packets of a bus trace say
 Usage: pmb decode [OPTIONS] < TRACE
 
 Options:
-      --values    Tell what payloads mean, and the bytes of faulty packets
-      --vout <F>  The format of voltages that the trace teaches none of; with --values
-      --all       Tell packets that the command table doesn't have, by their bytes
-      --long      Take a trace of more than 1 MiB
-      --times     Each line begins with its time in microseconds
-      --json      Print each line as an object of JSON
-  -h, --help      Print help
+      --values        Tell what payloads mean, and the bytes of faulty packets
+      --vout <F>      The format of voltages that the trace teaches none of; with --values
+      --readings <L>  The formats of READ_VIN, READ_IOUT and READ_TEMPERATURE_1; with --values
+      --all           Tell packets without PEC, and those that the command table doesn't have
+      --long          Take a trace of more than 1 MiB
+      --times         Each line begins with its time in microseconds
+      --json          Print each line as an object of JSON
+  -h, --help          Print help
 
 A line is one of
 
@@ -183,15 +184,18 @@ with its number, and then the counts.
   lines 1 accepted 1 faults 0 bad 0
 
 With --values a packet's value stands behind it, and behind a faulty one its bytes. A voltage has
-the format that the lines before taught, by its page's VOUT_MODE and its device's COEFFICIENTS, or
-that of --vout, as pmb number has it: linear11, ulinear16:N or direct:M:B:R.
+the format that the lines before taught, by its page's VOUT_MODE and its code's COEFFICIENTS, or
+that of --vout, as pmb number has it: linear11, ulinear16:N or direct:M:B:R. READ_VIN, READ_IOUT
+and READ_TEMPERATURE_1 are LINEAR11 behind a VOUT_MODE of ULINEAR16, or as --readings says: one to
+eight entries, 58:8D:direct:1:0:3,8C:linear11,linear11, of which the first holds that fits.
 
   $ printf 'B0 06 02 00 20 / B1 01 14 4E\\nB0 05 04 00 21 CD 34 5A\\n' | pmb decode --values | head -2
   1 58 page 0 VOUT_MODE read 14 ULINEAR16 -12
-  2 58 page 0 VOUT_COMMAND write 34CD 13517/4096 3300048 uV
+  2 58 page 0 VOUT_COMMAND write 34CD 3.300048 V
 
-With --all a packet that the command table doesn't have is told so: 1 58 code FD send, no PEC. With
---times a line is 1234 B0 03 46, and told so: 1 1234 us 58 CLEAR_FAULTS send.
+With --all a packet without PEC is told as one that has it, and one that the command table doesn't
+have by its bytes: 1 58 code FD send, no PEC. With --times a line is 1234 B0 03 46, and told so:
+1 1234 us 58 CLEAR_FAULTS send.
 
 A packet may be faulty; N counts bytes from 0, the address is byte 0:
 
@@ -205,7 +209,8 @@ A packet may be faulty; N counts bytes from 0, the address is byte 0:
   F8 Nested N         PAGE_PLUS doesn't carry the code
 
 Status 1 where a line is bad, X1 Syntax or X2 BadHex, or with a line on standard error: X3 TooLong,
-X4 Read, X5 Write, X6 Memory. Status 2: give --vout with --values, bad vout.
+X4 Read, X5 Write, X6 Memory. Status 2: give --vout with --values, bad vout, and the same of
+--readings.
 ";
 
 static NUMBER_HELP: &str =

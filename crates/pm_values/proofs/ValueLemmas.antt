@@ -1,5 +1,7 @@
--- The whole millionths of a fraction.
-use Rattle.std.proofs.Common.{◌<◌, ◌*ℤ◌, pos, arith}
+-- The whole millionths of a fraction, and their text.
+use Rattle.std.proofs.Common.{◌≡◌, ◌<◌, ◌*ℤ◌, ◌<ℤ◌, ◌≤ℤ◌, ◌++◌, ℤ, pos, negsuc, neg_ℤ, add-one, ap, arith, refl}
+use Rattle.std.specs.Prelude.{unsigned_abs}
+use Rattle.pm_values.specs.ValueText.{decimal_of, minus, size_text}
 use Rattle.std.proofs.lemmas.Int.{ints, by_lt_z}
 use Rattle.pm_num.specs.Lemmas.Integers.{lt-times}
 use Rattle.pm_num.specs.Ratio.{IsMicroFloor, Ratio}
@@ -16,3 +18,12 @@ floor_of value some =
       greatest = λ k le. by_lt_z (millionths value) k
           (λ less. let over = lt-times (millionths value) k value.den less in absurd (omega (arith, ints))) (λ down. down);
     }
+
+-- the text of a number below 0, and of another
+pub negative_text : (size : ℤ) → size <ℤ pos 0 → decimal_of size ≡ minus ++ size_text (unsigned_abs (neg_ℤ size))
+negative_text (pos n) less = absurd (omega (arith, ints))
+negative_text (negsuc below) less = ap (λ n. minus ++ size_text n) (add-one below)
+
+pub positive_text : (size : ℤ) → pos 0 ≤ℤ size → decimal_of size ≡ size_text (unsigned_abs size)
+positive_text (pos n) above = refl
+positive_text (negsuc below) above = absurd (omega (arith, ints))

@@ -1,4 +1,6 @@
 -- What the crate promises.
+pub mod CodeNames
+pub mod Contents
 pub mod Laws
 pub mod Otherwise
 pub mod Statuses

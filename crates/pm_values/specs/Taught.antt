@@ -1,13 +1,14 @@
--- What a capture teaches of the formats of outputs' voltages (PMBus 1.3 Part II, VOUT_MODE and COEFFICIENTS): the last
--- good answer to PAGE_PLUS_READ of VOUT_MODE for each address and page, and for each address the last good answer to
--- COEFFICIENTS of a code that has a voltage. That these decide is this project's own choice.
-use Rattle.std.specs.Prelude.{ℕ, ◌+◌, ◌*◌, Bool, ◌||◌, ◌==◌, nat_eq, if◌then◌else◌, List, [], slice_index, unwrap_or, option_map, Option, Some, None, Result, Ok, Err}
+-- What a capture teaches of the formats of words (PMBus 1.3 Part II, VOUT_MODE and COEFFICIENTS): the last good answer to
+-- PAGE_PLUS_READ of VOUT_MODE for each address and page; for each address and each code that has a voltage the last good
+-- answer to COEFFICIENTS of it; and the addresses that answered a read of VOUT_MODE with ULINEAR16, since the readings of
+-- such a part are LINEAR11. That these decide is this project's own choice.
+use Rattle.std.specs.Prelude.{ℕ, ◌+◌, ◌*◌, Bool, true, ◌&&◌, ◌||◌, ◌==◌, nat_eq, nat_lt, if◌then◌else◌, List, [], ◌∷◌, slice_index, unwrap_or, option_map, Option, Some, None, Result, Ok, Err}
 use Rattle.std.specs.List.{fold}
 use Rattle.std.specs.Map.{lookup}
 use Rattle.std.specs.Option.{option_or}
 use Rattle.std.specs.Result.{result_ok}
 use Rattle.indexmap.specs.IndexMap.{insert_entry}
-use Rattle.pm_num.specs.AnyFormat.{Shape, InUlinear16, shape_of}
+use Rattle.pm_num.specs.AnyFormat.{Shape, InLinear11, InUlinear16, InDirect, shape_of}
 use Rattle.pm_num.specs.declared.any_format.AnyFormat.{AnyFormat}
 use Rattle.pm_table.specs.Cell.{is_voltage_code}
 use Rattle.pm_table.specs.Codes as command
@@ -21,18 +22,22 @@ use Rattle.pm_table.specs.declared.vout_mode.VoutMode.TheVariants.{Linear, Direc
 use Rattle.pm_frame.specs.declared.message.Message.{Message}
 use Rattle.pm_frame.specs.declared.message.Message.TheVariants.{SendByte, WriteByte, WriteWord, PagePlusWrite, ReadCommand, PagePlusRead, ReadCoefficients}
 use Rattle.pm_trace.specs.Trace.{Judged, Accepted, Faulty, BadSyntax, BadHex}
+use Rattle.pm_values.specs.declared.formats.GivenFormats.{GivenFormats}
+use Rattle.pm_values.specs.declared.formats.ReadingFormat.{ReadingFormat}
 
--- the VOUT_MODE byte of each output that answered with one, and the coefficients of each address
+-- the VOUT_MODE byte of each output that answered with one, the coefficients of each code of each address, and the
+-- addresses that answered with a mode of ULINEAR16
 pub record Taught : Type 0 where
   pub modes : List (ℕ × ℕ)
   pub coefficients : List (ℕ × Coefficients)
+  pub linear : List (ℕ × Bool)
 
 abbrev pub untaught : Taught
-untaught = record { modes = []; coefficients = [] }
+untaught = record { modes = []; coefficients = []; linear = [] }
 
--- the output of a page at an address
-abbrev pub output_key : ℕ → ℕ → ℕ
-output_key addr page = addr * 256 + page
+-- the output of a page at an address, and the code of an address
+abbrev pub key_of : ℕ → ℕ → ℕ
+key_of addr number = addr * 256 + number
 
 -- the codes whose words are voltages of an output
 abbrev pub is_voltage : ℕ → Bool
@@ -40,19 +45,29 @@ is_voltage code = is_voltage_code code || code == command.read_vout
 
 -- ---- what a line teaches
 
+-- a mode of ULINEAR16
+abbrev pub is_ulinear16 : ℕ → Bool
+is_ulinear16 byte = nat_lt byte 0x20
+
+abbrev pub linear_taught : Taught → ℕ → ℕ → ℕ → Taught
+linear_taught taught addr code byte = if code == command.vout_mode && is_ulinear16 byte
+    then record taught { linear = insert_entry nat_eq taught.linear addr true } else taught
+
 abbrev pub mode_taught : Taught → ℕ → ℕ → ℕ → ℕ → Taught
 mode_taught taught addr page code byte = if code == command.vout_mode
-    then record taught { modes = insert_entry nat_eq taught.modes (output_key addr page) byte } else taught
+    then record taught { modes = insert_entry nat_eq taught.modes (key_of addr page) byte } else taught
 
 abbrev pub coefficients_taught : Taught → ℕ → ℕ → List ℕ → Taught
 coefficients_taught taught addr code answer = if is_voltage code
-    then record taught { coefficients = insert_entry nat_eq taught.coefficients addr (coefficients_of answer) } else taught
+    then record taught { coefficients = insert_entry nat_eq taught.coefficients (key_of addr code) (coefficients_of answer) }
+    else taught
 
 -- a good answer to a request
 abbrev pub answer_taught : Taught → ℕ → Message → List ℕ → Taught
-answer_taught taught addr (PagePlusRead page code) answer = mode_taught taught addr page code (slice_index answer 0)
+answer_taught taught addr (PagePlusRead page code) answer =
+    mode_taught (linear_taught taught addr code (slice_index answer 0)) addr page code (slice_index answer 0)
 answer_taught taught addr (ReadCoefficients code side) answer = coefficients_taught taught addr code answer
-answer_taught taught addr (ReadCommand code) answer = taught
+answer_taught taught addr (ReadCommand code) answer = linear_taught taught addr code (slice_index answer 0)
 answer_taught taught addr (SendByte code) answer = taught
 answer_taught taught addr (WriteByte code byte) answer = taught
 answer_taught taught addr (WriteWord code word) answer = taught
@@ -71,26 +86,64 @@ taught_from taught lines = fold taught_by taught lines
 
 -- ---- the format of a voltage
 
--- the format of a mode, with the coefficients where they were taught
-abbrev pub shape_known : VoutMode → Option Coefficients → Option Shape
-shape_known (Linear n) coefficients = Some (InUlinear16 n)
-shape_known Direct None = None
-shape_known Direct (Some c) = result_ok (shape_in Direct c)
+-- a format that is DIRECT
+abbrev pub direct_only : Option Shape → Option Shape
+direct_only None = None
+direct_only (Some InLinear11) = None
+direct_only (Some (InUlinear16 n)) = None
+direct_only (Some (InDirect m b r)) = Some (InDirect m b r)
 
-abbrev pub shape_by : Result VoutMode TableFault → Option Coefficients → Option Shape
-shape_by (Ok mode) coefficients = shape_known mode coefficients
-shape_by (Err fault) coefficients = None
+-- the format of a mode: DIRECT has the coefficients that were taught, otherwise those of the format that was given
+abbrev pub shape_known : Option Shape → VoutMode → Option Coefficients → Option Shape
+shape_known given (Linear n) coefficients = Some (InUlinear16 n)
+shape_known given Direct None = direct_only given
+shape_known given Direct (Some c) = result_ok (shape_in Direct c)
 
-abbrev pub shape_of_mode : Option ℕ → Option Coefficients → Option Shape
-shape_of_mode None coefficients = None
-shape_of_mode (Some byte) coefficients = shape_by (mode_of byte) coefficients
+abbrev pub shape_by : Option Shape → Result VoutMode TableFault → Option Coefficients → Option Shape
+shape_by given (Ok mode) coefficients = shape_known given mode coefficients
+shape_by given (Err fault) coefficients = None
 
--- the format that was taught of a packet's output; a packet that names no page has none
-abbrev pub shape_taught : Taught → ℕ → Option ℕ → Option Shape
-shape_taught taught addr None = None
-shape_taught taught addr (Some page) = shape_of_mode (lookup (nat_eq (output_key addr page)) taught.modes)
-    (lookup (nat_eq addr) taught.coefficients)
+-- the format that was given holds where the trace taught no mode
+abbrev pub shape_of_mode : Option Shape → Option ℕ → Option Coefficients → Option Shape
+shape_of_mode given None coefficients = given
+shape_of_mode given (Some byte) coefficients = shape_by given (mode_of byte) coefficients
 
--- the one that is used: otherwise that which was given, where one was
-abbrev pub voltage_shape : Option AnyFormat → Taught → ℕ → Option ℕ → Option Shape
-voltage_shape vout taught addr page = option_or (shape_taught taught addr page) (option_map shape_of vout)
+-- the format of a voltage, where it is known; of a packet that names no page the trace teaches none
+abbrev pub voltage_shape : Option Shape → Taught → ℕ → Option ℕ → ℕ → Option Shape
+voltage_shape given taught addr None code = given
+voltage_shape given taught addr (Some page) code = shape_of_mode given (lookup (nat_eq (key_of addr page)) taught.modes)
+    (lookup (nat_eq (key_of addr code)) taught.coefficients)
+
+-- ---- the format of a reading
+
+-- what is named, or each where nothing is
+abbrev pub is_met : Option ℕ → ℕ → Bool
+is_met None number = true
+is_met (Some wanted) number = wanted == number
+
+-- the format of the first entry for this address and code
+abbrev pub reading_given : List (Option ReadingFormat) → ℕ → ℕ → Option Shape
+reading_given [] addr code = None
+reading_given (None ∷ entries) addr code = reading_given entries addr code
+reading_given (Some entry ∷ entries) addr code = if is_met entry.addr addr && is_met entry.code code
+    then Some (shape_of entry.format) else reading_given entries addr code
+
+-- LINEAR11 where a mode of ULINEAR16 was seen
+abbrev pub linear_if : Option Bool → Option Shape
+linear_if None = None
+linear_if (Some seen) = Some InLinear11
+
+abbrev pub reading_shape : List (Option ReadingFormat) → Taught → ℕ → ℕ → Option Shape
+reading_shape readings taught addr code =
+    option_or (reading_given readings addr code) (linear_if (lookup (nat_eq addr) taught.linear))
+
+-- ---- the format of a word
+
+-- the codes whose words are readings, each in a format of its own
+abbrev pub is_reading : ℕ → Bool
+is_reading code = code == command.read_vin || (code == command.read_iout || code == command.read_temperature_1)
+
+abbrev pub packet_shape : GivenFormats → Taught → ℕ → Option ℕ → ℕ → Option Shape
+packet_shape given taught addr page code =
+    if is_voltage code then voltage_shape (option_map shape_of given.vout) taught addr page code
+    else (if is_reading code then reading_shape given.readings taught addr code else None)

@@ -1,19 +1,17 @@
 -- Values as they are told to a person. The forms are this project's own choice.
-use Rattle.std.specs.Prelude.{ℕ, true, ◌==◌, if◌then◌else◌, List, [], ◌++◌, codes, decimal, Option, Some, None}
+use Rattle.std.specs.Prelude.{ℕ, ℤ, pos, negsuc, zero, suc, ◌+◌, ◌*◌, ◌/◌, ◌%◌, true, false, ◌==◌, bit_and, if◌then◌else◌, List, [], ◌++◌, codes, decimal, Option, Some, None}
 use Rattle.std.specs.Fmt.{signed_decimal}
-use Rattle.pm_num.specs.Ratio.{Ratio}
 use Rattle.pm_table.specs.declared.operation.Operation.{Operation}
 use Rattle.pm_table.specs.declared.operation.Operation.TheVariants.{Off, On, MarginLow, MarginHigh}
 use Rattle.pm_table.specs.declared.vout_mode.VoutMode.{VoutMode}
 use Rattle.pm_table.specs.declared.vout_mode.VoutMode.TheVariants.{Linear, Direct}
-use Rattle.pm_values.specs.Statuses.{names_from, rows_of}
+use Rattle.pm_values.specs.Statuses.{capability_rows, names_from, on_off_rows, rows_of}
 use Rattle.pm_values.specs.Values.{millionths}
-use Rattle.pm_values.specs.declared.fraction.Fraction.{Fraction}
 use Rattle.pm_values.specs.declared.status.Status.{Status}
 use Rattle.pm_values.specs.declared.value.Unit.{Unit as MeasureUnit}
 use Rattle.pm_values.specs.declared.value.Unit.TheVariants.{Volt, Ampere, Celsius}
 use Rattle.pm_values.specs.declared.value.Value.{Value}
-use Rattle.pm_values.specs.declared.value.Value.TheVariants.{Reading, Volts, Operates, Protects, Scales, Flags}
+use Rattle.pm_values.specs.declared.value.Value.TheVariants.{Measured, Operates, Protects, Scales, Flags, Capable, Controls}
 
 abbrev pub unit_text : MeasureUnit → List ℕ
 unit_text Volt = codes "V"
@@ -36,23 +34,74 @@ abbrev pub mode_text : VoutMode → List ℕ
 mode_text (Linear n) = codes "ULINEAR16 " ++ signed_decimal n
 mode_text Direct = codes "DIRECT"
 
-abbrev pub fraction_text : Fraction → List ℕ
-fraction_text fraction = signed_decimal fraction.num ++ (codes "/" ++ decimal fraction.den)
+-- the digits behind the point of so many millionths, fewer than a million: at most this many, and no zero at their end
+abbrev pub places : ℕ → ℕ → List ℕ
+places zero part = []
+places (suc n) part = if part == 0 then [] else decimal (part * 10 / 1000000) ++ places n (part * 10 % 1000000)
 
-abbrev pub ratio_text : Ratio → List ℕ
-ratio_text ratio = signed_decimal ratio.num ++ (codes "/" ++ decimal ratio.den)
+-- the point, and what is behind it, where that isn't 0
+abbrev pub point_text : ℕ → List ℕ
+point_text part = if part == 0 then [] else codes "." ++ places 6 part
+
+abbrev pub size_text : ℕ → List ℕ
+size_text size = decimal (size / 1000000) ++ point_text (size % 1000000)
+
+unfoldable pub minus : List ℕ
+minus = codes "-"
+
+-- so many millionths as a decimal number
+abbrev pub decimal_of : ℤ → List ℕ
+decimal_of (pos size) = size_text size
+decimal_of (negsuc below) = minus ++ size_text (below + 1)
 
 -- the names of the bits that are set; each bit of a status has a name
 abbrev pub flags_text : Status → ℕ → List ℕ
 flags_text status bits = if bits == 0 then codes "none" else names_from (codes ", ") [] true (rows_of status) bits
 
+-- the fastest bus of CAPABILITY, its bits 6 and 5
+abbrev pub speed_text : ℕ → List ℕ
+speed_text byte = if bit_and byte 0x60 == 0x00 then codes "100 kHz"
+    else (if bit_and byte 0x60 == 0x20 then codes "400 kHz"
+    else (if bit_and byte 0x60 == 0x40 then codes "1 MHz" else codes "reserved speed"))
+
+-- whether it has PEC, its bit 7
+abbrev pub pec_text : ℕ → List ℕ
+pec_text byte = if bit_and byte 0x80 == 0 then [] else codes "PEC, "
+
+-- a byte of CAPABILITY
+unfoldable pub capability_text : ℕ → List ℕ
+capability_text byte = pec_text byte ++ (speed_text byte ++ names_from (codes ", ") [] false capability_rows byte)
+
+-- what turns an output on and off, by bits 4 to 2 of ON_OFF_CONFIG
+abbrev pub switch_text : ℕ → List ℕ
+switch_text byte = if bit_and byte 0x10 == 0 then codes "always on"
+    else (if bit_and byte 0x0C == 0x0C then codes "by OPERATION and CONTROL"
+    else (if bit_and byte 0x0C == 0x08 then codes "by OPERATION"
+    else (if bit_and byte 0x0C == 0x04 then codes "by CONTROL" else codes "by neither")))
+
+-- how CONTROL does, by its bits 1 and 0
+abbrev pub polarity_text : ℕ → List ℕ
+polarity_text byte = if bit_and byte 0x02 == 0 then codes ", CONTROL active low" else codes ", CONTROL active high"
+
+abbrev pub delay_text : ℕ → List ℕ
+delay_text byte = if bit_and byte 0x01 == 0 then codes ", off with delay" else codes ", off at once"
+
+-- the same, where CONTROL does
+abbrev pub control_text : ℕ → List ℕ
+control_text byte = if bit_and byte 0x14 == 0x14 then polarity_text byte ++ delay_text byte else []
+
+-- a byte of ON_OFF_CONFIG
+unfoldable pub on_off_text : ℕ → List ℕ
+on_off_text byte = switch_text byte ++ (control_text byte ++ names_from (codes ", ") [] false on_off_rows byte)
+
 unfoldable pub value_text : Value → List ℕ
-value_text (Reading fraction unit) = fraction_text fraction ++ (codes " " ++ unit_text unit)
-value_text (Volts ratio) = ratio_text ratio ++ (codes " " ++ (signed_decimal (millionths ratio) ++ codes " uV"))
+value_text (Measured ratio unit) = decimal_of (millionths ratio) ++ (codes " " ++ unit_text unit)
 value_text (Operates operation) = operation_text operation
 value_text (Protects byte) = protection_text byte
 value_text (Scales mode) = mode_text mode
 value_text (Flags status bits) = flags_text status bits
+value_text (Capable byte) = capability_text byte
+value_text (Controls byte) = on_off_text byte
 
 -- behind a packet's text
 abbrev pub known_text : Option Value → List ℕ

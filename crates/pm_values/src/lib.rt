@@ -1,6 +1,6 @@
 //! What a packet means, whatever the text that it is told in: the values of payloads, with the bits of the status
-//! registers by name and the formats of voltages that a capture teaches, and packets that are told by their code and
-//! bytes alone, since the command table doesn't have them.
+//! registers by name and the formats of words that a capture teaches; packets that lack their PEC; and packets that are
+//! told by their code and bytes alone, since the command table doesn't have them, with the names of all codes.
 //!
 //! The text of a value, or of such a packet, is appended to any text. Which lines a capture has, in which of them a
 //! packet stands, and what stands around its value is not here. A packet is judged by `pm_trace`. A packet by its bytes,
@@ -9,13 +9,15 @@
 //! ```
 //! fn told_by_bytes(alloc: Global, write: &[u8]) -> Result<String, AllocError> {
 //!     let mut text = String::new(alloc);
-//!     push_otherwise(&mut text, 0x58, &Packet { write, read: None })?;
+//!     push_otherwise(&mut text, false, 0x58, &Packet { write, read: None })?;
 //!     Ok(text)
 //! }
 //! ```
 #![tactic(auto)]
 
-mod fraction;
+mod code_names;
+mod content;
+mod formats;
 mod laws;
 mod lessons;
 mod meaning;
@@ -25,15 +27,17 @@ mod status;
 mod value;
 mod value_text;
 
-pub use fraction::Fraction;
+pub use code_names::standard_name;
+pub use content::Content;
+pub use formats::{GivenFormats, ReadingFormat};
 pub use laws::microvolts_are_the_floor;
 pub use lessons::Lessons;
-pub use meaning::packet_value;
-pub use otherwise::{address_otherwise, push_otherwise, push_spaced};
+pub use meaning::{other_value, packet_value};
+pub use otherwise::{address_otherwise, completed_part, push_otherwise, push_spaced, shown_with};
 pub use packet::Packet;
 pub use status::{Row, Status};
 pub use value::{Unit, Value};
 pub use value_text::{
-    millionths, operation_words, protection_words, push_fraction, push_known, push_mode,
-    push_names, push_ratio,
+    millionths, operation_words, protection_words, push_capability, push_known, push_millionths,
+    push_mode, push_names, push_on_off,
 };

@@ -1,9 +1,9 @@
 //! What the payload of a packet means.
 ghost use Rattle.std.specs.Prelude.{◌≡◌, option_map};
 ghost use Rattle.pm_num.specs.AnyFormat.{shape_of};
-ghost use Rattle.pm_values.specs.Values.{byte_in as spec_byte_in, code_value as spec_code_value, packet_value as spec_packet_value, protects, word_in as spec_word_in};
+ghost use Rattle.pm_values.specs.Values.{byte_in as spec_byte_in, code_value as spec_code_value, measured as spec_measured, other_value as spec_other_value, packet_value as spec_packet_value, protects, word_in as spec_word_in};
 
-use crate::fraction::reading_of;
+use crate::formats::GivenFormats;
 use crate::lessons::{Lessons, is_voltage};
 use crate::status::Status;
 use crate::value::{Unit, Value};
@@ -12,36 +12,36 @@ use pm_num::{AnyFormat, NumFormat};
 use pm_table::{Code, Operation, VoutMode};
 
 /// What a packet at an address means, by its payload, or by what was answered; `None` where its code is told without a
-/// value, or where no format of its voltage is known. `vout` is the format of voltages whose own format wasn't taught.
+/// value, or where no format of its number is known.
 pub fn packet_value(
-    vout: Option<AnyFormat>,
+    given: &GivenFormats,
     lessons: &Lessons,
     addr: u8,
     view: &FrameView<'_>,
     answer: Option<&[u8]>,
 ) -> Option<Value>
-    ensures { result ≡ spec_packet_value vout lessons.now addr view.now (option_map (λ bytes. bytes.now) answer.entry) }
+    ensures { result ≡ spec_packet_value given.now lessons.now addr view.now (option_map (λ bytes. bytes.now) answer.entry) }
 {
-    let format = lessons.format(vout, addr, view.page());
+    let format = lessons.format(given, addr, view.page(), view.code());
     match answer {
         Some(answer) => code_value(format, view.code(), answer),
         None => code_value(format, view.code(), view.payload()),
     }
 }
 
-// The value of a code's payload, with the format of voltages.
+// The value of a code's payload, with the format of its word where that is a number.
 fn code_value(format: Option<AnyFormat>, code: u8, bytes: &[u8]) -> Option<Value>
     ensures { result ≡ spec_code_value (option_map shape_of format) code bytes.now }
 {
     let byte = byte_in(bytes);
     let word = word_in(bytes);
     if is_voltage(code) {
-        return format.map(|format| Value::Volts(format.value_of(word)));
+        return measured(format, word, Unit::Volt);
     }
     match Code(code) {
-        Code::READ_VIN => Some(Value::Reading(reading_of(word), Unit::Volt)),
-        Code::READ_IOUT => Some(Value::Reading(reading_of(word), Unit::Ampere)),
-        Code::READ_TEMPERATURE_1 => Some(Value::Reading(reading_of(word), Unit::Celsius)),
+        Code::READ_VIN => measured(format, word, Unit::Volt),
+        Code::READ_IOUT => measured(format, word, Unit::Ampere),
+        Code::READ_TEMPERATURE_1 => measured(format, word, Unit::Celsius),
         Code::OPERATION => Operation::read(u16::from(byte)).map(Value::Operates),
         Code::WRITE_PROTECT => protection(byte),
         Code::VOUT_MODE => VoutMode::read(byte).ok().map(Value::Scales),
@@ -49,6 +49,39 @@ fn code_value(format: Option<AnyFormat>, code: u8, bytes: &[u8]) -> Option<Value
         Code::STATUS_WORD => Some(Value::Flags(Status::Word, word)),
         Code::STATUS_VOUT => Some(Value::Flags(Status::Vout, word)),
         Code::STATUS_CML => Some(Value::Flags(Status::Cml, word)),
+        Code::CAPABILITY => Some(Value::Capable(byte)),
+        _ => None,
+    }
+}
+
+// A number, where its format is known.
+fn measured(format: Option<AnyFormat>, word: u16, unit: Unit) -> Option<Value>
+    ensures { result ≡ spec_measured (option_map shape_of format) word unit }
+{
+    match format {
+        Some(format) => Some(Value::Measured(format.value_of(word), unit)),
+        None => None,
+    }
+}
+
+/// What the bytes of a code mean that the command table doesn't have: those of ON_OFF_CONFIG and of the status registers
+/// beside the table's, each of one byte.
+pub fn other_value(code: u8, bytes: &[u8]) -> Option<Value>
+    ensures { result ≡ spec_other_value code bytes.now }
+{
+    let [byte] = bytes else {
+        return None;
+    };
+    let bits = u16::from(*byte);
+    match code {
+        0x02 => Some(Value::Controls(*byte)),
+        0x7B => Some(Value::Flags(Status::Iout, bits)),
+        0x7C => Some(Value::Flags(Status::Input, bits)),
+        0x7D => Some(Value::Flags(Status::Temperature, bits)),
+        0x7F => Some(Value::Flags(Status::Other, bits)),
+        0x80 => Some(Value::Flags(Status::MfrSpecific, bits)),
+        0x81 => Some(Value::Flags(Status::Fans12, bits)),
+        0x82 => Some(Value::Flags(Status::Fans34, bits)),
         _ => None,
     }
 }

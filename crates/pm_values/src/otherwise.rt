@@ -1,17 +1,75 @@
-//! Packets that are told by their code and bytes alone.
-ghost use Rattle.std.specs.Prelude.{◌≡◌, ◌++◌, option_map, string_bytes, OnOk};
+//! Packets that the command table doesn't have with their bytes: those that lack their PEC, and those that are told by
+//! their code and bytes alone.
+ghost use Rattle.std.specs.Prelude.{◌≡◌, ◌++◌, ◌||◌, IfSome, is_some, option_map, slice_index, string_bytes, OnOk};
 ghost use Rattle.pm_trace.specs.ShownLines.{judged_in};
-ghost use Rattle.pm_values.specs.Otherwise.{address_otherwise as spec_address_otherwise, carried_text, has_code as spec_has_code, is_of_code as spec_is_of_code, is_read_from, named, other_text, sent_text, spaced, verdict_text, written_text};
+ghost use Rattle.pm_trace.specs.Trace.{parts_judged};
+ghost use Rattle.pm_values.specs.Contents.{content_in};
+ghost use Rattle.pm_values.specs.Otherwise.{IsCompleted, address_otherwise as spec_address_otherwise, carried_by, content_meaning, content_page, content_text, has_code as spec_has_code, is_all_ones, is_accepted, is_of_code as spec_is_of_code, is_read_from, is_short as spec_is_short, judged_with, lacks_pec, letters_text, named_by, other_text, sent_text, spaced, verdict_text, written_text};
 
+use crate::code_names::standard_name;
+use crate::content::Content;
+use crate::meaning::other_value;
 use crate::packet::Packet;
+use crate::value_text::push_known;
+use arrayvec::ArrayVec;
 use pm_frame::FrameFault;
-use pm_lines::push_hex;
+use pm_lines::{push_decimal, push_hex};
 use pm_table::Code;
-use pm_trace::Shown;
+use pm_trace::{Shown, packet_shown};
 use std::alloc::AllocError;
 
-/// The address of a packet that is told by its code and bytes: it has a fault of its code or length, and an address and
-/// a code.
+/// The last part of a packet with its PEC, where it has nothing but its PEC too few; `shown` is what it says without.
+pub fn completed_part(packet: &Packet<'_>, shown: &Shown<'_>) -> Option<ArrayVec<u8, 16>>
+    requires { judged_in shown.now ≡ parts_judged packet.now.write.now (option_map (λ bytes. bytes.now) packet.now.read) }
+    ensures lacks { is_some result ≡ lacks_pec packet.now.write.now (option_map (λ bytes. bytes.now) packet.now.read) }
+    ensures part { IfSome result (λ part.
+        IsCompleted packet.now.write.now (option_map (λ bytes. bytes.now) packet.now.read) part.items) }
+{
+    if !is_short(shown) {
+        return None;
+    }
+    let part = packet.with_pec()?;
+    if !packet.is_all_ones() && is_good_with(packet.write, packet.is_read(), &part) {
+        Some(part)
+    } else {
+        None
+    }
+}
+
+/// What a packet says with this last part, which is read or written.
+pub fn shown_with<'a>(write: &'a [u8], is_read: bool, part: &'a [u8]) -> Shown<'a>
+    ensures { judged_in result ≡ judged_with write.entry.now is_read part.entry.now }
+{
+    if is_read {
+        packet_shown(write, Some(part))
+    } else {
+        packet_shown(part, None)
+    }
+}
+
+// Whether a packet ends too early.
+fn is_short(shown: &Shown<'_>) -> bool
+    ensures { result ≡ spec_is_short (judged_in shown.now) }
+{
+    match shown {
+        Shown::Faulty {
+            addr: _,
+            read: _,
+            fault,
+        } => matches!(fault, FrameFault::Short(_)),
+        _ => false,
+    }
+}
+
+// Whether a packet is good with this last part.
+fn is_good_with(write: &[u8], is_read: bool, part: &[u8]) -> bool
+    ensures { result ≡ is_accepted (judged_with write.now is_read part.now) }
+{
+    matches!(shown_with(write, is_read, part), Shown::Accepted { .. })
+}
+
+/// The address of a packet that is told by its code and bytes: it has a fault of its code, its direction or its length, or
+/// an answer of nothing but FFh, and an address and a code.
 pub fn address_otherwise(packet: &Packet<'_>, shown: &Shown<'_>) -> Option<u8>
     ensures { result ≡ spec_address_otherwise packet.now.write.now (option_map (λ bytes. bytes.now) packet.now.read)
         (judged_in shown.now) }
@@ -21,12 +79,20 @@ pub fn address_otherwise(packet: &Packet<'_>, shown: &Shown<'_>) -> Option<u8>
             addr: Some(addr),
             read: _,
             fault,
-        } if has_code(packet) && is_of_code(packet.code(), packet.read, *fault) => Some(*addr),
+        } if has_code(packet) && is_otherwise(packet, *fault) => Some(*addr),
         _ => None,
     }
 }
 
-// Whether a fault is of a code that isn't known, or not with these bytes.
+// Whether a fault is of a packet's code, direction or length, or nobody answered.
+fn is_otherwise(packet: &Packet<'_>, fault: FrameFault) -> bool
+    ensures { result ≡ (spec_is_of_code (slice_index packet.now.write.now 1) (option_map (λ bytes. bytes.now) packet.now.read) fault
+        || is_all_ones packet.now.write.now (option_map (λ bytes. bytes.now) packet.now.read)) }
+{
+    is_of_code(packet.code(), packet.read, fault) || packet.is_all_ones()
+}
+
+// Whether a fault is of another code or another length than the table has, or of the other direction.
 fn is_of_code(code: u8, read: Option<&[u8]>, fault: FrameFault) -> bool
     ensures { result ≡ spec_is_of_code code (option_map (λ bytes. bytes.now) read.entry) fault }
 {
@@ -34,9 +100,11 @@ fn is_of_code(code: u8, read: Option<&[u8]>, fault: FrameFault) -> bool
         FrameFault::Short(_)
         | FrameFault::Long(_)
         | FrameFault::WrongCount(_)
-        | FrameFault::UnknownCode(_) => true,
-        FrameFault::WrongPec(_) => read.is_none() && !Code(code).is_known(),
-        _ => false,
+        | FrameFault::UnknownCode(_)
+        | FrameFault::WrongDirection(_)
+        | FrameFault::Nested(_) => true,
+        FrameFault::WrongPec(_) => read.is_none() && !Code(code).is_written(),
+        FrameFault::NotOurs => false,
     }
 }
 
@@ -74,54 +142,110 @@ pub fn push_spaced(text: &mut String, bytes: &[u8]) -> Result<(), AllocError>
     push_spaced(text, rest)
 }
 
-/// Appends a packet by its code and bytes to a text.
+/// Appends a packet by its code and bytes to a text, with what the bytes say where `values` asks for that.
 #[tactic(auto, using(pm_lines::specs::Lemmas::Joins::joins), unfolding(crate::specs::Otherwise::other_text))]
-pub fn push_otherwise(text: &mut String, addr: u8, packet: &Packet<'_>) -> Result<(), AllocError>
+pub fn push_otherwise(
+    text: &mut String,
+    values: bool,
+    addr: u8,
+    packet: &Packet<'_>,
+) -> Result<(), AllocError>
     ensures { OnOk result (string_bytes text.new ≡ string_bytes text.old
-        ++ other_text addr packet.now.write.now (option_map (λ bytes. bytes.now) packet.now.read)) }
+        ++ other_text values addr packet.now.write.now (option_map (λ bytes. bytes.now) packet.now.read)) }
 {
-    let code = packet.code();
+    let has_pec = packet.has_pec();
     push_hex(text, addr)?;
-    text.push_str(" code ")?;
-    push_hex(text, code)?;
-    push_named(text, code)?;
-    push_carried(text, packet)?;
-    text.push_str(verdict(packet.has_pec()))
+    push_content(text, values, &packet.content(has_pec))?;
+    text.push_str(verdict(has_pec, packet.is_all_ones()))
 }
 
 // What is said of a packet's PEC.
-fn verdict(is_right: bool) -> &'static str
-    ensures { result.now ≡ verdict_text is_right }
+fn verdict(is_right: bool, is_ones: bool) -> &'static str
+    ensures { result.now ≡ verdict_text is_right is_ones }
 {
-    if is_right { ", PEC right" } else { ", no PEC" }
+    if is_right {
+        ", PEC right"
+    } else if is_ones {
+        ", all ones: nobody answered"
+    } else {
+        ", no PEC"
+    }
 }
 
-// The name of a code that the table has.
-#[tactic(auto, using(pm_lines::specs::Lemmas::Joins::joins))]
-fn push_named(text: &mut String, code: u8) -> Result<(), AllocError>
-    ensures { OnOk result (string_bytes text.new ≡ string_bytes text.old ++ named code) }
+// The page, the code and the bytes of a packet, and what they say.
+#[tactic(auto, using(pm_lines::specs::Lemmas::Joins::joins), unfolding(crate::specs::Otherwise::content_text))]
+fn push_content(text: &mut String, values: bool, content: &Content<'_>) -> Result<(), AllocError>
+    ensures { OnOk result (string_bytes text.new ≡ string_bytes text.old ++ content_text values (content_in content.now)) }
 {
-    if !Code(code).is_known() {
+    push_page(text, content.page)?;
+    text.push_str(" code ")?;
+    push_hex(text, content.code)?;
+    push_named(text, standard_name(content.code))?;
+    push_carried(text, content.written, content.answer)?;
+    push_meaning(text, values, content)
+}
+
+// The page of a carried code.
+#[tactic(auto, using(pm_lines::specs::Lemmas::Joins::joins))]
+fn push_page(text: &mut String, page: Option<u8>) -> Result<(), AllocError>
+    ensures { OnOk result (string_bytes text.new ≡ string_bytes text.old ++ content_page page) }
+{
+    let Some(page) = page else {
+        return Ok(());
+    };
+    text.push_str(" page ")?;
+    push_decimal(text, u64::from(page))
+}
+
+// The name of a code, where it has one.
+#[tactic(auto, using(pm_lines::specs::Lemmas::Joins::joins))]
+fn push_named(text: &mut String, name: &str) -> Result<(), AllocError>
+    ensures { OnOk result (string_bytes text.new ≡ string_bytes text.old ++ named_by name.now) }
+{
+    if name.is_empty() {
         return Ok(());
     }
     text.push_str(" ")?;
-    text.push_str(Code(code).name())
+    text.push_str(name)
 }
 
 // What was written and read.
 #[tactic(auto, using(pm_lines::specs::Lemmas::Joins::joins))]
-fn push_carried(text: &mut String, packet: &Packet<'_>) -> Result<(), AllocError>
+fn push_carried(text: &mut String, written: &[u8], answer: Option<&[u8]>) -> Result<(), AllocError>
     ensures { OnOk result (string_bytes text.new ≡ string_bytes text.old
-        ++ carried_text packet.now.write.now (option_map (λ bytes. bytes.now) packet.now.read)) }
+        ++ carried_by written.now (option_map (λ bytes. bytes.now) answer.entry)) }
 {
-    match packet.answer() {
-        None => push_sent(text, packet.written()),
+    match answer {
+        None => push_sent(text, written),
         Some(answer) => {
-            push_written(text, packet.written())?;
+            push_written(text, written)?;
             text.push_str(" read")?;
             push_spaced(text, answer)
         }
     }
+}
+
+// What the bytes say, where that is wanted.
+fn push_meaning(text: &mut String, values: bool, content: &Content<'_>) -> Result<(), AllocError>
+    ensures { OnOk result (string_bytes text.new ≡ string_bytes text.old ++ content_meaning values (content_in content.now)) }
+{
+    if !values {
+        return Ok(());
+    }
+    match content.letters() {
+        Some(letters) => push_letters(text, letters),
+        None => push_known(text, other_value(content.code, content.said())),
+    }
+}
+
+// Letters in quotation marks.
+#[tactic(auto, using(pm_lines::specs::Lemmas::Joins::joins))]
+fn push_letters(text: &mut String, letters: &str) -> Result<(), AllocError>
+    ensures { OnOk result (string_bytes text.new ≡ string_bytes text.old ++ letters_text letters.now) }
+{
+    text.push_str(" \"")?;
+    text.push_str(letters)?;
+    text.push_str("\"")
 }
 
 // What was written, or that nothing was.

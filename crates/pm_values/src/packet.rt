@@ -1,7 +1,9 @@
 //! A packet by its bytes.
-ghost use Rattle.std.specs.Prelude.{◌≡◌, ◌-◌, ◌≤◌, length, option_map, slice_index, take};
-ghost use Rattle.pm_values.specs.Otherwise.{answer_bytes, ends_in_pec as spec_ends_in_pec, has_pec as spec_has_pec, shown_of as spec_shown_of, written_bytes};
+ghost use Rattle.std.specs.List.{list_all};
+ghost use Rattle.std.specs.Prelude.{◌≡◌, ◌==◌, ◌-◌, ◌≤◌, IfSome, is_some, length, nat_lt, option_map, slice_index, take};
+ghost use Rattle.pm_values.specs.Otherwise.{IsCompleted, are_ones as spec_are_ones, ends_in_pec as spec_ends_in_pec, has_pec as spec_has_pec, is_all_ones as spec_is_all_ones, last_part, shown_of as spec_shown_of, with_pec as spec_with_pec};
 
+use arrayvec::ArrayVec;
 use pm_frame::{pec, pec_after};
 
 /// The bytes of a packet, as they went over the bus; they may be any.
@@ -21,6 +23,13 @@ impl Packet<'_> {
         self.write.get(1).copied().unwrap_or(0)
     }
 
+    /// Whether there is a read part.
+    pub fn is_read(&self) -> bool
+        ensures { result ≡ is_some (option_map (λ bytes. bytes.now) self.now.read) }
+    {
+        self.read.is_some()
+    }
+
     /// Whether the last byte is the PEC of all bytes before it, and stands behind the code of a write, or behind the
     /// address of what was read.
     pub fn has_pec(&self) -> bool
@@ -32,26 +41,54 @@ impl Packet<'_> {
         }
     }
 
-    /// What was written behind the code, without the PEC of a write that ends in it.
-    pub fn written(&self) -> &[u8]
-        ensures { result.now ≡ written_bytes self.now.write.now (option_map (λ bytes. bytes.now) self.now.read) }
+    /// Whether what was read behind the address is nothing but FFh: nobody answered. It isn't where it ends in the right PEC.
+    pub fn is_all_ones(&self) -> bool
+        ensures { result ≡ spec_is_all_ones self.now.write.now (option_map (λ bytes. bytes.now) self.now.read) }
     {
         match self.read {
-            None => shown_of(2, self.has_pec(), self.write),
-            Some(_) => shown_of(2, false, self.write),
+            Some([_, bytes @ ..]) => are_ones(bytes) && !self.has_pec(),
+            _ => false,
         }
     }
 
-    /// What was answered behind the address, without the PEC where it ends in it; `None` where nothing was read.
-    pub fn answer(&self) -> Option<&[u8]>
-        ensures { option_map (λ bytes. bytes.now) result
-            ≡ answer_bytes self.now.write.now (option_map (λ bytes. bytes.now) self.now.read) }
+    /// The last part with the PEC that it would have, where it has fewer than 16 bytes.
+    pub(crate) fn with_pec(&self) -> Option<ArrayVec<u8, 16>>
+        ensures few { nat_lt (length (last_part self.now.write.now (option_map (λ bytes. bytes.now) self.now.read))) 16 ≡ is_some result }
+        ensures part { IfSome result (λ part. IsCompleted self.now.write.now (option_map (λ bytes. bytes.now) self.now.read) part.items) }
     {
         match self.read {
-            None => None,
-            Some(read) => Some(shown_of(1, self.has_pec(), read)),
+            None => part_with_pec(&[], self.write),
+            Some(read) => part_with_pec(self.write, read),
         }
     }
+}
+
+// A part with the PEC of what was before it and of its bytes, where it has fewer than 16.
+fn part_with_pec(before: &[u8], part: &[u8]) -> Option<ArrayVec<u8, 16>>
+    ensures few { nat_lt (length part.now) 16 ≡ is_some result }
+    ensures part { IfSome result (λ made. made.items ≡ spec_with_pec before.now part.now) }
+{
+    if part.len() > 15 {
+        return None;
+    }
+    let mut made = ArrayVec::new();
+    made.try_extend_from_slice(part).unwrap();
+    made.push(pec_after(pec(before), part));
+    Some(made)
+}
+
+// Whether there is a byte, and each is FFh.
+fn are_ones(bytes: &[u8]) -> bool
+    ensures { result ≡ spec_are_ones bytes.now }
+{
+    !bytes.is_empty() && all_are_ones(bytes)
+}
+
+// Whether each byte is FFh.
+fn all_are_ones(bytes: &[u8]) -> bool
+    ensures { result ≡ list_all (λ byte. byte == 0xFF) bytes.now }
+{
+    bytes.iter().all(|byte| *byte == 0xFF)
 }
 
 // Whether the last byte of a part is the PEC of all bytes before it, and stands behind this many bytes of the part.
@@ -68,7 +105,7 @@ fn ends_in_pec(before: &[u8], fewest: usize, part: &[u8]) -> bool
 
 // A part without its first bytes, and without its PEC where it ends in it.
 #[tactic(auto, using(std::proofs::lemmas::List::drop_all))]
-fn shown_of(fewest: usize, is_right: bool, part: &[u8]) -> &[u8]
+pub(crate) fn shown_of(fewest: usize, is_right: bool, part: &[u8]) -> &[u8]
     ensures { result.now ≡ spec_shown_of fewest is_right part.now }
 {
     let shown = if is_right { without_last(part) } else { part };

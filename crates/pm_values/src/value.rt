@@ -1,14 +1,13 @@
 //! What a payload means.
 
-use crate::fraction::Fraction;
 use crate::status::Status;
 use pm_num::Frac;
 use pm_table::{Operation, VoutMode};
 
-/// The unit of a reading.
+/// The unit of a number.
 #[derive(Clone, Copy, Debug, PartialEq, Eq)]
 pub enum Unit {
-    /// Volts, of the input.
+    /// Volts.
     Volt,
     /// Amperes.
     Ampere,
@@ -19,10 +18,8 @@ pub enum Unit {
 /// What the payload of a code means.
 #[derive(Clone, Copy, Debug)]
 pub enum Value {
-    /// A word of LINEAR11 in lowest terms.
-    Reading(Fraction, Unit),
-    /// A voltage of an output, in volts.
-    Volts(Frac),
+    /// A voltage, a current or a temperature, as the word's format has it.
+    Measured(Frac, Unit),
     /// A byte of OPERATION.
     Operates(Operation),
     /// A byte of WRITE_PROTECT: 00h, 20h, 40h or 80h.
@@ -31,4 +28,8 @@ pub enum Value {
     Scales(VoutMode),
     /// The bits of a status.
     Flags(Status, u16),
+    /// A byte of CAPABILITY.
+    Capable(u8),
+    /// A byte of ON_OFF_CONFIG.
+    Controls(u8),
 }

@@ -1,19 +1,17 @@
 //! The texts of values.
-ghost use Rattle.std.specs.Prelude.{◌≡◌, ◌++◌, OnOk, map, string_bytes};
-ghost use Rattle.std.specs.Fmt.{signed_decimal};
+ghost use Rattle.std.specs.Prelude.{◌≡◌, ◌++◌, ◌*◌, ◌/◌, ◌%◌, ◌^◌, ◌<◌, ◌≤ℤ◌, ◌<ℤ◌, pos, neg_ℤ, unsigned_abs, OnOk, map, string_bytes};
 ghost use Rattle.pm_values.specs.Statuses.{names_from};
-ghost use Rattle.pm_values.specs.ValueText.{flags_text, fraction_text, known_text, mode_text, operation_text, protection_text, ratio_text, unit_text, value_text};
+ghost use Rattle.pm_values.specs.ValueText.{capability_text, control_text, decimal_of, delay_text, flags_text, known_text, minus as minus_text, mode_text, on_off_text, operation_text, pec_text, places, point_text, polarity_text, protection_text, size_text, speed_text, switch_text, unit_text, value_text};
 ghost use Rattle.pm_values.specs.Values.{millionths as spec_millionths};
 
-use crate::fraction::Fraction;
-use crate::status::{Row, Status};
+use crate::status::{Row, Status, capability_rows, on_off_rows};
 use crate::value::{Unit, Value};
 use pm_lines::{push_decimal, push_signed};
 use pm_num::Frac;
 use pm_table::{Operation, VoutMode};
 use std::alloc::AllocError;
 
-/// Appends a space and a value to a text, where there is a value, as ` 13517/4096 3300048 uV`.
+/// Appends a space and a value to a text, where there is a value, as ` 3.300048 V`.
 #[tactic(auto, using(pm_lines::specs::Lemmas::Joins::joins))]
 pub fn push_known(text: &mut String, value: Option<Value>) -> Result<(), AllocError>
     ensures { OnOk result (string_bytes text.new ≡ string_bytes text.old ++ known_text value) }
@@ -31,16 +29,13 @@ fn push_value(text: &mut String, value: Value) -> Result<(), AllocError>
     ensures { OnOk result (string_bytes text.new ≡ string_bytes text.old ++ value_text value) }
 {
     match value {
-        Value::Reading(fraction, unit) => {
-            push_fraction(text, fraction)?;
-            text.push_str(" ")?;
-            text.push_str(unit.text())
-        }
-        Value::Volts(ratio) => push_volts(text, ratio),
+        Value::Measured(ratio, unit) => push_measured(text, ratio, unit),
         Value::Operates(operation) => text.push_str(operation_words(operation)),
         Value::Protects(byte) => text.push_str(protection_words(byte)),
         Value::Scales(mode) => push_mode(text, mode),
         Value::Flags(status, bits) => push_flags(text, status, bits),
+        Value::Capable(byte) => push_capability(text, byte),
+        Value::Controls(byte) => push_on_off(text, byte),
     }
 }
 
@@ -95,40 +90,125 @@ pub fn push_mode(text: &mut String, mode: VoutMode) -> Result<(), AllocError>
     }
 }
 
-/// Appends a fraction to a text, as `12/1`.
-#[tactic(auto, using(pm_lines::specs::Lemmas::Joins::joins))]
-pub fn push_fraction(text: &mut String, fraction: Fraction) -> Result<(), AllocError>
-    ensures { OnOk result (string_bytes text.new ≡ string_bytes text.old ++ fraction_text fraction) }
-{
-    push_signed(text, fraction.num)?;
-    text.push_str("/")?;
-    push_decimal(text, fraction.den)
-}
-
-/// Appends a fraction to a text as it stands, as `13517/4096`.
-#[tactic(auto, using(pm_lines::specs::Lemmas::Joins::joins))]
-pub fn push_ratio(text: &mut String, ratio: Frac) -> Result<(), AllocError>
-    ensures { OnOk result (string_bytes text.new ≡ string_bytes text.old ++ ratio_text ratio) }
-{
-    push_signed(text, ratio.num())?;
-    text.push_str("/")?;
-    push_signed(text, ratio.den())
-}
-
-// A voltage, and its whole microvolts.
+// A number with its unit.
 #[tactic(auto, using(pm_lines::specs::Lemmas::Joins::joins), unfolding(crate::specs::ValueText::value_text))]
-fn push_volts(text: &mut String, ratio: Frac) -> Result<(), AllocError>
-    ensures { OnOk result (string_bytes text.new ≡ string_bytes text.old ++ value_text (Value.Volts ratio)) }
+fn push_measured(text: &mut String, ratio: Frac, unit: Unit) -> Result<(), AllocError>
+    ensures { OnOk result (string_bytes text.new ≡ string_bytes text.old ++ value_text (Value.Measured ratio unit)) }
 {
-    push_ratio(text, ratio)?;
+    push_millionths(text, ratio)?;
     text.push_str(" ")?;
-    push_signed(text, millionths(ratio))?;
-    text.push_str(" uV")
+    text.push_str(unit.text())
+}
+
+/// Appends a fraction to a text as a decimal number, rounded down to a millionth and without zeros at its end, as
+/// `3.300048`.
+#[tactic(auto, using(pm_lines::specs::Lemmas::Joins::joins))]
+pub fn push_millionths(text: &mut String, ratio: Frac) -> Result<(), AllocError>
+    ensures { OnOk result (string_bytes text.new ≡ string_bytes text.old ++ decimal_of (spec_millionths ratio)) }
+{
+    push_decimal_number(text, millionths(ratio))
+}
+
+// So many millionths as a decimal number.
+#[tactic(auto, using(crate::proofs::ValueLemmas::negative_text, crate::proofs::ValueLemmas::positive_text))]
+fn push_decimal_number(text: &mut String, size: i128) -> Result<(), AllocError>
+    requires least { neg_ℤ (pos (2 ^ 55 * 1000000)) ≤ℤ size }
+    requires most { size ≤ℤ pos (2 ^ 55 * 1000000) }
+    ensures { OnOk result (string_bytes text.new ≡ string_bytes text.old ++ decimal_of size) }
+{
+    if size < 0 {
+        push_negative(text, size)
+    } else {
+        push_size(text, size)
+    }
+}
+
+// So many millionths below 0, with their sign.
+#[tactic(auto, using(pm_lines::specs::Lemmas::Joins::joins))]
+fn push_negative(text: &mut String, size: i128) -> Result<(), AllocError>
+    requires least { neg_ℤ (pos (2 ^ 55 * 1000000)) ≤ℤ size }
+    requires below { size <ℤ pos 0 }
+    ensures { OnOk result (string_bytes text.new
+        ≡ string_bytes text.old ++ (minus_text ++ size_text (unsigned_abs (neg_ℤ size)))) }
+{
+    let (whole, part) = negative_parts(size);
+    text.push_str(minus())?;
+    push_decimal(text, whole)?;
+    push_point(text, part)
+}
+
+// The whole part of so many millionths below 0, without the sign, and what is left.
+fn negative_parts(size: i128) -> (u64, u64)
+    requires least { neg_ℤ (pos (2 ^ 55 * 1000000)) ≤ℤ size }
+    requires below { size <ℤ pos 0 }
+    ensures whole { result.0 ≡ unsigned_abs (neg_ℤ size) / 1000000 }
+    ensures part { result.1 ≡ unsigned_abs (neg_ℤ size) % 1000000 }
+{
+    let opposite = -size;
+    ((opposite / 1_000_000) as u64, (opposite % 1_000_000) as u64)
+}
+
+// The sign of a number below 0.
+#[tactic(auto, unfolding(crate::specs::ValueText::minus))]
+fn minus() -> &'static str
+    ensures { result.now ≡ minus_text }
+{
+    "-"
+}
+
+// So many millionths, without a sign.
+#[tactic(auto, using(pm_lines::specs::Lemmas::Joins::joins))]
+fn push_size(text: &mut String, size: i128) -> Result<(), AllocError>
+    requires above { pos 0 ≤ℤ size }
+    requires below { size ≤ℤ pos (2 ^ 55 * 1000000) }
+    ensures { OnOk result (string_bytes text.new ≡ string_bytes text.old ++ size_text (unsigned_abs size)) }
+{
+    let (whole, part) = parts_of(size);
+    push_decimal(text, whole)?;
+    push_point(text, part)
+}
+
+// The whole part of so many millionths, and what is left.
+fn parts_of(size: i128) -> (u64, u64)
+    requires above { pos 0 ≤ℤ size }
+    requires below { size ≤ℤ pos (2 ^ 55 * 1000000) }
+    ensures whole { result.0 ≡ unsigned_abs size / 1000000 }
+    ensures part { result.1 ≡ unsigned_abs size % 1000000 }
+{
+    ((size / 1_000_000) as u64, (size % 1_000_000) as u64)
+}
+
+// The point, and the digits behind it, where there are some.
+#[tactic(auto, using(pm_lines::specs::Lemmas::Joins::joins))]
+fn push_point(text: &mut String, part: u64) -> Result<(), AllocError>
+    requires { part < 1000000 }
+    ensures { OnOk result (string_bytes text.new ≡ string_bytes text.old ++ point_text part) }
+{
+    if part == 0 {
+        return Ok(());
+    }
+    text.push_str(".")?;
+    push_places(text, 6, part)
+}
+
+// The digits behind the point, at most this many.
+#[tactic(auto, using(pm_lines::specs::Lemmas::Joins::joins))]
+fn push_places(text: &mut String, most: u32, part: u64) -> Result<(), AllocError>
+    requires { part < 1000000 }
+    ensures { OnOk result (string_bytes text.new ≡ string_bytes text.old ++ places most part) }
+{
+    if most == 0 || part == 0 {
+        return Ok(());
+    }
+    push_decimal(text, part * 10 / 1_000_000)?;
+    push_places(text, most - 1, part * 10 % 1_000_000)
 }
 
 /// The whole millionths of a fraction, rounded down.
 pub fn millionths(ratio: Frac) -> i128
-    ensures { result ≡ spec_millionths ratio }
+    ensures value { result ≡ spec_millionths ratio }
+    ensures least { neg_ℤ (pos (2 ^ 55 * 1000000)) ≤ℤ result }
+    ensures most { result ≤ℤ pos (2 ^ 55 * 1000000) }
 {
     (ratio.num() * 1_000_000).div_euclid(ratio.den())
 }
@@ -141,6 +221,102 @@ fn push_flags(text: &mut String, status: Status, bits: u16) -> Result<(), AllocE
         return text.push_str("none");
     }
     push_names(text, ", ", "", status.rows(), bits, true)
+}
+
+/// Appends a byte of CAPABILITY to a text, as `PEC, 400 kHz, SMBALERT#`.
+#[tactic(auto, using(pm_lines::specs::Lemmas::Joins::joins), unfolding(crate::specs::ValueText::capability_text))]
+pub fn push_capability(text: &mut String, byte: u8) -> Result<(), AllocError>
+    ensures { OnOk result (string_bytes text.new ≡ string_bytes text.old ++ capability_text byte) }
+{
+    text.push_str(pec_words(byte))?;
+    text.push_str(speed_words(byte))?;
+    push_names(text, ", ", "", capability_rows(), u16::from(byte), false)
+}
+
+// Whether CAPABILITY has PEC.
+fn pec_words(byte: u8) -> &'static str
+    ensures { result.now ≡ pec_text byte }
+{
+    if byte & 0x80 == 0 { "" } else { "PEC, " }
+}
+
+// The fastest bus of CAPABILITY.
+fn speed_words(byte: u8) -> &'static str
+    ensures { result.now ≡ speed_text byte }
+{
+    let speed = byte & 0x60;
+    if speed == 0x00 {
+        "100 kHz"
+    } else if speed == 0x20 {
+        "400 kHz"
+    } else if speed == 0x40 {
+        "1 MHz"
+    } else {
+        "reserved speed"
+    }
+}
+
+/// Appends a byte of ON_OFF_CONFIG to a text, as `by OPERATION`.
+#[tactic(auto, using(pm_lines::specs::Lemmas::Joins::joins), unfolding(crate::specs::ValueText::on_off_text))]
+pub fn push_on_off(text: &mut String, byte: u8) -> Result<(), AllocError>
+    ensures { OnOk result (string_bytes text.new ≡ string_bytes text.old ++ on_off_text byte) }
+{
+    text.push_str(switch_words(byte))?;
+    push_control(text, byte)?;
+    push_names(text, ", ", "", on_off_rows(), u16::from(byte), false)
+}
+
+// What turns an output on and off.
+fn switch_words(byte: u8) -> &'static str
+    ensures { result.now ≡ switch_text byte }
+{
+    if byte & 0x10 == 0 {
+        return "always on";
+    }
+    let both = byte & 0x0C;
+    if both == 0x0C {
+        "by OPERATION and CONTROL"
+    } else if both == 0x08 {
+        "by OPERATION"
+    } else if both == 0x04 {
+        "by CONTROL"
+    } else {
+        "by neither"
+    }
+}
+
+// How CONTROL does, where it does.
+#[tactic(auto, using(pm_lines::specs::Lemmas::Joins::joins))]
+fn push_control(text: &mut String, byte: u8) -> Result<(), AllocError>
+    ensures { OnOk result (string_bytes text.new ≡ string_bytes text.old ++ control_text byte) }
+{
+    if byte & 0x14 != 0x14 {
+        return Ok(());
+    }
+    text.push_str(polarity_words(byte))?;
+    text.push_str(delay_words(byte))
+}
+
+// Which level of CONTROL is active.
+fn polarity_words(byte: u8) -> &'static str
+    ensures { result.now ≡ polarity_text byte }
+{
+    if byte & 0x02 == 0 {
+        ", CONTROL active low"
+    } else {
+        ", CONTROL active high"
+    }
+}
+
+// How CONTROL turns off.
+fn delay_words(byte: u8) -> &'static str
+    ensures { result.now ≡ delay_text byte }
+{
+    if byte & 0x01 == 0 {
+        ", off with delay"
+    } else {
+        ", off at once"
+    }
 }
 
 /// Appends the names of the bits that are set to a text, with a text around each name, and one between two of them.

@@ -1,14 +1,12 @@
 -- What a converter answers are bytes, where what it holds are numbers of a program.
 use Rattle.std.proofs.Common.{arith, lit<, ◌≡◌, ℕ, zero, suc, ◌+◌, ◌*◌, ◌/◌, ◌%◌, ◌-◌, ◌^◌, ◌<◌, ◌≤◌, ℤ, pos, negsuc, Bool, true}
 use Rattle.std.proofs.Common.{false, cond, eqb, ltb, List, [], ◌∷◌, length, take, Option, Some, None, option_map, refl, sym, ◌∙◌, ap, ap₂}
-use Rattle.std.proofs.Common.{subst, inl, inr, mod-lt}
+use Rattle.std.proofs.Common.{subst, inl, inr}
 use mir.Val.{sel}
 use Rattle.std.specs.Prelude.{nat_lt}
-use Rattle.std.specs.Int.{bit_at, cast_signed, cast_unsigned, w8, w16}
+use Rattle.std.specs.Int.{cast_signed, cast_unsigned, w8, w16}
 use Rattle.std.specs.Option.{option_map_or}
 use Rattle.std.proofs.lemmas.Bool.{cases_Bool, cond-false, ltb-true}
-use Rattle.std.proofs.lemmas.Nat.{xor_lt, pow_pos}
-use Rattle.std.proofs.lemmas.Nat.Bits.{bit_at-lt}
 use Rattle.pm_table.specs.declared.cell.Cell.{Cell}
 use Rattle.pm_table.specs.declared.cell.Cell.TheVariants.{Out, Protect}
 use Rattle.pm_table.specs.declared.coefficients.Coefficients.{Coefficients}
@@ -22,7 +20,8 @@ use Rattle.pm_frame.specs.declared.message.Message.TheVariants.{SendByte, WriteB
 use Rattle.pm_frame.specs.declared.message.Message.TheVariants.{ReadCoefficients}
 use Rattle.pm_frame.specs.Laws.{RequestsAreExact}
 use Rattle.pm_frame.specs.Layout.{AreBytes, IsRequest, answered, has_count, read_address}
-use Rattle.pm_frame.specs.Pec.{doubled, pec_of, residue, residues_of}
+use Rattle.pm_frame.specs.Pec.{pec_of}
+use Rattle.pm_frame.specs.Lemmas.{bytes-more, pec_of-lt}
 use Rattle.pm_model.specs.Settings.{word_at}
 use Rattle.pm_device.specs.declared.fault.DeviceFault.TheVariants.{BadPage, UnsupportedData}
 use Rattle.pm_device.specs.declared.ending.Ending.{Ending}
@@ -45,44 +44,6 @@ use Rattle.pm_world.proofs.FirstWords.{first-bytes}
 -- no byte, and one more
 no-bytes : AreBytes []
 no-bytes place = lit< tt
-
--- a byte in front of bytes leaves all of them bytes
-one-more : (byte : ℕ) (bytes : List ℕ) → byte < 2 ^ 8 → AreBytes bytes → AreBytes (byte ∷ bytes)
-one-more byte bytes first rest zero = first
-one-more byte bytes first rest (suc place) = rest place
-
--- a packet error code is a byte: a remainder is one,
-doubled-byte : (r : ℕ) → doubled r < 2 ^ 8
-unfolding doubled
-doubled-byte r =
-    let top : bit_at r 7 < 2 = bit_at-lt r 7 in
-    let added : bit_at r 7 * 7 < 2 ^ 8 = omega arith in
-    xor_lt 8 (2 * r % 2 ^ 8) (bit_at r 7 * 7) (mod-lt (2 * r) (pow_pos 8)) added
-
--- what is left of a power of x after division by the polynomial of the PEC is a byte
-residue-byte : (i : ℕ) → residue i < 2 ^ 8
-unfolding residue
-residue-byte zero = omega arith
-residue-byte (suc i) = doubled-byte (residue i)
-
--- a sum of remainders is one
-residues-byte : (byte after count : ℕ) → residues_of byte after count < 2 ^ 8
-unfolding residues_of
-residues-byte byte after zero = omega arith
-residues-byte byte after (suc j) =
-    xor_lt 8 _ _ (one-bit (bit_at byte j) (residue (8 + (after + j))) (bit_at-lt byte j) (residue-byte (8 + (after + j))))
-    (residues-byte byte after j)
-  where
-    one-bit : (p r : ℕ) → p < 2 → r < 2 ^ 8 → p * r < 2 ^ 8
-    one-bit zero r bit small = omega arith
-    one-bit (suc zero) r bit small = omega arith
-    one-bit (suc (suc p)) r bit small = absurd (omega arith)
-
--- the code of bytes is a byte
-pec-byte : (bytes : List ℕ) → pec_of bytes < 2 ^ 8
-unfolding pec_of
-pec-byte [] = omega arith
-pec-byte (byte ∷ bytes) = xor_lt 8 _ _ (residues-byte byte (8 * length bytes) 8) (pec-byte bytes)
 
 -- ---- what a converter holds
 
@@ -169,7 +130,7 @@ high-byte word short = omega arith
 register-bytes : (code word : ℕ) → word < 2 ^ 16 → AreBytes (register_bytes code word)
 register-bytes code word short place =
     first-bytes (payload_length code) (word % 256 ∷ word / 256 ∷ []) place
-    (one-more (word % 256) (word / 256 ∷ []) (low-byte word) (one-more (word / 256) [] (high-byte word short) no-bytes))
+    (bytes-more (word % 256) (word / 256 ∷ []) (low-byte word) (bytes-more (word / 256) [] (high-byte word short) no-bytes))
 
 -- a number that its bits spell has as many
 spelled-word : (z : ℤ) → cast_signed w16 (cast_unsigned w16 z) ≡ z → cast_unsigned w16 z < 2 ^ 16
@@ -190,8 +151,8 @@ spelled-byte (negsuc n) is = omega arith
 -- five bytes
 five-bytes : (a b c d e : ℕ) → a < 2 ^ 8 → b < 2 ^ 8 → c < 2 ^ 8 → d < 2 ^ 8 → e < 2 ^ 8 → AreBytes (a ∷ b ∷ c ∷ d ∷ e ∷ [])
 five-bytes a b c d e first second third fourth fifth =
-    one-more a (b ∷ c ∷ d ∷ e ∷ []) first
-    (one-more b (c ∷ d ∷ e ∷ []) second (one-more c (d ∷ e ∷ []) third (one-more d (e ∷ []) fourth (one-more e [] fifth no-bytes))))
+    bytes-more a (b ∷ c ∷ d ∷ e ∷ []) first
+    (bytes-more b (c ∷ d ∷ e ∷ []) second (bytes-more c (d ∷ e ∷ []) third (bytes-more d (e ∷ []) fourth (bytes-more e [] fifth no-bytes))))
 
 -- the coefficients
 coefficients-bytes : (c : Coefficients) → coefficients_of (coefficient_bytes c) ≡ c → AreBytes (coefficient_bytes c)
@@ -248,7 +209,7 @@ answer-bytes : (held : Held) (request : Message) → HoldsBytes held → is_answ
     AreBytes (answer_bytes held request)
 answer-bytes held request h answers =
     bytes-append (answered held.config.addr request (payload_for held request)) (pec_of _ ∷ [])
-    (go (has_count request)) (one-more (pec_of _) [] (pec-byte _) no-bytes)
+    (go (has_count request)) (bytes-more (pec_of _) [] (pec_of-lt _) no-bytes)
   where
     payload : AreBytes (payload_for held request)
     payload = payload-bytes held request h answers
@@ -259,9 +220,9 @@ answer-bytes held request h answers =
     go : (b : Bool) → AreBytes (cond b (read_address held.config.addr ∷ length (payload_for held request) ∷ payload_for held request)
         (read_address held.config.addr ∷ payload_for held request))
     go true =
-        one-more (read_address held.config.addr) (length (payload_for held request) ∷ payload_for held request) address
-        (one-more (length (payload_for held request)) (payload_for held request) (few-byte _ (payload-few held request)) payload)
-    go false = one-more (read_address held.config.addr) (payload_for held request) address payload
+        bytes-more (read_address held.config.addr) (length (payload_for held request) ∷ payload_for held request) address
+        (bytes-more (length (payload_for held request)) (payload_for held request) (few-byte _ (payload-few held request)) payload)
+    go false = bytes-more (read_address held.config.addr) (payload_for held request) address payload
 
 -- ---- what is answered to bytes
 

@@ -33,9 +33,9 @@ use Rattle.pm_host.specs.Now.{now as host_now, job_stage, stage_of}
 use Rattle.pm_host.specs.Sound.{IsStage}
 use Rattle.pm_host.specs.Summary.{Summary, stage_message}
 use Rattle.pm_host.specs.Transcript as host
+use Rattle.pm_host.specs.Lemmas.{writes_cell}
 use Rattle.pm_world.specs.Below.{Below}
 use Rattle.pm_world.specs.Legal.{frame_of, is_legal_return, is_heard_whole, answer_in}
-use Rattle.pm_world.proofs.Hearings.{write-kind}
 use Rattle.pm_world.proofs.Learned.{is_request, whole-same}
 use Rattle.pm_world.proofs.ReadBack.{good-answer}
 use Rattle.pm_world.proofs.Starts.{IsKin}
@@ -147,7 +147,7 @@ pub stage-answers : Below → {h : Summary} (s t : Held) (stage : Stage) → IsK
     ((read : Cell) → stage_cell (Some stage) ≡ Some read → word_at t.words read ≡ word_at s.words read) →
     answer_in (reply_of t (frame_of s.config.addr (stage_message stage)) Restart)
     ≡ answer_in (reply_of s (frame_of s.config.addr (stage_message stage)) Restart)
-stage-answers laws s t (Writes cell word pass) kin asks same = absurd (true≢false (sym asks.reads ∙ write-kind cell word))
+stage-answers laws s t (Writes cell word pass) kin asks same = absurd (true≢false (sym asks.reads ∙ writes_cell cell word))
 stage-answers laws s t (Reads cell word pass) kin asks same =
     cell-answers laws s t cell kin (subst (λ n. IsCell n cell) asks.outputs asks.is.there) asks.fits (same cell refl)
 stage-answers laws s t (Asks (Word cell) tries) kin asks same =

@@ -28,7 +28,8 @@ use Rattle.std.proofs.lemmas.Bool.Decides.{nat_tests}
 use Rattle.pm_limits.specs.declared.band.Band.{Band}
 use Rattle.pm_limits.specs.declared.side.Side.{Side}
 use Rattle.pm_limits.specs.declared.side.Side.TheVariants.{Lowest, Highest}
-use Rattle.pm_limits.specs.Band.{InBand, Known, band_at, band_with, decides, each_selection, end_choice, end_with, is_untaken, known_of, may_select_avsbus, operations, reach, side_end}
+use Rattle.pm_limits.specs.Band.{InBand, Known, band_at, band_with, decides, each_selection, end_choice, end_with, is_untaken, known_of}
+use Rattle.pm_limits.specs.Band.{may_select_avsbus, operations, reach, side_end}
 use Rattle.pm_limits.specs.declared.part_registers.PartRegisters.{PartRegisters}
 use Rattle.pm_limits.specs.Ends.{end_of, farthest_of}
 use Rattle.pm_limits.specs.Part.{missing_word}
@@ -72,7 +73,8 @@ stands Any word held = refl
 stands (Words words) word held = held (λ (e : Words words ≡ Any). cc)
 
 -- a word is possible that is the one of a missing register, or that the host calls possible
-pub here-possible : (missing : Option ℕ) (possible : Possible) (word : ℕ) → ((stands_at : ℕ) → missing ≡ Some stands_at → word ≡ stands_at) →
+pub here-possible : (missing : Option ℕ) (possible : Possible) (word : ℕ)
+    → ((stands_at : ℕ) → missing ≡ Some stands_at → word ≡ stands_at) →
     is_possible word possible ≡ true → is_possible word (option_map_or only missing possible) ≡ true
 here-possible None possible word holds is = is
 here-possible (Some stands_at) possible word holds is = alone word stands_at (holds stands_at refl)
@@ -245,14 +247,16 @@ pick-held output register (Words words) full = listed-is Lowest (λ w. micros (p
 picked : Summary → Cell → ℕ → Choice
 picked s cell word = with_due (λ other. pick (possible_at s other)) cell word
 
-picked-held : Below → (s : Summary) (output : ℕ) (byte : ℕ) (other : ℕ) (register : Reg) → PossibleFilled (possible_at s (Out other register)) →
+picked-held : Below → (s : Summary) (output : ℕ) (byte : ℕ) (other : ℕ) (register : Reg)
+    → PossibleFilled (possible_at s (Out other register)) →
     may_hold (Out output Operation) byte (possible_at s (Out output Operation)) ≡ true →
     may_hold (Out other register) (picked s (Out output Operation) byte (Out other register)) (possible_at s (Out other register)) ≡ true
 unfolding picked
 picked-held laws s output byte other register full may = go (same_cell (Out output Operation) (Out other register)) refl where
   go : (same : Bool) → same_cell (Out output Operation) (Out other register) ≡ same →
       may_hold (Out other register) (cond same byte (pick (possible_at s (Out other register)))) (possible_at s (Out other register)) ≡ true
-  go true e = subst (λ (c : Cell). may_hold c byte (possible_at s c) ≡ true) (same-cells laws (Out output Operation) (Out other register) e) may
+  go true e = subst (λ (c : Cell). may_hold c byte (possible_at s c) ≡ true) (same-cells laws (Out output Operation) (Out other register) e)
+      may
   go false e = pick-held other register (possible_at s (Out other register)) full
 
 -- where each listed byte is taken, none isn't
@@ -300,8 +304,10 @@ bytes-taken laws {config = config} {passes = passes} {events = events} lived fre
         let here' = chosen-accepted laws lived leaves output Operation here in
         subst (λ (n : ℕ). is_operation n ≡ true) (itself output byte) here'
       where
-        itself : (o b : ℕ) → cond (same_cell (Out o Operation) (Out o Operation)) b (pick (possible_at (now config passes events).host (Out o Operation))) ≡ b
-        itself o b = ap (λ (t : Bool). cond t b (pick (possible_at (now config passes events).host (Out o Operation)))) (same_cell-itself (Out o Operation))
+        itself : (o b : ℕ) → cond (same_cell (Out o Operation) (Out o Operation)) b
+            (pick (possible_at (now config passes events).host (Out o Operation))) ≡ b
+        itself o b = ap (λ (t : Bool). cond t b (pick (possible_at (now config passes events).host (Out o Operation))))
+            (same_cell-itself (Out o Operation))
 
     go : (possible : Possible) → possible_at (now config passes events).host (Out output Operation) ≡ possible → AreTakenBytes possible
     go Any e = tt
@@ -324,7 +330,8 @@ ends-possible laws {config = config} {passes = passes} {events = events} part si
         let known = known_of part (shape_for config output) (now config passes events).host output in
         let as_told : known register ≡ possible_at (now config passes events).host (Out output register)
         = ap (λ (o : Option ℕ). option_map_or only o (possible_at (now config passes events).host (Out output register))) e in
-        subst (λ (p : Possible). may_hold (Out output register) (end_choice (sides output) (shape_for config output) known register) p ≡ true)
+        subst (λ (p : Possible). may_hold (Out output register) (end_choice (sides output) (shape_for config output) known register) p
+        ≡ true)
         as_told
         (choice-held (sides output) (shape_for config output) output known register
         (subst PossibleFilled (sym as_told) (filled-at laws lived output register here))
@@ -342,12 +349,14 @@ side-is Lowest shape known bytes band is = ap (λ (b : Band). b.least) is
 side-is Highest shape known bytes band is = ap (λ (b : Band). b.greatest) is
 
 -- an output commands an end of the host's band after events that leave the words of that end in its cells
-pub end-left : Below → {config : Config} {passes : ℕ} {events : List Event} (part : PartRegisters) (sides : ℕ → Side) → IsLived config passes events →
+pub end-left : Below → {config : Config} {passes : ℕ} {events : List Event} (part : PartRegisters) (sides : ℕ → Side)
+    → IsLived config passes events →
     IsSpelled config → (entries : List Entry) (first : Config) (retold : List Event) →
     Leaves config passes entries (end_choices part config (now config passes events).host sides) first retold →
     (output : ℕ) (band : Band) → output < config.count → band_at part (now config passes events).host output ≡ Some band →
     commands first passes retold output ≡ side_end (sides output) band
-end-left laws {config = config} {passes = passes} {events = events} part sides lived spelled entries first retold leaves output band here is =
+end-left laws {config = config} {passes = passes} {events = events} part sides lived spelled entries first retold leaves output band here is
+    =
     let s = (now config passes events).host in
     let shape = shape_for config output in
     let known = known_of part shape s output in

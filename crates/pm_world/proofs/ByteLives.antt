@@ -37,9 +37,10 @@ use Rattle.pm_world.specs.Uncertainty.{AreOfBytes, since_restart}
 use Rattle.pm_world.proofs.AnswerBytes.{HoldsBytes, Replies, reply-bytes}
 use Rattle.pm_world.proofs.FirstWords.{first-bytes}
 use Rattle.pm_world.proofs.LimitedLives.{told-asked}
-use Rattle.pm_world.proofs.Lives.{IsLived, earlier, entries-more}
+use Rattle.pm_world.proofs.Lives.{IsLived, earlier}
 use Rattle.pm_world.proofs.OwnWords.{life-own}
 use Rattle.pm_world.proofs.Shares.{IsShare, exchanges, measures, share-is}
+use Rattle.pm_world.specs.Lemmas.{entries-more}
 
 -- ---- the words of the cells
 
@@ -285,7 +286,8 @@ event-tells replies s event holds carries = by (share-is s event) carries where
   by : {event : Event} {share : Share} → IsShare s event share → CarriesBytes event → TellsBytes share.told
   by (exchanges arrival returned message is) carries =
       returned-bytes (answer_to s.device s.host.setup.addr message arrival) returned
-      (reply-bytes replies s.device (heard_bytes (frame_of s.host.setup.addr message) arrival) (heard_ending message arrival) holds) carries.1
+      (reply-bytes replies s.device (heard_bytes (frame_of s.host.setup.addr message) arrival) (heard_ending message arrival) holds)
+      carries.1
   by share carries = tt
 
 -- over a life

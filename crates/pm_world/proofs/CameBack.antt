@@ -41,7 +41,7 @@ use Rattle.pm_world.proofs.Answered.{is_lost, lost-by, stage-answers, stage_cell
 use Rattle.pm_world.proofs.Causes.{exchange-reads}
 use Rattle.pm_world.proofs.HeldWords.{Knows, knows, life-known, reads-true}
 use Rattle.pm_world.proofs.Learned.{exchange-legal}
-use Rattle.pm_world.proofs.Lives.{IsLived, earlier, entries-more, life-told, newest, now-config}
+use Rattle.pm_world.proofs.Lives.{IsLived, earlier, life-told, newest}
 use Rattle.pm_world.proofs.Seen.{got_bytes, since-started}
 use Rattle.pm_world.proofs.Unread.{restart-told, unread-none}
 use Rattle.pm_world.proofs.Sending.{eight}
@@ -50,6 +50,7 @@ use Rattle.pm_world.proofs.SinceRestart.{since-same}
 use Rattle.pm_world.proofs.Starts.{IsKin}
 use Rattle.pm_world.proofs.TrueHost.{good-same}
 use Rattle.pm_world.proofs.Undisturbed.{now-sound}
+use Rattle.pm_world.specs.Lemmas.{entries-more, now-config}
 
 -- a good answer for a cell: the cell is there, and the word is one that was possible and that the cell accepts
 pub record IsRead (count : ℕ) (h : Summary) (read : Cell) (word : ℕ) : Type 0 where

@@ -23,7 +23,8 @@ use Rattle.pm_world.specs.declared.arrival.Arrival.{Arrival}
 use Rattle.pm_world.specs.declared.back.Back.{Back}
 use Rattle.pm_world.specs.Confirmed.{restarts_converter}
 use Rattle.pm_world.specs.Job.{asked_by, refusal_of}
-use Rattle.pm_world.specs.State.{HasWord, State, asked, counted, event_cause, exchange_cause, next, refused, rule, share_beside, share_of, shared, tells}
+use Rattle.pm_world.specs.State.{HasWord, State, asked, counted, event_cause, exchange_cause, next, refused, rule, share_beside, share_of}
+use Rattle.pm_world.specs.State.{shared, tells}
 use Rattle.pm_world.specs.State.{cause_beside, cause_of, event_limit, IsTaken}
 
 -- what the host doesn't refuse has no fault

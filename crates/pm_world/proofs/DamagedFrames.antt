@@ -30,8 +30,9 @@ use Rattle.pm_world.proofs.Exchanges.{exchange_cause-by}
 use Rattle.pm_world.proofs.Frames.{heard_ending-request}
 use Rattle.pm_world.proofs.Hearings.{frame-write}
 use Rattle.pm_world.proofs.Learned.{is_request}
-use Rattle.pm_world.proofs.TakenWhole.{free, whole-hearing}
+use Rattle.pm_world.proofs.TakenWhole.{free}
 use Rattle.pm_world.proofs.Lives.{IsLived, life-told, now-setup}
+use Rattle.pm_world.specs.Lemmas.{whole-hearing}
 
 -- what wasn't betrayed is, where it came so
 damaged : Below → (before bytes came : List ℕ) → is_betrayed before bytes ≡ false → IsBetrayedDamage bytes came →

@@ -1,12 +1,7 @@
 -- The write that begins to be sent with an entry, and its delivery.
-use Rattle.std.proofs.Common.{◌≡◌, ℕ, Bool, true, false, not, cond, eqb, List, [], ◌∷◌, Option, Some, None, option_map, refl, sym, ◌∙◌}
+use Rattle.std.proofs.Common.{◌≡◌, ℕ, Bool, true, false, not, cond, List, [], ◌∷◌, Option, Some, None, option_map, refl, ◌∙◌}
 use Rattle.std.proofs.Common.{ap, ap₂, subst}
-use Rattle.std.specs.List.{starts_with}
 use Rattle.std.specs.Option.{option_map_or, option_or}
-use Rattle.std.proofs.lemmas.Bool.{or_left}
-use Rattle.std.proofs.lemmas.Bool.Decides.{Decides-eqb}
-use Rattle.std.proofs.lemmas.List.{append-nil}
-use Rattle.std.proofs.lemmas.Slice.Eq.{starts_is}
 use Rattle.pm_table.specs.declared.reg.Reg.{Reg}
 use Rattle.pm_table.specs.declared.cell.Cell.{Cell}
 use Rattle.pm_table.specs.declared.cell.Cell.TheVariants.{Out, Protect}
@@ -16,9 +11,7 @@ use Rattle.pm_table.specs.Protection.{is_allowed, lets_write}
 use Rattle.pm_table.specs.declared.protection.Protection.{Protection}
 use Rattle.pm_table.specs.declared.protection.Protection.TheVariants.{NotWritten}
 use Rattle.pm_frame.specs.declared.message.Message.{Message}
-use Rattle.pm_frame.specs.Betrayal.{is_betrayed}
 use Rattle.pm_model.specs.Settings.{word_at, with_word}
-use Rattle.pm_device.specs.declared.ending.Ending.TheVariants.{Stop}
 use Rattle.pm_device.specs.Effect.{Hearing, words_after}
 use Rattle.pm_host.specs.declared.command.Command.{Command}
 use Rattle.pm_host.specs.declared.command.Command.TheVariants.{RestoreUserAll}
@@ -29,6 +22,7 @@ use Rattle.pm_host.specs.Now.{now as host_now, job_stage, stage_of}
 use Rattle.pm_host.specs.Sound.{IsSound, IsStage}
 use Rattle.pm_host.specs.Summary.{Summary, sending_in, stage_message}
 use Rattle.pm_host.specs.Transcript as host
+use Rattle.pm_host.specs.Lemmas.{writes_cell}
 use Rattle.pm_world.specs.Below.{Below}
 use Rattle.pm_world.specs.declared.arrival.Arrival.TheVariants.{Whole}
 use Rattle.pm_world.specs.declared.event.Event.TheVariants.{Deliver}
@@ -36,8 +30,9 @@ use Rattle.pm_world.specs.declared.cause.Cause.TheVariants.{WrongKind, NotBetray
 use Rattle.pm_world.specs.Legal.{frame_of, heard_ending, is_legal_hearing}
 use Rattle.pm_world.specs.State.{State, delivery_cause, hearing, next, rule, share_of}
 use Rattle.pm_world.specs.Uncertainty.{IsLegal}
-use Rattle.pm_world.proofs.Hearings.{CanTake, is_write, whole-write, write-kind}
+use Rattle.pm_world.proofs.Hearings.{CanTake, is_write, whole-write}
 use Rattle.pm_world.proofs.Sending.{next-deliver-words, told-nothing, write-ending, write-fits}
+use Rattle.pm_world.specs.Lemmas.{write-heard}
 
 -- the write of a word to a cell is being sent, by a host that holds this
 pub record IsSent (h : Summary) (cell : Cell) (word : ℕ) : Type 0 where
@@ -85,15 +80,6 @@ begun-by setup entries sound = go (host.open_job setup entries) refl sound.stage
   go (Some (host.Learn output)) e is = no_write
   go (Some (host.Send sent)) e is = by_command sent
 
--- a whole frame starts with itself
-front-whole : (frame : List ℕ) → starts_with eqb frame frame ≡ true
-front-whole frame = (starts_is Decides-eqb frame frame (starts_with eqb frame frame) refl).1 [] (sym (append-nil frame))
-
--- a write that arrives whole is heard legally
-write-heard : (frame : List ℕ) → is_legal_hearing frame frame Stop ≡ true
-unfolding is_legal_hearing
-write-heard frame = or_left (starts_with eqb frame frame) (is_betrayed [] frame) (front-whole frame)
-
 -- where WRITE_PROTECT is 00h, each code that is written may be
 open-allows : (code : ℕ) → is_written code ≡ true → is_allowed 0x00 code ≡ true
 open-allows code written = go (line_of code) written where
@@ -125,7 +111,7 @@ pub delivers : Below → (s : State) (output : ℕ) (register : Reg) (word : ℕ
 delivers laws s output register word can = record {
   legal = record {
     free = ap (delivery_cause s Whole) can.sent.sending
-        ∙ ap₂ (λ b c. option_or (rule b WrongKind) (rule (not c) NotBetrayed)) (write-kind cell word) legal;
+        ∙ ap₂ (λ b c. option_or (rule b WrongKind) (rule (not c) NotBetrayed)) (writes_cell cell word) legal;
     word = tt;
   };
   told = told-nothing s Whole (sending_in s.host);

@@ -28,9 +28,10 @@ use Rattle.pm_world.specs.Life.{life, now}
 use Rattle.pm_world.specs.Setup.{setup_of}
 use Rattle.pm_world.specs.State.{State, end_by, next}
 use Rattle.pm_world.proofs.GoodReads.{order-again, order-done, quiet-reading}
-use Rattle.pm_world.proofs.Lives.{IsLived, earlier, lived-before, newest, now-config, now-next, now-setup}
+use Rattle.pm_world.proofs.Lives.{IsLived, earlier, lived-before, newest, now-next, now-setup}
 use Rattle.pm_world.proofs.Sending.{Fixed, Sends, deliver-sends, next-deliver-host, read-fits, write-fits}
 use Rattle.pm_world.proofs.Undisturbed.{deliver-entries, now-are, now-sound, share-entries}
+use Rattle.pm_world.specs.Lemmas.{now-config}
 
 -- what holds of a world while the order that was open is
 fixed-at : Below → {config : Config} {passes : ℕ} {before : List Event} {cell : Cell} {word pass : ℕ} →

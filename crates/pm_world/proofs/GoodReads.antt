@@ -32,6 +32,7 @@ use Rattle.pm_host.specs.Summary.{Change, Summary, answered, asked as question_a
 use Rattle.pm_host.specs.Sound.{IsStage}
 use Rattle.pm_host.specs.Summary.{next as host_next, read_another, read_back, sending_in, stage_message, step_of}
 use Rattle.pm_host.specs.Transcript as host
+use Rattle.pm_host.specs.Lemmas.{all_any-length}
 use Rattle.pm_world.specs.Below.{Below}
 use Rattle.pm_world.specs.declared.arrival.Arrival.{Arrival}
 use Rattle.pm_world.specs.declared.back.Back.{Back}
@@ -43,12 +44,13 @@ use Rattle.pm_world.specs.Life.{life, now, state_of}
 use Rattle.pm_world.specs.Setup.{setup_of}
 use Rattle.pm_world.specs.State.{State, answer_to, end_after, end_by, exchanged, host_after, next, share_of}
 use Rattle.pm_world.proofs.Learned.{from_some, whole-same}
-use Rattle.pm_world.proofs.Lives.{IsLived, earlier, lived-before, newest, now-config, now-next, now-setup}
+use Rattle.pm_world.proofs.Lives.{IsLived, earlier, lived-before, newest, now-next, now-setup}
 use Rattle.pm_world.proofs.OrderEvents.{event-stays, exchanged-stays}
 use Rattle.pm_world.proofs.ReadBack.{read-word}
 use Rattle.pm_world.proofs.Retellings.{sent-fits}
 use Rattle.pm_world.proofs.Sending.{eight, read-fits, same_cell-itself}
 use Rattle.pm_world.proofs.Undisturbed.{now-sound, now-standings, share-entries}
+use Rattle.pm_world.specs.Lemmas.{now-config}
 
 -- nothing happened that the host was told of, or that moved a word
 pub record IsQuiet (config : Config) (passes : ℕ) (before events : List Event) : Type 0 where
@@ -196,7 +198,8 @@ check-there laws {config = config} {passes = passes} {events = events} {cell = c
     (subst (IsStage (now config passes events).host) stage (now-sound laws config passes events lived).stage).there
 
 -- the cell of an order that is read back is there
-pub order-there : Below → {config : Config} {passes : ℕ} {events : List Event} {cell : Cell} {word pass : ℕ} → IsLived config passes events →
+pub order-there : Below → {config : Config} {passes : ℕ} {events : List Event} {cell : Cell} {word pass : ℕ}
+    → IsLived config passes events →
     (now config passes events).host.stage ≡ Some (Reads cell word pass) → IsCell config.count cell
 order-there laws {config = config} {passes = passes} {events = events} {cell = cell} lived stage =
     subst (λ (u : host.Setup). IsCell u.outputs cell) (now-setup config passes events)
@@ -222,11 +225,6 @@ now-possibles : (config : Config) (passes : ℕ) (events : List Event) → lengt
 unfolding now state_of host_now known_now table
 now-possibles config passes events = length-map-range_with_len {X = Possible}
     (λ place. possible_of (marks (setup_of config passes) (life config passes events).entries) (cell_in place)) 0 places
-
--- no word is known of any place
-any-length : length all_any ≡ places
-unfolding all_any
-any-length = refl
 
 -- where nothing is known any word is possible
 any-at : (place : ℕ) → place < places → slice_index_or all_any place Any ≡ Any
@@ -271,7 +269,7 @@ knows-of laws known cell word here possibles standings =
 
     long : (b : Bool) → length (cond b known.possible all_any) ≡ places
     long true = possibles
-    long false = any-length
+    long false = all_any-length
 
     rest : (b : Bool) (other : Cell) → IsCell 8 other → slice_index_or (cond b known.possible all_any) (place_of other) Any
         ≡ cond (not b) Any (known_possible known other)

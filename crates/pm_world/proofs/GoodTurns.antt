@@ -1,5 +1,6 @@
 -- What each frame that comes whole makes of an open job, and how the job ends once all its frames do.
-use Rattle.std.proofs.Common.{◌≡◌, ◌≢◌, ◌≤◌, ◌<◌, ◌+◌, ℕ, Bool, true, false, not, cond, eqb, ◌&&◌, List, [], ◌∷◌, Option, Some, None, refl, sym, ◌∙◌}
+use Rattle.std.proofs.Common.{◌≡◌, ◌≢◌, ◌≤◌, ◌<◌, ◌+◌, ℕ, Bool, true, false, not, cond, eqb, ◌&&◌, List, [], ◌∷◌, Option, Some, None, refl}
+use Rattle.std.proofs.Common.{sym, ◌∙◌}
 use Rattle.std.proofs.Common.{ap, ap₂, subst, is_some, is_none, IsSome, inl, inr, option_map, arith}
 use Rattle.std.specs.Prelude.{Result, Ok, Err, length}
 use Rattle.std.specs.Option.{option_map_or}
@@ -31,7 +32,8 @@ use Rattle.pm_host.specs.Transcript as host
 use Rattle.pm_world.specs.Below.{Below}
 use Rattle.pm_world.specs.declared.event.Event.{Event}
 use Rattle.pm_world.specs.GoodBus.{IsRead, IsWritten, WasWritten, held_after, stage_after}
-use Rattle.pm_world.specs.GoodTurns.{ComeWhole, ComesWhole, Ends, GoesOn, OpenJobsEnd, Turn, Turns, good_end, is_taken, mode_turn, order_end, read_turn, send_turn, turn_of}
+use Rattle.pm_world.specs.GoodTurns.{ComeWhole, ComesWhole, Ends, GoesOn, OpenJobsEnd, Turn, Turns, good_end, is_taken, mode_turn}
+use Rattle.pm_world.specs.GoodTurns.{order_end, read_turn, send_turn, turn_of}
 use Rattle.pm_world.specs.Honest.{IsSpelled}
 use Rattle.pm_world.specs.Legal.{frame_of}
 use Rattle.pm_world.specs.Life.{life, now, state_of}
@@ -131,7 +133,8 @@ send-turns : Below → {config : Config} {passes : ℕ} {before after : List Eve
     (now config passes before).host.stage ≡ Some (SendsCommand command tries) →
     IsWritten (frame_of config.addr (command_message command)) acked before after →
     Turns config passes after (send_turn passes command tries acked)
-send-turns laws {config = config} {passes = passes} {after = after} true lived all stage w = ends-so laws config passes after Done (send-done laws all stage w).0
+send-turns laws {config = config} {passes = passes} {after = after} true lived all stage w =
+    ends-so laws config passes after Done (send-done laws all stage w).0
 send-turns laws {config = config} {passes = passes} {after = after} {command = command} {tries = tries} false lived all stage w =
     go (eqb (tries + 1) passes) refl
   where
@@ -173,14 +176,18 @@ turns : Below → {config : Config} {passes : ℕ} {before after : List Event} (
     IsLived config passes before → IsLived config passes after → stage_after config passes before ≡ Some stage →
     ComesWhole config passes acked stage before after →
     Turns config passes after (turn_of config passes before acked stage)
-turns laws {config = config} {passes = passes} {after = after} acked (Asks (Word cell) tries) spelled lived all is frame = ends-so laws config passes after Done (check-done laws lived all is frame).done
-turns laws {config = config} {passes = passes} {after = after} acked (Asks (Mode output) tries) spelled lived all is frame = mode-turns laws lived all spelled is frame
+turns laws {config = config} {passes = passes} {after = after} acked (Asks (Word cell) tries) spelled lived all is frame =
+    ends-so laws config passes after Done (check-done laws lived all is frame).done
+turns laws {config = config} {passes = passes} {after = after} acked (Asks (Mode output) tries) spelled lived all is frame =
+    mode-turns laws lived all spelled is frame
 turns laws {config = config} {passes = passes} {after = after} acked (Asks (Coefficients output) tries) spelled lived all is frame =
     ends-so laws config passes after Learned (coefficients-learned laws lived all spelled is frame).learned
 turns laws {config = config} {passes = passes} {after = after} acked (Writes cell word pass) spelled lived all is frame =
     goes-so laws config passes after (Reads cell word pass) (write-done laws lived all is frame).stage
-turns laws {config = config} {passes = passes} {after = after} acked (Reads cell word pass) spelled lived all is frame = read-turns laws lived all is frame
-turns laws {config = config} {passes = passes} {after = after} acked (SendsCommand command tries) spelled lived all is frame = send-turns laws acked lived all is frame
+turns laws {config = config} {passes = passes} {after = after} acked (Reads cell word pass) spelled lived all is frame =
+    read-turns laws lived all is frame
+turns laws {config = config} {passes = passes} {after = after} acked (SendsCommand command tries) spelled lived all is frame =
+    send-turns laws acked lived all is frame
 
 -- ---- all frames
 
@@ -266,7 +273,8 @@ keeps laws {config = config} {passes = passes} {before = before} {after = after}
 keeps laws acked (Asks (Coefficients output) tries) lived all is well frame = refl
 keeps laws acked (Writes cell word pass) lived all is well frame = write-keeps (write-done laws lived all is frame)
 keeps laws {config = config} {passes = passes} {before = before} {after = after} acked (Reads cell word pass) lived all is well frame =
-    read-keeps config passes cell word pass before after (was-answered laws (cell_read cell) all (ap (option_map stage_message) is) frame).words
+    read-keeps config passes cell word pass before after
+    (was-answered laws (cell_read cell) all (ap (option_map stage_message) is) frame).words
 keeps laws true (SendsCommand command tries) lived all is well frame = refl
 keeps laws false (SendsCommand command tries) lived all is well frame = cc
 
@@ -355,7 +363,8 @@ frames-few laws config passes (acked ∷ more) before after spelled all (stage, 
 none-after : (config : Config) (passes : ℕ) (frames : List Bool) (before after : List Event) → stage_after config passes before ≡ None →
     ComeWhole config passes frames before after → after ≡ before
 none-after config passes [] before after over none = none
-none-after config passes (acked ∷ more) before after over (stage, middle, is, well, frame, rest) = let bad : Some stage ≡ None = sym is ∙ over in cc
+none-after config passes (acked ∷ more) before after over (stage, middle, is, well, frame, rest) = let bad : Some stage ≡ None =
+    sym is ∙ over in cc
 
 -- a job whose frames all come whole ends as its stage says
 frames-end : Below → (config : Config) (passes : ℕ) (frames : List Bool) (before after : List Event) (stage : Stage) →
@@ -367,7 +376,8 @@ frames-end laws config passes [] before after stage spelled all is none over =
 frames-end laws config passes (acked ∷ more) before after stage spelled all is
     (one, middle, open', well, frame, rest) over =
     go (turn_of config passes before acked one) (turns laws acked one spelled lived half open' frame)
-    (keeps laws acked one lived half open' well frame) (λ next there. frames-end laws config passes more middle after next spelled all there rest over)
+    (keeps laws acked one lived half open' well frame)
+    (λ next there. frames-end laws config passes more middle after next spelled all there rest over)
   where
     half : IsLived config passes middle
     half = all-lived config passes more middle after all rest
@@ -392,5 +402,6 @@ jobs-end laws = record {
   turn = λ config passes before after stage acked spelled all is frame.
       turns laws acked stage spelled (whole-lived acked stage all frame) all is frame;
   few = λ config passes frames before after spelled all whole. frames-few laws config passes frames before after spelled all whole;
-  ends = λ config passes frames before after stage spelled all is whole over. frames-end laws config passes frames before after stage spelled all is whole over;
+  ends = λ config passes frames before after stage spelled all is whole over. frames-end laws config passes frames before after stage
+      spelled all is whole over;
 }

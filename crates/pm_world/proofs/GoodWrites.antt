@@ -1,5 +1,6 @@
 -- What a write that comes whole makes of an open job, allowed by WRITE_PROTECT or not, and acknowledged or not.
-use Rattle.std.proofs.Common.{◌≡◌, ◌≢◌, ◌<◌, ◌+◌, ℕ, Bool, true, false, eqb, inl, inr, List, [], ◌∷◌, ◌++◌, Option, Some, None, refl, sym, ◌∙◌, ap}
+use Rattle.std.proofs.Common.{◌≡◌, ◌≢◌, ◌<◌, ◌+◌, ℕ, Bool, true, false, eqb, inl, inr, List, [], ◌∷◌, ◌++◌, Option, Some, None, refl, sym}
+use Rattle.std.proofs.Common.{◌∙◌, ap}
 use Rattle.std.proofs.Common.{subst, arith}
 use Rattle.std.specs.List.{list_all}
 use Rattle.std.proofs.lemmas.Bool.{and_parts, cond-false, cond-true, eq-eqb, false≢true, ne_eqb}
@@ -75,7 +76,8 @@ deliver-keeps laws {config = config} {passes = passes} {events = events} {cell =
         ∙ subst (λ j. is_allowed (held_after config passes events Protect) (pending_code j) ≡ true) is t.allowed))
 
     by : Went config passes events (Deliver arrival) (now config passes events).device
-        (now config passes (Deliver arrival ∷ events)).device → words_at config passes (Deliver arrival ∷ events) ≡ words_at config passes events
+        (now config passes (Deliver arrival ∷ events)).device
+        → words_at config passes (Deliver arrival ∷ events) ≡ words_at config passes events
     by (inl back) = (let no : Deliver arrival ≡ RestartDevice = back.0 in cc)
     by (inr took) = took.words
         ∙ ap (words_taken (words_at config passes events) (store_at config passes events))

@@ -23,6 +23,7 @@ use Rattle.pm_device.specs.Held.{Held}
 use Rattle.pm_device.specs.Verdict.{payload_word}
 use Rattle.pm_device.specs.Effect.{Hearing, Kept, kept_in, kept_after, words_after}
 use Rattle.pm_host.specs.Messages.{cell_write, register_payload}
+use Rattle.pm_host.specs.Lemmas.{writes_cell}
 use Rattle.pm_world.specs.Below.{Below}
 use Rattle.pm_world.specs.Legal.{frame_of, is_legal_hearing}
 
@@ -125,23 +126,18 @@ whole-write laws held (Out output register) word bytes can is =
 whole-write laws held Protect word bytes can is =
     ap (λ (k : Kept). k.words) (laws.writes_reach_one_cell.plain held word bytes is) ∙ both _ _ _ _ can.allowed can.accepted
 
--- the write of a cell is a write, and its frame spells it
-pub write-kind : (cell : Cell) (word : ℕ) → is_read_message (cell_write cell word) ≡ false
-write-kind (Out output register) word = refl
-write-kind Protect word = refl
-
--- its frame is one of a write
+-- the frame of a write of a cell is one of a write
 pub is_write : (addr : ℕ) (cell : Cell) (word : ℕ) → fits_layout (cell_write cell word) ≡ true →
     IsWrite addr (cell_write cell word) (frame_of addr (cell_write cell word))
 is_write addr cell word fits =
-    record { writes = write-kind cell word; fits = fits; spelled = frame-write addr (cell_write cell word) (write-kind cell word) }
+    record { writes = writes_cell cell word; fits = fits; spelled = frame-write addr (cell_write cell word) (writes_cell cell word) }
 
 -- a legal hearing of that write leaves the words, or sets that one
 pub legal-write : Below → (held : Held) (cell : Cell) (word : ℕ) (bytes : List ℕ) (ending : Ending) → CanTake held cell word →
     is_legal_hearing (frame_of held.config.addr (cell_write cell word)) bytes ending ≡ true →
     (words_after held (Hearing bytes ending) ≡ held.words) ⊎ (words_after held (Hearing bytes ending) ≡ with_word held.words cell word)
 legal-write laws held cell word bytes ending can legal =
-    elim (hears-write laws held (cell_write cell word) bytes ending (write-kind cell word) can.fits legal) [
+    elim (hears-write laws held (cell_write cell word) bytes ending (writes_cell cell word) can.fits legal) [
       | inl same ↦ inl (ap (λ (k : Kept). k.words) same)
       | inr (stop, is) ↦ inr (ap (λ e. words_after held (Hearing bytes e)) stop ∙ whole-write laws held cell word bytes can is)
     ]

@@ -32,6 +32,7 @@ use Rattle.pm_host.specs.Sound.{IsOrdering, IsStage}
 use Rattle.pm_host.specs.Standing.{standing_of}
 use Rattle.pm_host.specs.Summary.{Summary, sending_in, stage_message, possible_at, standing_at}
 use Rattle.pm_host.specs.Transcript as host
+use Rattle.pm_host.specs.Lemmas.{reads_cell as is-request}
 use Rattle.pm_world.specs.Below.{Below}
 use Rattle.pm_world.specs.declared.arrival.Arrival.{Arrival}
 use Rattle.pm_world.specs.declared.back.Back.{Back}
@@ -44,18 +45,20 @@ use Rattle.pm_world.specs.Retelling.{command_pending, pending_of, taken_by}
 use Rattle.pm_world.specs.Setup.{setup_of}
 use Rattle.pm_world.specs.State.{Share, State, share_of, exchanged, delivered, device_after, next, event_cause}
 use Rattle.pm_world.specs.State.{exchange_cause, answer_to}
-use Rattle.pm_world.proofs.Shares.{IsShare, begins, delivers, exchanges, finishes, measures, restarts_device, restarts_host as host_restarts, share-is, tells_none}
+use Rattle.pm_world.proofs.Shares.{IsShare, begins, delivers, exchanges, finishes, measures, restarts_device}
+use Rattle.pm_world.proofs.Shares.{restarts_host as host_restarts, share-is, tells_none}
 use Rattle.pm_world.proofs.Causes.{asked-restarts}
 use Rattle.pm_world.proofs.Learned.{from_some}
-use Rattle.pm_world.proofs.Lives.{IsLived, earlier, newest, entries-more, life-told, now-next}
+use Rattle.pm_world.proofs.Lives.{IsLived, earlier, newest, life-told, now-next}
 use Rattle.pm_world.proofs.OpenOrders.{pending-of_stage, stage_pending}
 use Rattle.pm_world.proofs.OrderEvents.{Sending, TookJob, delivered-takes, event-stays, exchanged-stays, taken-open}
 use Rattle.pm_world.proofs.Retellings.{sends}
-use Rattle.pm_world.proofs.ReadBack.{reads-cell, read-word}
+use Rattle.pm_world.proofs.ReadBack.{read-word}
 use Rattle.pm_world.proofs.Sending.{eight, told-nothing}
 use Rattle.pm_world.proofs.Standings.{IsKnown, IsKnownAfter, ReadsTrue, same-cells, accepted-known, finished-known, got-known}
 use Rattle.pm_world.proofs.Standings.{restarted-known as host_restarted-known}
 use Rattle.pm_world.proofs.TrueHost.{good-same}
+use Rattle.pm_world.specs.Lemmas.{entries-more}
 
 -- the order that is open: its word is possible, and no word of its cell is confirmed
 pub record IsOrdered (setup : host.Setup) (entries : List host.Entry) (cell : Cell) (word : ℕ) : Type 0 where
@@ -97,7 +100,7 @@ good-read laws {s = s} {word = word} arrival back read knows asked free good =
     let bytes = back_bytes (answer_to s.device s.host.setup.addr (cell_read read) arrival) back in
     let payload = from_some word_in (good_payload s.device.config.addr (cell_read read) bytes) word good in
     let same = good-same laws s arrival back (cell_read read) bytes
-    (record { addr = knows.sends.addr; reads = reads-cell read; free = free; is = refl }) payload.1 in
+    (record { addr = knows.sends.addr; reads = is-request read; free = free; is = refl }) payload.1 in
     same_Some (word_at s.device.words read) word
     (sym (read-word laws s.device read asks.1 (knows.accepted read asks.1) (knows.sends.fits (cell_read read) asks.0))
     ∙ (ap (good_word s.device.config.addr read) (sym same) ∙ good))

@@ -1,5 +1,6 @@
 -- A band that lies within limits, by the words that each register may hold.
-use Rattle.std.proofs.Common.{◌≡◌, ◌⊎◌, inl, inr, ℕ, ◌<◌, ◌^◌, pos, negsuc, Bool, true, false, cond, not, ◌&&◌, ◌||◌, List, [], ◌∷◌, refl, ◌∙◌, ap, arith}
+use Rattle.std.proofs.Common.{◌≡◌, ◌⊎◌, inl, inr, ℕ, ◌<◌, ◌^◌, pos, negsuc, Bool, true, false, cond, not, ◌&&◌, ◌||◌, List, [], ◌∷◌, refl}
+use Rattle.std.proofs.Common.{◌∙◌, ap, arith}
 use Rattle.std.proofs.lemmas.Bool.Decides.{nat_tests}
 use Rattle.pm_num.specs.AnyFormat.{Shape, InLinear11, InUlinear16, InDirect, shape_value}
 use Rattle.pm_num.specs.Lemmas.Slope.{direct-within}
@@ -23,17 +24,20 @@ use Rattle.pm_limits.specs.Bounds.{Bounds}
 use Rattle.pm_limits.specs.Ends.{candidates, shape_ends}
 use Rattle.pm_limits.specs.Lemmas.Cuts.{Cut, cut-greatest}
 use Rattle.pm_limits.specs.Lemmas.Farthest.{HaveDens, farthest_of-listed}
-use Rattle.pm_limits.specs.Lemmas.Order.{above-at-most, at-most, not-above, through}
+use Rattle.pm_limits.specs.Lemmas.Bands.{all-dens}
+use Rattle.pm_num.specs.Lemmas.Order.{above-at-most, at-most, not-above}
+use Rattle.pm_num.specs.Lemmas.Over.{at_most-trans}
 use Rattle.pm_world.proofs.LimitedLives.{cut-lower, cut-upper, selected-voltage}
 
--- each word that a register may hold has a value of at least the least limit, and of at most the most
+-- Each word that a register may hold has a value of at least the least limit.
 abbrev pub Ge : Shape → Bounds → Possible → Type 0
 Ge shape bounds possible = (x : ℕ) → is_listed x (candidates shape possible) ≡ true → AtMost (micros bounds.least) (shape_value shape x)
 
+-- Each word that a register may hold has a value of at most the most.
 abbrev pub Le : Shape → Bounds → Possible → Type 0
 Le shape bounds possible = (x : ℕ) → is_listed x (candidates shape possible) ≡ true → AtMost (shape_value shape x) (micros bounds.most)
 
--- so has each that one of these bytes of OPERATION selects
+-- What holds of some registers holds of each that one of these bytes of OPERATION selects.
 abbrev pub AreSelected : List ℕ → (Reg → Type 0) → Type 0
 AreSelected bytes holds = (byte : ℕ) → is_listed byte bytes ≡ true → holds (selected_register byte)
 
@@ -46,13 +50,9 @@ pub record IsInside (shape : Shape) (bounds : Bounds) (known : Known) (bytes : L
   pub upper : Le shape bounds (known VoutMax)
       ⊎ (AreSelected bytes (λ register. Le shape bounds (known register)) × Le shape bounds (known VoutMin))
 
-all-dens : (value : ℕ → Ratio) → ((word : ℕ) → 0 < (value word).den) → (words : List ℕ) → HaveDens value words
-all-dens value dens [] = tt
-all-dens value dens (word ∷ words) = (dens word, all-dens value dens words)
-
 -- ---- Fractions that are cut ----
 
--- what is at most a cut value is at most the greatest, and at most the selected value or the least one
+-- What is at most a cut value is at most the greatest, and at most the selected value or the least one.
 lower-parts : (c : Cut) (z : Ratio) → AtMost z (limited c.selected c.least c.greatest) →
     AtMost z c.greatest × (AtMost z c.selected ⊎ AtMost z c.least)
 lower-parts c z h = (go (is_above c.selected c.greatest) (is_above c.least c.selected) (is_above c.least c.greatest) refl refl refl h) where
@@ -61,10 +61,10 @@ lower-parts c z h = (go (is_above c.selected c.greatest) (is_above c.least c.sel
       AtMost z (cond (over || under && crossed) c.greatest (cond under c.least c.selected)) →
       AtMost z c.greatest × (AtMost z c.selected ⊎ AtMost z c.least)
   go true under crossed o u x h =
-      (h, inl (through z c.greatest c.selected c.greatest_den h (above-at-most c.selected c.greatest o)))
-  go false true true o u x h = (h, inr (through z c.greatest c.least c.greatest_den h (above-at-most c.least c.greatest x)))
-  go false true false o u x h = (through z c.least c.greatest c.least_den h (at-most c.least c.greatest x), inr h)
-  go false false crossed o u x h = (through z c.selected c.greatest c.selected_den h (at-most c.selected c.greatest o), inl h)
+      (h, inl (at_most-trans z c.greatest c.selected c.greatest_den h (above-at-most c.selected c.greatest o)))
+  go false true true o u x h = (h, inr (at_most-trans z c.greatest c.least c.greatest_den h (above-at-most c.least c.greatest x)))
+  go false true false o u x h = (at_most-trans z c.least c.greatest c.least_den h (at-most c.least c.greatest x), inr h)
+  go false false crossed o u x h = (at_most-trans z c.selected c.greatest c.selected_den h (at-most c.selected c.greatest o), inl h)
 
 -- what a cut value is at most is at least the greatest, or both the selected value and the least one
 upper-parts : (c : Cut) (z : Ratio) → AtMost (limited c.selected c.least c.greatest) z →
@@ -76,10 +76,10 @@ upper-parts c z h = go (is_above c.selected c.greatest) (is_above c.least c.sele
       AtMost c.greatest z ⊎ (AtMost c.selected z × AtMost c.least z)
   go true under crossed o u x h = inl h
   go false true true o u x h = inl h
-  go false true false o u x h = inr (through c.selected c.least z c.least_den (above-at-most c.least c.selected u) h, h)
-  go false false crossed o u x h = inr (h, through c.least c.selected z c.selected_den (at-most c.least c.selected u) h)
+  go false true false o u x h = inr (at_most-trans c.selected c.least z c.least_den (above-at-most c.least c.selected u) h, h)
+  go false false crossed o u x h = inr (h, at_most-trans c.least c.selected z c.selected_den (at-most c.least c.selected u) h)
 
--- and the other way round
+-- What is at most the greatest, and at most the selected value or the least one, is at most the cut value.
 lower-back : (c : Cut) (z : Ratio) → AtMost z c.greatest → AtMost z c.selected ⊎ AtMost z c.least →
     AtMost z (limited c.selected c.least c.greatest)
 lower-back c z g (inl s) = cut-lower c z s g
@@ -89,11 +89,12 @@ lower-back c z g (inr l) = go (is_above c.selected c.greatest) (is_above c.least
   go true under crossed u = g
   go false true true u = g
   go false true false u = l
-  go false false crossed u = through z c.least c.selected c.least_den l (at-most c.least c.selected u)
+  go false false crossed u = at_most-trans z c.least c.selected c.least_den l (at-most c.least c.selected u)
 
+-- What is at least the greatest, or both the selected value and the least one, is at least the cut value.
 upper-back : (c : Cut) (z : Ratio) → AtMost c.greatest z ⊎ (AtMost c.selected z × AtMost c.least z) →
     AtMost (limited c.selected c.least c.greatest) z
-upper-back c z (inl g) = through (limited c.selected c.least c.greatest) c.greatest z c.greatest_den (cut-greatest c) g
+upper-back c z (inl g) = at_most-trans (limited c.selected c.least c.greatest) c.greatest z c.greatest_den (cut-greatest c) g
 upper-back c z (inr (s, l)) = cut-upper c z s l
 
 -- ---- A band, and its pieces ----
@@ -132,7 +133,7 @@ module _ (shape : Shape) (bounds : Bounds) (known : Known) (bytes : List ℕ) (d
   -- where an end isn't below the least limit no word is
   ge-of : (register : Reg) → AtMost (micros bounds.least) (shape_value shape (word_end Lowest shape known register)) →
       Ge shape bounds (known register)
-  ge-of register end x listed = through (micros bounds.least) (shape_value shape (word_end Lowest shape known register))
+  ge-of register end x listed = at_most-trans (micros bounds.least) (shape_value shape (word_end Lowest shape known register))
       (shape_value shape x)
       (dens (word_end Lowest shape known register)) end
       (farthest_of-listed Lowest (shape_value shape) (candidates shape (known register)) x
@@ -140,7 +141,7 @@ module _ (shape : Shape) (bounds : Bounds) (known : Known) (bytes : List ℕ) (d
 
   le-of : (register : Reg) → AtMost (shape_value shape (word_end Highest shape known register)) (micros bounds.most) →
       Le shape bounds (known register)
-  le-of register end x listed = through (shape_value shape x) (shape_value shape (word_end Highest shape known register))
+  le-of register end x listed = at_most-trans (shape_value shape x) (shape_value shape (word_end Highest shape known register))
       (micros bounds.most)
       (dens (word_end Highest shape known register))
       (farthest_of-listed Highest (shape_value shape) (candidates shape (known register)) x
@@ -152,14 +153,16 @@ module _ (shape : Shape) (bounds : Bounds) (known : Known) (bytes : List ℕ) (d
   ge-selected : AtMost (micros bounds.least) (reach Lowest shape known (operation_end Lowest shape known bytes)) →
       AreSelected bytes (λ register. Ge shape bounds (known register))
   ge-selected end byte listed = ge-of (selected_register byte)
-      (through (micros bounds.least) (reach Lowest shape known (operation_end Lowest shape known bytes)) (reach Lowest shape known byte)
+      (at_most-trans (micros bounds.least) (reach Lowest shape known (operation_end Lowest shape known bytes))
+      (reach Lowest shape known byte)
       (dens (word_end Lowest shape known (selected_register (operation_end Lowest shape known bytes)))) end
       (farthest_of-listed Lowest (reach Lowest shape known) bytes byte (reach-dens Lowest) listed))
 
   le-selected : AtMost (reach Highest shape known (operation_end Highest shape known bytes)) (micros bounds.most) →
       AreSelected bytes (λ register. Le shape bounds (known register))
   le-selected end byte listed = le-of (selected_register byte)
-      (through (reach Highest shape known byte) (reach Highest shape known (operation_end Highest shape known bytes)) (micros bounds.most)
+      (at_most-trans (reach Highest shape known byte) (reach Highest shape known (operation_end Highest shape known bytes))
+      (micros bounds.most)
       (dens (word_end Highest shape known (selected_register (operation_end Highest shape known bytes))))
       (farthest_of-listed Highest (reach Highest shape known) bytes byte (reach-dens Highest) listed) end)
 
@@ -178,7 +181,7 @@ module _ (shape : Shape) (bounds : Bounds) (known : Known) (bytes : List ℕ) (d
         upper = elim high [ inl g ↦ inl (le-of VoutMax g) | inr both ↦ inr (le-selected both.0, le-of VoutMin both.1) ];
       }
 
-  -- and the other way round, where the ends are words that may be held
+  -- A band whose parts lie within limits lies within them, where its ends are words that may be held.
   pub inside-is : ((side : Side) (register : Reg) → is_voltage register ≡ true →
       is_listed (word_end side shape known register) (candidates shape (known register)) ≡ true) →
       ((side : Side) → is_listed (operation_end side shape known bytes) bytes ≡ true) →
@@ -291,11 +294,13 @@ pub ge-possible : (shape : Shape) (bounds : Bounds) (possible : Possible) (word 
 ge-possible shape bounds (Listed words) word dens short is ge = ge word is
 ge-possible shape bounds Any word dens short is ge =
     let ends = ends-hold shape word short in
-    through (micros bounds.least) (shape_value shape ends.0) (shape_value shape word) (dens ends.0) (ge ends.0 ends.2) ends.4.from_least
+    at_most-trans (micros bounds.least) (shape_value shape ends.0) (shape_value shape word) (dens ends.0) (ge ends.0 ends.2)
+    ends.4.from_least
 
 pub le-possible : (shape : Shape) (bounds : Bounds) (possible : Possible) (word : ℕ) → HasDens shape → word < 2 ^ 16 →
     is_possible word possible ≡ true → Le shape bounds possible → AtMost (shape_value shape word) (micros bounds.most)
 le-possible shape bounds (Listed words) word dens short is le = le word is
 le-possible shape bounds Any word dens short is le =
     let ends = ends-hold shape word short in
-    through (shape_value shape word) (shape_value shape ends.1) (micros bounds.most) (dens ends.1) ends.4.to_greatest (le ends.1 ends.3)
+    at_most-trans (shape_value shape word) (shape_value shape ends.1) (micros bounds.most) (dens ends.1) ends.4.to_greatest
+    (le ends.1 ends.3)

@@ -1,8 +1,10 @@
 -- A band that lies within limits, mark by mark of what its host did and learned.
-use Rattle.std.proofs.Common.{◌≡◌, ◌⊎◌, inl, inr, ℕ, ◌<◌, ◌^◌, ◌==◌, ◌/◌, ◌%◌, Bool, true, false, cond, not, ◌&&◌, ◌||◌, List, [], ◌∷◌, Option, Some, None, refl, sym, ◌∙◌, ap, subst, arith, reverse, option_map}
+use Rattle.std.proofs.Common.{◌≡◌, ◌⊎◌, inl, inr, ℕ, ◌<◌, ◌^◌, ◌==◌, ◌/◌, ◌%◌, Bool, true, false, cond, not, ◌&&◌, ◌||◌, List, [], ◌∷◌}
+use Rattle.std.proofs.Common.{Option, Some, None, refl, sym, ◌∙◌, ap, subst, arith, reverse, option_map}
 use Rattle.std.specs.List.{list_any}
 use Rattle.std.specs.Option.{option_map_or}
 use Rattle.std.proofs.lemmas.Bool.Decides.{nat_tests}
+use Rattle.std.proofs.lemmas.Bool.{or_right}
 use Rattle.pm_num.specs.AnyFormat.{Shape, shape_value}
 use Rattle.pm_num.specs.Ratio.{AtMost, micros}
 use Rattle.pm_table.specs.declared.cell.Cell.{Cell}
@@ -17,6 +19,7 @@ use Rattle.pm_host.specs.declared.possible.Possible.{Possible}
 use Rattle.pm_host.specs.declared.possible.Possible.TheVariants.{Any, Words}
 use Rattle.pm_host.specs.Marks.{Good, Mark, Put}
 use Rattle.pm_host.specs.Possible.{is_listed, is_possible, once, only, possible_from, possible_of, words_since}
+use Rattle.pm_host.specs.Lemmas.{possible_of-put_other}
 use Rattle.pm_limits.specs.declared.part_registers.PartRegisters.{PartRegisters}
 use Rattle.pm_limits.specs.Band.{HasDens, Known, each_selection, is_untaken, may_select_avsbus, operations, selects_avsbus}
 use Rattle.pm_limits.specs.Bounds.{Bounds, IsWithin}
@@ -24,7 +27,8 @@ use Rattle.pm_limits.specs.Ends.{candidates}
 use Rattle.pm_limits.specs.Lemmas.Selected.{each-selected}
 use Rattle.pm_limits.specs.Part.{missing_word}
 use Rattle.pm_world.specs.Below.{Below}
-use Rattle.pm_world.proofs.InsideLimits.{AreKept, AreSelected, Ge, IsInside, Le, SelectNoMore, SelectOneMore, fewer-inside, ge-possible, kept-inside, le-possible, more-inside}
+use Rattle.pm_world.proofs.InsideLimits.{AreKept, AreSelected, Ge, IsInside, Le, SelectNoMore, SelectOneMore, fewer-inside, ge-possible}
+use Rattle.pm_world.proofs.InsideLimits.{kept-inside, le-possible, more-inside}
 use Rattle.pm_world.proofs.PlanSteps.{one-register}
 
 -- the words that are listed; where any is possible, these
@@ -80,17 +84,6 @@ put-listing laws ms cell word any x listed =
       | inr is ↦ inr (number is)
     ]
 
--- another cell may hold what it might
-put-other : (ms : List Mark) (put cell : Cell) (word : ℕ) → same_cell put cell ≡ false →
-    possible_of (Put put word ∷ ms) cell ≡ possible_of ms cell
-unfolding possible_of
-put-other ms put cell word other = ap (λ (b : Bool). possible_from (cond b (option_map (λ words. word ∷ words) (words_since ms cell))
-    (words_since ms cell))) other
-
-or-second : (a b : Bool) → b ≡ true → (a || b) ≡ true
-or-second true b h = refl
-or-second false b h = h
-
 -- a list of which some word passes a test has one, and one that has such a word passes
 any-listed : (test : ℕ → Bool) (words : List ℕ) → list_any test words ≡ true →
     (x : ℕ) × (is_listed x words ≡ true) × (test x ≡ true)
@@ -104,7 +97,7 @@ any-listed test (word ∷ words) h = go (test word) refl h (λ rest. any-listed 
       (x : ℕ) × (is_listed x (word ∷ words) ≡ true) × (test x ≡ true)
   go true e h' more = (word, ap (λ (b : Bool). b || is_listed word words) itself, e)
   go false e h' more =
-      let found = more h' in (found.0, or-second (word == found.0) (is_listed found.0 words) found.1, found.2)
+      let found = more h' in (found.0, or_right (word == found.0) (is_listed found.0 words) found.1, found.2)
 
 listed-any : (test : ℕ → Bool) (words : List ℕ) (x : ℕ) → is_listed x words ≡ true → test x ≡ true → list_any test words ≡ true
 listed-any test [] x listed passes = cc
@@ -114,7 +107,7 @@ listed-any test (word ∷ words) x listed passes = go (word == x) refl listed (�
   go true e l more =
       let same : word ≡ x = grind (arith, nat_tests) in
       ap (λ (b : Bool). b || list_any test words) (ap test same ∙ passes)
-  go false e l more = or-second (test word) (list_any test words) (more l)
+  go false e l more = or_right (test word) (list_any test words) (more l)
 
 -- where a test fails of a word that is put, it holds of some word then only where it held of one before
 none-more : (test : ℕ → Bool) (words later : List ℕ) (word : ℕ) → test word ≡ false →
@@ -236,13 +229,13 @@ same-sides shape bounds possible later same = (
   (λ le. subst (λ (p : Possible). Le shape bounds p) (sym same) le),
 )
 
--- a missing register stands where it is
+-- What may be held of a register stays on both sides of the limits where a missing one stands for a word.
 missing-sides : (shape : Shape) (bounds : Bounds) (missing : Option ℕ) (possible later : Possible) → Sides shape bounds possible later →
     Sides shape bounds (option_map_or only missing possible) (option_map_or only missing later)
 missing-sides shape bounds None possible later sides = sides
 missing-sides shape bounds (Some word) possible later sides = ((λ ge. ge), (λ le. le))
 
--- so it is for a part with these registers
+-- What may be held of each register stays on both sides of the limits for a part with these registers.
 sides-kept : (part : PartRegisters) (shape : Shape) (bounds : Bounds) (output : ℕ) (ms later : List Mark) →
     ((register : Reg) → is_voltage register ≡ true → Sides shape bounds (raw_by ms output register) (raw_by later output register)) →
     AreKept shape bounds (known_by part shape ms output) (known_by part shape later output)
@@ -369,7 +362,8 @@ module _ (laws : Below) (part : PartRegisters) (shape : Shape) (bounds : Bounds)
   put-sides-at put word within register = go (same_cell (Out output put) (Out output register)) refl where
     go : (b : Bool) → same_cell (Out output put) (Out output register) ≡ b →
         Sides shape bounds (raw_by ms output register) (raw_by (Put (Out output put) word ∷ ms) output register)
-    go false e = same-sides shape bounds (raw_by ms output register) _ (put-other ms (Out output put) (Out output register) word e)
+    go false e = same-sides shape bounds (raw_by ms output register) _
+        (possible_of-put_other ms (Out output put) (Out output register) word e)
     go true e = subst (λ (c : Cell). Sides shape bounds (possible_of ms c) (possible_of (Put (Out output put) word ∷ ms) c))
         ((laws.cells_are_told_apart (Out output put) (Out output register)).0 e) (put-sides (Out output put) word within)
 
@@ -378,18 +372,18 @@ module _ (laws : Below) (part : PartRegisters) (shape : Shape) (bounds : Bounds)
       ((register : Reg) → same_cell put (Out output register) ≡ false) →
       Stays part shape bounds output ms open' → Stays part shape bounds output (Put put word ∷ ms) open'
   other-stays put word open' other = stays-by part shape bounds output ms (Put put word ∷ ms) open'
-      (λ register voltage. same-sides shape bounds (raw_by ms output register) _ (put-other ms put (Out output register) word
+      (λ register voltage. same-sides shape bounds (raw_by ms output register) _ (possible_of-put_other ms put (Out output register) word
       (other register)))
-      (same-select (raw_by ms output Operation) _ (put-other ms put (Out output Operation) word (other Operation)))
-      (same-here (raw_by ms output Operation) _ (put-other ms put (Out output Operation) word (other Operation)))
+      (same-select (raw_by ms output Operation) _ (possible_of-put_other ms put (Out output Operation) word (other Operation)))
+      (same-here (raw_by ms output Operation) _ (possible_of-put_other ms put (Out output Operation) word (other Operation)))
 
   voltage-stays : (put : Reg) (word : ℕ) (open' : Option PendingJob) → IsWithin bounds (shape_value shape word) →
       same_cell (Out output put) (Out output Operation) ≡ false →
       Stays part shape bounds output ms open' → Stays part shape bounds output (Put (Out output put) word ∷ ms) open'
   voltage-stays put word open' within other = stays-by part shape bounds output ms (Put (Out output put) word ∷ ms) open'
       (λ register voltage. put-sides-at put word within register)
-      (same-select (raw_by ms output Operation) _ (put-other ms (Out output put) (Out output Operation) word other))
-      (same-here (raw_by ms output Operation) _ (put-other ms (Out output put) (Out output Operation) word other))
+      (same-select (raw_by ms output Operation) _ (possible_of-put_other ms (Out output put) (Out output Operation) word other))
+      (same-here (raw_by ms output Operation) _ (possible_of-put_other ms (Out output put) (Out output Operation) word other))
 
   -- a byte is ordered for OPERATION, which is no voltage
   apart : (register : Reg) → is_voltage register ≡ true → same_register Operation register ≡ false
@@ -402,7 +396,7 @@ module _ (laws : Below) (part : PartRegisters) (shape : Shape) (bounds : Bounds)
 
   operation-other : (word : ℕ) (register : Reg) → is_voltage register ≡ true →
       raw_by (Put (Out output Operation) word ∷ ms) output register ≡ raw_by ms output register
-  operation-other word register voltage = put-other ms (Out output Operation) (Out output register) word
+  operation-other word register voltage = possible_of-put_other ms (Out output Operation) (Out output register) word
       (ap (λ (b : Bool). output == output && b) (apart register voltage) ∙ none-both (output == output))
 
   operation-stays : (byte : ℕ) (open' : Option PendingJob) → is_operation byte ≡ true →

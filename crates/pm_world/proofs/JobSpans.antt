@@ -28,8 +28,9 @@ use Rattle.pm_world.specs.Possible.{restarts_host}
 use Rattle.pm_world.specs.Setup.{setup_of}
 use Rattle.pm_world.specs.State.{Share, State, asked, share_of, tells}
 use Rattle.pm_world.proofs.Causes.{asked-next}
-use Rattle.pm_world.proofs.Lives.{IsLived, earlier, entries-more, life-told, now-next}
+use Rattle.pm_world.proofs.Lives.{IsLived, earlier, life-told, now-next}
 use Rattle.pm_world.proofs.Shares.{IsShare, begins, exchanges, finishes, restarts_host as host_restarts, share-is}
+use Rattle.pm_world.specs.Lemmas.{entries-more}
 
 -- of two lists
 pub any-parts : {X : Type 0} (test : X → Bool) (xs ys : List X) → list_any test (xs ++ ys) ≡ false →

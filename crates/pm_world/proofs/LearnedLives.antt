@@ -23,9 +23,10 @@ use Rattle.pm_world.specs.Setup.{setup_of, start}
 use Rattle.pm_world.specs.State.{State, next, nothing, tells}
 use Rattle.pm_world.proofs.KeptFormats.{format-ended, formats-kept}
 use Rattle.pm_world.proofs.Learned.{IsTrueHost}
-use Rattle.pm_world.proofs.Lives.{IsLived, earlier, newest, lived-before, now-config, now-next, now-nil, now-setup}
+use Rattle.pm_world.proofs.Lives.{IsLived, earlier, newest, lived-before, now-next, now-nil, now-setup}
 use Rattle.pm_world.proofs.TrueHost.{Stands, agree-none, next-true}
 use Rattle.pm_world.proofs.Undisturbed.{now-sound, share-entries}
+use Rattle.pm_world.specs.Lemmas.{now-config}
 
 -- what holds of a world throughout holds after each life
 stands : Below → (config : Config) (passes : ℕ) (events : List Event) → IsLived config passes events → IsSpelled config →

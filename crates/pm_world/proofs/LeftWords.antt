@@ -22,10 +22,11 @@ use Rattle.pm_world.specs.Setup.{setup_of}
 use Rattle.pm_world.specs.State.{event_limit}
 use Rattle.pm_world.specs.Uncertainty.{AreLegal, ArePossible, AreSteady, Choice, Leaves, may_hold, since_restart}
 use Rattle.pm_world.proofs.HeldWords.{knows, life-known}
-use Rattle.pm_world.proofs.Lives.{IsLived, life-told, now-config}
+use Rattle.pm_world.proofs.Lives.{IsLived, life-told}
 use Rattle.pm_world.proofs.Sending.{eight}
 use Rattle.pm_world.proofs.SinceRestart.{since-same}
 use Rattle.pm_world.proofs.TakenWhole.{free, now-taken}
+use Rattle.pm_world.specs.Lemmas.{now-config}
 
 -- where neither end restarts, the converter didn't since any answer
 steady-fresh : (config : Config) (passes : ℕ) (cell : Cell) (events : List Event) → AreSteady events →

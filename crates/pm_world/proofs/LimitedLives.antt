@@ -1,5 +1,6 @@
 -- An output commands a voltage within limits that allow each of its own words.
-use Rattle.std.proofs.Common.{◌≡◌, ◌≢◌, ◌⊎◌, inl, inr, ℕ, ◌<◌, ℤ, pos, Bool, true, false, cond, ◌&&◌, ◌||◌, List, [], ◌∷◌, ◌++◌, Option, Some}
+use Rattle.std.proofs.Common.{◌≡◌, ◌≢◌, ◌⊎◌, inl, inr, ℕ, ◌<◌, ℤ, pos, Bool, true, false, cond, ◌&&◌, ◌||◌, List, [], ◌∷◌, ◌++◌, Option}
+use Rattle.std.proofs.Common.{Some}
 use Rattle.std.proofs.Common.{None, Ok, Err, refl, sym, ◌∙◌, ap, subst, append_assoc}
 use Rattle.std.proofs.Common.{is_some, is_none, option_and_then}
 use Rattle.std.specs.Prelude.{slice_index_or, IsSomeAnd}
@@ -39,7 +40,8 @@ use Rattle.pm_limits.specs.Bounds.{Bounds, IsWithin}
 use Rattle.pm_limits.specs.Guard.{Guarded, guard_fault}
 use Rattle.pm_limits.specs.Lemmas.Cuts.{Cut, cut-greatest, cut-least}
 use Rattle.pm_limits.specs.Lemmas.Guarded.{guarded-voltage}
-use Rattle.pm_limits.specs.Lemmas.Order.{above-at-most, through}
+use Rattle.pm_num.specs.Lemmas.Order.{above-at-most}
+use Rattle.pm_num.specs.Lemmas.Over.{at_most-trans}
 use Rattle.pm_limits.specs.Lemmas.Selected.{each-selected}
 use Rattle.pm_world.specs.Below.{Below}
 use Rattle.pm_world.specs.declared.event.Event.{Event}
@@ -47,12 +49,14 @@ use Rattle.pm_world.specs.declared.event.Event.TheVariants.{Deliver, Exchange, F
 use Rattle.pm_world.specs.Honest.{IsSpelled}
 use Rattle.pm_world.specs.Job.{asked_by}
 use Rattle.pm_world.specs.Life.{now}
-use Rattle.pm_world.specs.Limited.{AreGuarded, MaxAtMost, MinAtLeast, OrdersWithin, OwnWithin, StartsWithin, StaysLimited, WordWithin, commands}
+use Rattle.pm_world.specs.Limited.{AreGuarded, MaxAtMost, MinAtLeast, OrdersWithin, OwnWithin, StartsWithin, StaysLimited, WordWithin}
+use Rattle.pm_world.specs.Limited.{commands}
 use Rattle.pm_world.specs.Retelling.{CommandsOwn, IsOwnWord, accepts, open_pending, pending_of, taken_at, takes, told, told_beside}
 use Rattle.pm_world.specs.State.{asked}
 use Rattle.pm_world.proofs.LearnedLives.{formats-agree}
-use Rattle.pm_world.proofs.Lives.{IsLived, lived-before, now-config}
+use Rattle.pm_world.proofs.Lives.{IsLived, lived-before}
 use Rattle.pm_world.proofs.OwnWords.{life-commands}
+use Rattle.pm_world.specs.Lemmas.{now-config, in-format}
 
 -- the values of a format that is made have positive denominators
 slope : (m : ℤ) → int_eq m (pos 0) ≡ false → m ≢ pos 0
@@ -140,8 +144,8 @@ cut-upper c z s l =
   where
     go : (over under crossed : Bool) → is_above c.selected c.greatest ≡ over → is_above c.least c.greatest ≡ crossed →
         AtMost (cond (over || under && crossed) c.greatest (cond under c.least c.selected)) z
-    go true under crossed o x = through c.greatest c.selected z c.selected_den (above-at-most c.selected c.greatest o) s
-    go false true true o x = through c.greatest c.least z c.least_den (above-at-most c.least c.greatest x) l
+    go true under crossed o x = at_most-trans c.greatest c.selected z c.selected_den (above-at-most c.selected c.greatest o) s
+    go false true true o x = at_most-trans c.greatest c.least z c.least_den (above-at-most c.least c.greatest x) l
     go false true false o x = l
     go false false crossed o x = s
 
@@ -154,7 +158,7 @@ cut-lower c z s g =
         AtMost z (cond (over || under && crossed) c.greatest (cond under c.least c.selected))
     go true under crossed u = g
     go false true true u = g
-    go false true false u = through z c.selected c.least c.selected_den s (above-at-most c.least c.selected u)
+    go false true false u = at_most-trans z c.selected c.least c.selected_den s (above-at-most c.least c.selected u)
     go false false crossed u = s
 
 -- a selected register's word within limits has a value within them
@@ -199,7 +203,7 @@ stays-below laws {config = config} lived output most later before here is all =
     let value = value_for config output in
     let cut = cut-of config output lived.sound here own.selected own.least own.most in
     subst (λ (v : Ratio). AtMost v most) (sym own.cut)
-    (through (limited (value own.selected) (value own.least) (value own.most)) (value own.most) most
+    (at_most-trans (limited (value own.selected) (value own.least) (value own.most)) (value own.most) most
     (sound-dens config output lived.sound here own.most) (cut-greatest cut) (all own.most own.own_most))
 
 -- at each moment of a life, an output commands at least a voltage that none of its own words of VOUT_MIN lies below,
@@ -214,7 +218,7 @@ stays-above laws {config = config} lived output least later before here is all =
     let value = value_for config output in
     let cut = cut-of config output lived.sound here own.selected own.least own.most in
     subst (λ (v : Ratio). AtMost least v) (sym own.cut)
-    (through least (value own.least) (limited (value own.selected) (value own.least) (value own.most))
+    (at_most-trans least (value own.least) (limited (value own.selected) (value own.least) (value own.most))
     (sound-dens config output lived.sound here own.least) (all.above own.least own.own_least)
     (cut-least cut (all.below own.least own.most own.own_least own.own_most)))
 
@@ -318,7 +322,8 @@ stays-kept config passes output bounds later before own all register word voltag
       go (inr within) = word-within register bounds (value_for config output word) within
 
 -- a guard lets each event of a guarded life through
-guarded-at : (config : Config) (passes : ℕ) (part : PartRegisters) (limits : List (Option Bounds)) (later : List Event) (event : Event) (before : List Event) →
+guarded-at : (config : Config) (passes : ℕ) (part : PartRegisters) (limits : List (Option Bounds)) (later : List Event) (event : Event)
+    (before : List Event) →
     AreGuarded config passes part limits (later ++ event ∷ before) →
     option_and_then (guard_fault (record { host = (now config passes before).host; limits = limits; registers = part }))
     (asked_by event) ≡ None
@@ -334,14 +339,6 @@ pub ordered-within : (g : Guarded) (asked : Option Job) (output : ℕ) (register
 ordered-within g None output register word bounds free is voltage limits = cc
 ordered-within g (Some job) output register word bounds free is voltage limits =
     guarded-voltage g job output register word bounds free is voltage limits
-
--- a word within limits in the format that a host knows lies within them in the converter's own, which is the same
-pub in-format : (known : Option Shape) (own : Shape) (word : ℕ) (bounds : Bounds) →
-    ((shape : Shape) → known ≡ Some shape → shape ≡ own) →
-    IsSomeAnd known (λ shape. IsWithin bounds (shape_value shape word)) → IsWithin bounds (shape_value own word)
-in-format None own word bounds agree within = absurd within
-in-format (Some shape) own word bounds agree within =
-    subst (λ (s : Shape). IsWithin bounds (shape_value s word)) (agree shape refl) within
 
 -- where each job went through a guard, an own word is the start word or lies within the guard's limits
 stays-ordered : Below → {config : Config} {passes : ℕ} {events : List Event} → IsLived config passes events → IsSpelled config →

@@ -170,19 +170,7 @@ pub lived-before : (config : Config) (passes : ℕ) (later before : List Event) 
 lived-before config passes [] before lived = lived
 lived-before config passes (event ∷ later) before lived = lived-before config passes later before (earlier lived)
 
--- what no event changes
-pub now-config : (config : Config) (passes : ℕ) (events : List Event) → (now config passes events).device.config ≡ config
-unfolding now state_of device_now
-now-config config passes events = refl
-
 -- no event changes the host's setup
 pub now-setup : (config : Config) (passes : ℕ) (events : List Event) → (now config passes events).host.setup ≡ setup_of config passes
 unfolding now state_of host_now
 now-setup config passes events = refl
-
--- the entries after one more event
-pub entries-more : (config : Config) (passes : ℕ) (before : List Event) (event : Event) →
-    (life config passes (event ∷ before)).entries ≡ option_to_list (share_of (now config passes before) event).told ++
-    (life config passes before).entries
-unfolding life now
-entries-more config passes before event = refl

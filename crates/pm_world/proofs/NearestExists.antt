@@ -1,6 +1,6 @@
 -- A format has a nearest word for each number, whatever it was made from: of all words, one comes before all others.
 use Rattle.std.proofs.Common.{◌≡◌, ℕ, zero, suc, ◌*◌, ◌^◌, ◌<◌, ◌≤◌, ◌⊎◌, inl, inr, ℤ, pos, negsuc, ◌*ℤ◌, ◌≤ℤ◌, Bool, true, false, not}
-use Rattle.std.proofs.Common.{cond, Some, refl, sym, ◌∙◌, ap, ap₂, subst, arith, lit<, T}
+use Rattle.std.proofs.Common.{cond, Some, refl, sym, ◌∙◌, ap, ap₂, subst, arith, lit<}
 use Rattle.std.specs.Prelude.{◌||◌, ◌&&◌, nat_le, IsSome}
 use Rattle.std.proofs.Math.Nat.{mul-le-mul_right, le_of_mul-le-mul_right}
 use Rattle.std.proofs.lemmas.Bool.{cases_lt, leb-true, le-leb}
@@ -14,7 +14,8 @@ use Rattle.pm_num.specs.Value.{direct_value, exponent, linear11_value, ulinear16
 use Rattle.pm_num.specs.Lemmas.Over.{gap-over}
 use Rattle.pm_num.specs.Lemmas.Slope.{direct-has_den}
 use Rattle.pm_num.specs.Lemmas.Unsigned.{lower-positive}
-use Rattle.pm_limits.specs.Lemmas.Order.{through}
+use Rattle.pm_num.specs.Lemmas.Over.{at_most-trans}
+use Rattle.pm_num.specs.Lemmas.Found.{from_T}
 
 -- What is as near as something that is as near as a third is as near as that.
 near-near : (x p q r : Ratio) → 0 < q.den → Near x p q → Near x q r → Near x p r
@@ -79,12 +80,12 @@ before-before value rank x den a b c h k =
     ) in
     record {
       near = near-near x (value a) (value b) (value c) (den b) h.near k.near;
-      lower = λ n. let p = low n in through (value a) (value b) (value c) (den b) p.0 p.1;
+      lower = λ n. let p = low n in at_most-trans (value a) (value b) (value c) (den b) p.0 p.1;
       spelled = λ same.
           let p = low (same-near x (value c) (value a) (den c) (den a) same) in
           let r : AtMost (value c) (value a) = omega (arith, ints) in
-          let s = through (value b) (value c) (value a) (den c) p.1 r in
-          let t = through (value c) (value a) (value b) (den a) r p.0 in
+          let s = at_most-trans (value b) (value c) (value a) (den c) p.1 r in
+          let t = at_most-trans (value c) (value a) (value b) (den a) r p.0 in
           let f = h.spelled (both (value b) (value a) s p.0) in
           let g = k.spelled (both (value c) (value b) t p.1) in
           omega arith;
@@ -118,11 +119,6 @@ first_of_all R total along (suc n) = step (first_of_all R total along n) where
         | inl m ↦ below u m
         | inr m ↦ let e : suc n ≡ u = omega arith in subst P e here
       ]
-
--- a test that holds is true
-from_T : (b : Bool) → T b → b ≡ true
-from_T true h = refl
-from_T false h = absurd h
 
 -- a test that holds of each number below holds of all of them
 each-true : (test : ℕ → Bool) (n : ℕ) → ((k : ℕ) → k < n → test k ≡ true) → each_below test n ≡ true

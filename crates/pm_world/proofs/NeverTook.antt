@@ -25,6 +25,7 @@ use Rattle.pm_host.specs.Messages.{cell_read, cell_write}
 use Rattle.pm_host.specs.Now.{now as host_now}
 use Rattle.pm_host.specs.Summary.{Summary, sending_in, step_by}
 use Rattle.pm_host.specs.Transcript as host
+use Rattle.pm_host.specs.Lemmas.{writes_cell}
 use Rattle.pm_world.specs.Below.{Below}
 use Rattle.pm_world.specs.declared.arrival.Arrival.{Arrival}
 use Rattle.pm_world.specs.declared.back.Back.{Back}
@@ -37,7 +38,6 @@ use Rattle.pm_world.specs.Retelling.{open_pending, pending_of, taken_at}
 use Rattle.pm_world.specs.Setup.{setup_of}
 use Rattle.pm_world.specs.State.{State, share_of, exchanged, exchange_cause, next}
 use Rattle.pm_world.proofs.Causes.{exchange-reads}
-use Rattle.pm_world.proofs.Hearings.{write-kind}
 use Rattle.pm_world.proofs.HeldWords.{knows, reads-true}
 use Rattle.pm_world.proofs.JobSpans.{IsOrOver, TellsFrame, any-parts, beside-tells, by-acceptance, by-frame, by-silence, open-end}
 use Rattle.pm_world.proofs.KeptFormats.{none-other, open-is}
@@ -125,7 +125,7 @@ turn-reads : (cell : Cell) (word : ℕ) (turn : Bool) (message : Message)
     is_read_message message ≡ true → cond turn None (Some cell) ≡ Some cell
 turn-reads cell word false message is reads = refl
 turn-reads cell word true message is reads =
-    absurd (false≢true (sym (ap is_read_message (same_Some message (cell_write cell word) is) ∙ write-kind cell word) ∙ reads))
+    absurd (false≢true (sym (ap is_read_message (same_Some message (cell_write cell word) is) ∙ writes_cell cell word) ∙ reads))
 
 -- the cell that an open order reads, while a request is being sent
 asks-cell : Below → (setup : host.Setup) (entries : List host.Entry) (cell : Cell) (word : ℕ) (message : Message) →

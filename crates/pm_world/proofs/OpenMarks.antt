@@ -3,7 +3,7 @@ use Rattle.std.proofs.Common.{◌≡◌, ℕ, Bool, true, false, cond, not, ◌&
 use Rattle.std.proofs.Common.{refl, ◌∙◌, ap, option_map}
 use Rattle.std.specs.List.{list_any, filter}
 use Rattle.std.specs.Option.{option_map_or}
-use Rattle.std.proofs.lemmas.Bool.{false≢true, or_parts}
+use Rattle.std.proofs.lemmas.Bool.{false≢true, or_parts, and_parts}
 use Rattle.std.proofs.lemmas.List.{reverse-append}
 use Rattle.std.proofs.lemmas.List.Folds.{list_any-append}
 use Rattle.pm_table.specs.declared.cell.Cell.TheVariants.{Out, Protect}
@@ -13,15 +13,10 @@ use Rattle.pm_world.specs.OpenLists.{are_open, is_other, lists_other}
 use Rattle.pm_world.specs.Uncertainty.{AreOpen, leaves_open}
 use Rattle.pm_world.proofs.Standings.{ArePuts, no_put, one_put, one_restore}
 
--- of two tests that both say yes
-pub and-both : (a b : Bool) → (a && b) ≡ true → (a ≡ true) × (b ≡ true)
-and-both true b h = (refl, h)
-and-both false b h = cc
-
 -- the test is the fact
 pub open-is : (ms : List Mark) → are_open ms ≡ true → AreOpen ms
 open-is [] h = tt
-open-is (mark ∷ ms) h = let parts = and-both (leaves_open mark) (are_open ms) h in (parts.0, open-is ms parts.1)
+open-is (mark ∷ ms) h = let parts = and_parts (leaves_open mark) (are_open ms) h in (parts.0, open-is ms parts.1)
 
 -- marks that are open pass the test
 pub is-open : (ms : List Mark) → AreOpen ms → are_open ms ≡ true
@@ -86,7 +81,7 @@ open-finds (Restart ∷ ms) h = refl
 open-finds (Restored ∷ ms) h = absurd (false≢true h)
 open-finds (Put (Out output register) word ∷ ms) h = open-finds ms h
 open-finds (Put Protect word ∷ ms) h =
-    let parts = and-both (eqb word 0) (are_open ms) h in
+    let parts = and_parts (eqb word 0) (are_open ms) h in
     go (words_since ms Protect) (zero-other word parts.0) (open-finds ms parts.1)
   where
     go : (found : Option (List ℕ)) → is_other word ≡ false → Finds found ≡ false → Finds (option_map (λ ws. word ∷ ws) found) ≡ false
@@ -98,7 +93,7 @@ open-finds (Good (Out output register) word ∷ ms) h =
       go true rest = rest
       go false rest = refl
 open-finds (Good Protect word ∷ ms) h =
-    ap (λ b. b || false) (zero-other word (and-both (eqb word 0) (are_open ms) h).0)
+    ap (λ b. b || false) (zero-other word (and_parts (eqb word 0) (are_open ms) h).0)
 
 -- open marks list no other word
 pub open-lists : (ms : List Mark) → are_open ms ≡ true → lists_other (possible_of ms Protect) ≡ false

@@ -4,7 +4,7 @@ use Rattle.std.proofs.Common.{◌≡◌, ℕ, ℤ, Bool, true, false, cond, not,
 use Rattle.std.proofs.Common.{option_map, refl, sym, ◌∙◌, ap, ap₂, subst}
 use Rattle.std.specs.Prelude.{option_to_list}
 use Rattle.std.specs.Option.{option_or}
-use Rattle.std.proofs.lemmas.Bool.{and_right, false≢true}
+use Rattle.std.proofs.lemmas.Bool.{and_right, false≢true, and_parts}
 use Rattle.std.proofs.lemmas.Option.{same_Some}
 use Rattle.pm_table.specs.declared.cell.Cell.{Cell}
 use Rattle.pm_table.specs.declared.cell.Cell.TheVariants.{Out, Protect}
@@ -33,10 +33,11 @@ use Rattle.pm_world.specs.Uncertainty.{since_restart}
 use Rattle.pm_world.proofs.Causes.{asked-share, or-none}
 use Rattle.pm_world.proofs.JobSpans.{TellsFrame, beside-frame, by-acceptance, by-frame, by-silence}
 use Rattle.pm_world.proofs.LeftWords.{now-possible}
-use Rattle.pm_world.proofs.Lives.{IsLived, earlier, newest, entries-more, life-told}
-use Rattle.pm_world.proofs.OpenMarks.{and-both, open-append, open-lists, other-lists}
+use Rattle.pm_world.proofs.Lives.{IsLived, earlier, newest, life-told}
+use Rattle.pm_world.proofs.OpenMarks.{open-append, open-lists, other-lists}
 use Rattle.pm_world.proofs.SinceRestart.{since-same}
 use Rattle.pm_world.proofs.Standings.{AreGoods, no_good, one_good, are-goods, are-puts}
+use Rattle.pm_world.specs.Lemmas.{entries-more}
 
 -- what was told since the host's last restart, and whether it left WRITE_PROTECT open
 abbrev pub since : Config → ℕ → List Event → List host.Entry
@@ -167,7 +168,8 @@ frame-step setup before (host.Got bytes) possible false frame old fresh is =
     let new = puts setup (host.Got bytes ∷ before) in
     let good = goods setup before bytes in
     open-append new (good ++ marks setup before)
-    ∙ (ap (λ b. are_open new && b) (open-append good (marks setup before) ∙ (ap (λ b. are_open good && b) old ∙ and_right (are_open good) false refl))
+    ∙ (ap (λ b. are_open new && b)
+    (open-append good (marks setup before) ∙ (ap (λ b. are_open good && b) old ∙ and_right (are_open good) false refl))
     ∙ and_right (are_open new) false refl)
 frame-step setup before (host.Accepted job) possible b frame old fresh is = absurd (false≢true frame)
 frame-step setup before host.Restarted possible b frame old fresh is = absurd (false≢true frame)
@@ -275,7 +277,7 @@ by-asked laws config passes before event job lived asks =
           (closes-job s event job asks (newest lived)) (left-lists laws config passes (event ∷ before) lived)
           ∙ sym (ap (λ r. r || left_open config passes before && not (closes event || listed)) (asks-stays s event job asks));
       job = λ all. ap opens_by (by-acceptance laws config passes before event job lived asks).open'
-          ∙ (and-both (opens_job job) (left_open config passes before) (sym marked ∙ all)).0;
+          ∙ (and_parts (opens_job job) (left_open config passes before) (sym marked ∙ all)).0;
     }
 
 -- a restart of the host
@@ -328,7 +330,7 @@ by-told laws config passes before event lived none stays job (Some entry) told f
     record {
       is = marked ∙ (stepped ∙ sym (quiet (left_open config passes before) (restarts_host event) (closes event) (lists_other possible) stays
           (asks-none (now config passes before) event none)));
-      job = λ ok. opens ((and-both (left_open config passes before) _ (sym (marked ∙ stepped) ∙ ok)).0);
+      job = λ ok. opens ((and_parts (left_open config passes before) _ (sym (marked ∙ stepped) ∙ ok)).0);
     }
 
 -- the one that is a restart

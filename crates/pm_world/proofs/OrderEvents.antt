@@ -3,7 +3,7 @@ use Rattle.std.proofs.Common.{◌≡◌, inl, inr, ℕ, Bool, true, false, not, 
 use Rattle.std.proofs.Common.{cond, sym, ◌∙◌, ap, ap₂, subst}
 use Rattle.std.specs.Prelude.{bytes_eq, nat_lt}
 use Rattle.std.specs.Option.{option_and_then, option_or, option_map}
-use Rattle.std.proofs.lemmas.Bool.{and_parts, lt-ltb, ltb-true}
+use Rattle.std.proofs.lemmas.Bool.{and_parts, lt-ltb}
 use Rattle.std.proofs.lemmas.Slice.Eq.{bytes_eq-Decides}
 use Rattle.pm_table.specs.declared.cell.Cell.{Cell}
 use Rattle.pm_table.specs.declared.cell.Cell.TheVariants.{Out, Protect}
@@ -12,6 +12,7 @@ use Rattle.pm_table.specs.Protection.{is_allowed}
 use Rattle.pm_frame.specs.declared.message.Message.{Message}
 use Rattle.pm_frame.specs.declared.message.Message.TheVariants.{SendByte}
 use Rattle.pm_table.specs.Codes as command
+use Rattle.pm_table.specs.Lemmas.{is_cell-there}
 use Rattle.pm_frame.specs.declared.payload.Payload.TheVariants.{Empty}
 use Rattle.pm_frame.specs.Layout.{IsWrite, is_read_message, fits_layout}
 use Rattle.pm_model.specs.declared.pending_job.PendingJob.{PendingJob}
@@ -26,8 +27,6 @@ use Rattle.pm_device.specs.Effect.{Hearing, Kept, kept_in, kept_after}
 use Rattle.pm_device.specs.History.{next as device_next}
 use Rattle.pm_host.specs.declared.command.Command.{Command}
 use Rattle.pm_host.specs.declared.command.Command.TheVariants.{ClearFaults, StoreUserAll, RestoreUserAll}
-use Rattle.pm_host.specs.declared.question.Question.{Question}
-use Rattle.pm_host.specs.declared.question.Question.TheVariants.{Word}
 use Rattle.pm_host.specs.declared.stage.Stage.{Stage}
 use Rattle.pm_host.specs.declared.stage.Stage.TheVariants.{Writes, Reads, Asks, Sends}
 use Rattle.pm_host.specs.Messages.{cell_read, cell_write, command_message, register_payload}
@@ -36,6 +35,7 @@ use Rattle.pm_host.specs.Refusals.{is_busy, asking_fault, cell_fault, order_faul
 use Rattle.pm_host.specs.Sound.{IsStage}
 use Rattle.pm_host.specs.Summary.{Summary, next as host_next, sending_in, stage_message, idle}
 use Rattle.pm_host.specs.Transcript as host
+use Rattle.pm_host.specs.Lemmas.{reads_question}
 use Rattle.pm_world.specs.Below.{Below}
 use Rattle.pm_world.specs.declared.arrival.Arrival.{Arrival}
 use Rattle.pm_world.specs.declared.back.Back.{Back as Return}
@@ -137,11 +137,6 @@ command-makes laws held StoreUserAll bytes h =
     laws.writes_reach_one_cell.stores held (SendByte command.store_user_all) bytes h refl ∙ store-kept held _
 command-makes laws held RestoreUserAll bytes h =
     laws.writes_reach_one_cell.restores held (SendByte command.restore_user_all) bytes h refl ∙ restore-kept held _
-
--- each question is a read
-question-reads : (question : Question) → is_read_message (question_message question) ≡ true
-question-reads (Word (Out output register)) = refl
-question-reads _ = refl
 
 -- a write that was heard whole is so by the test
 whole-so : (frame bytes : List ℕ) (ending : Ending) → ending ≡ Stop → bytes ≡ frame →
@@ -256,7 +251,7 @@ stage-kept laws s arrival (Some (Sends sent tries)) message outputs is e fits wr
     by_command RestoreUserAll = both-so _ _ pending.Restore
 stage-kept laws s arrival (Some (Reads cell word pass)) message outputs is e fits writes legal = absurd (reads-cell cell message e writes)
 stage-kept laws s arrival (Some (Asks question tries)) message outputs is e fits writes legal =
-    absurd (reads (question_message question) message (question-reads question) e writes)
+    absurd (reads (question_message question) message (reads_question question) e writes)
 
 -- the words of the cells, and those in the store, are what a job makes of them, or stay where it is none
 pub record TookJob (old new : Held) (job : Option PendingJob) : Type 0 where
@@ -357,11 +352,6 @@ job-order s (host.Check cell) h = asking-order s _ h
 job-order s (host.Learn output) h = asking-order s _ h
 job-order s (host.Send sent) h = asking-order s _ h
 
--- what is_cell says
-cell-there : (outputs : ℕ) (cell : Cell) → is_cell outputs cell ≡ true → IsCell outputs cell
-cell-there outputs (Out output register) h = ltb-true output outputs h
-cell-there outputs Protect h = tt
-
 -- an order that isn't refused may be accepted
 pub record IsFree (s : Summary) (cell : Cell) (word : ℕ) : Type 0 where
   pub free : stage_pending s.stage ≡ None
@@ -376,7 +366,7 @@ order-free s cell word h =
     let words = or-none (rule (not (cell_accepts cell word)) _) _ first.1 in
     record {
       free = asking-order s _ first.0;
-      there = cell-there s.setup.outputs cell
+      there = is_cell-there s.setup.outputs cell
           (not-false _ (rule-none (not (is_cell s.setup.outputs cell)) _
           (or-none (rule (not (is_cell s.setup.outputs cell)) _) _ cells.1).0));
       fits = not-false _ (rule-none (not (cell_accepts cell word)) _ words.0);

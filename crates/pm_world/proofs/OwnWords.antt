@@ -25,9 +25,10 @@ use Rattle.pm_world.specs.Life.{now}
 use Rattle.pm_world.specs.Retelling.{start_settings, open_pending, pending_of, accepts, takes, taken_at, told, told_beside, retold}
 use Rattle.pm_world.specs.Retelling.{WasOrdered, IsOwnWord, CommandsOwn}
 use Rattle.pm_world.specs.State.{asked}
-use Rattle.pm_world.proofs.Lives.{IsLived, now-config}
+use Rattle.pm_world.proofs.Lives.{IsLived}
 use Rattle.pm_world.proofs.Retellings.{life-run}
 use Rattle.pm_world.proofs.Sending.{eight}
+use Rattle.pm_world.specs.Lemmas.{now-config}
 
 -- an order is accepted
 abbrev Ordered : Cell → ℕ → Step

@@ -1,12 +1,15 @@
 -- A plan, at each moment of a life.
-use Rattle.std.proofs.Common.{◌≡◌, ◌⊎◌, inl, inr, ℕ, ◌<◌, ◌==◌, Bool, true, false, cond, not, ◌||◌, List, [], ◌∷◌, ◌++◌, Option, Some, None, refl, sym, ◌∙◌, ap, subst, arith}
+use Rattle.std.proofs.Common.{◌≡◌, ◌⊎◌, inl, inr, ℕ, ◌<◌, ◌==◌, Bool, true, false, cond, not, ◌||◌, List, [], ◌∷◌, ◌++◌, Option, Some, None}
+use Rattle.std.proofs.Common.{refl, sym, ◌∙◌, ap, subst, arith}
 use Rattle.std.specs.Option.{option_map_or}
 use Rattle.std.proofs.lemmas.Bool.Decides.{nat_tests}
 use Rattle.std.proofs.Math.Path.{fun_ext}
+use Rattle.std.proofs.lemmas.Bool.{eq-eqb}
 use Rattle.pm_table.specs.declared.cell.Cell.TheVariants.{Out}
 use Rattle.pm_table.specs.declared.reg.Reg.{Reg}
 use Rattle.pm_table.specs.declared.reg.Reg.TheVariants.{Operation}
 use Rattle.pm_table.specs.Cell.{same_register}
+use Rattle.pm_table.specs.RuleLemmas.{rule-none}
 use Rattle.pm_model.specs.declared.pending_job.PendingJob.TheVariants as pending
 use Rattle.pm_model.specs.Commanded.{commanded, selected}
 use Rattle.pm_model.specs.Settings.{Words}
@@ -20,7 +23,6 @@ use Rattle.pm_limits.specs.Laws.{WholePartsMissNothing}
 use Rattle.pm_limits.specs.Part.{all_registers, has_register}
 use Rattle.pm_rail.specs.declared.orders.PlanOrder.{PlanOrder}
 use Rattle.pm_rail.specs.Laws.{IsStep}
-use Rattle.pm_rail.specs.Lemmas.Known.{unruled}
 use Rattle.pm_rail.specs.Lemmas.Steps.{chain, goal-operation, goal-put}
 use Rattle.pm_rail.specs.Plan.{commands_by, goal_of, put}
 use Rattle.pm_rail.specs.Registers.{Held, Wants}
@@ -39,7 +41,8 @@ use Rattle.pm_world.proofs.LimitedLives.{sound-dens}
 use Rattle.pm_world.proofs.Lives.{IsLived, earlier}
 use Rattle.pm_world.proofs.PlannedOrders.{come-true, has-none, is-lacking, needed-same, ready-order}
 pub use Rattle.pm_world.proofs.PlannedOrders.{Plans}
-use Rattle.pm_world.proofs.PlanSteps.{IsReady, Stands, Stays, Took, asked-stays, goes, idle-none, open-asked, one-register, open-beside, pending-order, pending-restore, put-itself}
+use Rattle.pm_world.proofs.PlanSteps.{IsReady, Stands, Stays, Took, asked-stays, goes, idle-none, open-asked, one-register, open-beside}
+use Rattle.pm_world.proofs.PlanSteps.{pending-order, pending-restore, put-itself}
 
 -- a register that was read since the converter's last restart still is after events at which it doesn't restart
 since-later : (config : Config) (passes : ℕ) (part : PartRegisters) (output : ℕ) (wants : Wants) (register : Reg)
@@ -84,12 +87,9 @@ one-order q r w v e = (
   ap (λ (o : Option PlanOrder). option_map_or (λ x. x.word) o w) e,
 )
 
--- numbers that test as one are one, and each tests as itself
+-- numbers that test as one are one
 one-number : (x y : ℕ) → (x == y) ≡ true → x ≡ y
 one-number x y h = grind (arith, nat_tests)
-
-same-number : (x : ℕ) → (x == x) ≡ true
-same-number x = grind (arith, nat_tests)
 
 module _ (laws : Below) (plans : Plans) (config : Config) (passes : ℕ) (part : PartRegisters) (output : ℕ) (wants : Wants)
     (event : Event) (later before : List Event)
@@ -111,7 +111,7 @@ module _ (laws : Below) (plans : Plans) (config : Config) (passes : ℕ) (part :
 
   itself-newest : (q : Reg) (word : ℕ) (older : Option PlanOrder) →
       newest_order output (Some (host.Order (Out output q) word)) older ≡ Some (record { register = q; word = word })
-  itself-newest q word older = ap (λ (b : Bool). cond b (Some (record { register = q; word = word })) older) (same-number output)
+  itself-newest q word older = ap (λ (b : Bool). cond b (Some (record { register = q; word = word })) older) (eq-eqb output output refl)
 
   next-opened : (q : Reg) (word : ℕ) → open_pending config passes (event ∷ later ++ before) ≡ Some (pending.Order (Out output q) word) →
       last_order config passes output (event ∷ later) before ≡ Some (record { register = q; word = word })
@@ -275,6 +275,11 @@ module _ (laws : Below) (plans : Plans) (config : Config) (passes : ℕ) (part :
       HoldsMissing part config (now config passes (later ++ before)).device.words output
   missing-later later lived follows = (later-holds later lived follows).missing
 
+  pub goal-later : (later : List Event) → IsLived config passes (later ++ before) → Follows config passes part output wants later before →
+      (register : Reg) →
+      goal_of (held_at config passes (later ++ before) output) wants register ≡ goal_of (held_at config passes before output) wants register
+  goal-later later lived follows register = ap (λ (h : Held). h register) (later-holds later lived follows).goal
+
   pub read-later : (later : List Event) → IsLived config passes (later ++ before) → Follows config passes part output wants later before →
       IsReadSince config passes output wants (later ++ before)
   read-later later lived follows = since-all later follows (later-holds later lived follows)
@@ -306,6 +311,11 @@ keeps-plans laws plans config passes events lived spelled = record {
       subst (λ (es : List Event). IsReadSince config passes output wants es) (sym is)
       (read-later laws plans config passes part output wants before spelled here none idle since missing later
       (subst (λ (es : List Event). IsLived config passes es) is lived) follows);
+  goal = λ part output wants register later before is here none idle since missing follows.
+      subst (λ (es : List Event). goal_of (held_at config passes es output) wants register
+      ≡ goal_of (held_at config passes before output) wants register) (sym is)
+      (goal-later laws plans config passes part output wants before spelled here none idle since missing later
+      (subst (λ (es : List Event). IsLived config passes es) is lived) follows register);
   missing = λ part output wants later before is here none idle since missing follows.
       subst (λ (es : List Event). HoldsMissing part config (now config passes es).device.words output) (sym is)
       (missing-later laws plans config passes part output wants before spelled here none idle since missing later
@@ -318,7 +328,7 @@ keeps-plans laws plans config passes events lived spelled = record {
 pub none-missing : WholePartsMissNothing → (config : Config) (words : Words) (output : ℕ) → HoldsMissing all_registers config words output
 none-missing whole config words output register word lacks =
     absurd (let bad = sym (has-none all_registers (shape_for config output) register (not-lacking (has_register all_registers register)
-    (unruled (not (has_register all_registers register)) MissingRegister (whole.checked (Out output register))))) ∙ lacks in cc)
+    (rule-none (not (has_register all_registers register)) MissingRegister (whole.checked (Out output register))))) ∙ lacks in cc)
   where
     not-lacking : (b : Bool) → not b ≡ false → b ≡ true
     not-lacking true h = refl

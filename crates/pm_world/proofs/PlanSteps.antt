@@ -1,5 +1,6 @@
 -- What one more event makes of the open job, and of an output's words while its orders are a plan's.
-use Rattle.std.proofs.Common.{◌≡◌, ◌⊎◌, inl, inr, ℕ, ◌<◌, Bool, true, false, cond, List, [], ◌∷◌, ◌++◌, Option, Some, None, refl, sym, ◌∙◌, ap, subst}
+use Rattle.std.proofs.Common.{◌≡◌, ◌⊎◌, inl, inr, ℕ, ◌<◌, Bool, true, false, cond, List, [], ◌∷◌, ◌++◌, Option, Some, None, refl, sym, ◌∙◌}
+use Rattle.std.proofs.Common.{ap, subst}
 use Rattle.std.specs.Prelude.{is_some, option_and_then, option_to_list}
 use Rattle.std.proofs.Math.Path.{fun_ext}
 use Rattle.pm_table.specs.declared.cell.Cell.{Cell}
@@ -34,10 +35,11 @@ use Rattle.pm_world.specs.Retelling.{open_pending, pending_of}
 use Rattle.pm_world.specs.Setup.{setup_of}
 use Rattle.pm_world.specs.State.{asked, share_of}
 use Rattle.pm_world.proofs.JobSpans.{TellsFrame, beside-frame, by-acceptance, by-frame, by-silence}
-use Rattle.pm_world.proofs.Lives.{IsLived, entries-more}
+use Rattle.pm_world.proofs.Lives.{IsLived}
 use Rattle.pm_world.proofs.Moves.{moves-so}
 use Rattle.pm_world.proofs.OpenOrders.{Goes, open_pending-is, stage_pending}
 use Rattle.pm_world.proofs.Unread.{restart-told}
+use Rattle.pm_world.specs.Lemmas.{entries-more}
 
 -- ---- The open job, event by event ----
 
@@ -130,7 +132,7 @@ pending-restore job h = cc
 
 -- ---- The words, event by event ----
 
--- a word that moved: the open job is an order of it,
+-- Where a word moved at an event without a restart, and no restore was open, the open job is an order of that word.
 by-move : {config : Config} {passes : ℕ} {before : List Event} {cell : Cell} {word : ℕ} {event : Event} →
     MovesBy config passes before cell word event → restarts_converter event ≡ false →
     (open_pending config passes before ≡ Some pending.Restore → ⊥) →
@@ -139,22 +141,24 @@ by-move (came_back e) steady free = cc
 by-move (ordered arrival takes) steady free = takes.opened
 by-move (restored arrival takes out e) steady free = absurd (free takes.opened)
 
--- and the event asks for no job
+-- Where a word moved at an event, the event asks for no job.
 by-asked : {config : Config} {passes : ℕ} {before : List Event} {cell : Cell} {word : ℕ} {event : Event} → (job : host.Job) →
     MovesBy config passes before cell word event → asked (now config passes before) event ≡ Some job → ⊥
 by-asked job (came_back e) is = cc
 by-asked job (ordered arrival takes) is = cc
 by-asked job (restored arrival takes out e) is = cc
 
--- registers that test as one are one, and each tests as itself
+-- The register of a cell, or another where it has none.
 register_in : Reg → Cell → Reg
 register_in other (Out output register) = register
 register_in other Protect = other
 
+-- registers that test as one are one
 pub one-register : Below → (q r : Reg) → same_register q r ≡ true → q ≡ r
 unfolding register_in
 one-register laws q r same = ap (λ (c : Cell). register_in q c) ((laws.cells_are_told_apart (Out 0 q) (Out 0 r)).0 same)
 
+-- a register tests as itself
 pub register-itself : Below → (q : Reg) → same_register q q ≡ true
 register-itself laws q = (laws.cells_are_told_apart (Out 0 q) (Out 0 q)).1 refl
 
@@ -177,7 +181,7 @@ abbrev pub Stays : (config : Config) (passes output : ℕ) → List Event → Ev
 Stays config passes output before event =
     held_at config passes (event ∷ before) output ≡ held_at config passes before output
 
--- or the plan's next order took
+-- The plan's next order took at an event.
 pub record Took (config : Config) (passes : ℕ) (part : PartRegisters) (output : ℕ) (wants : Wants) (before : List Event)
     (event : Event) : Type 0 where
   pub q : Reg

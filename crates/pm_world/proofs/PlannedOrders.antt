@@ -1,5 +1,6 @@
 -- What a plan answers in a life, where what it needs was read since the converter's last restart.
-use Rattle.std.proofs.Common.{◌≡◌, ◌≢◌, inr, ℕ, ◌<◌, Bool, true, false, cond, not, ◌||◌, List, Option, Some, None, Ok, refl, sym, ◌∙◌, ap, subst}
+use Rattle.std.proofs.Common.{◌≡◌, ◌≢◌, inr, ℕ, ◌<◌, Bool, true, false, cond, not, ◌||◌, List, Option, Some, None, Ok, refl, sym, ◌∙◌, ap}
+use Rattle.std.proofs.Common.{subst}
 use Rattle.std.specs.Prelude.{IsSomeAnd, is_none, is_some, option_map, unwrap_or}
 use Rattle.std.specs.Option.{option_map_or}
 use Rattle.pm_num.specs.AnyFormat.{Shape, shape_value}
@@ -14,9 +15,7 @@ use Rattle.pm_host.specs.declared.possible.Possible.{Possible}
 use Rattle.pm_host.specs.Possible.{is_possible, only}
 use Rattle.pm_host.specs.Summary.{Summary, format_at, possible_at}
 use Rattle.pm_limits.specs.declared.part_registers.PartRegisters.{PartRegisters}
-use Rattle.pm_limits.specs.declared.side.Side.TheVariants.{Lowest, Highest}
 use Rattle.pm_limits.specs.Bounds.{Bounds}
-use Rattle.pm_limits.specs.Ends.{format_end}
 use Rattle.pm_limits.specs.Part.{has_register, missing_word}
 use Rattle.pm_rail.specs.declared.fault.PlanFault.TheVariants.{MissingRegister}
 use Rattle.pm_rail.specs.declared.orders.PlanOrder.{PlanOrder}
@@ -26,6 +25,7 @@ use Rattle.pm_rail.specs.Lemmas.Known.{IsPlanned, is-planned, known-all, known-h
 use Rattle.pm_rail.specs.Orders.{is_needed, is_wanted_missing, missing_fault, order_of, plan_of, unknown_fault}
 use Rattle.pm_rail.specs.Plan.{goal_of, is_cut_by, next_register}
 use Rattle.pm_rail.specs.Registers.{Held, Wants}
+pub use Rattle.pm_rail.specs.Lemmas.Surveyed.{has-none}
 use Rattle.pm_world.specs.Bands.{HoldsMissing}
 use Rattle.pm_world.specs.Below.{Below}
 use Rattle.pm_world.specs.declared.event.Event.{Event}
@@ -64,13 +64,7 @@ known-is : (word : Option ℕ) → is_none word ≡ false → word ≡ Some (unw
 known-is None some = cc
 known-is (Some word) some = refl
 
--- a register that the part has stands at no word of its own, and one that does is missing
-pub has-none : (part : PartRegisters) (shape : Shape) (register : Reg) → has_register part register ≡ true →
-    missing_word part shape register ≡ None
-has-none part shape VoutMin has = ap (λ (b : Bool). cond b None (Some (format_end Lowest shape))) has
-has-none part shape VoutMax has = ap (λ (b : Bool). cond b None (Some (format_end Highest shape))) has
-has-none part shape register has = refl
-
+-- a register that stands at a word of its own is one that the part lacks
 pub is-lacking : (part : PartRegisters) (shape : Shape) (register : Reg) (word : ℕ) → missing_word part shape register ≡ Some word →
     has_register part register ≡ false
 is-lacking part shape register word is = go (has_register part register) refl where

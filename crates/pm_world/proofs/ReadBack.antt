@@ -4,7 +4,7 @@ use Rattle.pm_table.specs.declared.cell.Cell.{Cell}
 use Rattle.pm_table.specs.declared.cell.Cell.TheVariants.{Out, Protect}
 use Rattle.pm_table.specs.Cell.{cell_accepts, cell_code, register_code, IsCell}
 use Rattle.pm_frame.specs.declared.message.Message.{Message}
-use Rattle.pm_frame.specs.Layout.{IsRequest, IsAnswer, fits_layout, is_read_message}
+use Rattle.pm_frame.specs.Layout.{IsRequest, IsAnswer, fits_layout}
 use Rattle.pm_frame.specs.View.{answer_payload, payload_in}
 use Rattle.pm_model.specs.Settings.{word_at}
 use Rattle.pm_device.specs.declared.ending.Ending.TheVariants.{Restart}
@@ -13,20 +13,16 @@ use Rattle.pm_device.specs.Reply.{register_bytes, reply_of}
 use Rattle.pm_device.specs.Verdict.{payload_word}
 use Rattle.pm_host.specs.Answers.{good_payload, good_word, word_in}
 use Rattle.pm_host.specs.Messages.{cell_read}
+use Rattle.pm_host.specs.Lemmas.{reads_cell}
 use Rattle.pm_world.specs.Below.{Below}
 use Rattle.pm_world.specs.Legal.{frame_of, answer_in}
 use Rattle.pm_world.proofs.Hearings.{frame-request}
-
--- the read of a cell is a read, and its frame spells it
-pub reads-cell : (cell : Cell) → is_read_message (cell_read cell) ≡ true
-reads-cell (Out output register) = refl
-reads-cell Protect = refl
 
 -- the read of a cell is a request
 is_request : (addr : ℕ) (cell : Cell) → fits_layout (cell_read cell) ≡ true →
     IsRequest addr (cell_read cell) (frame_of addr (cell_read cell))
 is_request addr cell fits =
-    record { reads = reads-cell cell; fits = fits; spelled = frame-request addr (cell_read cell) (reads-cell cell) }
+    record { reads = reads_cell cell; fits = fits; spelled = frame-request addr (cell_read cell) (reads_cell cell) }
 
 -- the word of a payload
 number_in : (payload : List ℕ) → word_in payload ≡ payload_word (payload_in payload)

@@ -27,11 +27,12 @@ use Rattle.pm_world.specs.Retelling.{taken_at, taken_by, IsOrderRun}
 use Rattle.pm_world.specs.Setup.{setup_of, start}
 use Rattle.pm_world.specs.State.{State, asked, event_cause, next}
 use Rattle.pm_world.proofs.Causes.{job-free, asked-next, beside-next}
-use Rattle.pm_world.proofs.Lives.{IsLived, earlier, newest, life-told, now-config, now-next, now-nil}
+use Rattle.pm_world.proofs.Lives.{IsLived, earlier, newest, life-told, now-next, now-nil}
 use Rattle.pm_world.proofs.OpenOrders.{stage_pending, open_pending-is, finished-order, Goes}
 use Rattle.pm_world.proofs.OrderEvents.{Sending, Stays, TookJob, delivered-stage, delivered-takes, exchanged-stays, taken-open}
 use Rattle.pm_world.proofs.OrderEvents.{event-stays, exchanged-order, job-order, order-free}
 use Rattle.pm_world.proofs.Undisturbed.{now-sound}
+use Rattle.pm_world.specs.Lemmas.{now-config}
 
 -- the message whose frame is being sent fits its layout
 pub sent-fits : Below → (config : Config) (passes : ℕ) (events : List Event) → IsLived config passes events → (message : Message) →

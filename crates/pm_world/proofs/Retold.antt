@@ -25,12 +25,13 @@ use Rattle.pm_world.specs.Uncertainty.{AreLegal, AreOpen, AreSteady, Choice, arr
 use Rattle.pm_world.proofs.Deliveries.{Begun, CanDeliver, IsSent, delivers, no_write, one_restore, one_write}
 use Rattle.pm_world.proofs.DueWords.{IsDue, put-left, put-protect, put-taken}
 use Rattle.pm_world.proofs.HeldWords.{knows}
-use Rattle.pm_world.proofs.Lives.{IsLived, now-config, now-next, now-nil, now-setup}
+use Rattle.pm_world.proofs.Lives.{IsLived, now-next, now-nil, now-setup}
 use Rattle.pm_world.proofs.OwnWords.{start-at}
 use Rattle.pm_world.proofs.Sending.{eight}
 use Rattle.pm_world.proofs.Starts.{witness-word}
 use Rattle.pm_world.proofs.Tellings.{Tells}
 use Rattle.pm_world.proofs.Undisturbed.{now-are, share-entries}
+use Rattle.pm_world.specs.Lemmas.{now-config}
 
 -- what holds of the world in which a life is retold
 pub record IsMade (config : Config) (passes : ℕ) (first : Choice) : Type 0 where

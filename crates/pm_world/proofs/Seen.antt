@@ -21,12 +21,13 @@ use Rattle.pm_world.specs.Possible.{restarted_since_host, PossibleIsHeld, SeenIs
 use Rattle.pm_world.specs.Setup.{setup_of}
 use Rattle.pm_world.specs.State.{Share, State, asked, share_of, event_cause, exchange_cause}
 use Rattle.pm_world.proofs.HeldWords.{Knows, knows, reads-true, life-known}
-use Rattle.pm_world.proofs.Lives.{IsLived, earlier, newest, entries-more, lived-before, now-config}
+use Rattle.pm_world.proofs.Lives.{IsLived, earlier, newest, lived-before}
 use Rattle.pm_world.proofs.Sending.{eight, same_cell-itself}
 use Rattle.pm_world.proofs.Standings.{ArePuts, no_put, one_put, one_restore, are-puts, AreGoods, no_good, one_good, are-goods, ReadsTrue}
 use Rattle.pm_world.proofs.Standings.{same-cells}
 use Rattle.pm_world.proofs.Unread.{listed-read, restart-told}
 use Rattle.pm_world.proofs.Shares.{IsShare, exchanges, share-is}
+use Rattle.pm_world.specs.Lemmas.{entries-more, now-config}
 
 -- one of two
 or-one : (a b : Bool) → (a || b) ≡ true → (a ≡ true) ⊎ (b ≡ true)
@@ -44,7 +45,8 @@ got_bytes (host.Got bytes) = bytes
 got_bytes _ = []
 
 -- what came back is true of the cell that is read, whichever event brought it
-pub got-true : Below → {s : State} {setup : host.Setup} {entries : List host.Entry} (event : Event) (bytes : List ℕ) → Knows s setup entries →
+pub got-true : Below → {s : State} {setup : host.Setup} {entries : List host.Entry} (event : Event) (bytes : List ℕ)
+    → Knows s setup entries →
     event_cause s event ≡ None → (share_of s event).told ≡ Some (host.Got bytes) → ReadsTrue setup entries bytes s.device.words
 got-true laws {s = s} {setup = setup} {entries = entries} event bytes knows free told = by (share-is s event) free told where
   by : {event : Event} {share : Share} → IsShare s event share → event_cause s event ≡ None → share.told ≡ Some (host.Got bytes) →

@@ -23,6 +23,7 @@ use Rattle.pm_host.specs.Frames.{writes_output, writes_protect, reads_output, re
 use Rattle.pm_host.specs.Messages.{cell_write, cell_read}
 use Rattle.pm_host.specs.Summary.{Summary, sending_in, stage_message}
 use Rattle.pm_host.specs.Transcript as host
+use Rattle.pm_host.specs.Lemmas.{writes_cell}
 use Rattle.pm_world.specs.Below.{Below}
 use Rattle.pm_world.specs.declared.event.Event.TheVariants.{Deliver}
 use Rattle.pm_world.specs.declared.arrival.Arrival.{Arrival}
@@ -31,7 +32,7 @@ use Rattle.pm_world.specs.Honest.{is_whole}
 use Rattle.pm_world.specs.Legal.{frame_of, heard_bytes, ending_of, heard_ending, is_legal_hearing, is_restart}
 use Rattle.pm_world.specs.State.{State, delivered, next, device_after, host_after, event_cause, delivery_cause, rule, hearing}
 use Rattle.pm_world.proofs.Frames.{heard_ending-write}
-use Rattle.pm_world.proofs.Hearings.{CanTake, is_write, whole-write, legal-write, write-kind}
+use Rattle.pm_world.proofs.Hearings.{CanTake, is_write, whole-write, legal-write}
 use Rattle.pm_world.proofs.Causes.{or-none, rule-none, not-false}
 
 -- whatever word WRITE_PROTECT may hold, its own code may be written
@@ -99,7 +100,7 @@ next-deliver-words laws s arrival message sending = ap (λ o. (device_after s.de
 
 -- how a delivery of a write ends
 pub write-ending : (cell : Cell) (word : ℕ) (arrival : Arrival) → heard_ending (cell_write cell word) arrival ≡ ending_of Stop arrival
-write-ending cell word arrival = sym (heard_ending-write (cell_write cell word) arrival (write-kind cell word))
+write-ending cell word arrival = sym (heard_ending-write (cell_write cell word) arrival (writes_cell cell word))
 
 -- an ending is a stop by the test
 pub stop-is : (ending : Ending) → not (is_restart ending) ≡ true → ending ≡ Stop

@@ -19,8 +19,8 @@ use Rattle.pm_world.specs.Possible.{restarted_since_host, restarts_host}
 use Rattle.pm_world.specs.Setup.{setup_of}
 use Rattle.pm_world.specs.State.{share_of}
 use Rattle.pm_world.specs.Uncertainty.{Choice, arrivals_of, due_before, event_of, found, since_restart, witness_events}
-use Rattle.pm_world.proofs.Lives.{entries-more}
 use Rattle.pm_world.proofs.Standings.{ArePuts, no_put, one_put, one_restore, are-puts}
+use Rattle.pm_world.specs.Lemmas.{entries-more}
 
 -- at most one write of what begins to be sent is delivered
 one-arrival : (due : Choice) (new : List Mark) → ArePuts new → length (arrivals_of due new) ≤ 1

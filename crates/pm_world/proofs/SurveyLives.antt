@@ -1,5 +1,6 @@
 -- What an output commands where all that decides is known by answers since the converter's last restart.
-use Rattle.std.proofs.Common.{◌≡◌, ◌≢◌, ℕ, ◌<◌, Bool, true, false, cond, not, ◌||◌, List, [], ◌∷◌, ◌++◌, Option, Some, None, refl, sym, ◌∙◌, ap, subst}
+use Rattle.std.proofs.Common.{◌≡◌, ◌≢◌, ℕ, ◌<◌, Bool, true, false, cond, not, ◌||◌, List, [], ◌∷◌, ◌++◌, Option, Some, None, refl, sym, ◌∙◌}
+use Rattle.std.proofs.Common.{ap, subst}
 use Rattle.std.specs.Prelude.{is_none, is_some, option_and_then, unwrap_or}
 use Rattle.std.specs.List.{list_any}
 use Rattle.std.specs.Option.{option_map_or}
@@ -151,7 +152,7 @@ module _ (laws : Below) {config : Config} {passes : ℕ} {events : List Event} (
   known-held-at register needed =
       known-held cells (Out output register) (held_at config passes events output register) (may register needed) (all register needed).0
 
-  -- and alone possible
+  -- The word that is held of a register that is needed is alone possible.
   one-word : (register : Reg) → is_needed (known_of cells output) wants register ≡ true →
       cells (Out output register) ≡ only (held_at config passes events output register)
   one-word register needed = known-only (Out output register) (cells (Out output register)) (all register needed).0

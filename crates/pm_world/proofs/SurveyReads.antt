@@ -1,8 +1,9 @@
 -- What a survey counts as read was read.
-use Rattle.std.proofs.Common.{◌≡◌, ◌⊎◌, inl, inr, ℕ, ◌==◌, Bool, true, false, cond, not, ◌||◌, ◌&&◌, List, [], ◌∷◌, ◌++◌, Option, Some, None, refl, sym, ◌∙◌, ap, ap₂, subst, append_assoc}
+use Rattle.std.proofs.Common.{◌≡◌, ◌⊎◌, inl, inr, ℕ, ◌==◌, Bool, true, false, cond, not, ◌||◌, ◌&&◌, List, [], ◌∷◌, ◌++◌, Option, Some}
+use Rattle.std.proofs.Common.{None, refl, sym, ◌∙◌, ap, ap₂, subst, append_assoc}
 use Rattle.std.specs.Prelude.{IsSome, IsSomeAnd, is_none, is_some, option_and_then, option_map, option_to_list, find}
 use Rattle.std.specs.List.{list_any}
-use Rattle.std.proofs.lemmas.Bool.{or_parts}
+use Rattle.std.proofs.lemmas.Bool.{or_parts, or_left, or_right}
 use Rattle.pm_num.specs.AnyFormat.{Shape}
 use Rattle.pm_table.specs.declared.cell.Cell.{Cell}
 use Rattle.pm_table.specs.declared.cell.Cell.TheVariants.{Out, Protect}
@@ -42,19 +43,12 @@ use Rattle.pm_world.proofs.Lives.{IsLived, earlier, now-setup}
 
 -- ---- What was read ----
 
-or-first : (a b : Bool) → a ≡ true → (a || b) ≡ true
-or-first a b h = cc
-
-or-second : (a b : Bool) → b ≡ true → (a || b) ≡ true
-or-second true b h = refl
-or-second false b h = h
-
 -- what was read at the older of some events, and at the newer
 pub read-older : (config : Config) (passes : ℕ) (cell : Cell) (newer older before : List Event) →
     was_read config passes cell older before ≡ true → was_read config passes cell (newer ++ older) before ≡ true
 read-older config passes cell [] older before read = read
 read-older config passes cell (event ∷ newer) older before read =
-    or-second (reads_cell config passes cell ((newer ++ older) ++ before) event) (was_read config passes cell (newer ++ older) before)
+    or_right (reads_cell config passes cell ((newer ++ older) ++ before) event) (was_read config passes cell (newer ++ older) before)
     (read-older config passes cell newer older before read)
 
 pub read-newer : (config : Config) (passes : ℕ) (cell : Cell) (newer older before : List Event) →
@@ -166,13 +160,13 @@ check-done laws config passes (newest ∷ newer) before event cell lived asks al
     told : (entry : Option host.Entry) → (share_of (now config passes (newer ++ event ∷ before)) newest).told ≡ entry → TellsFrame entry →
         ((now config passes (newer ++ event ∷ before)).end ≡ Some Done → was_read config passes cell newer (event ∷ before) ≡ true) →
         was_read config passes cell (newest ∷ newer) (event ∷ before) ≡ true
-    told None e frame older = or-second (reads_cell config passes cell (newer ++ event ∷ before) newest) _
+    told None e frame older = or_right (reads_cell config passes cell (newer ++ event ∷ before) newest) _
         (older (sym (by-silence config passes (newer ++ event ∷ before) newest e).1 ∙ done))
     told (Some entry) e frame older =
         let frame' = by-frame laws config passes (newer ++ event ∷ before) newest entry lived e frame in
         let tells = subst (λ (end : Option JobEnd). StepTells (now config passes (newer ++ event ∷ before)).host entry (step_by end)
         (now config passes (newest ∷ newer ++ event ∷ before)).host) done frame'.tells in
-        or-first _ (was_read config passes cell newer (event ∷ before))
+        or_left _ (was_read config passes cell newer (event ∷ before))
         (answered entry e (open-one (host.Check cell) (now config passes (newer ++ event ∷ before)).host frame'.open'
         (span-job laws config passes newer before event (host.Check cell) (earlier lived) asks parts.1)) tells.1)
 

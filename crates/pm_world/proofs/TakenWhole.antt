@@ -17,6 +17,7 @@ use Rattle.pm_host.specs.Messages.{cell_write, cell_read}
 use Rattle.pm_host.specs.Refusals.{IsSetup}
 use Rattle.pm_host.specs.Summary.{Summary, sending_in, stage_message}
 use Rattle.pm_host.specs.Transcript as host
+use Rattle.pm_host.specs.Lemmas.{writes_cell, reads_cell}
 use Rattle.pm_world.specs.Below.{Below}
 use Rattle.pm_world.specs.declared.event.Event.{Event}
 use Rattle.pm_world.specs.declared.event.Event.TheVariants.{Deliver, Finish, Exchange}
@@ -30,21 +31,15 @@ use Rattle.pm_world.specs.Legal.{frame_of, heard_ending, is_heard_whole, is_lega
 use Rattle.pm_world.specs.Life.{now, state_of, AreTaken}
 use Rattle.pm_world.specs.Setup.{setup_of}
 use Rattle.pm_world.specs.State.{State, asked, event_limit, event_cause, cause_of, finish_cause, exchange_cause, answer_to, rule, IsTaken}
-use Rattle.pm_world.proofs.Hearings.{write-kind}
 use Rattle.pm_world.proofs.Lives.{IsLived, earlier, lived-by, now-next}
-use Rattle.pm_world.proofs.ReadBack.{reads-cell}
 use Rattle.pm_world.proofs.Undisturbed.{finish-stage, order-stage, read-restart}
 use Rattle.pm_world.proofs.Sending.{next-deliver-host}
 use Rattle.pm_world.proofs.WholeFrames.{same_bytes}
+use Rattle.pm_world.specs.Lemmas.{whole-hearing}
 
 -- a rule that doesn't apply names no cause
 off : (applies : Bool) (cause : Cause) → applies ≡ false → rule applies cause ≡ None
 off applies cause e = ap (λ b. rule b cause) e
-
--- all of a request is a legal hearing, and the answer to it a legal return
-pub whole-hearing : (frame : List ℕ) → is_legal_hearing frame frame Restart ≡ true
-unfolding is_legal_hearing
-whole-hearing frame = refl
 
 -- the whole answer to a whole request is legal
 pub whole-return : (frame answer : List ℕ) (needed : ℕ) →
@@ -115,7 +110,7 @@ taken-whole laws {config = config} {passes = passes} {cell = cell} {word = word}
     let sending : sending_in s.host ≡ Some (cell_write cell word) = ap (option_map stage_message) stage in
     let finish : IsTaken s (Finish acked) = record {
       free = free s (Finish acked) (let count = now-taken config passes events in omega arith)
-          (ap finish_cause sending ∙ off _ WrongKind (write-kind cell word));
+          (ap finish_cause sending ∙ off _ WrongKind (writes_cell cell word));
       word = tt;
     } in
     let t = now config passes (Finish acked ∷ events) in
@@ -128,7 +123,7 @@ taken-whole laws {config = config} {passes = passes} {cell = cell} {word = word}
     let count = now-taken config passes (Finish acked ∷ events) in (
       record {
         free = free t (Exchange Whole back.Whole) (omega arith)
-            (ap (exchange_cause t Whole back.Whole) reading ∙ exchange-free t (cell_read cell) (reads-cell cell) (read-restart cell));
+            (ap (exchange_cause t Whole back.Whole) reading ∙ exchange-free t (cell_read cell) (reads_cell cell) (read-restart cell));
         word = tt;
       },
       (finish, has.taken),

@@ -37,7 +37,8 @@ use Rattle.pm_world.proofs.Causes.{asked-beside, asked-next, asked-share, asked-
 use Rattle.pm_world.proofs.Exchanges.{exchange_cause-by}
 use Rattle.pm_world.proofs.OrderEvents.{exchanged-stays}
 use Rattle.pm_world.proofs.Starts.{IsKin}
-use Rattle.pm_world.proofs.TakenWhole.{whole-hearing, whole-return}
+use Rattle.pm_world.proofs.TakenWhole.{whole-return}
+use Rattle.pm_world.specs.Lemmas.{whole-hearing}
 
 -- an event that is legal tells the host an entry, and leaves the words
 pub record Tells (s : State) (event : Event) (entry : host.Entry) : Type 0 where

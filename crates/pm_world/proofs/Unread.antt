@@ -19,8 +19,8 @@ use Rattle.pm_world.specs.Life.{life, now}
 use Rattle.pm_world.specs.Possible.{restarts_host, has_read}
 use Rattle.pm_world.specs.Setup.{setup_of}
 use Rattle.pm_world.specs.State.{State, asked, share_of}
-use Rattle.pm_world.proofs.Lives.{entries-more}
 use Rattle.pm_world.proofs.Standings.{ArePuts, no_put, one_put, one_restore, are-puts, AreGoods, no_good, one_good, are-goods}
+use Rattle.pm_world.specs.Lemmas.{entries-more}
 
 -- a restart of the host is told as that
 pub restart-told : (s : State) (event : Event) → restarts_host event ≡ true → (share_of s event).told ≡ Some host.Restarted

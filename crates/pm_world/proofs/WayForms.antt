@@ -22,6 +22,7 @@ use Rattle.pm_host.specs.Messages.{cell_write}
 use Rattle.pm_host.specs.Refusals.{IsSetup, micro_word}
 use Rattle.pm_host.specs.Summary.{Summary, begins, next as host_next, sending_in, stage_message}
 use Rattle.pm_host.specs.Transcript as host
+use Rattle.pm_host.specs.Lemmas.{writes_cell}
 use Rattle.pm_world.specs.Below.{Below}
 use Rattle.pm_world.specs.declared.arrival.Arrival.{Arrival}
 use Rattle.pm_world.specs.declared.arrival.Arrival.TheVariants.{Whole}
@@ -40,7 +41,7 @@ use Rattle.pm_world.specs.State.{HasWord, State, asked, event_limit, next}
 use Rattle.pm_world.specs.Way.{HasGone, WasSent, WasUndisturbed, begun, delivered_on, exchanged_on, finished_on, goes_on, hears_whole}
 use Rattle.pm_world.specs.Way.{read_on, way_after, way_of}
 use Rattle.pm_world.proofs.Causes.{asked-next}
-use Rattle.pm_world.proofs.Hearings.{frame-write, write-kind}
+use Rattle.pm_world.proofs.Hearings.{frame-write}
 use Rattle.pm_world.proofs.HonestOrders.{went-through}
 use Rattle.pm_world.proofs.Lives.{IsLived, earlier, lived-by, now-next, now-setup}
 use Rattle.pm_world.proofs.Sending.{next-deliver-host}
@@ -62,14 +63,15 @@ heard-of : (h : Summary) (addr : ℕ) (cell : Cell) (word : ℕ) (arrival : Arri
 heard-of h addr cell word arrival at stage =
     ap (λ o. option_map_or (λ m. not (is_read_message m) && is_whole (frame_of h.setup.addr m) arrival) (option_map stage_message o) false)
     stage
-    ∙ (ap (λ b. not b && is_whole (frame_of h.setup.addr (cell_write cell word)) arrival) (write-kind cell word)
+    ∙ (ap (λ b. not b && is_whole (frame_of h.setup.addr (cell_write cell word)) arrival) (writes_cell cell word)
     ∙ ap (λ a. is_whole (frame_of a (cell_write cell word)) arrival) at)
 
 module _ (laws : Below) (config : Config) (passes : ℕ) where
   -- of a life
   sent-heard : (events : List Event) (cell : Cell) (word : ℕ) (arrival : Arrival) →
       IsLived config passes (Deliver arrival ∷ events) → (now config passes events).host.stage ≡ Some (Writes cell word 0) →
-      hears_whole (now config passes (Deliver arrival ∷ events)).host arrival ≡ is_whole (frame_of config.addr (cell_write cell word)) arrival
+      hears_whole (now config passes (Deliver arrival ∷ events)).host arrival
+      ≡ is_whole (frame_of config.addr (cell_write cell word)) arrival
   sent-heard events cell word arrival lived stage =
       let s = now config passes events in
       ap (λ (h : Summary). hears_whole h arrival)
@@ -117,7 +119,8 @@ module _ (laws : Below) (config : Config) (passes : ℕ) where
   exchanged-form before arrival returned way form = tt
 
   -- an event that asks for a job, and has a word, asks for one that is accepted
-  asked-some : (s : State) (event : Event) → is_some (asked_by event) ≡ true → HasWord s event → (job : host.Job) × (asked s event ≡ Some job)
+  asked-some : (s : State) (event : Event) → is_some (asked_by event) ≡ true → HasWord s event
+      → (job : host.Job) × (asked s event ≡ Some job)
   asked-some s (OrderMicro cell x) asks word = go (micro_word s.host cell x) word where
     go : (o : Option ℕ) → IsSome o → (job : host.Job) × (option_map (λ w. host.Order cell w) o ≡ Some job)
     go None some = cc

@@ -13,6 +13,7 @@ use Rattle.pm_model.specs.Settings.{word_at}
 use Rattle.pm_device.specs.declared.config.Config.{Config}
 use Rattle.pm_device.specs.declared.ending.Ending.TheVariants.{Restart, Stop}
 use Rattle.pm_host.specs.Messages.{cell_read, cell_write}
+use Rattle.pm_host.specs.Lemmas.{reads_cell}
 use Rattle.pm_world.specs.declared.arrival.Arrival.TheVariants.{Whole}
 use Rattle.pm_world.specs.declared.back.Back.TheVariants as back
 use Rattle.pm_world.specs.declared.event.Event.{Event}
@@ -23,7 +24,6 @@ use Rattle.pm_world.specs.Legal.{frame_of, is_restart}
 use Rattle.pm_world.specs.Life.{now}
 use Rattle.pm_world.specs.State.{answer_to}
 use Rattle.pm_world.specs.Way.{WasSent, WasUndisturbed}
-use Rattle.pm_world.proofs.ReadBack.{reads-cell}
 
 -- bytes are themselves by the test
 pub same_bytes : (bytes : List ℕ) → bytes_eq bytes bytes ≡ true
@@ -59,7 +59,7 @@ whole-read config passes request before reads =
 -- of a cell
 pub whole-cell : (config : Config) (passes : ℕ) (cell : Cell) (before : List Event) →
     IsRead config passes (cell_read cell) before (Exchange Whole back.Whole ∷ before)
-whole-cell config passes cell before = whole-read config passes (cell_read cell) before (reads-cell cell)
+whole-cell config passes cell before = whole-read config passes (cell_read cell) before (reads_cell cell)
 
 -- an order that is sent
 pub whole-sent : (config : Config) (passes : ℕ) (before : List Event) (cell : Cell) (word : ℕ) →

@@ -1,5 +1,6 @@
 -- An output whose band lies within limits, at each moment of a life.
-use Rattle.std.proofs.Common.{◌≡◌, inl, inr, ℕ, ℤ, ◌<◌, ◌^◌, Bool, true, false, cond, not, ◌&&◌, ◌||◌, List, [], ◌∷◌, ◌++◌, Option, Some, None, refl, sym, ◌∙◌, ap, subst}
+use Rattle.std.proofs.Common.{◌≡◌, inl, inr, ℕ, ℤ, ◌<◌, ◌^◌, Bool, true, false, cond, not, ◌&&◌, ◌||◌, List, [], ◌∷◌, ◌++◌, Option, Some}
+use Rattle.std.proofs.Common.{None, refl, sym, ◌∙◌, ap, subst}
 use Rattle.std.specs.Prelude.{IsSome, option_and_then, option_map, option_to_list, slice_index_or}
 use Rattle.std.specs.List.{list_any}
 use Rattle.std.specs.Option.{option_map_or, option_or}
@@ -37,7 +38,8 @@ use Rattle.pm_limits.specs.declared.fault.LimitFault.TheVariants.{Host}
 use Rattle.pm_limits.specs.declared.side.Side.{Side}
 use Rattle.pm_limits.specs.declared.within.Within.{Within}
 use Rattle.pm_limits.specs.Band as limits
-use Rattle.pm_limits.specs.Band.{HasDens, Known, band_on, band_with, band_within, each_selection, is_untaken, is_yes, may_select_avsbus, operation_end, operations, within_of, word_end}
+use Rattle.pm_limits.specs.Band.{HasDens, Known, band_on, band_with, band_within, each_selection, is_untaken, is_yes, may_select_avsbus}
+use Rattle.pm_limits.specs.Band.{operation_end, operations, within_of, word_end}
 use Rattle.pm_limits.specs.Part.{missing_word}
 use Rattle.pm_limits.specs.declared.part_registers.PartRegisters.{PartRegisters}
 use Rattle.pm_limits.specs.declared.band.Band.{Band}
@@ -68,13 +70,14 @@ use Rattle.pm_world.proofs.InsideMarks.{Lets, Stays, good-stays, known_by, no-vo
 use Rattle.pm_world.proofs.JobSpans.{TellsFrame, beside-frame}
 use Rattle.pm_world.proofs.KeptFormats.{format-stays}
 use Rattle.pm_world.proofs.LearnedLives.{formats-agree}
-use Rattle.pm_world.proofs.LimitedLives.{in-format, ordered-within, sound-dens}
-use Rattle.pm_world.proofs.Lives.{IsLived, earlier, entries-more, newest}
+use Rattle.pm_world.proofs.LimitedLives.{ordered-within, sound-dens}
+use Rattle.pm_world.proofs.Lives.{IsLived, earlier, newest}
 use Rattle.pm_world.proofs.OpenOrders.{Goes}
 use Rattle.pm_world.proofs.OrderEvents.{order-free}
 use Rattle.pm_world.proofs.PlanSteps.{idle-none, open-asked, open-beside, pending-order, pending-restore}
 use Rattle.pm_world.proofs.Seen.{count-is, got-true, possible-held, seen-true}
 use Rattle.pm_world.proofs.Standings.{AreGoods, are-goods, no_good, one_good}
+use Rattle.pm_world.specs.Lemmas.{in-format, entries-more}
 
 -- ---- What is sent, by the open job ----
 

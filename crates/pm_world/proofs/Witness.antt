@@ -31,12 +31,13 @@ use Rattle.pm_world.proofs.CameBack.{AreCome, Came, HaveRead, IsRead}
 use Rattle.pm_world.proofs.Deliveries.{Begun, begun-by, no_write, one_restore, one_write}
 use Rattle.pm_world.proofs.DueWords.{IsDue, due_before-append, good-due}
 use Rattle.pm_world.proofs.HeldWords.{knows}
-use Rattle.pm_world.proofs.Lives.{now-config, now-setup}
+use Rattle.pm_world.proofs.Lives.{now-setup}
 use Rattle.pm_world.proofs.Retold.{IsMade, IsRetold, retold-begun, retold-host, retold-lived, retold-marks, retold-none, retold-told}
 use Rattle.pm_world.proofs.Sending.{eight, same_cell-itself}
 use Rattle.pm_world.proofs.Standings.{AreGoods, no_good, one_good, are-goods}
 use Rattle.pm_world.proofs.Starts.{IsKin, witness-kin}
 use Rattle.pm_world.proofs.Tellings.{Takes, Tells, exchange-tells, finish-tells, job-tells}
+use Rattle.pm_world.specs.Lemmas.{now-config}
 
 -- no restart of the host is among the entries
 abbrev IsUnbroken : List host.Entry → Type 0

@@ -1,9 +1,11 @@
 -- The laws of the crates below that those of this crate rest on.
 use Rattle.pm_table.specs.Laws.{CellsAreToldApart, CellsHavePlaces, RegistersAreInTheTable}
-use Rattle.pm_frame.specs.Laws.{AnswersAreExact, BetrayalIsRefused, BurstsAreBetrayed, DamageIsBetrayed, DamageIsRefused, RequestsAreExact, WritesAreExact}
+use Rattle.pm_frame.specs.Laws.{AnswersAreExact, BetrayalIsRefused, BurstsAreBetrayed, DamageIsBetrayed, DamageIsRefused, RequestsAreExact}
+use Rattle.pm_frame.specs.Laws.{WritesAreExact}
 use Rattle.pm_model.specs.Laws.{OrdersStayInTheirCells, SettingsAreAMap}
 use Rattle.pm_device.specs.Laws.{PastsAreFollowed, ReadsAreAnswered, SoundConfigurationsHaveNoFault, WordsHaveAnOrigin, WritesReachOneCell}
-use Rattle.pm_host.specs.Laws.{EndsAreTold, FramesAreNamed, JobsAreBounded, OpenRestoresAreUncertain, PossibleWordsAreFollowed, TranscriptsAreFollowed}
+use Rattle.pm_host.specs.Laws.{EndsAreTold, FramesAreNamed, JobsAreBounded, OpenRestoresAreUncertain, PossibleWordsAreFollowed}
+use Rattle.pm_host.specs.Laws.{TranscriptsAreFollowed}
 
 pub record Below : Type 0 where
   -- of cells and registers

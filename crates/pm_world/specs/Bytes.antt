@@ -25,7 +25,7 @@ ArrivesInBytes arrival.Whole = Unit {0}
 ArrivesInBytes (arrival.Cut count) = Unit {0}
 ArrivesInBytes (arrival.Bytes bytes ending) = AreBytes bytes.items
 
--- so are those that come back in place of an answer
+-- the bytes that come back in place of an answer are bytes
 abbrev pub ReturnsInBytes : Back → Type 0
 ReturnsInBytes back.Whole = Unit {0}
 ReturnsInBytes (back.Cut count) = Unit {0}

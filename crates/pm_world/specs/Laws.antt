@@ -40,7 +40,8 @@ use Rattle.pm_world.specs.Possible.{PossibleIsHeld, SeenIsTrue, restarted_since_
 use Rattle.pm_world.specs.Retelling.{CommandsOwn, IsOrderRun, IsOwnWord}
 use Rattle.pm_world.specs.Setup.{setup_of, start}
 use Rattle.pm_world.specs.State.{HasWord, IsTaken, State, answer_to, asked, event_cause, event_limit, next}
-use Rattle.pm_world.specs.Uncertainty.{AreLegal, AreOfBytes, AreOpen, ArePossible, AreWordsChosen, Choice, Leaves, due_before, since_restart, witness_events, witness_start}
+use Rattle.pm_world.specs.Uncertainty.{AreLegal, AreOfBytes, AreOpen, ArePossible, AreWordsChosen, Choice, Leaves, due_before}
+use Rattle.pm_world.specs.Uncertainty.{since_restart, witness_events, witness_start}
 
 -- Whether an event is taken, its cause alone decides, in any state. An order in microvolts that nothing is against has
 -- a word: a format has a nearest word for each number (`word`). So an event is taken exactly where there is room and
@@ -141,7 +142,8 @@ pub record PossibleWordsAreHeld : Type 0 where
 -- restarted since the host did, and since then let WRITE_PROTECT have been ordered and read as 00h alone, and
 -- no restore been ordered. Where the chosen words are all possible, the retelling tells the host just what it
 -- was told since it started, and leaves all of them (`witness`): in a world that can be made, and where the chosen
--- words are below 2 ^ 16, and what came back are bytes, so are the words that it starts with (`words`). And words that any life leaves which tells
+-- words are below 2 ^ 16, and what came back are bytes, so are the words that it starts with (`words`). And words that any life leaves
+-- which tells
 -- the host just that, without a restart, are all possible (`only`). Legal events are those that are taken,
 -- where there is room for them (`legal`).
 pub record PossibleWordsAreExact : Type 0 where
@@ -180,7 +182,7 @@ pub record BetrayedDamageIsLegal : Type 0 where
       let answer = answer_in (reply_of held heard Restart) in AreBytes answer →
       is_legal_return frame (whole_answer request) whole answer answer ≡ true
 
--- So such damage stops no run: a world that isn't full takes the delivery, and the exchange.
+-- Such damage stops no run: a world that isn't full takes the delivery, and the exchange.
 pub record BetrayedDamageIsTaken : Type 0 where
   pub delivered : (config : Config) (passes : ℕ) (events : List Event) (message : Message)
       (bytes : List ℕ) (ending : Ending) →

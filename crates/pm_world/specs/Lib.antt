@@ -30,3 +30,4 @@ pub mod WholeFrames
 pub mod Newest
 -- How it is kept.
 pub mod Below
+pub mod Lemmas

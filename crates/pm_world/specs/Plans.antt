@@ -58,7 +58,7 @@ MayAsk config passes part output wants later before (Some (host.Order (Out other
 MayAsk config passes part output wants later before (Some (host.Send RestoreUserAll)) = ⊥
 MayAsk config passes part output wants later before job = Unit {0}
 
--- so it is at each of the later events, at which the converter doesn't restart
+-- each of the later events asks for nothing but such a job, and restarts no converter
 abbrev pub Follows : Config → ℕ → PartRegisters → ℕ → Wants → List Event → List Event → Type 0
 Follows config passes part output wants [] before = Unit {0}
 Follows config passes part output wants (event ∷ later) before =
@@ -81,7 +81,8 @@ IsReadSince config passes output wants events = (register : Reg) →
 -- (`held`): whatever was lost, cut, damaged, repeated or falsely acknowledged, however orders ended, and whatever else
 -- was asked for, orders of other outputs too. What has been read by the end was read since the converter's last restart
 -- (`read`). Where that is so and the plan has no further order, each wanted word is the only one that the host calls
--- possible, and the one that the converter holds (`come_true`). Where the part doesn't have VOUT_MIN or VOUT_MAX, the
+-- possible, and the one that the converter holds (`come_true`). What is to be held at the end stays what it was, so that
+-- a register of which no word is wanted keeps its word (`goal`). Where the part doesn't have VOUT_MIN or VOUT_MAX, the
 -- converter's cell holds the word that never cuts, before the later events and so after them (`missing`).
 pub record KeepsPlans (config : Config) (passes : ℕ) (events : List Event) : Type 0 where
   pub held : (part : PartRegisters) (output : ℕ) (wants : Wants) (newer later before : List Event) →
@@ -96,6 +97,12 @@ pub record KeepsPlans (config : Config) (passes : ℕ) (events : List Event) : T
       is_busy (now config passes before).host ≡ false → IsReadSince config passes output wants before →
       HoldsMissing part config (now config passes before).device.words output →
       Follows config passes part output wants later before → IsReadSince config passes output wants events
+  pub goal : (part : PartRegisters) (output : ℕ) (wants : Wants) (register : Reg) (later before : List Event) →
+      events ≡ later ++ before → output < config.count → wants Operation ≡ None →
+      is_busy (now config passes before).host ≡ false → IsReadSince config passes output wants before →
+      HoldsMissing part config (now config passes before).device.words output →
+      Follows config passes part output wants later before →
+      goal_of (held_at config passes events output) wants register ≡ goal_of (held_at config passes before output) wants register
   pub missing : (part : PartRegisters) (output : ℕ) (wants : Wants) (later before : List Event) →
       events ≡ later ++ before → output < config.count → wants Operation ≡ None →
       is_busy (now config passes before).host ≡ false → IsReadSince config passes output wants before →

@@ -1,6 +1,7 @@
 -- The life of a world, retold by the order machine: settings and a store under jobs alone, with no bytes,
 -- pages, packet error codes or passes. This project's own. Lists are newest first.
-use Rattle.std.specs.Prelude.{◌≡◌, ◌⊎◌, ℕ, Bool, ◌&&◌, if◌then◌else◌, List, [], ◌∷◌, ◌++◌, Option, Some, None, is_some, is_none, option_and_then}
+use Rattle.std.specs.Prelude.{◌≡◌, ◌⊎◌, ℕ, Bool, ◌&&◌, if◌then◌else◌, List, [], ◌∷◌, ◌++◌, Option, Some, None, is_some, is_none}
+use Rattle.std.specs.Prelude.{option_and_then}
 use Rattle.std.specs.Option.{option_map_or}
 use Rattle.pm_num.specs.Ratio.{Ratio}
 use Rattle.pm_table.specs.declared.cell.Cell.{Cell}

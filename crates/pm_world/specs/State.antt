@@ -23,7 +23,8 @@ use Rattle.pm_world.specs.declared.back.Back.{Back}
 use Rattle.pm_world.specs.declared.cause.Cause.{Cause}
 use Rattle.pm_world.specs.declared.cause.Cause.TheVariants.{Full, NothingSent, WrongKind, NotBetrayed, Host as Refuses}
 use Rattle.pm_world.specs.Job.{job_of, refusal_of}
-use Rattle.pm_world.specs.Legal.{frame_of, heard_bytes, heard_ending, is_legal_hearing, is_legal_return, is_heard_whole, answer_in, back_bytes}
+use Rattle.pm_world.specs.Legal.{frame_of, heard_bytes, heard_ending, is_legal_hearing, is_legal_return, is_heard_whole, answer_in}
+use Rattle.pm_world.specs.Legal.{back_bytes}
 
 pub record State : Type 0 where
   -- what the converter holds

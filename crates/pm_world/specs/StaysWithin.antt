@@ -39,7 +39,7 @@ MayTurn config passes part before output bounds (Some (host.Order (Out other Ope
 MayTurn config passes part before output bounds (Some (host.Send RestoreUserAll)) = ⊥
 MayTurn config passes part before output bounds job = Unit {0}
 
--- so it is at each of the later events, whose job is one that a guard with these limits lets through
+-- each of the later events asks for nothing but such a job, which a guard with these limits lets through
 abbrev pub StaysGuarded : Config → ℕ → PartRegisters → List (Option Bounds) → ℕ → Bounds → List Event → List Event → Type 0
 StaysGuarded config passes part limits output bounds [] before = Unit {0}
 StaysGuarded config passes part limits output bounds (event ∷ later) before =

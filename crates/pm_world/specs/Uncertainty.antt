@@ -28,7 +28,8 @@ use Rattle.pm_world.specs.declared.arrival.Arrival.{Arrival}
 use Rattle.pm_world.specs.declared.arrival.Arrival.TheVariants.{Whole, Cut}
 use Rattle.pm_world.specs.declared.back.Back.TheVariants.{Bytes}
 use Rattle.pm_world.specs.declared.event.Event.{Event}
-use Rattle.pm_world.specs.declared.event.Event.TheVariants.{Order, Check, Learn, Clear, Store, Restore, Deliver, Finish, Exchange, RestartHost}
+use Rattle.pm_world.specs.declared.event.Event.TheVariants.{Order, Check, Learn, Clear, Store, Restore, Deliver, Finish, Exchange}
+use Rattle.pm_world.specs.declared.event.Event.TheVariants.{RestartHost}
 use Rattle.pm_world.specs.Confirmed.{restarts_converter}
 use Rattle.pm_world.specs.Life.{life, now}
 use Rattle.pm_world.specs.Possible.{restarts_host}
@@ -108,15 +109,16 @@ pub record IsLike (config other : Config) : Type 0 where
 -- Events that are legal one after another in a new world of this start, which is like the configuration and which
 -- can be made: neither end restarts, the host is told just these entries, and each cell of each output is left with its
 -- chosen word.
-pub record Leaves (config : Config) (passes : ℕ) (entries : List Entry) (chosen : Choice) (start : Config) (events : List Event) : Type 0 where
-  pub alike : IsLike config start
-  pub sound : IsSound start
-  pub made : setup_fault start passes ≡ None
-  pub steady : AreSteady events
-  pub legal : AreLegal start passes events
-  pub told : (life start passes events).entries ≡ entries
-  pub left : (output : ℕ) (register : Reg) → output < config.count →
-      word_at (now start passes events).device.words (Out output register) ≡ chosen (Out output register)
+pub record Leaves (config : Config) (passes : ℕ) (entries : List Entry) (chosen : Choice) (start : Config) (events : List Event) : Type 0
+  where
+    pub alike : IsLike config start
+    pub sound : IsSound start
+    pub made : setup_fault start passes ≡ None
+    pub steady : AreSteady events
+    pub legal : AreLegal start passes events
+    pub told : (life start passes events).entries ≡ entries
+    pub left : (output : ℕ) (register : Reg) → output < config.count →
+        word_at (now start passes events).device.words (Out output register) ≡ chosen (Out output register)
 
 -- A cell's word is due at a place of the transcript: that of its next good answer after it, otherwise the
 -- chosen one. These are due before a mark, and before marks.

@@ -2,3 +2,4 @@ mod Ones
 mod Overhearing
 mod SharedCodes
 mod Found
+mod WholeParts

@@ -1,5 +1,6 @@
 -- Which answers of nothing but ones have no fault.
-use Rattle.std.proofs.Common.{◌≡◌, ◌≢◌, ℕ, zero, suc, ◌+◌, ◌<◌, ◌≤◌, Bool, true, false, not, ◌&&◌, eqb, Option, Some, None, is_none, List, [], ◌∷◌, length, replicate, get_or, refl, sym, ap, ◌∙◌, arith, cond}
+use Rattle.std.proofs.Common.{◌≡◌, ◌≢◌, ℕ, zero, suc, ◌+◌, ◌<◌, ◌≤◌, Bool, true, false, not, ◌&&◌, eqb, Option, Some, None, is_none, List}
+use Rattle.std.proofs.Common.{[], ◌∷◌, length, replicate, get_or, refl, sym, ap, ◌∙◌, arith, cond}
 use Rattle.std.proofs.lemmas.Bool.{agree_below_at, and_parts, eq-eqb, eqb-true, false≢true, ltb-false, not-false}
 use Rattle.std.proofs.lemmas.List.{length-replicate}
 use Rattle.std.specs.Option.{option_map}
@@ -18,6 +19,7 @@ use Rattle.pm_frame.specs.Fault.{address_fault, answer_fault, length_fault, pec_
 use Rattle.pm_frame.specs.Layout.{answer_length, has_count, read_address, sent, write_address}
 use Rattle.pm_frame.specs.Pec.{pec_of, residues_of, residue, doubled}
 use Rattle.pm_frame.specs.View.{answer_payload}
+use Rattle.pm_frame.specs.Lemmas.{length_fault-found}
 use Rattle.pm_host.specs.Answers.{good_payload, good_word, word_in}
 use Rattle.pm_world_examples.specs.Ones.{is_good_protection, ones_behind}
 
@@ -30,15 +32,6 @@ no_payload addr request bytes some = go (answer_fault addr request bytes) some w
   go None some = absurd (some refl)
   go (Some fault) some = refl
 
--- bytes with no fault on the length are as many as wanted
-sized : (wanted : ℕ) (bytes : List ℕ) → length_fault wanted bytes ≡ None → length bytes ≡ wanted
-unfolding length_fault
-sized wanted bytes h =
-    let both = or-none _ _ h in
-    let above : wanted ≤ length bytes = ltb-false _ _ (rule-none _ (Short (length bytes)) both.0) in
-    let below : length bytes ≤ wanted = ltb-false _ _ (rule-none _ (Long wanted) (or-none _ _ both.1).0) in
-    omega arith
-
 -- what ones without a fault say: as many came as a whole answer has, and their count is right where there is one
 ones_fit : (addr opening count : ℕ) (request : Message) → answer_fault addr request (ones_behind opening count) ≡ None
     → (address_fault (read_address addr) (ones_behind opening count) ≡ None)
@@ -50,7 +43,7 @@ ones_fit addr opening count request h =
     let opened = or-none (address_fault (read_address addr) (ones_behind opening count)) _ h in
     let long = or-none (length_fault (whole_answer request) (ones_behind opening count)) _ opened.1 in
     let counted = or-none _ _ long.1 in
-    let many = sized (whole_answer request) (ones_behind opening count) long.0 in (
+    let many = length_fault-found (whole_answer request) (ones_behind opening count) long.0 in (
       opened.0,
       omega (arith, length-replicate {A = ℕ} count 255),
       rule-none _ (WrongCount 1) counted.0,
@@ -120,7 +113,8 @@ fit_alone addr opening count small h =
     go (suc (suc (suc more))) many opened covered = absurd (omega arith)
     go (suc (suc zero)) many opened covered =
         let first : opening ≡ read_address addr = eqb-true _ _ (not-false _ (rule-none _ NotOurs opened)) in
-        let code : eqb 255 (pec_of (write_address addr ∷ 0x10 ∷ opening ∷ 255 ∷ [])) ≡ true = not-false _ (rule-none _ (WrongPec 2) covered) in
+        let code : eqb 255 (pec_of (write_address addr ∷ 0x10 ∷ opening ∷ 255 ∷ [])) ≡ true =
+        not-false _ (rule-none _ (WrongPec 2) covered) in
         let ends : pec_of (write_address addr ∷ 0x10 ∷ read_address addr ∷ 255 ∷ []) ≡ 255 =
         sym (eqb-true _ _ code ∙ ap (λ x. pec_of (write_address addr ∷ 0x10 ∷ x ∷ 255 ∷ [])) first) in
         let at : addr ≡ 0x4a = eqb-true _ _ (sym (one_address addr small) ∙ eq-eqb _ _ ends) in

@@ -1,5 +1,6 @@
 -- What a converter that overhears its neighbours keeps, and what its host is told.
-use Rattle.std.proofs.Common.{◌≡◌, ◌≢◌, ◌⊎◌, inl, inr, ℕ, Bool, true, false, cond, not, ◌&&◌, ◌||◌, eqb, Option, Some, None, List, [], ◌∷◌, length, take}
+use Rattle.std.proofs.Common.{◌≡◌, ◌≢◌, ◌⊎◌, inl, inr, ℕ, Bool, true, false, cond, not, ◌&&◌, ◌||◌, eqb, Option, Some, None, List, [], ◌∷◌}
+use Rattle.std.proofs.Common.{length, take}
 use Rattle.std.proofs.Common.{refl, sym, ◌∙◌, ap, subst, arith}
 use Rattle.std.specs.Prelude.{nat_lt, bytes_eq}
 use Rattle.std.specs.Cmp.Lexicographic.{pointwise}
@@ -17,7 +18,8 @@ use Rattle.pm_host.specs.Messages.{cell_read}
 use Rattle.pm_frame.specs.declared.fault.FrameFault.{FrameFault}
 use Rattle.pm_frame.specs.declared.fault.FrameFault.TheVariants as frame
 use Rattle.pm_frame.specs.declared.message.Message.{Message}
-use Rattle.pm_frame.specs.declared.message.Message.TheVariants.{SendByte, WriteByte, WriteWord, PagePlusWrite, ReadCommand, PagePlusRead, ReadCoefficients}
+use Rattle.pm_frame.specs.declared.message.Message.TheVariants.{SendByte, WriteByte, WriteWord, PagePlusWrite, ReadCommand, PagePlusRead}
+use Rattle.pm_frame.specs.declared.message.Message.TheVariants.{ReadCoefficients}
 use Rattle.pm_frame.specs.Betrayal.{is_betrayed}
 use Rattle.pm_frame.specs.Fault.{request_fault, whole_answer, write_fault}
 use Rattle.pm_frame.specs.Laws.{BetrayalIsRefused}
@@ -45,7 +47,8 @@ use Rattle.pm_world.specs.declared.back.Back.{Back}
 use Rattle.pm_world.specs.declared.back.Back.TheVariants as returns
 use Rattle.pm_world.specs.declared.cause.Cause.TheVariants.{NotBetrayed, WrongKind}
 use Rattle.pm_world.specs.declared.event.Event.{Event}
-use Rattle.pm_world.specs.declared.event.Event.TheVariants.{Check, Clear, Deliver, Exchange, Finish, Learn, Order, OrderMicro, Reading, RestartDevice, RestartHost, Restore, Store}
+use Rattle.pm_world.specs.declared.event.Event.TheVariants.{Check, Clear, Deliver, Exchange, Finish, Learn, Order, OrderMicro, Reading}
+use Rattle.pm_world.specs.declared.event.Event.TheVariants.{RestartDevice, RestartHost, Restore, Store}
 use Rattle.pm_host.specs.Refusals.{IsSetup}
 use Rattle.pm_host.specs.Summary.{sending_in}
 use Rattle.pm_host.specs.Transcript as host
@@ -53,11 +56,13 @@ use Rattle.pm_device.specs.History.{now as device_now}
 use Rattle.pm_device.specs.Start.{IsSound}
 use Rattle.pm_table.specs.RuleLemmas.{or-none, rule-none}
 use Rattle.pm_world.specs.Laws.{LivesAreFollowed}
-use Rattle.pm_world.specs.Legal.{answer_in, back_bytes, heard_bytes, heard_ending, is_heard_whole, is_legal_return, is_restart, whole_ending}
+use Rattle.pm_world.specs.Legal.{answer_in, back_bytes, heard_bytes, heard_ending, is_heard_whole, is_legal_return, is_restart}
+use Rattle.pm_world.specs.Legal.{whole_ending}
 use Rattle.pm_world.specs.Life.{now, state_of}
 use Rattle.pm_world.specs.Lived.{EventsAreLived, IsLived}
 use Rattle.pm_world.specs.Setup.{setup_of}
-use Rattle.pm_world.specs.State.{Share, State, answer_to, asked, counted, device_after, event_cause, exchange_cause, exchanged, hearing_cause, next, refused, return_cause, rule, share_beside, share_of, shared, cause_beside, tells}
+use Rattle.pm_world.specs.State.{Share, State, answer_to, asked, counted, device_after, event_cause, exchange_cause, exchanged}
+use Rattle.pm_world.specs.State.{hearing_cause, next, refused, return_cause, rule, share_beside, share_of, shared, cause_beside, tells}
 use Rattle.pm_world.specs.Job.{refusal_of}
 use Rattle.pm_world.specs.Uncertainty.{IsLegal}
 use Rattle.std.specs.Option.{option_map, option_map_or}
@@ -67,15 +72,15 @@ use Rattle.pm_world_examples.specs.Neighbours.{AllPassBy, Overheard, overhearing
 
 -- ---- what is overheard
 
--- a converter is another but for latched bits of STATUS_CML
+-- A converter is like another where they differ in latched bits of STATUS_CML alone.
 abbrev pub AreAlike : Held → Held → Type 0
 AreAlike held other = held ≡ record other { faults = held.faults }
 
--- one by way of a third
+-- A converter that is like a second one is like a third that the second one is like.
 alike-by : (a b c : Held) → AreAlike a b → AreAlike b c → AreAlike a c
 alike-by a b c first second = first ∙ ap (λ (h : Held). record h { faults = a.faults }) second
 
--- a fault sets such a bit at most
+-- A converter after a faulty frame is like itself before it.
 fault-alike : (held : Held) (fault : FrameFault) → AreAlike (after held (device.Heard (fault_verdict fault))) held
 unfolding after
 fault-alike held frame.NotOurs = refl
@@ -87,7 +92,7 @@ fault-alike held (frame.UnknownCode place) = refl
 fault-alike held (frame.WrongDirection place) = refl
 fault-alike held (frame.Nested place) = refl
 
--- and so does a write with a fault
+-- A converter after a write with a fault is like itself before it.
 faulty-alike : (held : Held) (bytes : List ℕ) → write_fault held.config.addr bytes ≢ None
     → AreAlike (device_next held (device.Hearing bytes Stop)) held
 unfolding device_next verdict_of
@@ -106,7 +111,7 @@ pub record Below : Type 0 where
   pub followed : LivesAreFollowed
   pub lived : EventsAreLived
 
--- what passes by sets such bits at most
+-- A converter after what passes by is like itself before it.
 passing-alike : Below → (held : Held) (heard : Overheard) → passes_by held.config.addr heard ≡ true
     → AreAlike (device_next held (device.Hearing heard.bytes heard.ending)) held
 passing-alike laws held heard passes = by_ending heard.bytes heard.ending passes where
@@ -120,7 +125,7 @@ passing-alike laws held heard passes = by_ending heard.bytes heard.ending passes
         same ∙ ap (λ (h : Held). record held { faults = h.faults }) (sym same)
     go (inr wrong) = faulty-alike held bytes (laws.betrayal.write held.config.addr bytes wrong)
 
--- all that passes by
+-- A converter after all that passes by is like itself before it.
 pub overheard-alike : Below → (held : Held) (heard : List Overheard) → AllPassBy held.config.addr heard
     → AreAlike (overhearing held heard) held
 unfolding overhearing
@@ -133,7 +138,7 @@ overheard-alike laws held (one ∷ before) (passes, all) =
 
 -- ---- what is answered
 
--- a register's word doesn't depend on what is latched,
+-- A register's word doesn't depend on what is latched.
 register-same : RegistersAreInTheTable → (held : Held) (faults : CmlFaults) (output : ℕ) (register : Reg)
     → register_word (record held { faults = faults }) output (register_code register) ≡ register_word held output (register_code register)
 register-same table held faults output register =
@@ -143,14 +148,14 @@ register-same table held faults output register =
     λ plain. ap (λ o. option_map_or (λ cell. word_at held.words cell) o plain) (table.found register output) in
     kept (plain_register (record held { faults = faults }) output code) ∙ sym (kept (plain_register held output code))
 
--- and so is a cell's read,
+-- The payload for a cell's read doesn't depend on what is latched.
 cell-same : RegistersAreInTheTable → (held : Held) (faults : CmlFaults) (cell : Cell)
     → payload_for (record held { faults = faults }) (cell_read cell) ≡ payload_for held (cell_read cell)
 cell-same table held faults (Out output register) =
     ap (register_bytes (register_code register)) (register-same table held faults output register)
 cell-same table held faults Protect = refl
 
--- and each message of a host: it is answered from nothing but the configuration and the words
+-- The payload for each message of a host doesn't depend on what is latched.
 payload-same : RegistersAreInTheTable → (held : Held) (faults : CmlFaults) (stage : Stage)
     → payload_for (record held { faults = faults }) (stage_message stage) ≡ payload_for held (stage_message stage)
 payload-same table held faults (Writes (Out output register) word pass) = refl
@@ -168,7 +173,7 @@ agree_on_choice : {X Y : Type 0} (f g : X → Y) (b : Bool) (x y : X) → f x �
 agree_on_choice f g true x y h k = h
 agree_on_choice f g false x y h k = k
 
--- a request without a fault is answered alike where its payload is
+-- A request without a fault is answered alike, whatever is latched, where its payload doesn't depend on it.
 answer-same : (held : Held) (faults : CmlFaults) (request : Message)
     → payload_for (record held { faults = faults }) request ≡ payload_for held request
     → reply_to (record held { faults = faults }) (read_verdict held.config request) ≡ reply_to held (read_verdict held.config request)
@@ -190,7 +195,7 @@ answer-same held faults (WriteByte code byte) h = refl
 answer-same held faults (WriteWord code word) h = refl
 answer-same held faults (PagePlusWrite page code payload) h = refl
 
--- and so is one that may have a fault
+-- A request that may have a fault is answered alike, whatever is latched, where its payload doesn't depend on it.
 unless-same : (held : Held) (faults : CmlFaults) (fault : Option FrameFault) (request : Message)
     → payload_for (record held { faults = faults }) request ≡ payload_for held request
     → reply_to (record held { faults = faults }) (unless_faulty fault (read_verdict held.config request))
@@ -246,7 +251,7 @@ frame-opens addr (ReadCommand code) = (_, refl)
 frame-opens addr (PagePlusRead page code) = (_, refl)
 frame-opens addr (ReadCoefficients code side) = (_, refl)
 
--- a front of another's frame is for another device
+-- A front of a frame for another address is for another device.
 front-other : FramesForOthersAreSilent → (addr other : ℕ) (rest bytes : List ℕ) → addr ≢ other
     → starts_with eqb (write_address other ∷ rest) bytes ≡ true → is_for_other addr bytes ≡ true
 front-other silent addr other rest [] differ front = refl
@@ -255,7 +260,7 @@ front-other silent addr other rest (first ∷ more) differ front =
     (and_parts (eqb first (write_address other)) (pointwise eqb more (take (length more) rest)) front).0 in
     subst (λ b. is_for_other addr (b ∷ more) ≡ true) (sym same) (silent.neighbour addr other more (λ e. differ (sym e))).0
 
--- so another's frame passes by as it may legally arrive,
+-- A frame for another address passes by however it may legally arrive.
 pub frame-passes : FramesForOthersAreSilent → (addr other : ℕ) (message : Message) (bytes : List ℕ) (ending : Ending) → addr ≢ other
     → is_legal_hearing (frame_of other message) bytes ending ≡ true
     → passes_by addr (record { bytes = bytes; ending = ending }) ≡ true
@@ -272,7 +277,7 @@ frame-passes silent addr other message bytes Stop differ legal =
         (front-other silent addr other opens.0 bytes differ (subst (λ l. starts_with eqb l bytes ≡ true) opens.1 front))
     go (inr wrong) = or_right (is_for_other addr bytes) (is_betrayed [] bytes) wrong
 
--- and what follows another's read address
+-- What begins with another's read address passes by.
 pub answer-passes : (addr other : ℕ) (rest : List ℕ) (ending : Ending)
     → passes_by addr (record { bytes = read_address other ∷ rest; ending = ending }) ≡ true
 answer-passes addr other rest Restart = refl
@@ -298,7 +303,7 @@ arrives-whole : (frame : List ℕ) (message : Message) → is_read_message messa
 arrives-whole frame message reads =
     ap (λ b. is_restart (cond b Restart Stop) && bytes_eq frame frame) reads ∙ (bytes_eq-Decides frame frame).1 refl
 
--- where it wasn't heard whole, the answer doesn't count
+-- Where a request wasn't heard whole, a return is judged without the answer.
 cut-same : (request : List ℕ) (needed : ℕ) (whole : Bool) (answer other bytes : List ℕ) → whole ≡ false
     → is_legal_return request needed whole answer bytes ≡ is_legal_return request needed whole other bytes
 unfolding is_legal_return
@@ -316,7 +321,7 @@ gives-cases (arrives.Bytes heard ending) returns.Whole gives = absurd (false≢t
 gives-cases (arrives.Bytes heard ending) (returns.Cut few) gives = absurd (false≢true gives)
 gives-cases (arrives.Bytes heard ending) (returns.Bytes bytes) gives = inr (λ answer other. refl)
 
--- what comes back is the same,
+-- What comes back for a request of the host's own is the same, whatever is latched.
 came-same : RegistersAreInTheTable → (held : Held) (faults : CmlFaults) (addr : ℕ) (stage : Stage) (arrival : Arrival) (back : Back)
     → is_read_message (stage_message stage) ≡ true → gives_return (Exchange arrival back) ≡ true
     → back_bytes (answer_to (record held { faults = faults }) addr (stage_message stage) arrival) back
@@ -335,7 +340,7 @@ came-same table held faults addr stage arrival back reads gives = go (gives-case
       (whole_ending (stage_message stage)) reads (arrives-whole (frame_of addr (stage_message stage)) (stage_message stage) reads)))
   go (inr said) = said _ _
 
--- and is judged alike
+-- What comes back for a request of the host's own is judged alike, whatever is latched.
 return-same : RegistersAreInTheTable → (held : Held) (faults : CmlFaults) (addr : ℕ) (stage : Stage) (arrival : Arrival) (back : Back)
     → is_read_message (stage_message stage) ≡ true → gives_return (Exchange arrival back) ≡ true
     → return_cause (record held { faults = faults }) addr (stage_message stage) arrival back
@@ -379,7 +384,7 @@ after-rule : {X : Type 0} (applies : Bool) (fault : X) (x y : Option X) → (app
 after-rule true fault x y h = refl
 after-rule false fault x y h = h refl
 
--- an exchange is judged alike,
+-- An exchange is judged alike, whatever is latched.
 exchange-same : RegistersAreInTheTable
     → (t : State) (faults : CmlFaults) (arrival : Arrival) (back : Back) → gives_return (Exchange arrival back) ≡ true
     → exchange_cause (with_faults t faults) arrival back (sending_in t.host) ≡ exchange_cause t arrival back (sending_in t.host)
@@ -391,7 +396,7 @@ exchange-same table t faults arrival back gives = go t.host.stage where
       ap (option_or (hearing_cause t.host.setup.addr (stage_message stage) arrival))
       (return-same table t.device faults t.host.setup.addr stage arrival back (not-false _ e) gives))
 
--- and so is each event
+-- Each event is judged alike but for the job that it asks for, whatever is latched.
 beside-same : RegistersAreInTheTable → (t : State) (faults : CmlFaults) (event : Event) → gives_return event ≡ true
     → cause_beside (with_faults t faults) event ≡ cause_beside t event
 beside-same table t faults (Order cell word) gives = refl
@@ -412,7 +417,7 @@ cause-same : RegistersAreInTheTable → (t : State) (faults : CmlFaults) (event 
     → event_cause (with_faults t faults) event ≡ event_cause t event
 cause-same table t faults event gives = ap (option_or (refused (refusal_of t.host event))) (beside-same table t faults event gives)
 
--- an exchange that is legal tells both ends the same,
+-- An exchange that is legal tells both ends the same, whatever is latched.
 exchanged-same : RegistersAreInTheTable
     → (t : State) (faults : CmlFaults) (arrival : Arrival) (back : Back) → gives_return (Exchange arrival back) ≡ true
     → exchange_cause t arrival back (sending_in t.host) ≡ None
@@ -428,7 +433,7 @@ exchanged-same table t faults arrival back gives = go t.host.stage where
       ap (λ b. record (exchanged t arrival back (Some (stage_message stage))) { told = Some (host.Got b) })
       (came-same table t.device faults t.host.setup.addr stage arrival back reads gives)
 
--- and so does each event
+-- Each event that is legal tells both ends the same, whatever is latched.
 tells-same : RegistersAreInTheTable
     → (t : State) (faults : CmlFaults) (event : Event) → gives_return event ≡ true → cause_beside t event ≡ None
     → share_beside (with_faults t faults) event ≡ share_beside t event
@@ -453,7 +458,7 @@ share-same table t faults event gives free =
     ap (option_map_or (λ job. tells (host.Accepted job)) (asked t event))
     (tells-same table t faults event gives (or-none (refused (refusal_of t.host event)) (cause_beside t event) free).1)
 
--- what the converter makes of it depends on nothing that is latched in STATUS_CML
+-- What the converter makes of what it hears doesn't depend on what is latched, but for latched bits of STATUS_CML.
 device-same : (held : Held) (faults : CmlFaults) (heard : Option device.Event)
     → AreAlike (device_after (record held { faults = faults }) heard) (device_after held heard)
 unfolding device_next after
@@ -479,7 +484,7 @@ pub record IsApart (config : Config) (passes : ℕ) (s : State) (events : List E
   pub lived : IsLived config passes events
   pub alone : s ≡ with_faults (now config passes events) s.device.faults
 
--- one more of its own events
+-- A state that a pair may have is such a state after one more event of its own.
 own-apart : Below → (config : Config) (passes : ℕ) (s : State) (events : List Event) (event : Event) → IsApart config passes s events
     → IsLegal s event → gives_return event ≡ true → IsApart config passes (next s event) (event ∷ events)
 own-apart laws config passes s events event before legal gives =
@@ -497,7 +502,7 @@ own-apart laws config passes s events event before legal gives =
           ∙ ap (λ x. with_faults (now config passes (event ∷ events)) (next x event).device.faults) (sym before.alone);
     }
 
--- something overheard
+-- A state that a pair may have is such a state after what it overhears.
 overheard-apart : Below → (config : Config) (passes : ℕ) (s : State) (events : List Event) (heard : List Overheard)
     → IsApart config passes s events → AllPassBy config.addr heard
     → IsApart config passes (record s { device = overhearing s.device heard }) events
@@ -511,7 +516,7 @@ overheard-apart laws config passes s events heard before passes_all =
           ∙ ap (λ (x : State). with_faults x (overhearing s.device heard).faults) before.alone;
     }
 
--- so is a pair after all events of the board
+-- A pair's state after all events of the board is one that it may have.
 pub board-apart : Below → (board : Board) (pair : ℕ) (events : List Happening)
     → IsSound (board.config pair) → IsSetup (setup_of (board.config pair) (board.passes pair)) → AreLegalFor board pair events
     → IsApart (board.config pair) (board.passes pair) (on_board board pair events) (own pair events)

@@ -14,22 +14,9 @@ use Rattle.pm_frame.specs.declared.message.Message.TheVariants.{PagePlusRead}
 use Rattle.pm_frame.specs.Fault.{whole_answer}
 use Rattle.pm_frame.specs.Layout.{read_address, write_address}
 use Rattle.pm_frame.specs.Pec.{doubled, residue, residues_of, pec_of}
+use Rattle.pm_frame.specs.Lemmas.{cancel_left, cancel_right}
 use Rattle.pm_host.specs.Messages.{cell_read, coefficients_read, mode_read}
 use Rattle.pm_world_examples.specs.SharedCodes.{read_codes, request_code, shares}
-
--- ---- what is added on both sides falls out
-
-added_twice : (a x : ℕ) → bit_xor a (bit_xor a x) ≡ x
-added_twice a x = sym (xor_assoc a a x) ∙ ap (λ (t : ℕ). bit_xor t x) (xor_self a) ∙ xor_zero_l x
-
-cancel_left : (a x y : ℕ) → bit_xor a x ≡ bit_xor a y → x ≡ y
-cancel_left a x y h = sym (added_twice a x) ∙ ap (bit_xor a) h ∙ added_twice a y
-
-added_behind : (x a : ℕ) → bit_xor (bit_xor x a) a ≡ x
-added_behind x a = xor_assoc x a a ∙ ap (bit_xor x) (xor_self a) ∙ xor_zero_r x
-
-cancel_right : (a x y : ℕ) → bit_xor x a ≡ bit_xor y a → x ≡ y
-cancel_right a x y h = sym (added_behind x a) ∙ ap (λ (t : ℕ). bit_xor t a) h ∙ added_behind y a
 
 -- truth values that are found to be one
 same_from_beq : (b c : Bool) → beq b c ≡ true → b ≡ c

@@ -38,7 +38,8 @@ use Rattle.pm_world.specs.Possible.{restarted_since_host}
 use Rattle.pm_world.specs.Setup.{setup_of}
 use Rattle.pm_world.specs.State.{asked, event_limit}
 use Rattle.pm_world.specs.Way.{HasGone, way_of}
-use Rattle.pm_world.specs.Uncertainty.{AreOfBytes, AreOpen, AreWordsChosen, Choice, Leaves, due_before, since_restart, witness_events, witness_start}
+use Rattle.pm_world.specs.Uncertainty.{AreOfBytes, AreOpen, AreWordsChosen, Choice, Leaves, due_before, since_restart, witness_events}
+use Rattle.pm_world.specs.Uncertainty.{witness_start}
 
 -- Of an order for this word of this cell, whose write was delivered so, the end of that write and an undisturbed read
 -- are taken.

@@ -2,4 +2,5 @@
 pub mod ByName
 pub mod Neighbours
 pub mod Ones
+pub mod Rails
 pub mod SharedCodes

@@ -1,5 +1,5 @@
-//! A driver over a simulated bus: while a plan restarts nothing, what the host confirms is held; over an empty plan an order
-//! is done. The same of a patient bus, whose adapter is a simulated one.
+//! A driver over a simulated bus: while a plan restarts nothing, what the host confirms is held, also where a status is read
+//! between two orders; over an empty plan an order is done. The same of a patient bus, whose adapter is a simulated one.
 
 ghost use Rattle.std.specs.Prelude.{◌≡◌, ℕ, true, IfOk, IfSome};
 ghost use Rattle.pm_table.specs.declared.cell.Cell.{Cell as Place};
@@ -16,11 +16,13 @@ ghost use Rattle.pm_driver.specs.PlanEnds.{IsAllowed, PatientWentThrough, is_rea
 use pm_device::Config;
 use pm_driver::{
     Driver, Fault, Patient, SimulatedBus, driver_over, order_patiently_through, order_through,
-    run_patiently_without_restart, run_without_restart,
+    read_without_restart, requests_are_no_writes, run_patiently_without_restart,
+    run_without_restart,
 };
+use pm_frame::code_request;
 use pm_host::{Job, JobEnd};
 use pm_limits::LimitFault;
-use pm_table::{Cell, Reg};
+use pm_table::{Cell, Code, Reg};
 
 /// What the host confirms is held, where the plan has no restart.
 pub fn confirmed_is_held<'a>(driver: &Driver<SimulatedBus<'a>>)
@@ -53,6 +55,38 @@ pub fn orders_over_a_plan<'a>(
         Job::Order(Cell::Out(1, Reg::VoutCommand), word),
     );
     let _ = run_without_restart(&mut driver, Job::Check(Cell::Out(0, Reg::VoutCommand)));
+    confirmed_is_held(&driver);
+    Some(driver)
+}
+
+/// Two orders over such a plan, and a read of STATUS_WORD between them: what the host confirms is held on.
+pub fn orders_around_a_read<'a>(
+    c: Config,
+    passes: u8,
+    plan: &'a [Fault],
+    word: u16,
+) -> Option<Driver<SimulatedBus<'a>>>
+    requires { restarts_of plan.now ≡ 0 }
+    ensures { IfSome result (λ driver. (cell : Place) (word : ℕ) → IsCell driver.guard.host.setup.outputs cell →
+        standing_at driver.guard.host cell ≡ Confirmed word → word_at driver.bus.device.words cell ≡ word) }
+{
+    let mut driver = driver_over(c, passes, plan)?;
+    let _ = run_without_restart(
+        &mut driver,
+        Job::Order(Cell::Out(0, Reg::VoutCommand), word),
+    );
+    let mut room = [0; 4];
+    // law: no beginning of the request is a write
+    requests_are_no_writes();
+    let _ = read_without_restart(
+        &mut driver,
+        &code_request(0x58, Code::STATUS_WORD.0),
+        &mut room,
+    );
+    let _ = run_without_restart(
+        &mut driver,
+        Job::Order(Cell::Out(1, Reg::VoutCommand), word),
+    );
     confirmed_is_held(&driver);
     Some(driver)
 }

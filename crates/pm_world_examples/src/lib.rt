@@ -21,6 +21,7 @@
 //! - `plans`: what plans and surveys of rails are worth.
 //! - `neighbours`: hosts and converters in pairs on one bus, each as if it were alone.
 //! - `own_loop`: events that a caller's own loop lets happen.
+//! - `rails`: what a survey and a plan over any bus are worth.
 //! - `drivers`: what a driver over a simulated bus, or over a patient one, makes of orders.
 #![tactic(auto)]
 
@@ -38,6 +39,7 @@ pub mod neighbours;
 pub mod orders;
 pub mod own_loop;
 pub mod plans;
+pub mod rails;
 pub mod whole;
 
 pub use laws::{laws_by_name, ones_are_no_answer, reads_that_share_their_code};

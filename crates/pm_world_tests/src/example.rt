@@ -1,8 +1,8 @@
-//! The example of the root of `pm_world`, word for word.
+//! The examples of the roots of `pm_world` and `pm_setup`, word for word.
 
-use pm_device::Config;
+use pm_device::{Config, ConfigFault, Converter};
 use pm_device_tests::BASE;
-use pm_host::JobEnd;
+use pm_host::{Host, HostFault, JobEnd};
 use pm_table::{Cell, Reg};
 use pm_world::{Arrival, Back, Event, SetupFault, World};
 
@@ -21,4 +21,27 @@ fn ordered(config: Config) -> Result<Option<JobEnd>, SetupFault> {
 #[test]
 fn the_example_of_the_root_runs(rt: HostRuntime) {
     assert_eq!(rt; ordered(BASE), Ok(Some(JobEnd::Done)));
+}
+
+fn both(config: Config, passes: u8) -> Result<(Converter, Host), SetupFault> {
+    let (addr, outputs) = (config.addr, config.count);
+    let converter = Converter::new(config)?; // V1 to V5: SetupFault::Device
+    let host = Host::new(addr, outputs, passes)?; // H2 for no passes: SetupFault::Host
+    Ok((converter, host))
+}
+
+// Why the two aren't made of this configuration and these passes.
+fn refused(config: Config, passes: u8) -> Option<SetupFault> {
+    both(config, passes).err()
+}
+
+#[test]
+fn the_example_of_the_setup_runs(rt: HostRuntime) {
+    let none = Config { count: 0, ..BASE };
+    assert_eq!(rt; refused(BASE, 2), None);
+    assert_eq!(rt; refused(BASE, 0), Some(SetupFault::Host(HostFault::Passes)));
+    assert_eq!(rt;
+        refused(none, 0),
+        Some(SetupFault::Device(ConfigFault::OutputCount))
+    );
 }

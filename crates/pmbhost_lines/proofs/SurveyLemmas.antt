@@ -14,7 +14,8 @@ use Rattle.pmbhost_lines.specs.declared.ask.Ask.TheVariants.{Plan}
 use Rattle.pmbhost_lines.specs.declared.session.Session.{Session}
 
 -- a survey that asks for a job begins it, and has asked for it then
-pub survey_begins : (s : Session) (v asked : Survey) (job : Job) → next_job s.guard.registers v s.guard.host ≡ Some job → asked ≡ asking v (Some job)
+pub survey_begins : (s : Session) (v asked : Survey) (job : Job) → next_job s.guard.registers v s.guard.host ≡ Some job
+    → asked ≡ asking v (Some job)
     → surveys s v ≡ begins_with s job (Some asked) (guard_fault s.guard job)
 survey_begins s v asked job next is = rw (next, is) refl
 

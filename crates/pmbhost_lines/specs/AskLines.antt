@@ -1,6 +1,7 @@
 -- The lines that are said to a host, each with its words in their order. A job is asked for as in a
 -- scenario, by the same readers. This project's own choice.
-use Rattle.std.specs.Prelude.{ℕ, nat_le, nat_lt, if◌then◌else◌, List, [], ◌∷◌, length, Option, Some, None, option_map, option_and_then, Result, Ok, Err, codes}
+use Rattle.std.specs.Prelude.{ℕ, nat_le, nat_lt, if◌then◌else◌, List, [], ◌∷◌, length, Option, Some, None, option_map, option_and_then}
+use Rattle.std.specs.Prelude.{Result, Ok, Err, codes}
 use Rattle.pm_lines.specs.Bytes.{bytes_before}
 use Rattle.pm_lines.specs.Digits.{signed_of, small_of}
 use Rattle.pm_lines.specs.Lines.{without_return}
@@ -12,7 +13,8 @@ use Rattle.pm_text.specs.declared.scenario.fault.ScenarioFault.{ScenarioFault}
 use Rattle.pm_text.specs.declared.scenario.fault.ScenarioFault.TheVariants as fault
 use Rattle.pmbhost_lines.specs.Wishes.{wishes, wishes_if_any}
 use Rattle.pmbhost_lines.specs.declared.ask.Ask.{Ask}
-use Rattle.pmbhost_lines.specs.declared.ask.Ask.TheVariants.{Job, Finished, Got, Sending, Restart, State, Seen, Band, Limits, Narrow, Rail, Plan, Next, Survey}
+use Rattle.pmbhost_lines.specs.declared.ask.Ask.TheVariants.{Job, Finished, Got, Sending, Restart, State, Seen, Band, Limits, Narrow, Rail}
+use Rattle.pmbhost_lines.specs.declared.ask.Ask.TheVariants.{Plan, Next, Survey}
 use Rattle.pmbhost_lines.specs.declared.refusal.Refusal.{Refusal}
 use Rattle.pmbhost_lines.specs.declared.refusal.Refusal.TheVariants.{Syntax, BadHex, TooLong}
 

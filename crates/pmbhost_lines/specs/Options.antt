@@ -1,5 +1,6 @@
 -- The command line of `pmbhost`, and the host with limits that its options make. This project's own choice.
-use Rattle.std.specs.Prelude.{◌≡◌, ◌==◌, ℕ, ℤ, true, ◌&&◌, nat_le, if◌then◌else◌, List, [], ◌∷◌, map, replicate, Option, Some, None, is_some, option_map, Result, Ok, Err, codes, unwrap_or, option_and_then}
+use Rattle.std.specs.Prelude.{◌≡◌, ◌==◌, ℕ, ℤ, true, ◌&&◌, nat_le, if◌then◌else◌, List, [], ◌∷◌, map, replicate, Option, Some, None}
+use Rattle.std.specs.Prelude.{is_some, option_map, Result, Ok, Err, codes, unwrap_or, option_and_then}
 use Rattle.clap.specs.Words.{App, Row, all_of, first_of, new_app, with_rule}
 use Rattle.pm_host.specs.FaultWords.{host_fault_words}
 use Rattle.pm_host.specs.Refusals.{setup_fault}

@@ -23,7 +23,8 @@ use Rattle.pm_text.specs.Report.{end_text, floor_micros, possible_text, standing
 use Rattle.pmbhost_lines.specs.declared.refusal.Refusal.{Refusal}
 use Rattle.pmbhost_lines.specs.declared.refusal.Refusal.TheVariants.{Syntax, BadHex, TooLong, Untold, Guard, Plan as Planning}
 use Rattle.pmbhost_lines.specs.declared.reply.Reply.{Reply}
-use Rattle.pmbhost_lines.specs.declared.reply.Reply.TheVariants.{Write, Request, Idle, Ended, Restarted, State, Seen, Band, Limits, Narrowed, Rail, Plan, Survey, Refused}
+use Rattle.pmbhost_lines.specs.declared.reply.Reply.TheVariants.{Write, Request, Idle, Ended, Restarted, State, Seen, Band, Limits}
+use Rattle.pmbhost_lines.specs.declared.reply.Reply.TheVariants.{Narrowed, Rail, Plan, Survey, Refused}
 
 -- the letter and the name of a refusal: those of texts, of what a host can be told, of limits, of the host and of plans
 abbrev pub refusal_words : Refusal → List ℕ

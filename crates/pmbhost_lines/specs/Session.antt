@@ -1,6 +1,7 @@
 -- What a session, a host with limits and the survey that is open, answers to a line, and what it is then. This project's
 -- own choice.
-use Rattle.std.specs.Prelude.{ℕ, ℤ, ◌-◌, ◌==◌, Bool, true, false, if◌then◌else◌, nat_lt, List, [], Option, Some, None, Result, Ok, Err, is_none, option_map}
+use Rattle.std.specs.Prelude.{ℕ, ℤ, ◌-◌, ◌==◌, Bool, true, false, if◌then◌else◌, nat_lt, List, [], Option, Some, None, Result, Ok, Err}
+use Rattle.std.specs.Prelude.{is_none, option_map}
 use Rattle.std.specs.Option.{option_map_or}
 use Rattle.pm_table.specs.declared.cell.Cell.{Cell}
 use Rattle.pm_table.specs.declared.cell.Cell.TheVariants.{Out}
@@ -41,7 +42,8 @@ use Rattle.pmbhost_lines.specs.declared.ask.Ask.TheVariants as ask
 use Rattle.pmbhost_lines.specs.declared.refusal.Refusal.{Refusal}
 use Rattle.pmbhost_lines.specs.declared.refusal.Refusal.TheVariants as refusal
 use Rattle.pmbhost_lines.specs.declared.reply.Reply.{Reply}
-use Rattle.pmbhost_lines.specs.declared.reply.Reply.TheVariants.{Write, Request, Idle, Ended, Restarted, State, Seen, Band, Limits, Narrowed, Rail, Plan, Survey, Refused}
+use Rattle.pmbhost_lines.specs.declared.reply.Reply.TheVariants.{Write, Request, Idle, Ended, Restarted, State, Seen, Band, Limits}
+use Rattle.pmbhost_lines.specs.declared.reply.Reply.TheVariants.{Narrowed, Rail, Plan, Survey, Refused}
 use Rattle.pmbhost_lines.specs.declared.session.Session.{Session}
 
 -- the answer to a line, and the session after it
@@ -171,7 +173,7 @@ abbrev pub plans : Session → Result (Option PlanOrder) PlanFault → Answered
 plans s (Err fault) = refuses s (refusal.Plan fault)
 plans s (Ok order) = stays s (Plan order)
 
--- and the same order begun: it is one that nothing refuses
+-- the same order begun: it is one that nothing refuses
 abbrev pub begins_next : Session → ℕ → Result (Option PlanOrder) PlanFault → Answered
 begins_next s output (Err fault) = refuses s (refusal.Plan fault)
 begins_next s output (Ok None) = stays s (Plan None)

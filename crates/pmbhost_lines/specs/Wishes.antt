@@ -1,16 +1,15 @@
 -- The words that are wanted of an output's registers, as a line writes them: `NAME=HEX ..`, each a register that holds
 -- a voltage and its word. This project's own choice.
-use Rattle.std.specs.Prelude.{ℕ, Bool, ◌&&◌, ◌==◌, if◌then◌else◌, List, [], ◌∷◌, find, Option, Some, None, is_some, Result, Ok, Err, bytes_eq}
+use Rattle.std.specs.Prelude.{ℕ, Bool, ◌&&◌, ◌==◌, if◌then◌else◌, List, [], ◌∷◌, find, Option, Some, None, is_some, Result, Ok, Err}
+use Rattle.std.specs.Prelude.{bytes_eq}
 use Rattle.std.specs.List.{after_first, before_first, list_any}
 use Rattle.pm_table.specs.declared.reg.Reg.{Reg}
-use Rattle.pm_table.specs.declared.reg.Reg.TheVariants.{Operation, VoutCommand, VoutMax, MarginHigh, MarginLow, VoutMin}
 use Rattle.pm_table.specs.Cell.{is_voltage, register_code, registers}
 use Rattle.pm_table.specs.Commands.{name_of}
 use Rattle.pm_lines.specs.Digits.{hex_of}
 use Rattle.pm_lines.specs.Lines.{WordsLeft}
 use Rattle.pm_rail.specs.declared.wanted.Wanted.{Wanted}
-use Rattle.pm_rail.specs.Registers.{wants_of}
-use Rattle.pm_rail.specs.Survey.{nothing}
+use Rattle.pm_rail.specs.Registers.{nothing, wants_of, with_word}
 use Rattle.pm_text.specs.Readers.{◌>>=◌, Field, made_into, word as next_word}
 use Rattle.pm_text.specs.declared.scenario.fault.ScenarioFault.{ScenarioFault}
 use Rattle.pm_text.specs.declared.scenario.fault.ScenarioFault.TheVariants.{Syntax, BadHex}
@@ -18,15 +17,6 @@ use Rattle.pm_text.specs.declared.scenario.fault.ScenarioFault.TheVariants.{Synt
 -- the register that holds a voltage and has this name in the command table
 abbrev pub voltage_named : List ℕ → Option Reg
 voltage_named text = find (λ register. is_voltage register && bytes_eq text (name_of (register_code register))) registers
-
--- the words that are wanted, with this one for a register
-abbrev pub with_word : Wanted → Reg → ℕ → Wanted
-with_word w Operation word = w
-with_word w VoutCommand word = record w { command = Some word }
-with_word w VoutMax word = record w { max = Some word }
-with_word w MarginHigh word = record w { margin_high = Some word }
-with_word w MarginLow word = record w { margin_low = Some word }
-with_word w VoutMin word = record w { min = Some word }
 
 -- a byte is `=`, and a word has it
 abbrev pub is_mark : ℕ → Bool

@@ -3,8 +3,7 @@ ghost use Rattle.std.specs.Prelude.{◌≡◌, ◌&&◌, bytes_eq, find};
 ghost use Rattle.pm_table.specs.Cell.{is_voltage, register_code, registers};
 ghost use Rattle.pm_table.specs.Commands.{name_of};
 ghost use Rattle.pm_text.specs.Readers.{Reads};
-ghost use Rattle.pmbhost_lines.specs.Wishes.{has_mark as spec_has_mark, voltage_named as spec_voltage_named, wished as spec_wished, wishes, wishes_from as spec_wishes_from, wishes_if_any, with_word as spec_with_word};
-ghost use Rattle.pm_rail.specs.Survey.{nothing as nothing_wanted};
+ghost use Rattle.pmbhost_lines.specs.Wishes.{has_mark as spec_has_mark, voltage_named as spec_voltage_named, wished as spec_wished, wishes, wishes_from as spec_wishes_from, wishes_if_any};
 
 use pm_lines::{cut_at, read_word};
 use pm_rail::Wanted;
@@ -43,24 +42,11 @@ pub(crate) fn read_wishes_if_any(fields: &mut Fields<'_>) -> Result<Option<Wante
 fn wishes_from(fields: &mut Fields<'_>, word: &[u8]) -> Result<Wanted, ScenarioFault>
     ensures { Reads result fields.new (spec_wishes_from word.now fields.old) }
 {
-    let mut wanted = wished(fields, nothing(), word)?;
+    let mut wanted = wished(fields, Wanted::nothing(), word)?;
     'words: while let Some(more) = fields.next_word() {
         wanted = wished(fields, wanted, more)?;
     }
     Ok(wanted)
-}
-
-// No word is wanted.
-fn nothing() -> Wanted
-    ensures { result ≡ nothing_wanted }
-{
-    Wanted {
-        command: None,
-        max: None,
-        margin_high: None,
-        margin_low: None,
-        min: None,
-    }
 }
 
 // The words that are wanted with one more, of the line that these fields are left of.
@@ -78,7 +64,7 @@ fn wished(fields: &Fields<'_>, wanted: Wanted, word: &[u8]) -> Result<Wanted, Sc
         return Err(fields.syntax());
     }
     match read_word(hex) {
-        Some(word) => Ok(with_word(wanted, register, word)),
+        Some(word) => Ok(wanted.with(register, word)),
         None => Err(fields.bad_hex()),
     }
 }
@@ -96,20 +82,4 @@ pub(crate) fn voltage_named(name: &[u8]) -> Option<Reg>
 {
     Reg::ALL.iter().copied().find(|register| register.is_voltage()
         && name == register.code().name().as_bytes())
-}
-
-// The words that are wanted with this one for a register that holds a voltage.
-fn with_word(wanted: Wanted, register: Reg, word: u16) -> Wanted
-    ensures { result ≡ spec_with_word wanted register word }
-{
-    let mut more = wanted;
-    match register {
-        Reg::Operation => {}
-        Reg::VoutCommand => more.command = Some(word),
-        Reg::VoutMax => more.max = Some(word),
-        Reg::MarginHigh => more.margin_high = Some(word),
-        Reg::MarginLow => more.margin_low = Some(word),
-        Reg::VoutMin => more.min = Some(word),
-    }
-    more
 }

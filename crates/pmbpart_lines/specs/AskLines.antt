@@ -1,6 +1,7 @@
 -- The lines that are said to a converter, each with its words in their order. A frame is written as for `hear`,
 -- readings and registers as in a scenario. This project's own choice.
-use Rattle.std.specs.Prelude.{ℕ, ◌==◌, nat_lt, not, Bool, false, if◌then◌else◌, List, [], ◌∷◌, length, Option, Some, None, Result, Ok, Err, bytes_eq, codes}
+use Rattle.std.specs.Prelude.{ℕ, ◌==◌, nat_lt, not, Bool, false, if◌then◌else◌, List, [], ◌∷◌, length, Option, Some, None, Result, Ok, Err}
+use Rattle.std.specs.Prelude.{bytes_eq, codes}
 use Rattle.std.specs.List.{after_first, before_first, list_all, list_any}
 use Rattle.pm_device.specs.declared.ending.Ending.TheVariants as ending
 use Rattle.pm_lines.specs.Bytes.{bytes_of}

@@ -6,7 +6,7 @@ import sys
 PATH = os.environ.get("PMHOST_LIBRARY") or os.path.join(os.path.dirname(os.path.abspath(__file__)), "libpmhost.so")
 
 VERSION = 0x0001
-HOST_VERSION = 5
+HOST_VERSION = 6
 HOST_SIZE = 2064
 SURVEY_VERSION = 1
 SURVEY_SIZE = 40

@@ -310,8 +310,8 @@ class Board:
         part = self.parts[name]
         part.host.store()
         if part.carried_out().kind != "done":
-            raise Stopped(f"{f'{name}: ' * bool(name)}store: it may have been carried out or not: {part.transfers.why() or 'no good answer'}",
-                          name)
+            why = part.transfers.why() or "no good answer"
+            raise Stopped(f"{f'{name}: ' * bool(name)}store: it may have been carried out or not: {why}", name)
 
     # ---- What is told ----
 

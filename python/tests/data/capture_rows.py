@@ -11,7 +11,7 @@ READINGS = [(form, words, name) for form in HEADS for words, name in (
 # is drawn, where a write of n bytes takes 58 + 90 n and a read 68 + 90 n.
 TIMES = {"linux": [0, 42, 126, 168, 210, 252, 336, 420], "saleae": [0, 990, 2277, 3267, 4257, 4851, 5643, 7227],
          "sigrok": [0, 778, 1746, 2524, 3302, 3720, 4238, 5476]}
-CAPTURES = [("bus", "sigrok", "bus.trace"), ("bus", "linux", "bus.trace"), ("bus", "saleae", "bus.trace"),
+CAPTURES = [("sharpest", "sigrok", "sharpest.trace"), ("bus", "sigrok", "bus.trace"), ("bus", "linux", "bus.trace"), ("bus", "saleae", "bus.trace"),
             ("faults", "sigrok", "faults.trace"), ("faults", "saleae", "faults.trace"),
             ("faults", "linux", "faults_of_linux.trace"),
             ("kernel", "sigrok", "kernel.trace"), ("kernel", "linux", "kernel_of_linux.trace")]

@@ -1,52 +1,75 @@
 """A capture told to a person: `pmb decode` with options. Without options it is trace.py's."""
-import json
 import re
 
 from . import trace
 from .lines import MOST_BYTES, TextFault, decimal, numbered
 from .numbers import coefficients_fault
 from .packets import name_of
-from .telling import fields_of, is_told_otherwise, otherwise, text_of
+from .telling import fields_of, object_text, of_all, text_of
 from .trace import judged, parts_of
-from .values import Formats, value_fields, words_of_value
+from .values import READINGS, Formats, value_fields, words_of_value
 
 SWITCHES = ("--values", "--all", "--long", "--times", "--json")
 TIME = re.compile(rb" *([0-9]{1,18})(?= |$)")
+MOST_READINGS = 8
 
 
 class BadOptions(Exception):
     """What is wrong with the command line: a line, or None where the parser has a text of its own."""
 
 
-def format_named(text):
-    """The format that `--vout` names."""
+def format_named(text, refusal="bad vout"):
+    """The format that a text names."""
     name, *numbers = text.split(":")
     bounds = {"linear11": [], "ulinear16": [(-16, 15)], "direct": [(-2**15, 2**15 - 1)] * 2 + [(-2**7, 2**7 - 1)]}.get(name)
     if bounds is None or len(bounds) != len(numbers):
-        raise BadOptions("bad vout")
+        raise BadOptions(refusal)
     try:
         form = name, *[decimal(number.encode(), *bound) for number, bound in zip(numbers, bounds)]
     except TextFault as fault:
-        raise BadOptions("bad vout") from fault
+        raise BadOptions(refusal) from fault
     if name == "direct" and coefficients_fault(form[1], form[3]):
-        raise BadOptions("bad vout")
+        raise BadOptions(refusal)
     return form
 
 
+def readings_named(text):
+    """The entries of `--readings`: an address or None, a code or None, and a format each."""
+    entries = []
+    for entry in text.split(","):
+        words, places = entry.split(":"), []
+        while len(places) < 2 and re.fullmatch("[0-9A-Fa-f]{2}", words[0]):
+            places.append(int(words.pop(0), 16))
+            words = words or [""]
+        address, code = [None, None, *places][-2:]
+        form = format_named(":".join(words), "bad readings")
+        if form[0] == "ulinear16" or code not in (None, *READINGS) or address is not None and not 0x08 <= address <= 0x77:
+            raise BadOptions("bad readings")
+        entries.append((address, code, form))
+    if len(entries) > MOST_READINGS:
+        raise BadOptions("bad readings")
+    return entries
+
+
+# The options that go with `--values`, in the order of their refusals, and what reads what stands behind them.
+VALUED = {"--vout": format_named, "--readings": readings_named}
+
+
 def options_of(words):
-    """The options that the words name: those that are given, `--vout` with its format, which may be a word of its own."""
+    """The options that the words name: those that are given, and what is given with them, which may be a word of its own."""
     options, left = {}, [*words]
     while left:
         name, equals, value = left.pop(0).partition("=")
-        if name == "--vout" and not equals and left and not left[0].startswith("-"):
+        if name in VALUED and not equals and left and not left[0].startswith("-"):
             equals, value = "=", left.pop(0)
-        if name in options or name not in (*SWITCHES, "--vout") or bool(equals) != (name == "--vout"):
+        if name in options or name not in (*SWITCHES, *VALUED) or bool(equals) != (name in VALUED):
             raise BadOptions(None)
         options[name] = value
-    if "--vout" in options:
-        if "--values" not in options:
-            raise BadOptions("give --vout with --values")
-        options["--vout"] = format_named(options["--vout"])
+    for name, read in VALUED.items():
+        if name in options:
+            if "--values" not in options:
+                raise BadOptions(f"give {name} with --values")
+            options[name] = read(options[name])
     return options
 
 
@@ -54,7 +77,8 @@ class Telling:
     """What was told so far, and what the trace taught."""
 
     def __init__(self, options):
-        self.options, self.formats = options, Formats(options.get("--vout"))
+        self.options = options
+        self.formats = Formats(options.get("--vout"), options.get("--readings", []))
         self.said, self.counts, self.codes = [], {}, {}
         self.faults = self.bad = self.others = 0
 
@@ -63,29 +87,32 @@ class Telling:
         if "--times" in self.options:
             found = TIME.match(line)
             if not found:
-                return self.bad_line(number, "X1 Syntax")
+                self.bad_line(number, "X1 Syntax")
+                return
             time, line = int(found[1]), line[found.end():]
         parts = parts_of(line)
         if isinstance(parts, str):
-            return self.bad_line(number, parts)
-        packet = judged(*parts)
-        if "--all" in self.options and is_told_otherwise(packet, *parts):
-            packet = otherwise(packet["address"], *parts)
+            self.bad_line(number, parts)
+        else:
+            self.packet(number, time, *parts)
+
+    def packet(self, number, time, frame, read):
+        packet = judged(frame, read)
+        if "--all" in self.options:
+            packet = of_all(packet, frame, read)
         self.count(packet)
         value, has_values = self.value(packet), "--values" in self.options
         if "--json" in self.options:
-            self.say_json({"line": number, "time": time, **fields_of(packet, *parts, has_values), **value})
+            told = fields_of(packet, frame, read, has_values, value)
+            self.said.append(object_text({"line": number, "time": time, **told}))
         else:
             where = f"{number}" if time is None else f"{number} {time} us"
-            self.said.append(f"{where} {text_of(packet, *parts, has_values)}{words_of_value(value)}")
+            self.said.append(f"{where} {text_of(packet, frame, read, has_values, words_of_value(value))}")
         self.formats.learn(packet)
 
     def bad_line(self, number, words):
         self.bad += 1
-        if "--json" in self.options:
-            self.say_json({"line": number, "fault": words})
-        else:
-            self.said.append(f"{number} {words}")
+        self.said.append(object_text({"line": number, "fault": words}) if "--json" in self.options else f"{number} {words}")
 
     def count(self, packet):
         if packet["kind"] == "fault":
@@ -97,13 +124,9 @@ class Telling:
             self.counts[packet["code"]] = self.counts.get(packet["code"], 0) + 1
 
     def value(self, packet):
-        if "--values" not in self.options or packet["kind"] not in ("read", "write"):
+        if "--values" not in self.options or packet["kind"] not in ("read", "write", "other"):
             return {}
-        return value_fields(packet["code"], packet["payload"], self.formats.of(packet))
-
-    def say_json(self, fields):
-        kept = {name: value for name, value in fields.items() if value is not None}
-        self.said.append(json.dumps(kept, separators=(",", ":")))
+        return value_fields(packet, None if packet["kind"] == "other" else self.formats.of(packet))
 
     def ends(self):
         """The lines of the counts."""
@@ -112,11 +135,9 @@ class Telling:
         last = {"lines": lines, "accepted": accepted, **other, "faults": self.faults, "bad": self.bad}
         codes = sorted(self.codes.items())
         if "--json" in self.options:
-            for code, count in self.counts.items():
-                self.say_json({"count": name_of(code), "lines": count})
-            for code, count in codes:
-                self.say_json({"code": f"{code:02X}", "lines": count})
-            self.say_json(last)
+            counts = [{"count": name_of(code), "lines": count} for code, count in self.counts.items()]
+            counts += [{"code": f"{code:02X}", "lines": count} for code, count in codes]
+            self.said += map(object_text, [*counts, last])
         else:
             self.said += [f"count {name_of(code)} {count}" for code, count in self.counts.items()]
             self.said += [f"count code {code:02X} {count}" for code, count in codes]

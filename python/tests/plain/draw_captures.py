@@ -1,34 +1,58 @@
-"""Random captures and options of `decode`: packets that teach formats and change them, values, unknown codes, packets
-without PEC, faults; with times good and bad."""
+"""Random captures and options of `decode`: packets that teach formats and change them, values, other codes, packets
+without PEC, pages that are written, read and lost, answers of ones, faults; with times good and bad."""
 import itertools
 
 from .converter import coefficient_bytes
 from .draw_lines import lengthened, request, skipped_lines, spelled, text_of_lines, write_frame
 from .draw_traces import frame_line, spoiled_answer, trace_line
+from .names import BITS, NAMES, ON_OFF_CONFIG, TEXTS
 from .packets import CODES, NOT_CARRIED, TABLE, VOUT_CODES, answer_of, answer_shape, is_read, is_written, pec, write_part
-from .values import STATUS_BITS, UNITS
+from .values import READINGS, STATUS_BITS, UNITS
 
 PLACES = [(0x58, 0), (0x58, 0), (0x58, 1), (0x08, 0), (0x77, 255)]
 MODES = [0x14, 0x14, 0x17, 0x00, 0x0F, 0x10, 0x1F, 0x40, 0x40, 0x40, 0x21, 0x60, 0x41, 0x94, 0xFF]
-FORMATS = ["linear11", "ulinear16:-12", "ulinear16:15", "ulinear16:-16", "direct:1:0:3", "direct:-7:-32768:-12",
-           "direct:32767:5:12", "direct:1:-1:0"]
+FORMATS = ["linear11", "ulinear16:-12", "ulinear16:-12", "ulinear16:15", "ulinear16:-16", "direct:1:0:3",
+           "direct:-7:-32768:-12", "direct:32767:5:12", "direct:1:-1:0"]
 NO_FORMATS = ["", "linear16", "ulinear16", "ulinear16:16", "ulinear16:-17", "ulinear16:1:2", "direct:0:0:0", "direct:1:0:13",
-              "direct:1:0:-13", "direct:1:0", "direct:32768:0:0", "linear11:0", "ulinear16:+1", "ulinear16: 1", "direct:1:0:128"]
+              "direct:1:0:-13", "direct:1:0", "direct:32768:0:0", "linear11:0", "ulinear16:+1", "ulinear16: 1", "direct:1:0:128",
+              "ulinear16/-12"]
+READING_FORMATS = ["linear11", "linear11", "direct:1:0:2", "direct:-3:5:-1", "direct:7:0:12", "direct:32767:-32768:-12"]
+WHERE = ["", "", "88:", "8C:", "8d:", "58:88:", "58:8C:", "08:8D:", "77:8c:"]
+NO_READINGS = ["", ",", "linear11,", "ulinear16:-12", "8B:linear11", "58:linear11", "07:88:linear11", "78:88:linear11", "88:58:linear11",
+               "88:", "8:linear11", "58:88:8C:linear11", "direct:0:0:0", "88:direct:1:0:13", ",".join(["linear11"] * 9)]
 SWITCHES = ["--all", "--long", "--times", "--json"]
+COMMENTS = [b"#", b"# no stop: B0 05 04", b"# another device: A0 00 01", b"# another device", b"# another devic", b"#another device",
+            b"# byte 2 wasn't acknowledged", b"# byte", b"#  byte 0", b"# byte 0 of the answer wasn't acknowledged",
+            b"# failed (-5): B0 00 / B1", b" # x"]
+
+
+def readings(dice):
+    """What stands behind `--readings`, mostly a good list."""
+    if dice.random() < 0.05:
+        return dice.choice(NO_READINGS)
+    return ",".join(dice.choice(WHERE) + dice.choice(READING_FORMATS) for _ in range(dice.choice([1, 1, 1, 2, 3, 8])))
+
+
+def valued(dice, words):
+    """The options with something behind them that suit the words, mostly."""
+    has_values = "--values" in words
+    if has_values and dice.random() < 0.5 or dice.random() < 0.02:
+        yield "--vout=" + dice.choice(NO_FORMATS if dice.random() < 0.05 else FORMATS)
+    if has_values and dice.random() < 0.3 or dice.random() < 0.01:
+        yield "--readings=" + readings(dice)
 
 
 def options(dice):
     """Words of the command line: mostly good ones."""
-    words = [word for word in SWITCHES if dice.random() < 0.4]
+    words = [word for word in SWITCHES if dice.random() < 0.45]
     if dice.random() < 0.75:
         words.append("--values")
-    if "--values" in words and dice.random() < 0.5 or dice.random() < 0.02:
-        words.append("--vout=" + dice.choice(NO_FORMATS if dice.random() < 0.05 else FORMATS))
+    words += valued(dice, words)
     if dice.random() < 0.01:
-        words.append(dice.choice([*words, "--value", "--all=", "--vout", "more", "--word=1"]))
+        words.append(dice.choice([*words, "--value", "--all=", "--vout", "more", "--word=1", "--readings", "--pages"]))
     dice.shuffle(words)
     if dice.random() < 0.1:
-        return [part for word in words for part in (word.split("=", 1) if word.startswith("--vout") else [word])]
+        return [part for word in words for part in (word.split("=", 1) if "=" in word and word[-1] != "=" else [word])]
     return words
 
 
@@ -36,15 +60,21 @@ def read_line(dice, address, message, payload):
     """A read and its answer, which is mostly good."""
     frame = write_part(address, message)
     answer = answer_of(address, message, payload)
-    if dice.random() < 0.1:
+    if dice.random() < 0.15:
+        answer = answer[:-1]
+    elif dice.random() < 0.03:
+        answer = [answer[0]] + [0xFF] * dice.choice([1, 2, len(answer) - 1, len(answer) - 2, 299])
+    elif dice.random() < 0.1:
         answer = answer[:-1] if dice.random() < 0.4 else spoiled_answer(dice, frame, answer)
     return spelled(dice, frame) + dice.choice([b"/", b" / "]) + spelled(dice, answer)
 
 
 def write_line(dice, address, message):
     frame = write_part(address, message)
-    if dice.random() < 0.1:
-        frame = dice.choice([frame[:-1], [*frame, 0], frame[:-1] + [frame[-1] ^ 1]])
+    if dice.random() < 0.15:
+        frame = frame[:-1]
+    elif dice.random() < 0.1:
+        frame = dice.choice([frame[:-2], [*frame, 0], frame[:-1] + [frame[-1] ^ 1]])
     return spelled(dice, frame)
 
 
@@ -52,7 +82,7 @@ def payload_of(dice, code):
     """Bytes of a code, mostly such as say something."""
     name, count = TABLE[code][:2]
     told = {"OPERATION": [0x00, 0x40, 0x7F, 0x80, 0x8F, 0x90, 0x93, 0x94, 0x9B, 0x9C, 0xA4, 0xAB, 0xAC],
-            "WRITE_PROTECT": [0x00, 0x20, 0x40, 0x80, 0x03], "VOUT_MODE": MODES}.get(name)
+            "WRITE_PROTECT": [0x00, 0x20, 0x40, 0x80, 0x03], "VOUT_MODE": MODES, "PAGE": [0, 0, 1, 0xFF]}.get(name)
     if told and dice.random() < 0.9:
         return [dice.choice(told)]
     if name in STATUS_BITS and dice.random() < 0.6:
@@ -79,11 +109,55 @@ def teaching_line(dice):
     """An answer that teaches a mode or coefficients, or nearly."""
     address, page = dice.choice(PLACES)
     if dice.random() < 0.6:
+        page = page if dice.random() < 0.6 else None
         return read_line(dice, address, ("read", page, CODES["VOUT_MODE"]), [dice.choice(MODES)])
     m = dice.choice([1, 1, -1, 0, 7, 32767, -32768, dice.randrange(-32768, 32768)])
     b, r = dice.choice([0, 0, 5, -32768, 32767]), dice.choice([0, 3, 3, -3, 12, -12, 13, -13, 127, -128])
-    code, side = dice.choice([*VOUT_CODES, CODES["READ_VIN"], CODES["VOUT_MODE"]]), dice.choice([0, 0, 1, 1, 2, 255])
+    code, side = dice.choice([*VOUT_CODES, *READINGS, CODES["VOUT_MODE"]]), dice.choice([0, 0, 1, 1, 2, 255])
     return read_line(dice, address, ("coefficients", code, side), coefficient_bytes((m, b, r)))
+
+
+def page_line(dice):
+    """A packet of PAGE, mostly a good one."""
+    address, page = dice.choice(PLACES)[0], dice.choice([0, 1, 1, 2, 0xFF])
+    if dice.random() < 0.6:
+        return write_line(dice, address, ("write", None, CODES["PAGE"], [page]))
+    return read_line(dice, address, ("read", None, CODES["PAGE"]), [page])
+
+
+def plain_line(dice):
+    """A plain packet of a code that acts on an output."""
+    address = dice.choice(PLACES)[0]
+    code = dice.choice([it for it, row in TABLE.items() if row[4] == "output"] + [CODES["VOUT_COMMAND"], CODES["READ_VOUT"]] * 4)
+    if is_written(code) and (not is_read(code) or dice.random() < 0.5):
+        return write_line(dice, address, ("write", None, code, payload_of(dice, code)))
+    return read_line(dice, address, ("read", None, code), payload_of(dice, code))
+
+
+def payload_of_other(dice, code):
+    """Bytes of a code beyond the table, mostly such as say something."""
+    if code in TEXTS and dice.random() < 0.8:
+        text = [dice.choice([0x20, 0x41, 0x7E, 0x4C, 0x54, dice.randrange(0x1E, 0x81), 0x41]) for _ in range(dice.choice([0, 1, 2, 3, 9]))]
+        return [max(0, len(text) + dice.choice([0, 0, 0, 0, 0, 1, -1])), *text]
+    if code == ON_OFF_CONFIG or code in BITS:
+        return [dice.choice([0, 1 << dice.randrange(8), dice.randrange(256), 0x10 | dice.randrange(16)])]
+    return [dice.randrange(256) for _ in range(dice.choice([0, 1, 1, 2, 2, 3, 8]))]
+
+
+def named_line(dice):
+    """A packet of a code beyond the table, plain or by PAGE_PLUS."""
+    address, page = dice.choice(PLACES)
+    code = dice.choice([*TEXTS, *[*BITS] * 2, ON_OFF_CONFIG, ON_OFF_CONFIG, *NAMES, dice.randrange(256), 0xD4])
+    payload, is_carried = payload_of_other(dice, code), dice.random() < 0.4
+    count = len(payload) + dice.choice([0, 0, 0, 0, 0, 0, 1, -1])
+    if dice.random() < 0.4:
+        frame = [2 * address, 0x05, (count + 2) % 256, page, code, *payload] if is_carried else [2 * address, code, *payload]
+        return spelled(dice, [*frame, pec(frame)] if dice.random() < 0.5 else frame)
+    frame = [2 * address, 0x06, 2, page, code] if is_carried else [2 * address, code]
+    answer = [2 * address + 1, *([count % 256] if is_carried else []), *payload]
+    if dice.random() < 0.05:
+        answer = [2 * address + 1, *[0xFF] * dice.choice([0, 1, 2, 9, 256])]
+    return spelled(dice, frame) + b"/" + spelled(dice, [*answer, pec([*frame, *answer])] if dice.random() < 0.5 else answer)
 
 
 def unknown_line(dice):
@@ -106,13 +180,19 @@ def unknown_line(dice):
 
 def packet_line(dice, strange):
     kind = dice.random()
-    if kind < 0.35:
+    if kind < 0.25:
         line = known_line(dice)
-    elif kind < 0.55:
+    elif kind < 0.4:
         line = teaching_line(dice)
+    elif kind < 0.55:
+        line = page_line(dice)
+    elif kind < 0.7:
+        line = plain_line(dice)
     elif kind < 0.8:
+        line = named_line(dice)
+    elif kind < 0.9:
         line = unknown_line(dice)
-    elif kind < 0.85:
+    elif kind < 0.93:
         frame = request(dice)
         message = ("read", None, CODES["READ_VIN"])
         line = spelled(dice, frame) + b"/" + spelled(dice, answer_of(0x58, message, [0] * answer_shape(message)[1]))
@@ -136,7 +216,7 @@ def timed(dice, lines):
     """The lines with times before them; a packet now and then has none, or no bytes behind its time."""
     now = dice.choice([0, 0, 5, 10**12])
     for line in lines:
-        now += dice.choice([0, 1, 90, 1000, 10**6])
+        now += dice.choice([0, 0, 1, 90, 1000, 1001, 10**6, 10**6 + 1, -1 if now else 0, 5 * 10**9 if dice.random() < 0.1 else 0])
         if line.startswith(b"#") or not line.strip(b" \r"):
             yield line
         elif dice.random() < 0.05:
@@ -148,9 +228,11 @@ def timed(dice, lines):
 
 def packets(dice):
     """The lines of a trace without times."""
-    lines, strange = skipped_lines(dice), dice.choice([0, 0, 0.05, 0.3])
+    lines, strange = skipped_lines(dice) if dice.random() < 0.4 else [], dice.choice([0, 0, 0.05, 0.3])
     for _ in range(dice.choice([0, 1, 2, 5, 20, 60])):
         lines.insert(dice.randrange(len(lines) + 1), packet_line(dice, strange))
+        if dice.random() < 0.05:
+            lines.insert(dice.randrange(len(lines) + 1), dice.choice(COMMENTS))
     return lines
 
 
@@ -165,12 +247,13 @@ def capture(dice):
 
 
 def sets_of_options(dice):
-    """Each set of options that decode takes, with a format where one is given."""
-    for kept in itertools.product([False, True], repeat=len(SWITCHES) + 2):
-        has_vout, has_values, *switches = kept
-        if has_values or not has_vout:
+    """Each set of options that decode takes, with a format and readings where they are given."""
+    for kept in itertools.product([False, True], repeat=len(SWITCHES) + 3):
+        has_values, has_vout, has_readings, *switches = kept
+        if has_values or not has_vout and not has_readings:
             words = [word for word, is_kept in zip(SWITCHES, switches) if is_kept] + ["--values"] * has_values
-            yield words + ["--vout=" + dice.choice(FORMATS)] * has_vout
+            words += ["--vout=" + dice.choice(FORMATS)] * has_vout
+            yield words + ["--readings=" + dice.choice(WHERE) + dice.choice(READING_FORMATS)] * has_readings
 
 
 def captures_of_one_trace(dice):

@@ -1,9 +1,14 @@
 """What `pmb decode` with options says of one packet: its text, and its object."""
-from .packets import TABLE, name_of, pec
-from .trace import coefficients_words, packet_words
+import json
 
-# The faults that a packet of a code that isn't in the table, or of another length, has.
-OTHERS = ("F2 Short", "F3 Long", "F4 WrongCount", "F6 UnknownCode")
+from .names import NAMES
+from .packets import is_written, name_of, pec
+from .trace import coefficients_of, judged, packet_words
+from .values import Rounded
+
+# The faults of a packet that `--all` tells by its code and bytes, whatever its code is.
+OTHERS = ("F2 Short", "F3 Long", "F4 WrongCount", "F6 UnknownCode", "F7 WrongDirection", "F8 Nested")
+ALL_ONES = "all ones: nobody answered"
 
 
 def spaced(frame):
@@ -15,70 +20,109 @@ def whole_bytes(frame, read):
     return " ".join(word for word in (spaced(frame), *(("/", spaced(read)) if read is not None else ())) if word)
 
 
-def is_told_otherwise(packet, frame, read):
-    """Whether `--all` shows a packet with a fault by its code and bytes. A write of a code that the table doesn't have is
-    no faulty one because it has no PEC."""
+def of_all(packet, frame, read):
+    """What `--all` makes of a packet with a fault: one without PEC, one by its code and bytes, or the same."""
     if packet["kind"] != "fault" or packet["address"] is None or len(frame) < 2:
-        return False
+        return packet
+    is_answer = read is None or read[:1] == [frame[0] + 1]
+    is_right = is_closed(frame, read)
+    if read is not None and is_answer and {*read[1:]} == {0xFF} and not is_right:
+        return carried({**otherwise(packet["address"], frame, read), "is_ones": True}, frame, read)
+    if packet["fault"][0] == "F2 Short":
+        message = [*frame, *(read or [])]
+        whole = judged([*frame, pec(message)], None) if read is None else judged(frame, [*read, pec(message)])
+        if whole["kind"] != "fault":
+            return {**whole, "pec": False}
     if packet["fault"][0] == "F5 WrongPec":
-        return read is None and frame[1] not in TABLE
-    return packet["fault"][0] in OTHERS and (read is None or read[:1] == [frame[0] + 1])
+        is_other = read is None and not is_written(frame[1])
+    else:
+        is_other = packet["fault"][0] in OTHERS and is_answer
+    return carried(otherwise(packet["address"], frame, read), frame, read) if is_other else packet
+
+
+def is_closed(frame, read):
+    """Whether the last byte, behind the code or behind the answer's address, is the PEC of those before it."""
+    last, before = (frame, 2) if read is None else (read, 1)
+    return len(last) > before and last[-1] == pec([*frame, *(read or [])][:-1])
 
 
 def otherwise(address, frame, read):
     """A packet by its code and bytes, and whether its last byte is its PEC."""
     last, before = (frame, 2) if read is None else (read, 1)
-    is_right = len(last) > before and last[-1] == pec([*frame, *(read or [])][:-1])
-    shown = last[before:-1] if is_right else last[before:]
+    shown = last[before:-1] if is_closed(frame, read) else last[before:]
     written, got = (shown, None) if read is None else (frame[2:], shown)
-    return {"kind": "other", "address": address, "code": frame[1], "written": written, "got": got, "pec": is_right}
+    return {"kind": "other", "address": address, "page": None, "code": frame[1], "written": written, "got": got,
+            "pec": is_closed(frame, read), "is_ones": False}
 
 
-def text_of(packet, frame, read, has_values):
-    """What a line says of a packet before its value."""
+def carried(packet, frame, read):
+    """The packet by the page and the code that PAGE_PLUS carries, where its count is that of its bytes."""
+    written, got = packet["written"], packet["got"]
+    if packet["code"] == 0x05 and read is None and len(written) > 2 and written[0] == len(written) - 1:
+        return {**packet, "page": written[1], "code": written[2], "written": written[3:]}
+    if packet["code"] == 0x06 and got and len(frame) == 5 and frame[2] == 2 and got[0] == len(got) - 1:
+        return {**packet, "page": frame[3], "code": frame[4], "written": [], "got": got[1:]}
+    return packet
+
+
+def text_of(packet, frame, read, has_values, value):
+    """What a line says of a packet with its value, which has a blank before it."""
     if packet["kind"] == "other":
-        return other_text(packet)
-    text = packet_words(packet)
-    if packet["kind"] == "fault" and has_values:
-        text += " bytes" + (" " + whole_bytes(frame, read)).rstrip(" ")
-    return text
+        return other_text(packet, value)
+    text = packet_words(packet) + value
+    if packet["kind"] == "fault" and has_values and (frame or read is not None):
+        text += " bytes " + whole_bytes(frame, read)
+    return text + (", no PEC" if "pec" in packet else "")
 
 
-def fields_of(packet, frame, read, has_values):
-    """What an object says of a packet between its time and its value; None where there is nothing to say."""
+def fields_of(packet, frame, read, has_values, value):
+    """What an object says of a packet behind its time; None where there is nothing to say."""
     head = {"address": None if packet["address"] is None else f"{packet['address']:02X}"}
     if packet["kind"] == "fault":
         name, place = packet["fault"]
-        shown = whole_bytes(frame, read) if has_values else None
-        return {**head, "direction": packet["part"], "bytes": shown, "fault": name, "place": place}
+        shown = whole_bytes(frame, read) or None if has_values else None
+        return {**head, "direction": packet["part"], "packet": shown, "fault": name, "place": place}
     if packet["kind"] == "other":
-        return {**head, **other_fields(packet)}
+        return {**head, **other_fields(packet, value)}
     code, shown = {"code": f"{packet['code']:02X}", "name": name_of(packet["code"])}, spaced(packet["payload"])
+    last = {"pec": packet.get("pec")}
     if packet["kind"] == "coefficients":
         of = {"of": f"{packet['of']:02X}", "side": packet["side"], "direction": "read"}
-        return {**head, **code, **of, "bytes": shown, "value": coefficients_words(packet["payload"])}
+        return {**head, **code, **of, "payload": shown, **dict(zip("mbr", coefficients_of(packet["payload"]))), **last}
     direction = packet["kind"] if packet["payload"] else "send"
-    return {**head, "page": packet["page"], **code, "direction": direction, "bytes": shown or None}
+    return {**head, "page": packet["page"], **code, "direction": direction, "payload": shown or None, **value, **last}
 
 
-def other_text(packet):
+def other_text(packet, value):
     written, got = packet["written"], packet["got"]
-    words = [f"{packet['address']:02X} code {packet['code']:02X}"]
-    if packet["code"] in TABLE:
-        words.append(name_of(packet["code"]))
+    words = [f"{packet['address']:02X}"]
+    if packet["page"] is not None:
+        words.append(f"page {packet['page']}")
+    words.append(f"code {packet['code']:02X}")
+    if packet["code"] in NAMES:
+        words.append(NAMES[packet["code"]])
     if written:
         words.append("write " + spaced(written))
     if got is not None:
         words.append(("read " + spaced(got)).rstrip(" "))
     if not written and got is None:
         words.append("send")
-    return " ".join(words) + (", PEC right" if packet["pec"] else ", no PEC")
+    ending = ALL_ONES if packet["is_ones"] else "PEC right" if packet["pec"] else "no PEC"
+    return f"{' '.join(words)}{value}, {ending}"
 
 
-def other_fields(packet):
+def other_fields(packet, value):
     written, got = packet["written"], packet["got"]
     direction, shown, before = "read", got, spaced(written) or None
     if got is None:
         direction, shown, before = ("write" if written else "send"), written, None
-    return {"code": f"{packet['code']:02X}", "name": name_of(packet["code"]) if packet["code"] in TABLE else None,
-            "direction": direction, "written": before, "bytes": spaced(shown) or None, "pec": packet["pec"]}
+    return {"page": packet["page"], "code": f"{packet['code']:02X}", "name": NAMES.get(packet["code"]), "direction": direction,
+            "written": before, "payload": spaced(shown) or None, **value, "pec": packet["pec"],
+            "answered": False if packet["is_ones"] else None}
+
+
+def object_text(fields):
+    """An object of JSON, of the fields that have something to say."""
+    said = [f"{json.dumps(name)}:{str(it) if isinstance(it, Rounded) else json.dumps(it, separators=(',', ':'))}"
+            for name, it in fields.items() if it is not None]
+    return "{" + ",".join(said) + "}"

@@ -1,6 +1,7 @@
 """What a code's payload says to a person. A value is a dictionary of what JSON has of it, in its order; `words_of_value`
 makes the text of it. Where nothing is known it is empty."""
 from .converter import ALLOWED, OPERATION, PROTECT, accepts, format_of, mode_fault
+from .names import bits_of, capability_words, fields_of_bytes
 from .numbers import coefficients_fault, millionths, value_of
 from .packets import CODES, VOUT_CODES, name_of
 from .trace import coefficients_of
@@ -14,20 +15,24 @@ STATUS_BITS = {
                     "TON_MAX_FAULT", "TOFF_MAX_WARNING", "TRACKING"),
     "STATUS_CML": ("COMMAND", "DATA", "PEC", "MEMORY", "PROCESSOR", "bit 2", "COMMUNICATION", "OTHER"),
 }
-UNITS = {"READ_VIN": "V", "READ_IOUT": "A", "READ_TEMPERATURE_1": "C"}
-MODE = CODES["VOUT_MODE"]
+# What a reading measures, as JSON names it, and its unit in a text.
+UNITS = {"READ_VIN": "volts", "READ_IOUT": "amperes", "READ_TEMPERATURE_1": "celsius"}
+LETTERS = {"volts": "V", "amperes": "A", "celsius": "C"}
+MODE, READINGS = CODES["VOUT_MODE"], tuple(map(CODES.get, UNITS))
+DIRECT = 0x40
 
 
-def in_lowest_terms(pair):
-    """A numerator and a denominator that is a power of 2, halved while both are even."""
-    numerator, denominator = pair
-    while numerator % 2 == 0 and denominator % 2 == 0:
-        numerator, denominator = numerator // 2, denominator // 2
-    return numerator, denominator
+class Rounded(int):
+    """A number of millionths, which is written as a number of ones."""
+
+    def __str__(self):
+        ones, rest = divmod(abs(self), 10**6)
+        return "-" * (self < 0) + str(ones) + f".{rest:06}".rstrip("0").rstrip(".")
 
 
-def fraction_text(pair):
-    return f"{pair[0]}/{pair[1]}"
+def number_fields(pair, measured):
+    """A value: the fraction as it stands, and its whole millionths."""
+    return {"numerator": pair[0], "denominator": pair[1], measured: Rounded(millionths(pair))}
 
 
 def operation_words(byte):
@@ -54,61 +59,73 @@ def mode_words(byte):
     return "DIRECT" if form[0] == "direct" else f"ULINEAR16 {form[1]}"
 
 
-WORDS = {"OPERATION": operation_words, "WRITE_PROTECT": protection_words, "VOUT_MODE": mode_words}
+WORDS = {"OPERATION": operation_words, "WRITE_PROTECT": protection_words, "VOUT_MODE": mode_words, "CAPABILITY": capability_words}
 
 
-def flags_of(bits, word):
-    return [bit for place, bit in enumerate(reversed(bits)) if word >> place & 1][::-1]
-
-
-def value_fields(code, payload, form):
-    """The value of a code's payload. `form` is the format of its voltages, or None."""
-    name, word = name_of(code), int.from_bytes(bytes(payload), "little")
+def value_fields(packet, form):
+    """The value of a packet's payload. `form` is the format of its reading or voltage, or None."""
+    if packet["kind"] == "other":
+        shown = packet["written"] if packet["got"] is None else packet["got"]
+        return fields_of_bytes(packet["code"], shown)
+    name, word = name_of(packet["code"]), int.from_bytes(bytes(packet["payload"]), "little")
     if name in STATUS_BITS:
-        return {"flags": flags_of(STATUS_BITS[name], word)}
+        return {"flags": bits_of(STATUS_BITS[name], word)}
     if name in UNITS:
-        return {"value": fraction_text(in_lowest_terms(value_of(("linear11",), word))), "unit": UNITS[name]}
-    if code in VOUT_CODES and form:
-        pair = value_of(form, word)
-        return {"value": fraction_text(pair), "micro": millionths(pair), "unit": "V"}
+        return number_fields(value_of(form, word), UNITS[name]) if form else {}
+    if packet["code"] in VOUT_CODES:
+        return number_fields(value_of(form, word), "volts") if form else {}
     words = WORDS[name](word) if name in WORDS else None
     return {"value": words} if words else {}
 
 
 def words_of_value(fields):
     """The text behind a packet's words, with the blank before it."""
-    if not fields:
-        return ""
     if "flags" in fields:
         return " " + (", ".join(fields["flags"]) or "none")
-    if "micro" in fields:
-        return f" {fields['value']} {fields['micro']} uV"
-    return f" {fields['value']} {fields['unit']}" if "unit" in fields else f" {fields['value']}"
+    for measured, letter in LETTERS.items():
+        if measured in fields:
+            return f" {fields[measured]} {letter}"
+    if "text" in fields:
+        return f' "{fields["text"]}"'
+    return f" {fields['value']}" if "value" in fields else ""
 
 
 class Formats:
-    """What a trace taught of outputs' formats: the last mode of each address and page, the last coefficients of each
-    address. `otherwise` is the format of all other voltages, or None."""
+    """What a trace taught of formats: the last mode of each address and page, the addresses that showed ULINEAR16, the last
+    coefficients of each address and code. `vout` is the format of other voltages, or None; `readings` are those of readings:
+    for an address or None and a code or None a format, the first that fits."""
 
-    def __init__(self, otherwise):
-        self.modes, self.coefficients, self.otherwise = {}, {}, otherwise
+    def __init__(self, vout, readings):
+        self.modes, self.linear, self.coefficients = {}, set(), {}
+        self.vout, self.readings = vout, readings
 
     def learn(self, packet):
         """From a packet, where it is a good answer."""
-        if packet["kind"] == "coefficients" and packet["of"] in VOUT_CODES:
-            self.coefficients[packet["address"]] = coefficients_of(packet["payload"])
-        elif packet["kind"] == "read" and packet["page"] is not None and packet["code"] == MODE:
-            self.modes[packet["address"], packet["page"]] = packet["payload"][0]
+        if packet["kind"] == "coefficients":
+            self.coefficients[packet["address"], packet["of"]] = coefficients_of(packet["payload"])
+        elif packet["kind"] == "read" and packet["code"] == MODE:
+            if packet["page"] is not None:
+                self.modes[packet["address"], packet["page"]] = packet["payload"][0]
+            if packet["payload"][0] < 0x20:
+                self.linear.add(packet["address"])
 
     def of(self, packet):
-        """The format of a packet's voltage."""
-        address, page = packet["address"], packet["page"]
-        mode = self.modes.get((address, page))
-        if page is None or mode is None or mode_fault(mode):
-            return self.otherwise
-        if mode != 0x40:
-            return format_of(mode, ())
-        coefficients = self.coefficients.get(address)
-        if coefficients is None or coefficients_fault(coefficients[0], coefficients[2]):
-            return self.otherwise
-        return format_of(mode, coefficients)
+        """The format of a packet's reading or voltage, or None."""
+        address, code = packet["address"], packet["code"]
+        if code in READINGS:
+            return self.of_reading(address, code)
+        mode = self.modes.get((address, packet["page"]))
+        if mode is None:
+            return self.vout
+        if mode_fault(mode) or mode != DIRECT:
+            return None if mode_fault(mode) else format_of(mode, ())
+        taught = self.coefficients.get((address, code))
+        if taught is None:
+            return self.vout if self.vout and self.vout[0] == "direct" else None
+        return None if coefficients_fault(taught[0], taught[2]) else format_of(mode, taught)
+
+    def of_reading(self, address, code):
+        for where, asked, form in self.readings:
+            if where in (None, address) and asked in (None, code):
+                return form
+        return ("linear11",) if address in self.linear else None

@@ -142,6 +142,17 @@ fn packets_stand_alone() {
     assert_eq!(Format::Direct { m: 1, b: 0, r: 3 }.nearest_word(3_300_000), Ok(0x0CE4));
 }
 
+#[test]
+fn reads_of_any_code_are_judged() {
+    let word = [0xB1, 0x02, 0x20];
+    let mut came = [0xB1, 0x02, 0x20, pec(&[&[0xB0, 0x79], &word[..]].concat())];
+    assert_eq!(Block::read_plain(0x58, 0x79, 2, &came).as_deref(), Ok(&[0x02, 0x20][..]));
+    assert_eq!(Block::read_plain(0x58, 0x79, 33, &came), Err(Refusal::NoPacket));
+    came[1] ^= 1;
+    assert_eq!(Block::read_plain(0x58, 0x79, 2, &came), Err(Refusal::F5WrongPec));
+    assert_eq!(Block::read(0x58, 0x99, &[0xB1, 33, 0, 0]), Err(Refusal::F4WrongCount));
+}
+
 // The first that applies of V1 to V5.
 #[test]
 fn what_no_part_starts_with_is_refused() {

@@ -1,14 +1,21 @@
 """What a packet of PMBus says: its parts of bytes in, its text out. Nothing here needs sigrok."""
-from .tables import CARRIED_READS, CARRIED_WRITES, FLAGS, NAMES, READS, UNITS, VOLTAGES, WORDS, WRITES
+import re
+
+from .tables import CARRIED_READS, CARRIED_WRITES, FLAGS, NAMES, READS, TEXTS, UNITS, VOLTAGES, WORDS, WRITES
 
 CODES = {name: code for code, name in NAMES.items()}
 CARRIER, REQUESTER, ASKER = CODES["PAGE_PLUS_WRITE"], CODES["PAGE_PLUS_READ"], CODES["COEFFICIENTS"]
+MODE, CAPABILITY, ON_OFF_CONFIG = CODES["VOUT_MODE"], CODES["CAPABILITY"], CODES["ON_OFF_CONFIG"]
+# The codes of the table of packets; NAMES has those of the standard.
+TABLE = {*READS, *WRITES, CARRIER, REQUESTER, ASKER}
 # The codes that PAGE_PLUS doesn't carry.
 NOT_CARRIED = (CODES["PAGE"], CARRIER, REQUESTER, ASKER)
 # Kinds of packets: one of the table, one that is told by its code and bytes, one that isn't good.
 KNOWN, OTHER, FAULT = "known", "other", "fault"
-# What is wrong: NO_PEC is a packet of another code or length, which need not have one.
-NO_PEC, WRONG_PEC, DIRECTION, ELSEWHERE = "no PEC", "wrong PEC", "wrong direction", "another address answers"
+# What is wrong: NO_PEC is a packet of another code, length or direction, which need not have one, SHORT one that is too short.
+NO_PEC, SHORT, WRONG_PEC, ELSEWHERE = "no PEC", "too short", "wrong PEC", "another address answers"
+RIGHT, NOBODY = "PEC right", "all ones: nobody answered"
+SPEEDS = ("100 kHz", "400 kHz", "1 MHz", "reserved speed")
 
 
 def pec(message):
@@ -39,12 +46,10 @@ def over_power(mantissa, exponent):
     return (mantissa << exponent, 1) if exponent >= 0 else (mantissa, 1 << -exponent)
 
 
-def linear11(word):
-    """A LINEAR11 word in lowest terms."""
-    top, low = over_power(signed(word & 0x7FF, 11), signed(word >> 11, 5))
-    while top % 2 == 0 and low % 2 == 0:
-        top, low = top // 2, low // 2
-    return top, low
+def decimal(top, low):
+    """A value in whole millionths, the lower ones, without zeros at its end."""
+    micro = top * 10 ** 6 // low
+    return ("-" * (micro < 0) + "%d.%06d" % divmod(abs(micro), 10 ** 6)).rstrip("0").rstrip(".")
 
 
 def direct(word, m, b, r):
@@ -72,6 +77,19 @@ def format_of(text):
     return None
 
 
+def readings_of(text):
+    """Entries of an address or None, a code or None, and a format, by a text as 58:8D:direct:1:0:3,linear11; a `/` may stand for
+    each colon, and a `+` for each comma. None where it is none."""
+    entries = []
+    for entry in text.replace("/", ":").replace("+", ",").split(",") if text else []:
+        found = re.fullmatch("(?:(?:([0-7][0-9A-Fa-f]):)?(8[8CDcd]):)?((?:linear11|direct).*)", entry)
+        form = found and format_of(found[3])
+        if not form:
+            return None
+        entries.append((found[1] and int(found[1], 16), found[2] and int(found[2], 16), form))
+    return entries
+
+
 class Told:
     """A packet as it is told: its kind, its text, a short text, and how its PEC is: None where that isn't asked."""
 
@@ -80,34 +98,42 @@ class Told:
 
 
 class Reader:
-    """Tells packets one after another, and keeps what they teach of the formats of voltages."""
+    """Tells packets one after another, and keeps what they teach of formats."""
 
-    def __init__(self, vout=""):
-        self.modes, self.coefficients, self.otherwise = {}, {}, format_of(vout)
+    def __init__(self, vout="", readings=""):
+        self.modes, self.linear, self.coefficients = {}, set(), {}
+        self.vout, self.readings = vout, readings_of(readings)
 
     def tell(self, write, read=None):
         """A packet: the bytes of its write part, and of its read part."""
         if not write or write[0] & 1 or not 0x08 <= write[0] >> 1 <= 0x77:
             return Told(FAULT, "-- no address of a device", "?")
         where = "%02X " % (write[0] >> 1)
-        fault = write_fault(write) if read is None else request_fault(write) or answer_fault(write, read)
+        fault = fault_of(write, read)
         if fault is None:
-            return self.known(where, write, read)
-        if fault == NO_PEC:
-            if len(write) > 1 and is_answer(write, read):
+            return self.known(where, write, read, True)
+        if len(write) > 1 and is_answer(write, read):
+            if read and len(read) > 1 and {*read[1:]} == {0xFF} and not is_last_right(write, read):
+                return self.other(where, write, read, True)
+            if fault == SHORT:
+                right = pec(write + (read or []))
+                if fault_of(write + [right], None) is None if read is None else fault_of(write, read + [right]) is None:
+                    return self.known(where, *([write + [right], None] if read is None else [write, read + [right]]), False)
+            if fault in (NO_PEC, SHORT):
                 return self.other(where, write, read)
+        if fault in (NO_PEC, SHORT):
             fault = ELSEWHERE if len(write) > 1 else "too short"
         return Told(FAULT, where + fault, fault, False if fault == WRONG_PEC else None)
 
-    def known(self, where, write, read):
-        code, page = write[1], None
+    def known(self, where, write, read, has_pec):
+        """A packet of the table, with its PEC; it may have none on the bus."""
+        code, page, ending = write[1], None, "" if has_pec else ", " + NO_PEC
         if code == ASKER:
             m, b, r = signed(number(read[2:4]), 16), signed(number(read[4:6]), 16), signed(read[6], 8)
-            if write[3] in VOLTAGES:
-                self.coefficients[write[0]] = m, b, r
+            self.coefficients[write[0], write[3]] = m, b, r
             said = "m %d b %d r %d" % (m, b, r)
-            return Told(KNOWN, "%s%s of %02X side %d read %s" % (where, NAMES[code], write[3], write[4], said),
-                        "%s %s" % (NAMES[code], said), True)
+            return Told(KNOWN, "%s%s of %02X side %d read %s%s" % (where, NAMES[code], write[3], write[4], said, ending),
+                        "%s %s" % (NAMES[code], said), has_pec or None)
         first = 2 if read is None else 1
         if code in (CARRIER, REQUESTER):
             page, code, first = write[3], write[4], 5 if read is None else 2
@@ -116,61 +142,107 @@ class Reader:
         said = "send"
         if payload:
             said = ("write " if read is None else "read ") + "%0*X" % (2 * len(payload), number(payload))
-        value, short = self.value(write[0], page, code, payload)
-        if read is not None and page is not None and NAMES[code] == "VOUT_MODE":
-            self.modes[write[0], page] = payload[0]
-        text = "%s%s %s%s" % (where, NAMES[code], said, value and " " + value)
-        return Told(KNOWN, text, "%s %s" % (NAMES[code], short or said), True)
+        value = self.value(write[0], page, code, payload)
+        if read is not None and code == MODE:
+            if page is not None:
+                self.modes[write[0], page] = payload[0]
+            if payload[0] < 0x20:
+                self.linear.add(write[0])
+        text = "%s%s %s%s%s" % (where, NAMES[code], said, value and " " + value, ending)
+        return Told(KNOWN, text, "%s %s" % (NAMES[code], value or said), has_pec or None)
 
     def value(self, address, page, code, payload):
-        """What a payload says, and the same in short."""
+        """What a payload says."""
         word = number(payload)
         if code in FLAGS:
-            bits = FLAGS[code]
-            said = ", ".join(bit for place, bit in enumerate(bits) if word >> (len(bits) - 1 - place) & 1) or "none"
-            return said, said
-        if code in UNITS:
-            top, low = linear11(word)
-            return "%d/%d %s" % (top, low, UNITS[code]), "%g %s" % (top / low, UNITS[code])
-        if code in VOLTAGES:
-            form = self.form(address, page)
-            if not form:
-                return "", ""
-            top, low = form(word)
-            return "%d/%d %d uV" % (top, low, top * 10 ** 6 // low), "%g V" % (top / low)
-        for first, last, said in WORDS.get(code, ()):
-            if first <= word <= last:
-                return said, said
-        return "", ""
+            return ", ".join(bits_of(FLAGS[code], word)) or "none"
+        if code in UNITS or code in VOLTAGES:
+            form = self.reading_form(address, code) if code in UNITS else self.form(address, page, code)
+            return "%s %s" % (decimal(*form(word)), UNITS.get(code, "V")) if form else ""
+        if code == CAPABILITY:
+            return capability_words(word)
+        return next((said for first, last, said in WORDS.get(code, ()) if first <= word <= last), "")
 
-    def form(self, address, page):
-        """The format of a voltage: as its output's mode was read by PAGE_PLUS, or as the user gave it."""
+    def reading_form(self, address, code):
+        """The format of a reading: as the user gave it, or LINEAR11 where a mode of its address was ULINEAR16."""
+        for where, asked, form in self.readings:
+            if where in (None, address >> 1) and asked in (None, code):
+                return form
+        return format_of("linear11") if address in self.linear else None
+
+    def form(self, address, page, code):
+        """The format of a voltage: as its output's mode was read by PAGE_PLUS, or where none was as the user gave it."""
         mode = self.modes.get((address, page))
-        said = next((said for first, last, said in WORDS[CODES["VOUT_MODE"]] if first == mode), "")
-        if page is None or not said:
-            return self.otherwise
-        text = said.lower().replace(" ", ":")
-        if text == "direct":
-            text = "direct:%d:%d:%d" % self.coefficients.get(address, (0, 0, 0))
-        return format_of(text) or self.otherwise
+        if mode is None:
+            return format_of(self.vout)
+        said = next((said for first, last, said in WORDS[MODE] if first == mode), "")
+        if said != "DIRECT":
+            return format_of(said.lower().replace(" ", ":"))
+        if (address, code) in self.coefficients:
+            return format_of("direct:%d:%d:%d" % self.coefficients[address, code])
+        return format_of(self.vout) if self.vout.startswith("direct") else None
 
-    def other(self, where, write, read):
+    def other(self, where, write, read, is_ones=False):
         """A packet by its code and bytes."""
         last, first = (write, 2) if read is None else (read, 1)
-        is_right = len(last) > first and last[-1] == pec((write + (read or []))[:-1])
+        is_right, code = is_last_right(write, read), write[1]
         shown = last[first:-1] if is_right else last[first:]
-        words = ["code %02X" % write[1]]
-        if write[1] in NAMES:
-            words.append(NAMES[write[1]])
-        written = shown if read is None else write[2:]
+        written, got = (shown, None) if read is None else (write[2:], shown)
+        if code == CARRIER and read is None and len(written) > 2 and written[0] == len(written) - 1:
+            where, code, written = "%spage %d " % (where, written[1]), written[2], written[3:]
+        elif code == REQUESTER and got and len(write) == 5 and write[2] == 2 and got[0] == len(got) - 1:
+            where, code, written, got = "%spage %d " % (where, write[3]), write[4], [], got[1:]
+        words = ["code %02X" % code, *([NAMES[code]] if code in NAMES else [])]
         if written:
             words.append("write " + spaced(written))
-        if read is not None:
-            words.append(("read " + spaced(shown)).rstrip())
+        if got is not None:
+            words.append(("read " + spaced(got)).rstrip())
         elif not written:
             words.append("send")
-        said = " ".join(words)
-        return Told(OTHER, "%s%s, %s" % (where, said, "PEC right" if is_right else NO_PEC), said, True if is_right else None)
+        value = value_of_bytes(code, written if got is None else got)
+        said = " ".join(words) + (value and " " + value)
+        ending = NOBODY if is_ones else RIGHT if is_right else NO_PEC
+        return Told(OTHER, "%s%s, %s" % (where, said, ending), said, True if is_right else None)
+
+
+def bits_of(bits, word):
+    return [bit for place, bit in enumerate(bits) if word >> (len(bits) - 1 - place) & 1]
+
+
+def capability_words(byte):
+    words = ["PEC"] * (byte >> 7) + [SPEEDS[byte >> 5 & 3]]
+    return ", ".join(words + bits_of(("SMBALERT#", "IEEE half precision", "AVSBus", "bit 1", "bit 0"), byte & 0x1F))
+
+
+def on_off_words(byte):
+    words = ["always on"]
+    if byte & 0x10:
+        words = ["by " + (" and ".join(bits_of(("OPERATION", "CONTROL"), byte >> 2 & 3)) or "neither")]
+        if byte & 0x04:
+            words += ["CONTROL active " + ("high" if byte & 2 else "low"), "off at once" if byte & 1 else "off with delay"]
+    return ", ".join(words + bits_of(("bit 7", "bit 6", "bit 5"), byte >> 5))
+
+
+def value_of_bytes(code, shown):
+    """What the bytes of a code beyond the table say."""
+    if code in TEXTS:
+        is_text = len(shown) > 1 and shown[0] == len(shown) - 1 and all(0x20 <= it < 0x7F and it not in (0x22, 0x5C) for it in shown[1:])
+        return '"%s"' % bytes(shown[1:]).decode("ascii") if is_text else ""
+    if code in TABLE or len(shown) != 1:
+        return ""
+    if code == ON_OFF_CONFIG:
+        return on_off_words(shown[0])
+    return (", ".join(bits_of(FLAGS[code], shown[0])) or "none") if code in FLAGS else ""
+
+
+def is_last_right(write, read):
+    """Whether the last byte, behind the code or behind the answer's address, is the PEC."""
+    last, first = (write, 2) if read is None else (read, 1)
+    return len(last) > first and last[-1] == pec((write + (read or []))[:-1])
+
+
+def fault_of(write, read):
+    return write_fault(write) if read is None else request_fault(write) or answer_fault(write, read)
 
 
 def is_answer(write, read):
@@ -184,41 +256,37 @@ def is_closed(message):
 
 def carried_fault(code, taken):
     """Of a code inside PAGE_PLUS."""
-    if code in NOT_CARRIED:
-        return "PAGE_PLUS doesn't carry this code"
-    return None if code in taken else DIRECTION if code in NAMES else NO_PEC
+    return None if code in taken and code not in NOT_CARRIED else NO_PEC
 
 
 def write_fault(write):
-    """None for a write of the table; NO_PEC for one of another code or length; otherwise what is wrong."""
+    """None for a write of the table; SHORT or NO_PEC for one of another code, length or direction; otherwise what is wrong."""
     if len(write) < 3:
-        return NO_PEC
+        return SHORT
     code = write[1]
     if code == CARRIER:
-        if len(write) != write[2] + 4 or write[2] < 2:
-            return NO_PEC
-        if write[4] in CARRIED_WRITES and write[2] != CARRIED_WRITES[write[4]] + 2:
+        if len(write) != write[2] + 4:
+            return SHORT if len(write) < write[2] + 4 else NO_PEC
+        if write[2] < 2 or write[4] in CARRIED_WRITES and write[2] != CARRIED_WRITES[write[4]] + 2:
             return NO_PEC
         return carried_fault(write[4], CARRIED_WRITES) if is_closed(write) else WRONG_PEC
     if code in WRITES:
-        return NO_PEC if len(write) != WRITES[code] + 3 else None if is_closed(write) else WRONG_PEC
-    if code not in NAMES:
-        return NO_PEC
-    return DIRECTION if is_closed(write) else WRONG_PEC
+        if len(write) != WRITES[code] + 3:
+            return SHORT if len(write) < WRITES[code] + 3 else NO_PEC
+        return None if is_closed(write) else WRONG_PEC
+    return NO_PEC
 
 
 def request_fault(write):
     """The same of a write part that a read follows."""
     if len(write) < 2:
-        return NO_PEC
+        return SHORT
     code = write[1]
     if code in (REQUESTER, ASKER):
         if len(write) != 5 or write[2] != 2:
-            return NO_PEC
+            return SHORT if len(write) < 5 else NO_PEC
         return carried_fault(write[4], CARRIED_READS) if code == REQUESTER else None
-    if code not in READS:
-        return DIRECTION if code in NAMES else NO_PEC
-    return NO_PEC if len(write) > 2 else None
+    return NO_PEC if code not in READS or len(write) > 2 else None
 
 
 def answer_fault(write, read):
@@ -226,7 +294,9 @@ def answer_fault(write, read):
     if not is_answer(write, read):
         return ELSEWHERE
     count, first = (5, 2) if write[1] == ASKER else (CARRIED_READS[write[4]], 2) if write[1] == REQUESTER else (READS[write[1]], 1)
-    if len(read) != count + first + 1 or first == 2 and read[1] != count:
+    if len(read) != count + first + 1:
+        return SHORT if len(read) < count + first + 1 else NO_PEC
+    if first == 2 and read[1] != count:
         return NO_PEC
     return None if read[-1] == pec(write + read[:-1]) else WRONG_PEC
 

@@ -1,10 +1,13 @@
 ghost use Rattle.pm_driver.specs.Disturbed.{PartsCompose, RequestsMayBeLost};
-ghost use Rattle.pm_driver.specs.NeverRestarts.{NeverRestartsStays, PatientNeverRestartsStays};
+ghost use Rattle.pm_driver.specs.NeverRestarts.{NeverRestartsStays, PatientNeverRestartsStays, ReadsKeepNeverRestarts};
 ghost use Rattle.pm_driver.specs.PlanEnds.{OrdersGoThrough, PatientOrdersGoThrough};
 
 use crate::buses::patient::Patient;
 use crate::buses::simulated_bus::SimulatedBus;
-use crate::{jobs_restart_nothing, undisturbed_orders_are_done, whole_frames_are_legal};
+use crate::{
+    jobs_restart_nothing, reads_restart_nothing, undisturbed_orders_are_done,
+    whole_frames_are_legal,
+};
 
 /// What happens to a converter in parts, put together: a write that is heard in two goes, and times in which it heard
 /// nothing before a write and before a request, or alone.
@@ -27,7 +30,14 @@ pub fn never_restarts_stays()
     jobs_restart_nothing::<SimulatedBus<'static>>();
 }
 
-/// So it does over a patient bus, which counts the restarts of its adapter.
+/// So does each read that is no job.
+pub fn reads_keep_never_restarts()
+    ensures { ReadsKeepNeverRestarts }
+{
+    reads_restart_nothing::<SimulatedBus<'static>>();
+}
+
+/// A job does over a patient bus too, which counts the restarts of its adapter.
 pub fn patient_never_restarts_stays()
     ensures { PatientNeverRestartsStays }
 {

@@ -1,17 +1,20 @@
 //! Jobs over plans, each with what the laws say of it, so that a caller has that with no proof of its own.
 
-ghost use Rattle.std.specs.Prelude.{◌≡◌, true};
+ghost use Rattle.std.specs.Prelude.{◌≡◌, ◌≤◌, true, length};
+ghost use Rattle.pm_driver.specs.Acts.{IsNoWrite};
+ghost use Rattle.pm_driver.specs.Looks.{Looks};
 ghost use Rattle.pm_driver.specs.NeverRestarts.{NeverRestarts, PatientNeverRestarts};
+ghost use Rattle.pm_driver.specs.Plan.{device_in, gives_so, restarts_so};
 ghost use Rattle.pm_driver.specs.PlanEnds.{IsAllowed, PatientWentThrough, WentThrough, is_at_end, is_ready};
 
 use crate::Driver;
 use crate::buses::laws::{
     never_restarts_stays, orders_go_through, patient_never_restarts_stays,
-    patient_orders_go_through,
+    patient_orders_go_through, reads_keep_never_restarts,
 };
 use crate::buses::patient::Patient;
 use crate::buses::simulated_bus::SimulatedBus;
-use pm_host::{Job, JobEnd};
+use pm_host::{HostFault, Job, JobEnd};
 use pm_limits::LimitFault;
 use pm_table::Cell;
 
@@ -27,7 +30,23 @@ pub fn run_without_restart<'a>(
     driver.run(job)
 }
 
-/// The same over a patient bus, which counts the restarts of its adapter.
+/// Reads what no job asks for, as [`Driver::read`], over such a plan: what the host confirms is held on.
+pub fn read_without_restart<'a>(
+    driver: &mut Driver<SimulatedBus<'a>>,
+    request: &[u8],
+    answer: &mut [u8],
+) -> Result<usize, HostFault>
+    requires never { NeverRestarts driver.old }
+    requires room { 1 ≤ length answer.old }
+    requires reads { IsNoWrite driver.old.guard.host.setup.addr request.now }
+    ensures looks { Looks gives_so device_in restarts_so request.now answer.old driver.old result answer.new driver.new }
+    ensures never { NeverRestarts driver.new }
+{
+    reads_keep_never_restarts();
+    driver.read(request, answer)
+}
+
+/// A job over a patient bus, which counts the restarts of its adapter.
 pub fn run_patiently_without_restart<'a>(
     driver: &mut Driver<Patient<SimulatedBus<'a>>>,
     job: Job,

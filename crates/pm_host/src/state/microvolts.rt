@@ -20,6 +20,8 @@ use pm_table::Cell;
 
 impl State {
     /// The format of the cell's output, where the cell is a voltage that may be ordered now.
+    // It isn't inlined: it would weigh on each order of a word.
+    #[inline(never)]
     pub(super) fn voltage_format(&self, cell: Cell) -> Result<AnyFormat, HostFault>
         requires { IsSound (held None self.now) }
         ensures fault { result_err result ≡ voltage_fault (held None self.now) cell }

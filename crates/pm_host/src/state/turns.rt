@@ -1,9 +1,8 @@
 //! What becomes of an open job once its frame was sent.
 
 ghost use Rattle.std.specs.Prelude.{◌≡◌, ◌+◌, ◌-◌, ◌*◌, ◌<◌, ◌≤◌, true, length, slice_set, is_some, Some, None, IfSome, MatchOption};
-ghost use Rattle.std.specs.Result.{ForOk};
 ghost use Rattle.pm_table.specs.Cell.{cell_accepts, IsCell};
-ghost use Rattle.pm_table.specs.VoutMode.{IsMode};
+ghost use Rattle.pm_table.specs.VoutMode.{mode_of};
 ghost use Rattle.pm_frame.specs.Layout.{answer_length};
 ghost use Rattle.pm_host.specs.Frames.{frames_from, frames_left};
 ghost use Rattle.pm_host.specs.Image.{held, format_held, formats_held};
@@ -15,15 +14,15 @@ ghost use Rattle.pm_host.specs.Question.{question_message, frames_after, IsQuest
 ghost use Rattle.pm_host.specs.Sound.{IsOrdering, IsAsking, IsSending, IsSound};
 ghost use Rattle.pm_host.specs.Summary.{possible_at, another as spec_another, marked, writes, sends, read_back as spec_read_back, answered as spec_answered, answer_taken, learned as spec_learned, mode_taken, finished};
 
-use crate::answers::{byte_in, coefficients_in, good_answer, word_in};
+use crate::answers::{byte_in, good_answer, word_in};
 use crate::command::Command;
-use crate::format_image::{FormatImage, NO_COEFFICIENTS};
+use crate::format_image::FormatImage;
 use crate::job_end::JobEnd;
 use crate::progress::Progress;
 use crate::question::Question;
 use crate::stage::Stage;
 use crate::state::{OUTPUTS, State};
-use pm_table::{Cell, TableFault, VoutMode};
+use pm_table::{Cell, VoutMode};
 
 impl State {
     /// The write of an order begins to be sent; `None` where its word has no room among those that the cell
@@ -158,30 +157,26 @@ impl State {
                 self.note(cell, word_in(payload));
                 Progress::Over(JobEnd::Done)
             }
-            Question::Mode(output) => self.mode_known(output, VoutMode::read(byte_in(payload))),
-            Question::Coefficients(output) => {
-                let coefficients = coefficients_in(payload);
-                self.learned(output, FormatImage::of(VoutMode::Direct, coefficients))
-            }
+            Question::Mode(output) => self.mode_known(output, byte_in(payload)),
+            Question::Coefficients(output) => { self.learned(output, FormatImage::direct(payload)) }
         }
     }
 
     /// A learn knows what VOUT_MODE says.
-    fn mode_known(&mut self, output: u8, mode: Result<VoutMode, TableFault>) -> Progress
+    fn mode_known(&mut self, output: u8, mode: u8) -> Progress
         requires sound { IsSound (held None self.old) }
         requires there { output < self.old.outputs }
-        requires mode { ForOk mode IsMode }
         ensures sound { IsSound (held (stage_after result) self.new) }
-        ensures changed { change_to result self.new ≡ mode_taken (held None self.old) output mode }
+        ensures changed { change_to result self.new ≡ mode_taken (held None self.old) output (mode_of mode) }
         ensures left { frames_left (held (stage_after result) self.new) ≤ self.old.passes }
         ensures written { IsState self.old → IsState self.new }
     {
-        match mode {
+        match VoutMode::read(mode) {
             Ok(VoutMode::Direct) => Progress::At(Stage::Asks {
                 question: Question::Coefficients(output),
                 tries: 0,
             }),
-            Ok(mode) => self.learned(output, FormatImage::of(mode, NO_COEFFICIENTS)),
+            Ok(VoutMode::Linear(_)) => self.learned(output, FormatImage::linear(mode)),
             Err(_) => Progress::Over(JobEnd::Unknown),
         }
     }

@@ -1,6 +1,7 @@
 //! The calls, with no contract of their own: what a test says is run, and the prover needn't carry it.
 
 use crate::answer::{PayloadImage, pm_packet_read_answer};
+use crate::format_numbers::FormatNumbers;
 use crate::guard_image::{GuardImage, LimitsImage, RegistersImage};
 use crate::host::{
     pm_host_check, pm_host_clear, pm_host_learn, pm_host_new, pm_host_new_with, pm_host_order,
@@ -22,7 +23,7 @@ use crate::survey_image::SurveyImage;
 use crate::told::{pm_host_finished, pm_host_got};
 use crate::voltages::{pm_at_least, pm_at_most, pm_host_format, pm_microvolts, pm_nearest_word};
 use crate::wanted_image::WantedImage;
-use pm_host::{FormatImage, StandingImage, WordsImage};
+use pm_host::{StandingImage, WordsImage};
 use pm_table::Cell;
 
 pub(super) const NOTHING: SendingImage = SendingImage {
@@ -134,7 +135,7 @@ pub(super) fn possible(image: &GuardImage, output: u8, code: u8) -> (u8, u16, u1
 }
 
 pub(super) fn format(image: &GuardImage, output: u8) -> (u8, u8, i8) {
-    let mut format = FormatImage {
+    let mut format = FormatNumbers {
         kind: 7,
         exponent: 7,
         m: 7,
@@ -142,6 +143,14 @@ pub(super) fn format(image: &GuardImage, output: u8) -> (u8, u8, i8) {
     };
     let number = pm_host_format(image, output, &mut format);
     (number, format.kind, format.exponent)
+}
+
+// What memory keeps of the format of output 0 or 1.
+pub(super) fn kept(image: &GuardImage, output: u8) -> (u8, [u8; 5]) {
+    let [first, second, ..] = image.host.state.formats;
+    let format = if output == 0 { first } else { second };
+    let coefficients = format.coefficients;
+    (format.mode, coefficients)
 }
 
 pub(super) fn restart_seen(image: &GuardImage) -> u8 {
@@ -177,25 +186,25 @@ pub(super) fn written(address: u8, packet: &Packet, bytes: &[u8]) -> (u8, u8, bo
     (number, frame.length, frame.bytes.starts_with(bytes))
 }
 
-pub(super) fn microvolts(format: &FormatImage, word: u16) -> (u8, i64) {
+pub(super) fn microvolts(format: &FormatNumbers, word: u16) -> (u8, i64) {
     let mut microvolts = 7;
     let number = pm_microvolts(format, word, &mut microvolts);
     (number, microvolts)
 }
 
-pub(super) fn nearest(format: &FormatImage, microvolts: i64) -> (u8, u16) {
+pub(super) fn nearest(format: &FormatNumbers, microvolts: i64) -> (u8, u16) {
     let mut word = 7;
     let number = pm_nearest_word(format, microvolts, &mut word);
     (number, word)
 }
 
-pub(super) fn at_most(format: &FormatImage, microvolts: i64) -> (u8, u16) {
+pub(super) fn at_most(format: &FormatNumbers, microvolts: i64) -> (u8, u16) {
     let mut word = 7;
     let number = pm_at_most(format, microvolts, &mut word);
     (number, word)
 }
 
-pub(super) fn at_least(format: &FormatImage, microvolts: i64) -> (u8, u16) {
+pub(super) fn at_least(format: &FormatNumbers, microvolts: i64) -> (u8, u16) {
     let mut word = 7;
     let number = pm_at_least(format, microvolts, &mut word);
     (number, word)

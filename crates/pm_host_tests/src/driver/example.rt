@@ -1,13 +1,16 @@
 //! The examples of the root of `pm_driver` and of its buses, word for word.
 
 use crate::checks::equal;
+use crate::driver::{said, whole};
 use pm_device::Config;
 use pm_device_tests::BASE;
-use pm_driver::{ApplyEnd, Bus, Driver, Fault, driver_over};
-use pm_host::JobEnd;
+use pm_driver::{ApplyEnd, Bus, Driver, Fault, driver_over, requests_are_no_writes};
+use pm_frame::{code_request, read_plain};
+use pm_host::{JobEnd, Standing};
 use pm_limits::LimitFault;
 use pm_rail::Wanted;
-use pm_table::{Cell, Reg};
+use pm_table::{Cell, Code, Reg};
+use pm_world::Arrival;
 
 fn ordered<B: Bus>(driver: &mut Driver<B>) -> Result<JobEnd, LimitFault> {
     driver.order(Cell::Out(0, Reg::VoutCommand), 0x34CD) // Done: the converter held 34CDh when it was read
@@ -27,6 +30,16 @@ fn applied<B: Bus>(driver: &mut Driver<B>) -> Option<ApplyEnd> {
     Some(driver.apply(0, &wanted, 60)) // Reached: the converter holds both words
 }
 
+fn status<B: Bus>(driver: &mut Driver<B>) -> Option<u16> {
+    let code = Code::STATUS_WORD.0;
+    let mut room = [0; 4]; // the read address, two bytes and the PEC
+    // law: no beginning of the request is a write
+    requests_are_no_writes();
+    let count = driver.read(&code_request(0x58, code), &mut room).ok()?; // H3: a job is open
+    let payload = read_plain(0x58, code, 2, &room[..count]).ok()?; // F5 where a bit changed
+    Some(u16::from_le_bytes([payload[0], payload[1]]))
+}
+
 fn tried(config: Config, plan: &[Fault]) -> Option<JobEnd> {
     let mut driver = driver_over(config, 2, plan)?;
     driver.order(Cell::Out(0, Reg::VoutCommand), 0x34CD).ok()
@@ -39,6 +52,29 @@ fn the_examples_of_the_roots_run(rt: HostRuntime) {
         Some(mut driver) => {
             equal(&rt, &applied(&mut driver), &Some(ApplyEnd::Reached), &2);
             equal(&rt, &ordered(&mut driver), &Ok(JobEnd::Done), &3);
+            equal(&rt, &status(&mut driver), &Some(0), &4);
+        }
+        None => panic!(rt; "refused"),
+    }
+}
+
+// Its second frame, a request, is cut behind its second byte: CML is bit 1 of STATUS_WORD, and the host says no less.
+#[test]
+fn a_status_between_two_orders_shows_what_was_latched(rt: HostRuntime) {
+    let plan = [
+        whole(),
+        Fault {
+            request: Arrival::Cut(2),
+            ..whole()
+        },
+    ];
+    match driver_over(BASE, 2, &plan) {
+        Some(mut driver) => {
+            equal(&rt, &ordered(&mut driver), &Ok(JobEnd::Done), &1);
+            equal(&rt, &said(driver.host()), &Standing::Confirmed(0x34CD), &2);
+            equal(&rt, &status(&mut driver), &Some(0x0002), &3);
+            equal(&rt, &said(driver.host()), &Standing::Confirmed(0x34CD), &4);
+            equal(&rt, &ordered(&mut driver), &Ok(JobEnd::Done), &5);
         }
         None => panic!(rt; "refused"),
     }

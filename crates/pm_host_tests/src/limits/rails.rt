@@ -522,7 +522,7 @@ fn survey(
 
 // Whether what is read before the survey, what the converter holds then, what is wanted, the tries; whether it ends by
 // its own rule, and after how many jobs.
-static SURVEYS: [([u16; 6], [u16; 6], Option<Wishes>, u16, (bool, u16)); 7] = [
+static SURVEYS: [([u16; 6], [u16; 6], Option<Wishes>, u16, (bool, u16)); 9] = [
     // a learn, OPERATION, VOUT_COMMAND, VOUT_MAX, VOUT_MIN
     (
         [0x80, 1, 2, 3, 4, 5],
@@ -562,6 +562,23 @@ static SURVEYS: [([u16; 6], [u16; 6], Option<Wishes>, u16, (bool, u16)); 7] = [
         None,
         30,
         (true, 5),
+    ),
+    // on margin high, where the last answer shows a restart: OPERATION isn't known then, so that VOUT_COMMAND is read too, and
+    // then all but these two once more
+    (
+        [0xA8, 1, 2, 3, 4, 5],
+        [0xA8, 1, 2, 3, 4, 9],
+        None,
+        30,
+        (true, 9),
+    ),
+    // for a plan of every register: a learn, and one check less than two for each of seven cells
+    (
+        [0x80, 1, 2, 3, 4, 5],
+        [0x80, 1, 2, 3, 4, 9],
+        Some([Some(1), Some(2), Some(3), Some(4), Some(9)]),
+        30,
+        (true, 13),
     ),
     // tries are over
     (

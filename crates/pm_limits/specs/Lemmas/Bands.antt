@@ -19,15 +19,16 @@ use Rattle.pm_host.specs.declared.possible.Possible.TheVariants.{Any, Words as L
 use Rattle.pm_host.specs.Possible.{is_listed, is_possible}
 use Rattle.pm_limits.specs.declared.side.Side.{Side}
 use Rattle.pm_limits.specs.declared.side.Side.TheVariants.{Lowest, Highest}
-use Rattle.pm_limits.specs.Band.{HasDens, Known, decides, each_selection, end_choice, end_with, is_selected, is_untaken, operation_end, operations, reach, word_end}
+use Rattle.pm_limits.specs.Band.{HasDens, Known, decides, each_selection, end_choice, end_with, is_selected, is_untaken, operation_end}
+use Rattle.pm_limits.specs.Band.{operations, reach, word_end}
 use Rattle.pm_limits.specs.Ends.{Reaches, end_of, farthest_of, format_end, shape_ends}
 use Rattle.pm_limits.specs.Lemmas.Cuts.{reaches-cut}
 use Rattle.pm_limits.specs.Lemmas.Farthest.{HaveDens, farthest_of-listed, reaches-through}
-use Rattle.pm_limits.specs.Lemmas.Order.{not-above}
+use Rattle.pm_num.specs.Lemmas.Order.{not-above}
 use Rattle.pm_limits.specs.Lemmas.Selected.{each-selected}
 
 -- where the value of every word has a positive denominator, the value of each listed word has
-all-dens : (value : ℕ → Ratio) → ((word : ℕ) → 0 < (value word).den) → (words : List ℕ) → HaveDens value words
+pub all-dens : (value : ℕ → Ratio) → ((word : ℕ) → 0 < (value word).den) → (words : List ℕ) → HaveDens value words
 all-dens value dens [] = tt
 all-dens value dens (word ∷ words) = (dens word, all-dens value dens words)
 
@@ -58,18 +59,19 @@ shape-held side (InDirect (negsuc n) b r) word dens short =
     between side (shape_value (InDirect (negsuc n) b r)) (shape_ends (InDirect (negsuc n) b r)) 0x7FFF 0x8000
     (shape_value (InDirect (negsuc n) b r) word) dens refl refl (direct-within (negsuc n) b r word short)
 
--- so a missing VOUT_MIN cuts none, and neither does a missing VOUT_MAX
+-- The least end of its format, which stands for a missing VOUT_MIN, is above no word.
 pub least-cuts-nothing : (shape : Shape) (word : ℕ) → HasDens shape → word < 2 ^ 16 →
     is_above (shape_value shape (format_end Lowest shape)) (shape_value shape word) ≡ false
 least-cuts-nothing shape word dens short = not-above (shape_value shape (format_end Lowest shape)) (shape_value shape word)
     (shape-held Lowest shape word dens short)
 
+-- The greatest end of its format, which stands for a missing VOUT_MAX, is below no word.
 pub greatest-cuts-nothing : (shape : Shape) (word : ℕ) → HasDens shape → word < 2 ^ 16 →
     is_above (shape_value shape word) (shape_value shape (format_end Highest shape)) ≡ false
 greatest-cuts-nothing shape word dens short = not-above (shape_value shape word) (shape_value shape (format_end Highest shape))
     (shape-held Highest shape word dens short)
 
--- nor than the end of what its register may hold
+-- No word that a register may hold lies farther out than the end of what it may hold.
 end-held : (side : Side) (shape : Shape) (possible : Possible) (word : ℕ) → HasDens shape → word < 2 ^ 16 →
     is_possible word possible ≡ true →
     Reaches side (shape_value shape (end_of side shape (shape_value shape) possible)) (shape_value shape word)
@@ -77,7 +79,7 @@ end-held side shape Any word dens short is = shape-held side shape word dens sho
 end-held side shape (Listed words) word dens short is =
     farthest_of-listed side (shape_value shape) words.items word (all-dens (shape_value shape) dens words.items) is
 
--- a register that is selected by a listed byte is selected
+-- A register is the same as itself.
 same-itself : (register : Reg) → same_register register register ≡ true
 same-itself register = grind (arith, nat_tests)
 
@@ -141,7 +143,7 @@ byte-held side shape known (Listed words) byte dens is = go (list_any is_untaken
   go false = farthest_of-listed side (reach side shape known) words.items byte
       (all-dens (reach side shape known) (λ b. dens (word_end side shape known (selected_register b))) words.items) is
 
--- So no value that the output commands lies beyond an end.
+-- No value that the output commands lies beyond an end of its band.
 pub band-held : (side : Side) (shape : Shape) (known : Known) (words : Words) (output : ℕ) → HasDens shape →
     ((register : Reg) → decides known register ≡ true → is_possible (word_at words (Out output register)) (known register) ≡ true) →
     ((register : Reg) → word_at words (Out output register) < 2 ^ 16) →
@@ -177,7 +179,7 @@ band-held side shape known words output dens possible short =
     (end-held side shape (known VoutMin) (word_at words (Out output VoutMin)) dens (short VoutMin) (possible VoutMin refl))
     (end-held side shape (known VoutMax) (word_at words (Out output VoutMax)) dens (short VoutMax) (possible VoutMax refl))
 
--- And with the words of an end it commands that very fraction.
+-- With the words of an end the output commands that end.
 pub band-reached : (side : Side) (shape : Shape) (known : Known) (words : Words) (output : ℕ) →
     ((register : Reg) → word_at words (Out output register) ≡ end_choice side shape known register) →
     commanded (shape_value shape) words output ≡ end_with side shape known (operations (known Operation))

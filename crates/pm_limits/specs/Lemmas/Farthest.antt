@@ -7,7 +7,8 @@ use Rattle.pm_host.specs.Possible.{is_listed}
 use Rattle.pm_limits.specs.declared.side.Side.{Side}
 use Rattle.pm_limits.specs.declared.side.Side.TheVariants.{Lowest, Highest}
 use Rattle.pm_limits.specs.Ends.{Reaches, farther, farthest, farthest_of, is_farther}
-use Rattle.pm_limits.specs.Lemmas.Order.{above-at-most, at-most, same, through}
+use Rattle.pm_num.specs.Lemmas.Order.{above-at-most, at-most, same}
+use Rattle.pm_num.specs.Lemmas.Over.{at_most-trans}
 
 -- the values of a list of words have positive denominators
 abbrev pub HaveDens : (ℕ → Ratio) → List ℕ → Type 0
@@ -19,12 +20,12 @@ pub reaches-same : (side : Side) (p : Ratio) → Reaches side p p
 reaches-same Lowest p = same p
 reaches-same Highest p = same p
 
--- and as far as one that another reaches, which it reaches
+-- A value reaches as far as another that is reached by one that it reaches.
 pub reaches-through : (side : Side) (p q r : Ratio) → 0 < q.den → Reaches side p q → Reaches side q r → Reaches side p r
-reaches-through Lowest p q r positive pq qr = through p q r positive pq qr
-reaches-through Highest p q r positive pq qr = through r q p positive qr pq
+reaches-through Lowest p q r positive pq qr = at_most-trans p q r positive pq qr
+reaches-through Highest p q r positive pq qr = at_most-trans r q p positive qr pq
 
--- what is farther reaches, and what isn't is reached
+-- The farther of two values reaches as far as the other.
 reaches-farther : (side : Side) (p q : Ratio) → is_farther side p q ≡ true → Reaches side q p
 reaches-farther Lowest p q h = above-at-most p q h
 reaches-farther Highest p q h = above-at-most q p h
@@ -34,7 +35,7 @@ reaches-not : (side : Side) (p q : Ratio) → is_farther side p q ≡ false → 
 reaches-not Lowest p q h = at-most p q h
 reaches-not Highest p q h = at-most q p h
 
--- of two words
+-- The farther of two words reaches as far as the first.
 farther-first : (side : Side) (value : ℕ → Ratio) (word other : ℕ) →
     Reaches side (value (farther side value word other)) (value word)
 farther-first side value word other = go (is_farther side (value word) (value other)) refl where
@@ -58,7 +59,7 @@ farther-den side value word other h k = go (is_farther side (value word) (value 
   go true = k
   go false = h
 
--- of a word and others
+-- The farthest of a word and others reaches as far as the word.
 farthest-first : (side : Side) (value : ℕ → Ratio) (word : ℕ) (words : List ℕ) → 0 < (value word).den → HaveDens value words →
     Reaches side (value (farthest side value word words)) (value word)
 farthest-first side value word [] h dens = reaches-same side (value word)
@@ -98,7 +99,7 @@ farthest-others side value word (other ∷ words) listed h (d, dens) is =
         (subst (λ w. Reaches side (value (farther side value word other)) (value w)) it (farther-second side value word other))
     go positive later false e is' = later is'
 
--- nothing that is listed lies farther out
+-- The farthest of a list of words reaches as far as each that is listed.
 pub farthest_of-listed : (side : Side) (value : ℕ → Ratio) (words : List ℕ) (listed : ℕ) → HaveDens value words →
     is_listed listed words ≡ true → Reaches side (value (farthest_of side value words)) (value listed)
 farthest_of-listed side value [] listed dens is = absurd (let bad : false ≡ true = is in (cc))
@@ -116,7 +117,7 @@ pub farthest_of-den : (side : Side) (value : ℕ → Ratio) (words : List ℕ) (
 farthest_of-den side value [] listed dens is = absurd (let bad : false ≡ true = is in (cc))
 farthest_of-den side value (word ∷ words) listed (d, dens) is = farthest-den side value word words d dens
 
--- the farthest of a word and others is one of them
+-- A word that is listed still is with another word in the second place.
 listed-again : (a b listed : ℕ) (words : List ℕ) → is_listed listed (a ∷ words) ≡ true → is_listed listed (a ∷ b ∷ words) ≡ true
 listed-again a b listed words is = go (a == listed) (b == listed) (is_listed listed words) is where
   go : (p q r : Bool) → (p || r) ≡ true → (p || (q || r)) ≡ true

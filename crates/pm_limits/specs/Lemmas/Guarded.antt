@@ -13,6 +13,7 @@ use Rattle.pm_table.specs.declared.reg.Reg.TheVariants.{Operation, VoutCommand}
 use Rattle.pm_table.specs.Cell.{is_voltage, output_of}
 use Rattle.pm_table.specs.Operation.{has_on, is_on, operation_of, register_for, selected_register}
 use Rattle.pm_table.specs.Rules.{rule}
+use Rattle.pm_table.specs.RuleLemmas.{or-none}
 use Rattle.pm_host.specs.declared.fault.HostFault.{HostFault}
 use Rattle.pm_host.specs.declared.job.Job.{Job}
 use Rattle.pm_host.specs.declared.job.Job.TheVariants as job
@@ -26,20 +27,11 @@ use Rattle.pm_limits.specs.declared.within.Within.{Within}
 use Rattle.pm_limits.specs.declared.within.Within.TheVariants.{Yes, No, NotKnown}
 use Rattle.pm_limits.specs.Band.{band_on, is_yes, within_of}
 use Rattle.pm_limits.specs.Bounds.{Bounds, IsWithin, outside_fault}
-use Rattle.pm_limits.specs.Guard.{Guarded, guard_fault, guarded_order, judged, limits_at, missing_cell, missing_ordered, of_host, operation_limit, unsure_fault, voltage_limit}
+use Rattle.pm_limits.specs.Guard.{Guarded, guard_fault, guarded_order, judged, limits_at, missing_cell, missing_ordered, of_host}
+use Rattle.pm_limits.specs.Guard.{operation_limit, unsure_fault, voltage_limit}
 use Rattle.pm_limits.specs.Guard.{word_fault}
 use Rattle.pm_limits.specs.Part.{has_register}
-use Rattle.pm_limits.specs.Lemmas.Order.{at-most}
-
--- the second of two faults is none where neither comes
-second : {A : Type 0} (p q : Option A) → option_or p q ≡ None → q ≡ None
-second None q h = h
-second (Some a) q h = cc
-
--- the first of two faults is none where neither comes
-head : {A : Type 0} (p q : Option A) → option_or p q ≡ None → p ≡ None
-head None q h = refl
-head (Some a) q h = cc
+use Rattle.pm_num.specs.Lemmas.Order.{at-most}
 
 -- a value that isn't refused lies within the limits
 inside : (bounds : Bounds) (value : Ratio) → outside_fault bounds value ≡ None → IsWithin bounds value
@@ -60,25 +52,27 @@ let-through (Some own) (Some shape) word bounds is free =
     let same : own ≡ bounds = cc in
     subst (λ (b : Bounds). IsWithin b (shape_value shape word)) same (inside own (shape_value shape word) free)
 
--- what is judged of a voltage
+-- An order of a voltage is judged by the limits of voltages.
 judged-voltage : (g : Guarded) (output : ℕ) (register : Reg) (word : ℕ) → is_voltage register ≡ true →
-    judged g.registers (limits_at g output) g.host (Out output register) word ≡ voltage_limit (limits_at g output) (format_at g.host output) word
+    judged g.registers (limits_at g output) g.host (Out output register) word
+    ≡ voltage_limit (limits_at g output) (format_at g.host output) word
 judged-voltage g output Operation word h = cc
 judged-voltage g output register word h = refl
 
--- an order that is let through
+-- An order of a voltage that is let through has a word within the limits.
 order-within : (g : Guarded) (cell : Cell) (output : ℕ) (register : Reg) (word : ℕ) (bounds : Bounds) →
-    guarded_order g.registers (limits_at g (output_of cell)) g.host cell word ≡ None → cell ≡ Out output register → is_voltage register ≡ true →
+    guarded_order g.registers (limits_at g (output_of cell)) g.host cell word ≡ None → cell ≡ Out output register
+    → is_voltage register ≡ true →
     limits_at g output ≡ Some bounds →
     IsSomeAnd (format_at g.host output) (λ shape. IsWithin bounds (shape_value shape word))
 order-within g cell output register word bounds free is voltage limits =
-    let judge = head (judged g.registers (limits_at g (output_of cell)) g.host cell word) _
-    (second (missing_ordered g.registers cell word) _ (second (of_host (cell_fault g.host cell)) _ free)) in
+    let judge = (or-none (judged g.registers (limits_at g (output_of cell)) g.host cell word) _
+    (or-none (missing_ordered g.registers cell word) _ (or-none (of_host (cell_fault g.host cell)) _ free).1).1).0 in
     let none = sym (judged-voltage g output register word voltage)
     ∙ ap (λ (c : Cell). judged g.registers (limits_at g (output_of c)) g.host c word) (sym is) ∙ judge in
     let-through (limits_at g output) (format_at g.host output) word bounds limits none
 
--- as a word or in microvolts
+-- A job that orders a voltage, as a word or in microvolts, and is let through has a word within the limits.
 pub guarded-voltage : (g : Guarded) (asked : Job) (output : ℕ) (register : Reg) (word : ℕ) (bounds : Bounds) →
     guard_fault g asked ≡ None → accepted_job g.host asked ≡ Some (Order (Out output register) word) →
     is_voltage register ≡ true → limits_at g output ≡ Some bounds →
@@ -89,11 +83,11 @@ guarded-voltage g (job.Order cell w) output register word bounds free is voltage
     subst (λ n. IsSomeAnd (format_at g.host output) (λ shape. IsWithin bounds (shape_value shape n))) same_word
     (order-within g cell output register w bounds free same_cell voltage limits)
 guarded-voltage g (job.OrderMicro cell x) output register word bounds free is voltage limits =
-    let third = second (word_fault g.host cell x) _
-    (second (missing_cell g.registers cell) _ (second (of_host (cell_fault g.host cell)) _ free)) in
+    let third = (or-none (word_fault g.host cell x) _
+    (or-none (missing_cell g.registers cell) _ (or-none (of_host (cell_fault g.host cell)) _ free).1).1).1 in
     go (micro_word g.host cell x)
-    (head (option_and_then (λ n. guarded_order g.registers (limits_at g (output_of cell)) g.host cell n) (micro_word g.host cell x))
-    None third) is
+    (or-none (option_and_then (λ n. guarded_order g.registers (limits_at g (output_of cell)) g.host cell n) (micro_word g.host cell x))
+    None third).0 is
   where
     go : (found : Option ℕ) →
         option_and_then (λ n. guarded_order g.registers (limits_at g (output_of cell)) g.host cell n) found ≡ None →
@@ -109,14 +103,14 @@ guarded-voltage g (job.Check cell) output register word bounds free is voltage l
 guarded-voltage g (job.Learn o) output register word bounds free is voltage limits = cc
 guarded-voltage g (job.Send command) output register word bounds free is voltage limits = cc
 
--- a byte that leaves the output on
+-- A byte of OPERATION that leaves the output on is let through only where all of the band lies within the limits.
 pub guarded-on : (g : Guarded) (output byte : ℕ) → guard_fault g (job.Order (Out output Operation) byte) ≡ None →
     has_on byte ≡ true → within_of (limits_at g output) (band_on g.registers g.host output byte) ≡ Yes
 guarded-on g output byte free on =
     go (has_on byte) (within_of (limits_at g output) (band_on g.registers g.host output byte)) on
-    (head (operation_limit g.registers (limits_at g output) g.host output byte) _
-    (second (missing_ordered g.registers (Out output Operation) byte) _
-    (second (of_host (cell_fault g.host (Out output Operation))) _ free)))
+    (or-none (operation_limit g.registers (limits_at g output) g.host output byte) _
+    (or-none (missing_ordered g.registers (Out output Operation) byte) _
+    (or-none (of_host (cell_fault g.host (Out output Operation))) _ free).1).1).0
   where
     go : (b : Bool) (w : Within) → b ≡ true →
         cond (b && not (is_yes w)) (Some (unsure_fault (format_at g.host output))) None ≡ None → w ≡ Yes
@@ -194,15 +188,15 @@ pub guarded-missing : (g : Guarded) (asked : Job) (cell : Cell) (word : ℕ) →
 guarded-missing g (job.Order own w) cell word free is =
     let same_cell : own ≡ cell = cc in
     let same_word : w ≡ word = cc in
-    let there = head (missing_ordered g.registers own w) _ (second (of_host (cell_fault g.host own)) _ free) in
+    let there = (or-none (missing_ordered g.registers own w) _ (or-none (of_host (cell_fault g.host own)) _ free).1).0 in
     subst (λ (n : ℕ). missing_ordered g.registers cell n ≡ None) same_word
     (subst (λ (c : Cell). missing_ordered g.registers c w ≡ None) same_cell there)
 guarded-missing g (job.OrderMicro own x) cell word free is =
-    let third = second (word_fault g.host own x) _
-    (second (missing_cell g.registers own) _ (second (of_host (cell_fault g.host own)) _ free)) in
+    let third = (or-none (word_fault g.host own x) _
+    (or-none (missing_cell g.registers own) _ (or-none (of_host (cell_fault g.host own)) _ free).1).1).1 in
     go (micro_word g.host own x)
-    (head (option_and_then (λ n. guarded_order g.registers (limits_at g (output_of own)) g.host own n) (micro_word g.host own x))
-    None third) is
+    (or-none (option_and_then (λ n. guarded_order g.registers (limits_at g (output_of own)) g.host own n) (micro_word g.host own x))
+    None third).0 is
   where
     go : (found : Option ℕ) →
         option_and_then (λ n. guarded_order g.registers (limits_at g (output_of own)) g.host own n) found ≡ None →
@@ -211,13 +205,13 @@ guarded-missing g (job.OrderMicro own x) cell word free is =
     go (Some w) none is' =
         let same_cell : own ≡ cell = cc in
         let same_word : w ≡ word = cc in
-        let there = head (missing_ordered g.registers own w) _ (second (of_host (cell_fault g.host own)) _ none) in
+        let there = (or-none (missing_ordered g.registers own w) _ (or-none (of_host (cell_fault g.host own)) _ none).1).0 in
         subst (λ (n : ℕ). missing_ordered g.registers cell n ≡ None) same_word
         (subst (λ (c : Cell). missing_ordered g.registers c w ≡ None) same_cell there)
 guarded-missing g (job.Check own) cell word free is = cc
 guarded-missing g (job.Learn o) cell word free is = cc
 guarded-missing g (job.Send command) cell word free is = cc
 
--- nor a check of one
+-- No check of a register that the part doesn't have is let through.
 pub guarded-unread : (g : Guarded) (cell : Cell) → guard_fault g (job.Check cell) ≡ None → missing_cell g.registers cell ≡ None
-guarded-unread g cell free = head (missing_cell g.registers cell) None (second (of_host (cell_fault g.host cell)) _ free)
+guarded-unread g cell free = (or-none (missing_cell g.registers cell) None (or-none (of_host (cell_fault g.host cell)) _ free).1).0

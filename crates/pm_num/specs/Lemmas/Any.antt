@@ -13,31 +13,31 @@ use Rattle.pm_num.specs.Lemmas.Spelling.{linear11-within, linear11-one_word}
 
 -- A format that is chosen at run time: each fact is the chosen format's.
 
--- its denominators are positive,
+-- The denominators of the format's values are positive.
 pub any-has_den : (f : AnyFormat) (w : ℕ) → w < 2 ^ 16 → 0 < (any_value f w).den
 any-has_den Linear11 w h = lower-positive (exponent w)
 any-has_den (Ulinear16 f) w h = lower-positive f.n
 any-has_den (Direct f) w h = direct-has_den f.m f.b f.r w f.slope
 
--- its values lie in its range,
+-- The format's values lie in its range.
 pub any-within : (f : AnyFormat) (w : ℕ) → w < 2 ^ 16 → IsBetween (any_lowest f) (any_highest f) (any_value f w)
 any-within Linear11 w h = linear11-within w h
 any-within (Ulinear16 f) w h = ulinear16-within f.n w h
 any-within (Direct f) w h = direct-within f.m f.b f.r w h
 
--- a word has the least of them,
+-- A word has the least value of the format.
 pub any-least_met : (f : AnyFormat) → IsValue (any_value f) (any_lowest f)
 any-least_met Linear11 = (linear11_least, lit< tt, refl)
 any-least_met (Ulinear16 f) = (0, lit< tt, refl)
 any-least_met (Direct f) = direct-least_met f.m f.b f.r
 
--- another the greatest,
+-- A word has the greatest value of the format.
 pub any-greatest_met : (f : AnyFormat) → IsValue (any_value f) (any_highest f)
 any-greatest_met Linear11 = (linear11_greatest, lit< tt, refl)
 any-greatest_met (Ulinear16 f) = (0xFFFF, lit< tt, refl)
 any-greatest_met (Direct f) = direct-greatest_met f.m f.b f.r
 
--- and no two words have one value and one rank
+-- No two words have one value and one rank in the format.
 pub any-one_word : (f : AnyFormat) → IsOneWord (any_value f) (any_rank f)
 any-one_word Linear11 = linear11-one_word
 any-one_word (Ulinear16 f) = ulinear16-one_word f.n

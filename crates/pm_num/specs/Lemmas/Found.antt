@@ -9,25 +9,25 @@ use Rattle.pm_num.specs.NearestWord.{is_near, is_at_most, is_same, each_below, f
 
 -- The word that is nearest is the one that is found.
 
--- a test that holds is true
-from_T : (b : Bool) → T b → b ≡ true
+-- A test that holds is true.
+pub from_T : (b : Bool) → T b → b ≡ true
 from_T true h = refl
 from_T false h = absurd h
 
--- the test of being as near tells it,
+-- The test of being as near is true exactly where it is as near.
 Decides-near : (x v u : Ratio) → Decides (is_near x v u) (Near x v u)
 Decides-near x v u = (leb-true _ _, le-leb _ _)
 
--- so does that of being at most,
+-- The test of being at most is true exactly where it is at most.
 Decides-at_most : (p q : Ratio) → Decides (is_at_most p q) (AtMost p q)
 Decides-at_most p q = (λ e. record { le = subst T (sym e) tt }, λ h. from_T _ h.le)
 
--- one fact follows from another, as a test
+-- The test that one fact follows from another is true exactly where it does.
 Decides-implies : {P Q : Type 0} (a b : Bool) → Decides a P → Decides b Q → Decides (not a || b) (P → Q)
 Decides-implies true b p q = (λ e h. q.0 e, λ f. q.1 (f (p.0 refl)))
 Decides-implies false b p q = (λ e h. let no : false ≡ true = p.1 h in cc, λ f. refl)
 
--- and a test of each number below n tells whether each is so
+-- The test of each number below n is true exactly where each passes.
 Decides-each : (test : ℕ → Bool) (P : ℕ → Type 0) → ((k : ℕ) → Decides (test k) (P k)) → (n : ℕ)
     → Decides (each_below test n) ((k : ℕ) → k < n → P k)
 unfolding each_below
@@ -98,7 +98,7 @@ found_below-passes test (suc n) w e = go (test n) refl e (found_below-passes tes
   go true passes e more = let same : n ≡ w = cc in (omega (arith, same), ap test (sym same) ∙ passes)
   go false fails e more = let below = more e in (omega (arith, below.0), below.1)
 
--- so the word that is found is the nearest
+-- The word that is found is the nearest.
 pub IsNearest-found : (value : ℕ → Ratio) (rank : ℕ → ℕ) (x : Ratio) (w : ℕ) → nearest_word value rank x ≡ Some w → IsNearest value rank x w
 unfolding nearest_word
 IsNearest-found value rank x w e =

@@ -30,7 +30,7 @@ moved x v c s h =
     let k = times-swap s x.den v.den in
     omega (arith, ints)
 
--- so are the sizes of both
+-- The sizes of both distances stand in the same proportion.
 pub gap-over : (x v : Ratio) (c : ℕ) (s : ℤ) → Over c s v → gap x v * c ≡ apart c x s * v.den
 gap-over x v c s h =
     sym (unsigned_abs-mul (x.num *ℤ pos v.den -ℤ v.num *ℤ pos x.den) (pos c))
@@ -42,7 +42,7 @@ record Crossed (g k a b d e c : ℕ) : Type 0 where
   left : g * c ≡ a * d
   right : k * c ≡ b * e
 
--- Their cross products stand as these do,
+-- Their cross products stand in the order in which a and b do.
 crossed : {g k a b d e c : ℕ} → Crossed g k a b d e c → 0 < c → a ≤ b → g * e ≤ k * d
 crossed {g} {k} {a} {b} {d} {e} {c} h positive le =
     let i = ap (λ (n : ℕ). n * e) h.left in
@@ -51,7 +51,7 @@ crossed {g} {k} {a} {b} {d} {e} {c} h positive le =
     let w : g * e * c ≤ k * d * c = omega arith in
     le_of_mul-le-mul_right w positive
 
--- and back.
+-- The numbers a and b stand in the order in which the cross products do.
 crossed_back : {g k a b d e c : ℕ} → Crossed g k a b d e c → 0 < d → 0 < e → g * e ≤ k * d → a ≤ b
 crossed_back {g} {k} {a} {b} {d} {e} {c} h dp ep le =
     let i = ap (λ (n : ℕ). n * e) h.left in
@@ -60,16 +60,16 @@ crossed_back {g} {k} {a} {b} {d} {e} {c} h dp ep le =
     let w : a * d * e ≤ b * d * e = omega arith in
     le_of_mul-le-mul_right (le_of_mul-le-mul_right w ep) dp
 
--- The distances of v and u from x are so.
+-- The distances of v and u from x are two such distances.
 crossed_gaps : {v u : Ratio} {c : ℕ} {s t : ℤ} (x : Ratio) → Over c s v → Over c t u
     → Crossed (gap x v) (gap x u) (apart c x s) (apart c x t) v.den u.den c
 crossed_gaps {v} {u} {c} {s} {t} x p q = record { left = gap-over x v c s p; right = gap-over x u c t q }
 
--- The number that is nearer over one c is nearer,
+-- The number that is nearer over one c is nearer.
 pub near_over : {v u : Ratio} {c : ℕ} {s t : ℤ} (x : Ratio) → Over c s v → Over c t u → apart c x s ≤ apart c x t → Near x v u
 near_over x p q le = crossed (crossed_gaps x p q) p.common le
 
--- and the nearer one is nearer over one c.
+-- The number that is nearer is nearer over one c.
 pub near_over_back : {v u : Ratio} {c : ℕ} {s t : ℤ} (x : Ratio) → Over c s v → Over c t u → Near x v u → apart c x s ≤ apart c x t
 near_over_back x p q near = crossed_back (crossed_gaps x p q) p.den q.den near
 
@@ -80,7 +80,7 @@ cross_over v u c s h =
     let f = times-swap v.num u.den c in
     omega (arith, ints)
 
--- The number that is at most another over one c is at most it,
+-- The number that is at most another over one c is at most it.
 pub at_most_over : {v u : Ratio} {c : ℕ} {s t : ℤ} → Over c s v → Over c t u → s ≤ℤ t → AtMost v u
 at_most_over {v} {u} {c} {s} {t} p q le =
     let e = cross_over v u c s p in
@@ -89,7 +89,7 @@ at_most_over {v} {u} {c} {s} {t} p q le =
     let h = times-swap t v.den u.den in
     le_from_times (v.num *ℤ pos u.den) (u.num *ℤ pos v.den) c p.common (omega (arith, ints))
 
--- and back,
+-- The number that is at most another is at most it over one c.
 pub at_most_over_back : {v u : Ratio} {c : ℕ} {s t : ℤ} → Over c s v → Over c t u → AtMost v u → s ≤ℤ t
 at_most_over_back {v} {u} {c} {s} {t} p q le =
     let e = cross_over v u c s p in
@@ -98,14 +98,14 @@ at_most_over_back {v} {u} {c} {s} {t} p q le =
     let h = times-swap t v.den u.den in
     le_from_times s t v.den p.den (le_from_times (s *ℤ pos v.den) (t *ℤ pos v.den) u.den q.den (omega (arith, ints)))
 
--- so that one value is one number over c.
+-- Two numbers of one value are one number over c.
 pub same_over_back : {v u : Ratio} {c : ℕ} {s t : ℤ} → Over c s v → Over c t u → SameValue v u → s ≡ t
 same_over_back {v} {u} {c} {s} {t} p q same =
     let l : s ≤ℤ t = at_most_over_back p q (omega (arith, ints)) in
     let g : t ≤ℤ s = at_most_over_back q p (omega (arith, ints)) in
     omega (arith, ints)
 
--- A number over c is at most x exactly where its cross product with x says so,
+-- A number over c is at most x where its cross product with x is.
 pub at_most_from_cross : {v : Ratio} {c : ℕ} {s : ℤ} (x : Ratio) → Over c s v → (s *ℤ pos x.den) ≤ℤ (x.num *ℤ pos c) → AtMost v x
 at_most_from_cross {v} {c} {s} x p le =
     let e = cross_over v x c s p in
@@ -114,7 +114,7 @@ at_most_from_cross {v} {c} {s} x p le =
     let h = times-swap x.num c v.den in
     le_from_times (v.num *ℤ pos x.den) (x.num *ℤ pos v.den) c p.common (omega (arith, ints))
 
--- in both directions,
+-- Where a number over c is at most x its cross product with x is.
 pub cross_from_at_most : {v : Ratio} {c : ℕ} {s : ℤ} (x : Ratio) → Over c s v → AtMost v x → (s *ℤ pos x.den) ≤ℤ (x.num *ℤ pos c)
 cross_from_at_most {v} {c} {s} x p le =
     let e = cross_over v x c s p in
@@ -123,7 +123,7 @@ cross_from_at_most {v} {c} {s} x p le =
     let h = times-swap x.num c v.den in
     le_from_times (s *ℤ pos x.den) (x.num *ℤ pos c) v.den p.den (omega (arith, ints))
 
--- and x is at most it likewise,
+-- The fraction x is at most a number over c where its cross product with that is.
 pub at_least_from_cross : {v : Ratio} {c : ℕ} {s : ℤ} (x : Ratio) → Over c s v → (x.num *ℤ pos c) ≤ℤ (s *ℤ pos x.den) → AtMost x v
 at_least_from_cross {v} {c} {s} x p le =
     let e = cross_over v x c s p in
@@ -132,7 +132,7 @@ at_least_from_cross {v} {c} {s} x p le =
     let h = times-swap x.num c v.den in
     le_from_times (x.num *ℤ pos v.den) (v.num *ℤ pos x.den) c p.common (omega (arith, ints))
 
--- in both directions.
+-- Where x is at most a number over c its cross product with that is.
 pub cross_from_at_least : {v : Ratio} {c : ℕ} {s : ℤ} (x : Ratio) → Over c s v → AtMost x v → (x.num *ℤ pos c) ≤ℤ (s *ℤ pos x.den)
 cross_from_at_least {v} {c} {s} x p le =
     let e = cross_over v x c s p in
@@ -141,7 +141,7 @@ cross_from_at_least {v} {c} {s} x p le =
     let h = times-swap x.num c v.den in
     le_from_times (x.num *ℤ pos c) (s *ℤ pos x.den) v.den p.den (omega (arith, ints))
 
--- What is at most a number is at most what that is at most.
+-- What is at most a value with a positive denominator is at most what that is at most.
 pub at_most-trans : (p q r : Ratio) → 0 < q.den → AtMost p q → AtMost q r → AtMost p r
 at_most-trans p q r den h k =
     let e = le-times (p.num *ℤ pos q.den) (q.num *ℤ pos p.den) r.den h in

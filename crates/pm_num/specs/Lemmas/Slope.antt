@@ -11,25 +11,25 @@ use Rattle.pm_num.specs.Lemmas.OneWord.{IsOneWord}
 
 -- DIRECT.
 
--- both parts of a power of ten are positive
+-- The numerator of a power of ten is positive.
 pub upper_ten-positive : (n : ℤ) → 0 < upper 10 n
 upper_ten-positive (pos n) = one-le-pow n 10 (omega arith)
 upper_ten-positive (negsuc n) = omega arith
 
--- and the lower one
+-- The denominator of a power of ten is positive.
 pub lower_ten-positive : (n : ℤ) → 0 < lower 10 n
 lower_ten-positive (pos n) = omega arith
 lower_ten-positive (negsuc n) = one-le-pow (suc n) 10 (omega arith)
 
--- Two's complement at 16 bits: its range, and no two words are one number.
+-- A word in two's complement is at most 32,767.
 pub signed-below : (w : ℕ) → w < 2 ^ 16 → signed 16 w ≤ℤ pos 32767
 signed-below w h = grind (arith, ints, nat_tests)
 
--- and from below,
+-- A word in two's complement is at least -32,768.
 pub signed-above : (w : ℕ) → w < 2 ^ 16 → negsuc 32767 ≤ℤ signed 16 w
 signed-above w h = grind (arith, ints, nat_tests)
 
--- and no two words are one number
+-- No two words are one number in two's complement.
 pub signed-one : (u w : ℕ) → u < 2 ^ 16 → w < 2 ^ 16 → signed 16 u ≡ signed 16 w → u ≡ w
 signed-one u w hu hw e = grind (arith, ints, nat_tests)
 
@@ -51,7 +51,7 @@ at_most_by_sign (negsuc n) b r u w h =
     le-times (negsuc 0 *ℤ (y *ℤ pos (lower 10 r) -ℤ b *ℤ pos (upper 10 r))) (negsuc 0 *ℤ (z *ℤ pos (lower 10 r) -ℤ b *ℤ pos (upper 10 r)))
     (suc n * upper 10 r) (omega (arith, ints))
 
--- so the values lie between those of the least and of the greatest word
+-- The values lie between those of the least and of the greatest word.
 pub direct-within : (m b r : ℤ) (w : ℕ) → w < 2 ^ 16
     → IsBetween (direct_value m b r (direct_least m)) (direct_value m b r (direct_greatest m)) (direct_value m b r w)
 direct-within (pos n) b r w h =
@@ -69,11 +69,11 @@ direct-within (negsuc n) b r w h =
       to_greatest = at_most_by_sign (negsuc n) b r w 32768 (omega (arith, ints));
     }
 
--- a slope that is not 0 has a size,
+-- A slope that is not 0 has a positive size.
 unsigned_abs-positive : (m : ℤ) → m ≢ pos 0 → 0 < unsigned_abs m
 unsigned_abs-positive m h = omega (arith, ints)
 
--- so the denominators are positive
+-- The denominators of the values are positive.
 pub direct-has_den : (m b r : ℤ) (w : ℕ) → m ≢ pos 0 → 0 < (direct_value m b r w).den
 direct-has_den m b r w h = mul-pos (unsigned_abs-positive m h) (upper_ten-positive r)
 
@@ -99,7 +99,7 @@ above_by_number : (p q : Ratio) (y z : ℤ) → (z ≤ℤ y → AtMost q p) → 
     → int_lt z y ≡ is_above p q
 above_by_number p q y z back at_most one = grind (arith, ints, nat_tests, back, at_most, one)
 
--- with a slope above 0 the greater number has the greater value,
+-- With a slope above 0 the greater number has the greater value.
 pub direct-above_rising : (m b r : ℤ) (u w : ℕ) → m ≢ pos 0 → pos 0 ≤ℤ m → u < 2 ^ 16 → w < 2 ^ 16
     → int_lt (signed 16 w) (signed 16 u) ≡ is_above (direct_value m b r u) (direct_value m b r w)
 direct-above_rising (pos n) b r u w slope rising hu hw =
@@ -108,7 +108,7 @@ direct-above_rising (pos n) b r u w slope rising hu hw =
     (λ same. ap (signed 16) (direct-one_word (pos n) b r slope u w hu hw same refl))
 direct-above_rising (negsuc n) b r u w slope rising hu hw = absurd (omega (arith, ints))
 
--- and with one below 0 the lesser
+-- With a slope below 0 the lesser number has the greater value.
 pub direct-above_falling : (m b r : ℤ) (u w : ℕ) → m ≢ pos 0 → m <ℤ pos 0 → u < 2 ^ 16 → w < 2 ^ 16
     → int_lt (signed 16 u) (signed 16 w) ≡ is_above (direct_value m b r u) (direct_value m b r w)
 direct-above_falling (pos n) b r u w slope falling hu hw = absurd (omega (arith, ints))
@@ -117,12 +117,12 @@ direct-above_falling (negsuc n) b r u w slope falling hu hw =
     (λ h. at_most_by_sign (negsuc n) b r w u (omega (arith, ints))) (λ h. at_most_by_sign (negsuc n) b r u w (omega (arith, ints)))
     (λ same. ap (signed 16) (sym (direct-one_word (negsuc n) b r slope u w hu hw same refl)))
 
--- a word has the least value,
+-- A word has the least value.
 pub direct-least_met : (m b r : ℤ) → IsValue (direct_value m b r) (direct_value m b r (direct_least m))
 direct-least_met (pos n) b r = (0x8000, lit< tt, refl)
 direct-least_met (negsuc n) b r = (0x7FFF, lit< tt, refl)
 
--- and another the greatest
+-- A word has the greatest value.
 pub direct-greatest_met : (m b r : ℤ) → IsValue (direct_value m b r) (direct_value m b r (direct_greatest m))
 direct-greatest_met (pos n) b r = (0x7FFF, lit< tt, refl)
 direct-greatest_met (negsuc n) b r = (0x8000, lit< tt, refl)

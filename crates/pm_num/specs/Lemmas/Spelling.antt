@@ -16,18 +16,18 @@ use Rattle.pm_num.specs.Lemmas.Unsigned.{lower-positive}
 
 -- LINEAR11.
 
--- a word's exponent is one of five bits,
+-- A word's exponent is one of five bits.
 pub IsExponent-exponent : (w : ℕ) → w < 2 ^ 16 → IsExponent (exponent w)
 IsExponent-exponent w h =
     let k : w / 2 ^ 11 < 32 = omega arith in
     record { above = grind (arith, ints, nat_tests); below = grind (arith, ints, nat_tests) }
 
--- so its place is at most 31,
+-- The place of an exponent is at most 31.
 place-below : (e : ℤ) → IsExponent e → place_of e ≤ 31
 place-below (pos n) h = omega (arith, ints, h.below)
 place-below (negsuc n) h = omega arith
 
--- and a word is a mantissa at a place
+-- A word spells its mantissa at the place of its exponent.
 pub IsSpelling-word : (w : ℕ) → w < 2 ^ 16 → IsSpelling (mantissa w) (place_of (exponent w))
 IsSpelling-word w h =
     let k : w % 2 ^ 11 < 2048 = omega arith in
@@ -77,15 +77,15 @@ preference-one (pos m) (negsuc n) h = absurd (omega arith)
 preference-one (negsuc m) (pos n) h = absurd (omega arith)
 preference-one (negsuc m) (negsuc n) h = ap negsuc (omega arith)
 
--- no two exponents' bits are one number,
+-- No two exponents' bits are one number.
 signed_five-one : (u w : ℕ) → u < 32 → w < 32 → signed 5 u ≡ signed 5 w → u ≡ w
 signed_five-one u w hu hw e = grind (arith, ints, nat_tests)
 
--- and no two mantissas' bits
+-- No two mantissas' bits are one number.
 signed_eleven-one : (u w : ℕ) → u < 2048 → w < 2048 → signed 11 u ≡ signed 11 w → u ≡ w
 signed_eleven-one u w hu hw e = grind (arith, ints, nat_tests)
 
--- so no two words have one value and one rank
+-- No two words have one value and one rank.
 pub linear11-one_word : IsOneWord linear11_value linear11_rank
 linear11-one_word u w hu hw same ranks =
     let e = preference-one (exponent u) (exponent w) ranks in

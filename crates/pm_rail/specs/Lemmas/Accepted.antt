@@ -1,8 +1,9 @@
 -- An order that the plan gives is one that a guard lets through, and its host accepts.
-use Rattle.std.specs.Prelude.{◌≡◌, ◌≢◌, ◌<◌, ℕ, Bool, true, false, cond, if◌then◌else◌, not, ◌||◌, nat_lt, refl, Option, Some, None, is_none, is_some, option_map, unwrap_or, List, [], ◌∷◌, length, Ok}
+use Rattle.std.specs.Prelude.{◌≡◌, ◌≢◌, ◌<◌, ℕ, Bool, true, false, cond, if◌then◌else◌, not, ◌||◌, nat_lt, refl, Option, Some, None}
+use Rattle.std.specs.Prelude.{is_none, is_some, option_map, unwrap_or, List, [], ◌∷◌, length, Ok}
 use Rattle.std.specs.Option.{option_map_or}
-use Rattle.std.proofs.Common.{sym, ◌∙◌, ap, subst, arith}
-use Rattle.std.proofs.lemmas.Bool.Decides.{nat_tests}
+use Rattle.std.proofs.Common.{sym, ◌∙◌, ap, subst}
+use Rattle.std.proofs.lemmas.Bool.{lt-ltb, not-false, or_right}
 use Rattle.pm_num.specs.AnyFormat.{Shape, shape_value}
 use Rattle.pm_num.specs.Ratio.{is_above, micros}
 use Rattle.pm_table.specs.declared.cell.Cell.TheVariants.{Out}
@@ -11,6 +12,7 @@ use Rattle.pm_table.specs.declared.reg.Reg.TheVariants.{Operation, VoutMax, Vout
 use Rattle.pm_table.specs.Cell.{is_voltage, register_accepts}
 use Rattle.pm_table.specs.Operation.{is_operation}
 use Rattle.pm_table.specs.Rules.{first, rule}
+use Rattle.pm_table.specs.RuleLemmas.{or-none, none-rule}
 use Rattle.pm_host.specs.declared.job.Job.TheVariants.{Order}
 use Rattle.pm_host.specs.declared.fault.HostFault.{HostFault}
 use Rattle.pm_host.specs.declared.fault.HostFault.TheVariants.{Busy, UnknownOutput, BadWord, TooUncertain}
@@ -32,23 +34,18 @@ use Rattle.pm_rail.specs.Orders.{below_fault, is_wanted_above, is_wanted_below, 
 use Rattle.pm_rail.specs.Plan.{goal_of, next_register}
 use Rattle.pm_rail.specs.Registers.{Held, Wants}
 use Rattle.pm_rail.specs.Lemmas.Ends.{due}
-use Rattle.pm_rail.specs.Lemmas.Known.{IsPlanned, head, is-planned, known-all, none-voltage, not-second, or-second, sole-known, tail, wanted-needed}
+use Rattle.pm_rail.specs.Lemmas.Known.{IsPlanned, is-planned, known-all, none-voltage, not-second, sole-known, wanted-needed}
 
 -- there is room for another word beside one that is known
 room-listed : (word : ℕ) (words : List ℕ) → is_none (sole_of words) ≡ false →
     (is_listed word words || nat_lt (length words) 16) ≡ true
 room-listed word [] h = cc
-room-listed word (x ∷ []) h = or-second (is_listed word (x ∷ [])) _ refl
+room-listed word (x ∷ []) h = or_right (is_listed word (x ∷ [])) _ refl
 room-listed word (x ∷ y ∷ words) h = cc
 
 room : (word : ℕ) (possible : Possible) → is_none (sole possible) ≡ false → has_room word possible ≡ true
 room word Any h = refl
 room word (Words words) h = room-listed word words.items h
-
--- a rule that doesn't apply
-rule-off : {A : Type 0} (b : Bool) (fault : A) → b ≡ false → rule b fault ≡ None
-rule-off true fault h = cc
-rule-off false fault h = refl
 
 -- a limit says nothing of a wanted word that the plan judged
 limit-says : (limits : Option Bounds) (shape : Shape) (wants : Wants) (register : Reg) (word : ℕ) →
@@ -56,9 +53,9 @@ limit-says : (limits : Option Bounds) (shape : Shape) (wants : Wants) (register 
     voltage_limit limits (Some shape) word ≡ None
 limit-says None shape wants register word free volt is = refl
 limit-says (Some bounds) shape wants register word free volt is =
-    let below = none-voltage _ (is_wanted_below (micros bounds.least) (shape_value shape) wants) (head _ _ free) register volt in
+    let below = none-voltage _ (is_wanted_below (micros bounds.least) (shape_value shape) wants) (or-none _ _ free).0 register volt in
     let above = none-voltage _ (is_wanted_above (micros bounds.most) (shape_value shape) wants)
-    (tail (below_fault (micros bounds.least) (shape_value shape) wants) _ free) register volt in
+    (or-none (below_fault (micros bounds.least) (shape_value shape) wants) _ free).1 register volt in
     by (is_above (micros bounds.least) (shape_value shape word)) (is_above (shape_value shape word) (micros bounds.most))
     (sym (ap (λ (o : Option ℕ). option_map_or (λ w. is_above (micros bounds.least) (shape_value shape w)) o false) is) ∙ below)
     (sym (ap (λ (o : Option ℕ). option_map_or (λ w. is_above (shape_value shape w) (micros bounds.most)) o false) is) ∙ above)
@@ -69,7 +66,7 @@ limit-says (Some bounds) shape wants register word free volt is =
     by false true h k = cc
     by false false h k = refl
 
--- an order of a wanted word: what was asked for of the register, and it is a voltage
+-- A word that is wanted and differs from the one that is held was asked for.
 wanted-word : (o : Option ℕ) (w : ℕ) → unwrap_or o w ≢ w → o ≡ Some (unwrap_or o w)
 wanted-word None w differ = absurd (differ refl)
 wanted-word (Some v) w differ = refl
@@ -83,7 +80,7 @@ judged-voltage : (part : PartRegisters) (limits : Option Bounds) (s : Summary) (
 judged-voltage part limits s output Operation word h = cc
 judged-voltage part limits s output register word h = refl
 
--- nor that its register is missing
+-- An order of a voltage isn't refused for a missing register where the part has the register.
 there-ordered : (part : PartRegisters) (output : ℕ) (register : Reg) (word : ℕ) → is_voltage register ≡ true →
     has_register part register ≡ true → missing_ordered part (Out output register) word ≡ None
 there-ordered part output Operation word volt has = cc
@@ -102,14 +99,6 @@ first-none None None None p q r = refl
 first-none None None (Some x) p q r = cc
 first-none None (Some x) c p q r = cc
 first-none (Some x) b c p q r = cc
-
-below-count : (output count : ℕ) → output < count → nat_lt output count ≡ true
-below-count output count h = grind (arith, nat_tests)
-
--- where a register isn't missing, it is there
-has-wanted : (b : Bool) → not b ≡ false → b ≡ true
-has-wanted true h = refl
-has-wanted false h = cc
 
 -- of a register that is there one word alone is possible where one is known
 sole-there : (part : PartRegisters) (shape : Shape) (s : Summary) (output : ℕ) (register : Reg) → has_register part register ≡ true →
@@ -147,7 +136,7 @@ accepted g output wants register word here none is =
     known = known_of cells output
 
     free-cell : cell_fault s (Out output register) ≡ None
-    free-cell = first-two (is_busy s) (nat_lt output s.setup.outputs) planned.idle (below-count output s.setup.outputs here) where
+    free-cell = first-two (is_busy s) (nat_lt output s.setup.outputs) planned.idle (lt-ltb output s.setup.outputs here) where
       first-two : (busy there : Bool) → busy ≡ false → there ≡ true →
           first (rule busy Busy ∷ rule (not there) UnknownOutput ∷ []) ≡ None
       first-two true there h k = cc
@@ -166,7 +155,7 @@ accepted g output wants register word here none is =
         ∙ ap (λ (w : ℕ). Some w) goal in
         let volt = a-voltage wants register word none asked in
         let needed = wanted-needed known wants register (ap (λ (o : Option ℕ). is_some o) asked) in
-        let has = has-wanted (has_register g.registers register)
+        let has = not-false (has_register g.registers register)
         (not-second (is_some (wants register)) (not (has_register g.registers register))
         (none-voltage _ (is_wanted_missing g.registers wants) planned.there register volt)
         (ap (λ (o : Option ℕ). is_some o) asked)) in
@@ -181,9 +170,9 @@ accepted g output wants register word here none is =
         (judged-voltage g.registers limits s output register word volt
         ∙ ap (λ (f : Option Shape). voltage_limit limits f word) planned.format ∙ here')
         (of _ (first-none (cell_fault s (Out output register)) _ _ free-cell
-        (rule-off (not (register_accepts register word)) BadWord
+        (none-rule (not (register_accepts register word)) BadWord
         (ap not (ap (λ (b : Bool). b || is_operation word) volt)))
-        (rule-off (not (has_room word (possible_at s (Out output register)))) TooUncertain
+        (none-rule (not (has_room word (possible_at s (Out output register)))) TooUncertain
         (ap not (room word (possible_at s (Out output register)) some)))))
 
     go : (next : Option Reg) → next_register (shape_value planned.shape) known wants ≡ next →

@@ -1,9 +1,11 @@
 -- A plan ends.
-use Rattle.std.specs.Prelude.{◌≡◌, ◌≢◌, ◌⊎◌, ◌+◌, ◌≤◌, ℕ, zero, suc, Bool, true, false, cond, not, ◌==◌, refl, Option, Some, None, unwrap_or, [], ◌∷◌}
+use Rattle.std.specs.Prelude.{◌≡◌, ◌≢◌, ◌⊎◌, ◌+◌, ◌≤◌, ℕ, zero, suc, Bool, true, false, cond, not, ◌==◌, refl, Option, Some, None}
+use Rattle.std.specs.Prelude.{unwrap_or, [], ◌∷◌}
 use Rattle.std.specs.Option.{option_map_or}
 use Rattle.std.proofs.Common.{inl, inr, sym, ◌∙◌, ap, arith, subst}
 use Rattle.std.proofs.lemmas.Bool.Decides.{nat_tests}
-use Rattle.pm_num.specs.Ratio.{Ratio, is_above}
+use Rattle.pm_num.specs.Ratio.{is_above}
+use Rattle.pm_num.specs.Lemmas.Order.{not-above-itself}
 use Rattle.pm_table.specs.declared.reg.Reg.{Reg}
 use Rattle.pm_table.specs.declared.reg.Reg.TheVariants.{Operation, VoutCommand, VoutMax, MarginHigh, MarginLow, VoutMin}
 use Rattle.pm_table.specs.Rules.{first, rule}
@@ -12,18 +14,14 @@ use Rattle.pm_rail.specs.Plan.{after, goal_of, is_due, max_first, min_falls, min
 use Rattle.pm_rail.specs.Registers.{Held, Wants}
 use Rattle.pm_rail.specs.Lemmas.Steps.{first-of, goal-after, goal-operation, same}
 
--- no value is above itself
-not-above : (p : Ratio) → is_above p p ≡ false
-not-above p = grind arith
-
--- so words whose values are apart are
+-- Words of which one has a value above the other's differ.
 apart : (value : Scale) (x y : ℕ) → is_above (value x) (value y) ≡ true → not (x == y) ≡ true
 apart value x y h = go (not (x == y)) refl where
   go : (b : Bool) → not (x == y) ≡ b → b ≡ true
   go true e = refl
   go false e =
       let bad : is_above (value y) (value y) ≡ true = subst (λ (w : ℕ). is_above (value w) (value y) ≡ true) (same x y e) h in
-      absurd (let never = not-above (value y) in cc)
+      absurd (let never = not-above-itself (value y) in cc)
 
 -- a limit that is widened is due
 falls-due : (value : Scale) (held : Held) (wants : Wants) → min_falls value held wants ≡ true → is_due held wants VoutMin ≡ true
@@ -97,12 +95,12 @@ left : Held → Wants → ℕ
 left held wants = one (is_due held wants VoutCommand) + one (is_due held wants MarginHigh)
     + one (is_due held wants MarginLow) + one (is_due held wants VoutMax) + one (is_due held wants VoutMin)
 
--- one that was ordered isn't any more
+-- A register that was ordered isn't due any more.
 gone : (o : Option ℕ) (w : ℕ) → not (unwrap_or o (unwrap_or o w) == unwrap_or o w) ≡ false
 gone None w = grind (arith, nat_tests)
 gone (Some v) w = grind (arith, nat_tests)
 
--- so each order leaves one fewer
+-- Each order leaves one register fewer that is due.
 fewer : (held : Held) (wants : Wants) (next : Option Reg) → IsNext held wants next →
     (left (option_map_or (λ register. put held register (goal_of held wants register)) next held) wants + 1 ≤ left held wants)
     ⊎ (left (option_map_or (λ register. put held register (goal_of held wants register)) next held) wants ≡ 0)

@@ -131,7 +131,8 @@ module _ (value : Scale) (held : Held) (wants : Wants) (byte : ℕ) (dens : HasD
       (sym (same (goal_of held wants MarginLow) (held MarginLow) w)) byte
 
   max-raised : max_rises value held wants ≡ true →
-      is_outside (value (put held VoutMax (goal_of held wants VoutMax) reg)) (value (held VoutMin)) (value (goal_of held wants VoutMax)) ≡ false
+      is_outside (value (put held VoutMax (goal_of held wants VoutMax) reg)) (value (held VoutMin)) (value (goal_of held wants VoutMax))
+      ≡ false
   unfolding l g g' Beside
   max-raised rises = ap (λ (w : ℕ). is_outside (value w) (value (held VoutMin)) (value (goal_of held wants VoutMax))) max-beside
       ∙ inside (value (held reg)) (value (held VoutMin)) (value (goal_of held wants VoutMax))
@@ -140,7 +141,8 @@ module _ (value : Scale) (held : Held) (wants : Wants) (byte : ℕ) (dens : HasD
       now-under
 
   min-lowered : min_falls value held wants ≡ true →
-      is_outside (value (put held VoutMin (goal_of held wants VoutMin) reg)) (value (goal_of held wants VoutMin)) (value (held VoutMax)) ≡ false
+      is_outside (value (put held VoutMin (goal_of held wants VoutMin) reg)) (value (goal_of held wants VoutMin)) (value (held VoutMax))
+      ≡ false
   unfolding l g l' Beside
   min-lowered falls = ap (λ (w : ℕ). is_outside (value w) (value (goal_of held wants VoutMin)) (value (held VoutMax))) min-beside
       ∙ inside (value (held reg)) (value (goal_of held wants VoutMin)) (value (held VoutMax)) now-over
@@ -161,14 +163,16 @@ module _ (value : Scale) (held : Held) (wants : Wants) (byte : ℕ) (dens : HasD
   ]
 
   max-behind : held reg ≡ goal_of held wants reg →
-      is_outside (value (put held VoutMax (goal_of held wants VoutMax) reg)) (value (held VoutMin)) (value (goal_of held wants VoutMax)) ≡ false
+      is_outside (value (put held VoutMax (goal_of held wants VoutMax) reg)) (value (held VoutMin)) (value (goal_of held wants VoutMax))
+      ≡ false
   unfolding l g' Beside
   max-behind at = ap (λ (w : ℕ). is_outside (value w) (value (held VoutMin)) (value (goal_of held wants VoutMax))) max-beside
       ∙ inside (value (held reg)) (value (held VoutMin)) (value (goal_of held wants VoutMax))
       (ap (λ (w : ℕ). is_above (value w) (value (goal_of held wants VoutMax))) at ∙ end-over) now-under
 
   min-behind : held reg ≡ goal_of held wants reg →
-      is_outside (value (put held VoutMin (goal_of held wants VoutMin) reg)) (value (goal_of held wants VoutMin)) (value (held VoutMax)) ≡ false
+      is_outside (value (put held VoutMin (goal_of held wants VoutMin) reg)) (value (goal_of held wants VoutMin)) (value (held VoutMax))
+      ≡ false
   unfolding l' g Beside
   min-behind at = ap (λ (w : ℕ). is_outside (value w) (value (goal_of held wants VoutMin)) (value (held VoutMax))) min-beside
       ∙ inside (value (held reg)) (value (goal_of held wants VoutMin)) (value (held VoutMax)) now-over

@@ -1,8 +1,9 @@
 -- What an answer of the plan says, by what a host knows, and that it is the one for the words that are held.
-use Rattle.std.specs.Prelude.{◌≡◌, ◌≢◌, ℕ, Bool, true, false, not, ◌&&◌, ◌||◌, ◌==◌, refl, Option, Some, None, if◌then◌else◌, find, is_none, is_some, unwrap_or, option_and_then, option_map, List, [], ◌∷◌, Ok, Err}
-use Rattle.std.specs.Option.{option_or}
+use Rattle.std.specs.Prelude.{◌≡◌, ◌≢◌, ℕ, Bool, true, false, not, ◌&&◌, ◌||◌, ◌==◌, refl, Option, Some, None, if◌then◌else◌, find, is_none}
+use Rattle.std.specs.Prelude.{is_some, unwrap_or, option_and_then, option_map, List, [], ◌∷◌, Ok, Err}
 use Rattle.std.proofs.Common.{sym, ◌∙◌, ap, arith}
 use Rattle.std.proofs.lemmas.Bool.Decides.{nat_tests}
+use Rattle.std.proofs.lemmas.Bool.{eq-eqb, or_left, or_right}
 use Rattle.pm_num.specs.AnyFormat.{Shape, shape_value}
 use Rattle.pm_num.specs.Ratio.{is_above}
 use Rattle.pm_table.specs.declared.reg.Reg.{Reg}
@@ -12,6 +13,7 @@ use Rattle.pm_table.specs.declared.cell.Cell.TheVariants.{Out}
 use Rattle.pm_table.specs.Cell.{cell_accepts, is_voltage, registers, same_register}
 use Rattle.pm_table.specs.Operation.{selected_register}
 use Rattle.pm_table.specs.Rules.{first, rule}
+use Rattle.pm_table.specs.RuleLemmas.{map-none, or-none}
 use Rattle.pm_model.specs.Commanded.{Scale}
 use Rattle.pm_limits.specs.Bounds.{Bounds}
 use Rattle.pm_limits.specs.Lemmas.Selected.{each-selected}
@@ -25,31 +27,14 @@ use Rattle.pm_rail.specs.declared.fault.PlanFault.{PlanFault}
 use Rattle.pm_rail.specs.declared.fault.PlanFault.TheVariants.{Busy, BelowMin}
 use Rattle.pm_rail.specs.declared.orders.PlanOrder.{PlanOrder}
 use Rattle.pm_rail.specs.Known.{Cells, cells_of, known_at, known_of, known_or, sole, sole_of}
-use Rattle.pm_rail.specs.Orders.{answer, first_of, is_above_max, is_below_min, is_meant, is_needed, is_unknown, limits_fault, missing_fault, order_of, plan_of, planned_in, selectable, unknown_fault, unless, voltages, words_fault}
+use Rattle.pm_rail.specs.Orders.{answer, first_of, is_above_max, is_below_min, is_meant, is_needed, is_unknown, limits_fault, missing_fault}
+use Rattle.pm_rail.specs.Orders.{order_of, plan_of, planned_in, selectable, unknown_fault, unless, voltages, words_fault}
 use Rattle.pm_rail.specs.Plan.{goal_of, is_cut_by, is_due, next_register}
 use Rattle.pm_rail.specs.Registers.{Held, Wants}
-
--- Options
-pub head : {A : Type 0} (p q : Option A) → option_or p q ≡ None → p ≡ None
-head None q h = refl
-head (Some a) q h = cc
-
-pub tail : {A : Type 0} (p q : Option A) → option_or p q ≡ None → q ≡ None
-tail None q h = h
-tail (Some a) q h = cc
-
-pub unruled : {A : Type 0} (b : Bool) (fault : A) → rule b fault ≡ None → b ≡ false
-unruled true fault h = cc
-unruled false fault h = refl
 
 pub not-second : (a b : Bool) → (a && b) ≡ false → a ≡ true → b ≡ false
 not-second true b h e = h
 not-second false b h e = cc
-
--- an option that is mapped to none is none
-pub unmapped : {A B : Type 0} (f : A → B) (o : Option A) → option_map f o ≡ None → o ≡ None
-unmapped f None h = refl
-unmapped f (Some a) h = cc
 
 unfound : {A : Type 0} (test : A → Bool) (a : A) (rest : List A) → find test (a ∷ rest) ≡ None →
     (test a ≡ false) × (find test rest ≡ None)
@@ -58,7 +43,7 @@ unfound test a rest h = go (test a) refl h where
   go true e n = cc
   go false e n = (e, n)
 
--- a test that finds no register holds of none,
+-- A test that finds no register holds of none.
 pub all-off : (test : Reg → Bool) → find test registers ≡ None → (register : Reg) → test register ≡ false
 all-off test free register =
     let one = unfound test Operation voltages free in
@@ -76,11 +61,11 @@ all-off test free register =
       | VoutMin ↦ six.0
     ]
 
--- so where there is no fault of the voltages it holds of none of these,
+-- Where no fault is found of the voltages the test holds of none of these.
 pub none-voltage : (fault : Reg → PlanFault) (test : Reg → Bool) → first_of voltages fault test ≡ None →
     (register : Reg) → is_voltage register ≡ true → test register ≡ false
 none-voltage fault test free register volt =
-    let one = unfound test VoutCommand (VoutMax ∷ MarginHigh ∷ MarginLow ∷ VoutMin ∷ []) (unmapped fault (find test voltages) free) in
+    let one = unfound test VoutCommand (VoutMax ∷ MarginHigh ∷ MarginLow ∷ VoutMin ∷ []) (map-none fault (find test voltages) free) in
     let two = unfound test VoutMax (MarginHigh ∷ MarginLow ∷ VoutMin ∷ []) one.1 in
     let three = unfound test MarginHigh (MarginLow ∷ VoutMin ∷ []) two.1 in
     let four = unfound test MarginLow (VoutMin ∷ []) three.1 in
@@ -94,11 +79,11 @@ none-voltage fault test free register volt =
       | VoutMin ↦ λ v. five.0
     ]) volt
 
--- and of those that a byte may select
+-- Where no fault is found of the registers that a byte may select the test holds of none of these.
 none-selected : (fault : Reg → PlanFault) (test : Reg → Bool) → first_of selectable fault test ≡ None →
     (byte : ℕ) → test (selected_register byte) ≡ false
 none-selected fault test free byte =
-    let one = unfound test VoutCommand (MarginHigh ∷ MarginLow ∷ []) (unmapped fault (find test selectable) free) in
+    let one = unfound test VoutCommand (MarginHigh ∷ MarginLow ∷ []) (map-none fault (find test selectable) free) in
     let two = unfound test MarginHigh (MarginLow ∷ []) one.1 in
     let three = unfound test MarginLow [] two.1 in
     each-selected (λ r. test r ≡ false) (one.0) (two.0) (three.0) byte
@@ -148,7 +133,8 @@ is-planned part s limits output wants order is = either (is_busy s) refl is wher
   here (Some fault) i m ok = cc
 
   either : (busy : Bool) → is_busy s ≡ busy →
-      (if busy then Err Busy else unless (missing_fault part wants) (planned_in part s limits output wants (format_at s output))) ≡ Ok order →
+      (if busy then Err Busy else unless (missing_fault part wants) (planned_in part s limits output wants (format_at s output)))
+      ≡ Ok order →
       IsPlanned part s limits output wants order
   either true b ok = cc
   either false b ok = here (missing_fault part wants) b refl ok
@@ -158,7 +144,7 @@ pub known-all : (cells : Cells) (output : ℕ) (held : Held) (wants : Wants) →
     (register : Reg) → is_needed held wants register ≡ true → is_none (known_at cells (Out output register)) ≡ false
 known-all cells output held wants free register needed =
     not-second (is_needed held wants register) _
-    (all-off (is_unknown cells output held wants) (unmapped _ (find (is_unknown cells output held wants) registers) free) register) needed
+    (all-off (is_unknown cells output held wants) (map-none _ (find (is_unknown cells output held wants) registers) free) register) needed
 
 -- of a cell that is known one word alone is possible
 pub sole-known : (cell : Cell) (word : Option ℕ) →
@@ -166,7 +152,7 @@ pub sole-known : (cell : Cell) (word : Option ℕ) →
 sole-known cell None h = cc
 sole-known cell (Some word) h = refl
 
--- and the word that is known is that one
+-- The word that is known of a cell is the one word that alone is possible.
 known-sole : (cell : Cell) (word : Option ℕ) →
     is_none (option_and_then (λ w. rule (cell_accepts cell w) w) word) ≡ false →
     unwrap_or (option_and_then (λ w. rule (cell_accepts cell w) w) word) 0 ≡ unwrap_or word 0
@@ -197,13 +183,6 @@ known-held cells cell held is some = known-sole cell (sole (cells cell)) some
 one-register : (byte : ℕ) → same_register (selected_register byte) (selected_register byte) ≡ true
 one-register byte = each-selected (λ r. same_register r r ≡ true) refl refl refl byte
 
-or-first : (a b : Bool) → a ≡ true → (a || b) ≡ true
-or-first a b h = cc
-
-pub or-second : (a b : Bool) → b ≡ true → (a || b) ≡ true
-or-second true b h = refl
-or-second false b h = h
-
 -- the register that is selected is needed
 selected-needed : (held : Held) (wants : Wants) → is_needed held wants (selected_register (held Operation)) ≡ true
 selected-needed held wants = each-selected (λ r. r ≡ selected_register (held Operation) → is_needed held wants r ≡ true)
@@ -211,21 +190,18 @@ selected-needed held wants = each-selected (λ r. r ≡ selected_register (held 
     (λ e. ap (λ (q : Reg). same_register MarginHigh q || is_some (wants MarginHigh)) (sym e))
     (λ e. ap (λ (q : Reg). same_register MarginLow q || is_some (wants MarginLow)) (sym e)) (held Operation) refl
 
--- so is one of which a word is wanted
+-- A register of which a word is wanted is needed.
 pub wanted-needed : (held : Held) (wants : Wants) (register : Reg) → is_some (wants register) ≡ true →
     is_needed held wants register ≡ true
 wanted-needed held wants Operation h = refl
 wanted-needed held wants VoutMax h = refl
 wanted-needed held wants VoutMin h = refl
-wanted-needed held wants VoutCommand h = or-second (same_register VoutCommand (selected_register (held Operation))) _ h
-wanted-needed held wants MarginHigh h = or-second (same_register MarginHigh (selected_register (held Operation))) _ h
-wanted-needed held wants MarginLow h = or-second (same_register MarginLow (selected_register (held Operation))) _ h
-
-pub same-number : (x : ℕ) → (x == x) ≡ true
-same-number x = grind (arith, nat_tests)
+wanted-needed held wants VoutCommand h = or_right (same_register VoutCommand (selected_register (held Operation))) _ h
+wanted-needed held wants MarginHigh h = or_right (same_register MarginHigh (selected_register (held Operation))) _ h
+wanted-needed held wants MarginLow h = or_right (same_register MarginLow (selected_register (held Operation))) _ h
 
 due-same : (o : Option ℕ) (k w : ℕ) → (is_some o ≡ true → k ≡ w) → not (unwrap_or o k == k) ≡ not (unwrap_or o w == w)
-due-same None k w h = ap not (same-number k ∙ sym (same-number w))
+due-same None k w h = ap not (eq-eqb k k refl ∙ sym (eq-eqb w w refl))
 due-same (Some v) k w h = ap (λ n. not (v == n)) (h refl)
 
 pub goal-same : (o : Option ℕ) (k w : ℕ) → unwrap_or o k ≢ k → unwrap_or o k ≡ unwrap_or o w
@@ -257,7 +233,7 @@ module _ (value : Scale) (known held : Held) (wants : Wants) (none : wants Opera
       let s = selected-same in
       cc
 
-  -- and so is what isn't cut at the end
+  -- what is known is cut at the end of a plan exactly where what is held is
   pub uncut-same : is_cut_by value (goal_of known wants) ≡ is_cut_by value (goal_of held wants)
   uncut-same =
       let max = agree VoutMax refl in
@@ -279,12 +255,12 @@ pub uncut-goal : (value : Scale) (known : Held) (wants : Wants) → wants Operat
     is_cut_by value (goal_of known wants) ≡ false
 uncut-goal value known wants none free =
     let meant : is_meant known wants (selected_register (known Operation)) ≡ true
-    = or-first _ (is_some (wants (selected_register (known Operation)))) (one-register (known Operation)) in
+    = or_left _ (is_some (wants (selected_register (known Operation)))) (one-register (known Operation)) in
     let below = not-second (is_meant known wants (selected_register (known Operation))) _
-    (none-selected _ (is_below_min value known wants) (head _ _ free) (known Operation)) meant in
+    (none-selected _ (is_below_min value known wants) (or-none _ _ free).0 (known Operation)) meant in
     let above = not-second (is_meant known wants (selected_register (known Operation))) _
     (none-selected _ (is_above_max value known wants)
-    (head _ _ (tail (first_of selectable (λ r. BelowMin r) (is_below_min value known wants)) _ free)) (known Operation)) meant in
+    (or-none _ _ (or-none (first_of selectable (λ r. BelowMin r) (is_below_min value known wants)) _ free).1).0 (known Operation)) meant in
     let byte = ap (λ (o : Option ℕ). unwrap_or o (known Operation)) none in
     ap (λ (b : ℕ). is_above (value (goal_of known wants (selected_register b))) (value (goal_of known wants VoutMax))
     || is_above (value (goal_of known wants VoutMin)) (value (goal_of known wants (selected_register b)))) byte

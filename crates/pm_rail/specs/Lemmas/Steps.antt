@@ -5,6 +5,7 @@ use Rattle.std.specs.Option.{option_map_or}
 use Rattle.std.proofs.Common.{inl, inr, sym, ◌∙◌, ap, arith}
 use Rattle.std.proofs.Math.Path.{fun_ext}
 use Rattle.std.proofs.lemmas.Bool.Decides.{nat_tests}
+use Rattle.std.proofs.lemmas.Bool.{not-true}
 use Rattle.pm_num.specs.Ratio.{Ratio, is_above}
 use Rattle.pm_table.specs.declared.reg.Reg.{Reg}
 use Rattle.pm_table.specs.declared.reg.Reg.TheVariants.{Operation, VoutCommand, VoutMax, MarginHigh, MarginLow, VoutMin}
@@ -13,7 +14,8 @@ use Rattle.pm_table.specs.Rules.{first, rule}
 use Rattle.pm_model.specs.Commanded.{Scale, limited}
 use Rattle.pm_limits.specs.Lemmas.Selected.{each-selected}
 use Rattle.pm_rail.specs.Laws.{HasDens, IsStep}
-use Rattle.pm_rail.specs.Plan.{after, commands_by, goal_of, is_cut_by, is_due, max_first, max_rises, min_falls, min_first, next_register, put, stepped}
+use Rattle.pm_rail.specs.Plan.{after, commands_by, goal_of, is_cut_by, is_due, max_first, max_rises, min_falls, min_first, next_register}
+use Rattle.pm_rail.specs.Plan.{put, stepped}
 use Rattle.pm_rail.specs.Registers.{Held, Wants}
 use Rattle.pm_rail.specs.Lemmas.Limits.{Moves, at-goal, greatest-behind, lowered, lowered-behind, raised, written}
 
@@ -38,10 +40,6 @@ first-of false b h = h
 pub second-of : (a b : Bool) → (a && b) ≡ true → b ≡ true
 second-of true b h = h
 second-of false b h = cc
-
-pub un-not : (b : Bool) → not b ≡ true → b ≡ false
-un-not true h = cc
-un-not false h = refl
 
 -- a word that is wanted is wanted still, and one that stays stays
 again : (o : Option ℕ) (w : ℕ) → unwrap_or o (unwrap_or o w) ≡ unwrap_or o w
@@ -162,21 +160,23 @@ module _ (value : Scale) (held : Held) (wants : Wants) (dens : HasDens value) (n
 
   -- a limit that is widened first
   max-raised : max_first value held wants ≡ true →
-      Steps (limited (value (put held VoutMax (goal_of held wants VoutMax) chosen)) (value (held VoutMin)) (value (goal_of held wants VoutMax)))
+      Steps (limited (value (put held VoutMax (goal_of held wants VoutMax) chosen)) (value (held VoutMin))
+      (value (goal_of held wants VoutMax)))
   unfolding Steps moves chosen
   max-raised a =
       let parts = second-of (max_rises value held wants) _ a in
-      let over = un-not _ (first-of _ _ parts) in
-      let crossed = un-not _ (second-of _ _ parts) in
+      let over = not-true _ (first-of _ _ parts) in
+      let crossed = not-true _ (second-of _ _ parts) in
       inl (ap (λ (w : ℕ). limited (value w) (value (held VoutMin)) (value (goal_of held wants VoutMax))) max-beside
       ∙ raised moves (first-of _ _ a) over crossed)
 
   min-lowered : min_first value held wants ≡ true →
-      Steps (limited (value (put held VoutMin (goal_of held wants VoutMin) chosen)) (value (goal_of held wants VoutMin)) (value (held VoutMax)))
+      Steps (limited (value (put held VoutMin (goal_of held wants VoutMin) chosen)) (value (goal_of held wants VoutMin))
+      (value (held VoutMax)))
   unfolding Steps moves chosen
   min-lowered b =
       inl (ap (λ (w : ℕ). limited (value w) (value (goal_of held wants VoutMin)) (value (held VoutMax))) min-beside
-      ∙ lowered moves (first-of _ _ b) (un-not _ (second-of (min_falls value held wants) _ b)))
+      ∙ lowered moves (first-of _ _ b) (not-true _ (second-of (min_falls value held wants) _ b)))
 
   -- a word
   word-written : (q : Reg) → max_first value held wants ≡ false → min_first value held wants ≡ false → Written q →
@@ -194,7 +194,8 @@ module _ (value : Scale) (held : Held) (wants : Wants) (dens : HasDens value) (n
 
   -- a limit behind the words
   min-behind : held chosen ≡ wanted →
-      Steps (limited (value (put held VoutMin (goal_of held wants VoutMin) chosen)) (value (goal_of held wants VoutMin)) (value (held VoutMax)))
+      Steps (limited (value (put held VoutMin (goal_of held wants VoutMin) chosen)) (value (goal_of held wants VoutMin))
+      (value (held VoutMax)))
   unfolding Steps moves chosen
   min-behind at =
       let there = ap (λ (w : ℕ). limited (value w) (value (goal_of held wants VoutMin)) (value (held VoutMax))) (min-beside ∙ at) in
@@ -205,14 +206,16 @@ module _ (value : Scale) (held : Held) (wants : Wants) (dens : HasDens value) (n
       ]
 
   max-behind : held chosen ≡ wanted → min_falls value held wants ≡ false →
-      Steps (limited (value (put held VoutMax (goal_of held wants VoutMax) chosen)) (value (held VoutMin)) (value (goal_of held wants VoutMax)))
+      Steps (limited (value (put held VoutMax (goal_of held wants VoutMax) chosen)) (value (held VoutMin))
+      (value (goal_of held wants VoutMax)))
   unfolding Steps moves chosen
   max-behind at f =
       inr (ap (λ (w : ℕ). limited (value w) (value (held VoutMin)) (value (goal_of held wants VoutMax))) (max-beside ∙ at)
       ∙ greatest-behind moves f ∙ sym end)
 
   min-last : held chosen ≡ wanted → is_due held wants VoutMax ≡ false →
-      Steps (limited (value (put held VoutMin (goal_of held wants VoutMin) chosen)) (value (goal_of held wants VoutMin)) (value (held VoutMax)))
+      Steps (limited (value (put held VoutMin (goal_of held wants VoutMin) chosen)) (value (goal_of held wants VoutMin))
+      (value (held VoutMax)))
   unfolding Steps moves chosen
   min-last at m =
       inr (ap (λ (w : ℕ). limited (value w) (value (goal_of held wants VoutMin)) (value (held VoutMax))) (min-beside ∙ at)

@@ -1,43 +1,43 @@
 -- What a survey has read and what is known where it has nothing left to ask for.
-use Rattle.std.specs.Prelude.{◌≡◌, ◌<◌, ◌+◌, ◌==◌, ℕ, Bool, true, false, not, ◌&&◌, ◌||◌, if◌then◌else◌, refl, find, List, [], ◌∷◌, Option, Some, None, is_none, is_some, option_map}
+use Rattle.std.specs.Prelude.{◌≡◌, ◌<◌, ◌+◌, ◌==◌, ℕ, Bool, true, false, not, ◌&&◌, ◌||◌, if◌then◌else◌, refl, find, List, [], ◌∷◌, Option}
+use Rattle.std.specs.Prelude.{Some, None, is_none, is_some, option_map}
 use Rattle.std.specs.Option.{option_or}
 use Rattle.std.specs.List.{list_any}
-use Rattle.std.proofs.Common.{subst, arith}
+use Rattle.std.proofs.Common.{ap, cond, subst, arith}
 use Rattle.std.proofs.lemmas.Bool.Decides.{nat_tests}
+use Rattle.std.proofs.lemmas.Bool.{and_parts, not-false, not-true}
 use Rattle.pm_table.specs.declared.cell.Cell.TheVariants.{Out, Protect}
 use Rattle.pm_table.specs.declared.reg.Reg.{Reg}
 use Rattle.pm_table.specs.declared.reg.Reg.TheVariants.{Operation, VoutCommand, VoutMax, MarginHigh, MarginLow, VoutMin}
 use Rattle.pm_table.specs.Cell.{registers}
 use Rattle.pm_table.specs.Rules.{rule}
+use Rattle.pm_table.specs.RuleLemmas.{map-none, or-none, rule-none}
 use Rattle.pm_host.specs.declared.job.Job.{Job}
 use Rattle.pm_host.specs.declared.job.Job.TheVariants.{Check, Learn}
 use Rattle.pm_num.specs.AnyFormat.{Shape}
 use Rattle.pm_host.specs.Summary.{Summary, format_at, possible_at}
 use Rattle.pm_limits.specs.declared.part_registers.PartRegisters.{PartRegisters}
-use Rattle.pm_limits.specs.Part.{all_registers, has_register}
+use Rattle.pm_limits.specs.declared.side.Side.TheVariants.{Lowest, Highest}
+use Rattle.pm_limits.specs.Ends.{format_end}
+use Rattle.pm_limits.specs.Part.{all_registers, has_register, missing_word}
 use Rattle.pm_rail.specs.declared.survey.Survey.{Survey}
 use Rattle.pm_rail.specs.Known.{Cells, cells_of, known_at, known_of, known_word}
 use Rattle.pm_rail.specs.Orders.{is_needed}
 use Rattle.pm_rail.specs.Registers.{Held, Wants, wants_of}
-use Rattle.pm_rail.specs.Survey.{asking, due_by, due_in, due_job, has_read, is_lacking, is_stuck, is_stuck_by, is_stuck_in, is_surveyed, is_unread, is_unsure, next_job, wanted_in}
-use Rattle.pm_rail.specs.Lemmas.Known.{all-off, head, not-second, tail, unmapped, unruled}
+use Rattle.pm_rail.specs.Survey.{asking, due_by, due_in, due_job, has_read, is_lacking, is_stuck, is_stuck_by, is_stuck_in, is_surveyed}
+use Rattle.pm_rail.specs.Survey.{is_unread, is_unsure, next_job, wanted_in}
+use Rattle.pm_rail.specs.Lemmas.Known.{all-off, not-second}
 
 is-none : {A : Type 0} (o : Option A) → is_none o ≡ true → o ≡ None
 is-none None h = refl
 is-none (Some a) h = cc
 
-on-not : (b : Bool) → not b ≡ false → b ≡ true
-on-not true h = refl
-on-not false h = cc
-
--- a conjunction that is true has two true parts, and a negation that is true a false one
-both-true : (a b : Bool) → (a && b) ≡ true → (a ≡ true) × (b ≡ true)
-both-true true b h = (refl, h)
-both-true false b h = cc
-
-off-not : (b : Bool) → not b ≡ true → b ≡ false
-off-not true h = cc
-off-not false h = refl
+-- a register that the part has stands at no word of a missing one
+pub has-none : (part : PartRegisters) (shape : Shape) (register : Reg) → has_register part register ≡ true →
+    missing_word part shape register ≡ None
+has-none part shape VoutMin has = ap (λ (b : Bool). cond b None (Some (format_end Lowest shape))) has
+has-none part shape VoutMax has = ap (λ (b : Bool). cond b None (Some (format_end Highest shape))) has
+has-none part shape register has = refl
 
 -- no register is lacking where none of the list is
 none-lacking : (test : Reg → Bool) → list_any test registers ≡ false → (register : Reg) → test register ≡ false
@@ -85,7 +85,7 @@ module _ (part : PartRegisters) (v : Survey) (cells : Cells) (held : Held) (want
 
   learned-in : v.learned ≡ true
   unfolding learns
-  learned-in = on-not _ (unruled _ _ (head learns _ all))
+  learned-in = not-false _ (rule-none _ _ (or-none learns _ all).0)
 
   -- a needed register that the part has was read, and it is known
   known-in : is_stuck_in part v.output cells held wants ≡ false → (register : Reg) → is_needed held wants register ≡ true →
@@ -93,12 +93,12 @@ module _ (part : PartRegisters) (v : Survey) (cells : Cells) (held : Held) (want
       × (is_none (known_at cells (Out v.output register)) ≡ false)
   unfolding reads checks
   known-in unstuck register needed =
-      let others = tail learns _ all in
-      let later = tail protects _ (tail reads _ others) in
-      let read = all-off (is_unread part v.read held wants) (unmapped _ _ (head reads _ others)) register in
-      let sole = all-off (is_unsure part cells v.output held wants) (unmapped _ _ (head checks _ later)) register in
+      let others = (or-none learns _ all).1 in
+      let later = (or-none protects _ (or-none reads _ others).1).1 in
+      let read = all-off (is_unread part v.read held wants) (map-none _ _ (or-none reads _ others).0) register in
+      let sole = all-off (is_unsure part cells v.output held wants) (map-none _ _ (or-none checks _ later).0) register in
       let lack = none-lacking (is_lacking part cells v.output held wants) unstuck register in (
-        λ has. on-not _ (not-second (is_needed held wants register) _ (not-second (has_register part register) _ read has) needed),
+        λ has. not-false _ (not-second (is_needed held wants register) _ (not-second (has_register part register) _ read has) needed),
         not-second (is_needed held wants register) _ (either (has_register part register) _ sole lack) needed,
       )
     where
@@ -109,18 +109,18 @@ module _ (part : PartRegisters) (v : Survey) (cells : Cells) (held : Held) (want
   protection-in : is_some v.plan ≡ true → (v.read.protect ≡ true) × (is_none (known_at cells Protect) ≡ false)
   unfolding protects protects_again
   protection-in plan =
-      let others = tail reads _ (tail learns _ all) in
-      let last = tail checks _ (tail protects _ others) in (
-        on-not _ (not-second (is_some v.plan) _ (unruled _ _ (head protects _ others)) plan),
-        not-second (is_some v.plan) _ (unruled _ _ (head protects_again _ last)) plan,
+      let others = (or-none reads _ (or-none learns _ all).1).1 in
+      let last = (or-none checks _ (or-none protects _ others).1).1 in (
+        not-false _ (not-second (is_some v.plan) _ (rule-none _ _ (or-none protects _ others).0) plan),
+        not-second (is_some v.plan) _ (rule-none _ _ (or-none protects_again _ last).0) plan,
       )
 
 -- nothing is due, and the survey isn't stuck
 ended-free : (part : PartRegisters) (v : Survey) (s : Summary) → is_surveyed part v s ≡ true → due_job part v s ≡ None
-ended-free part v s is = is-none (due_job part v s) (both-true (is_none (due_job part v s)) _ is).0
+ended-free part v s is = is-none (due_job part v s) (and_parts (is_none (due_job part v s)) _ is).0
 
 ended-unstuck : (part : PartRegisters) (v : Survey) (s : Summary) → is_surveyed part v s ≡ true → is_stuck part v s ≡ false
-ended-unstuck part v s is = off-not (is_stuck part v s) (both-true (is_none (due_job part v s)) _ is).1
+ended-unstuck part v s is = not-true (is_stuck part v s) (and_parts (is_none (due_job part v s)) _ is).1
 
 pub format : (part : PartRegisters) (v : Survey) (s : Summary) → is_surveyed part v s ≡ true →
     (v.learned ≡ true) × (is_none (format_at s v.output) ≡ false)
@@ -156,7 +156,8 @@ protection part v s is plan = go (format_at s v.output) (ended-free part v s is)
 
 pub asks : (part : PartRegisters) (v : Survey) (s : Summary) → is_surveyed part v s ≡ false → is_stuck part v s ≡ false → 0 < v.left →
     (is_some (next_job part v s) ≡ true) × ((asking v (next_job part v s)).left + 1 ≡ v.left)
-asks part v s busy unstuck left = go (v.left == 0) refl (due_job part v s) (due (is_none (due_job part v s)) (is_stuck part v s) busy unstuck)
+asks part v s busy unstuck left =
+    go (v.left == 0) refl (due_job part v s) (due (is_none (due_job part v s)) (is_stuck part v s) busy unstuck)
   where
     due : (none stuck : Bool) → (none && not stuck) ≡ false → stuck ≡ false → none ≡ false
     due none true h k = cc
@@ -177,7 +178,7 @@ whole v s = go (format_at s v.output) where
   go (Some shape) = refl
 
 -- what is found passes the test
-found : (test : Reg → Bool) (listed : List Reg) (register : Reg) → find test listed ≡ Some register → test register ≡ true
+pub found : (test : Reg → Bool) (listed : List Reg) (register : Reg) → find test listed ≡ Some register → test register ≡ true
 found test [] register is = cc
 found test (one ∷ rest) register is = go (found test rest register) (test one) refl is where
   go : (find test rest ≡ Some register → test register ≡ true) → (b : Bool) → test one ≡ b →
@@ -202,12 +203,12 @@ asked-there part v cells held wants output register is =
     go false (Some r) p n q eu en h =
         let same : r ≡ register = cc in
         subst (λ (x : Reg). has_register part x ≡ true) same
-        (both-true (has_register part r) _ (found (is_unread part v.read held wants) registers r eu)).0
+        (and_parts (has_register part r) _ (found (is_unread part v.read held wants) registers r eu)).0
     go false None true n q eu en h = cc
     go false None false (Some r) q eu en h =
         let same : r ≡ register = cc in
         subst (λ (x : Reg). has_register part x ≡ true) same
-        (both-true (has_register part r) _ (found (is_unsure part cells v.output held wants) registers r en)).0
+        (and_parts (has_register part r) _ (found (is_unsure part cells v.output held wants) registers r en)).0
     go false None false None true eu en h = cc
     go false None false None false eu en h = cc
 

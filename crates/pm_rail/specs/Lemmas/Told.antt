@@ -52,7 +52,8 @@ module _ (part : PartRegisters) (s : Summary) (limits : Option Bounds) (output :
       ∙ sym (orders (next_register (shape_value planned.shape) (known_of (cells_of part planned.shape s) output) wants) refl)
       ∙ planned.next
 
-  pub next : IsSomeAnd (format_at s output) (λ shape. option_map (order_of held wants) (next_register (shape_value shape) held wants) ≡ order)
+  pub next : IsSomeAnd (format_at s output)
+      (λ shape. option_map (order_of held wants) (next_register (shape_value shape) held wants) ≡ order)
   next = at-some (λ shape. option_map (order_of held wants) (next_register (shape_value shape) held wants) ≡ order)
       (format_at s output) planned.shape planned.format of-held
 
@@ -69,7 +70,8 @@ unordered held wants (Some register) h = cc
 wanted-goal : (held : Held) (wants : Wants) (register : Reg) (word : ℕ) → wants register ≡ Some word → goal_of held wants register ≡ word
 wanted-goal held wants register word is = ap (λ (o : Option ℕ). unwrap_or o (held register)) is
 
-pub done-held : (part : PartRegisters) (s : Summary) (limits : Option Bounds) (output : ℕ) (wants : Wants) (held : Held) (register : Reg) (word : ℕ) →
+pub done-held : (part : PartRegisters) (s : Summary) (limits : Option Bounds) (output : ℕ) (wants : Wants) (held : Held) (register : Reg)
+    (word : ℕ) →
     wants Operation ≡ None → MayHold part s output wants held → plan_of part s limits output wants ≡ Ok None →
     wants register ≡ Some word → held register ≡ word
 done-held part s limits output wants held register word none may is wanted =

@@ -129,11 +129,17 @@ pub(super) fn tell_command<'a>(alloc: Global) -> Result<Command<'a>, AllocError>
         ("vout", "F"),
         "The format of voltages that the trace teaches none of; with --values",
     )?;
-    let full = with_flag(
+    let read = with_option(
         formatted,
         alloc,
+        ("readings", "L"),
+        "The formats of READ_VIN, READ_IOUT and READ_TEMPERATURE_1; with --values",
+    )?;
+    let full = with_flag(
+        read,
+        alloc,
         "all",
-        "Tell packets that the command table doesn't have, by their bytes",
+        "Tell packets without PEC, and those that the command table doesn't have",
     )?;
     let long = with_flag(full, alloc, "long", "Take a trace of more than 1 MiB")?;
     let timed = with_flag(

@@ -1,6 +1,6 @@
 use thiserror::Error;
 
-/// Why the options of `decode` ask for no telling: the first that applies, in the order of these. Both are
+/// Why the options of `decode` ask for no telling: the first that applies, in the order of these. All are
 /// faults of the command line. This is this project's own choice.
 #[derive(Clone, Copy, Debug, PartialEq, Eq, Error)]
 #[error("{words}", words = self.words())]
@@ -9,6 +9,10 @@ pub enum TellFault {
     VoutAlone,
     /// The text of `--vout` is no format, or one of DIRECT that can't be.
     Vout,
+    /// `--readings` is given, and `--values` isn't.
+    ReadingsAlone,
+    /// The text of `--readings` isn't one to eight entries, or an entry can't be.
+    Readings,
 }
 
 impl TellFault {
@@ -22,6 +26,8 @@ impl TellFault {
         match self {
             TellFault::VoutAlone => "give --vout with --values",
             TellFault::Vout => "bad vout",
+            TellFault::ReadingsAlone => "give --readings with --values",
+            TellFault::Readings => "bad readings",
         }
     }
 
@@ -30,7 +36,10 @@ impl TellFault {
         ensures { result ≡ tell_fault_status self }
     {
         match self {
-            TellFault::VoutAlone | TellFault::Vout => 2,
+            TellFault::VoutAlone
+            | TellFault::Vout
+            | TellFault::ReadingsAlone
+            | TellFault::Readings => 2,
         }
     }
 }

@@ -1,5 +1,6 @@
 //! `decode` with options: which words are read for them, and what their texts ask of a telling.
-ghost use Rattle.std.specs.Prelude.{◌≡◌, IfErr, IfOk, option_and_then, option_map, true};
+ghost use Rattle.std.specs.Prelude.{◌≡◌, IfErr, IfOk, flat_map, option_and_then, option_map, true};
+ghost use Rattle.std.specs.Result.{result_map_both};
 ghost use Rattle.clap.specs.Walk.{texts};
 ghost use Rattle.clap.specs.Words.{FailsBy, fault_of, found_of, kind_of, matches_of, one_of, rows_of};
 ghost use Rattle.clap.specs.Words.{takes};
@@ -7,9 +8,11 @@ ghost use Rattle.clap.specs.declared.error.kind.ErrorKind.TheVariants.{OutOfMemo
 ghost use Rattle.pm_num.specs.AnyFormat.{shape_of};
 ghost use Rattle.pm_tool.specs.Question.{HasExponent, format_of as format_named};
 ghost use Rattle.pm_tool.specs.Telling.{HasTexts, IsAsked, IsFlag, shape_named, tell_app, tell_words};
-ghost use Rattle.pm_tool.specs.Telling.{vout_asked, vout_seen};
+ghost use Rattle.pm_tool.specs.ReadingList.{if_any};
+ghost use Rattle.pm_tool.specs.Telling.{readings_asked, vout_asked, vout_seen};
 
 use super::commands::tell_command;
+use super::readings::read_readings;
 use super::tell_fault::TellFault;
 use crate::numbers::{FormatText, read_format};
 use clap::{ArgMatches, Error};
@@ -17,6 +20,7 @@ use pm_console::given_text;
 use pm_decode::TellOptions;
 use pm_num::{AnyFormat, Ulinear16};
 use pm_table::{Coefficients, VoutMode, format_of};
+use pm_values::{GivenFormats, ReadingFormat};
 use std::alloc::Global;
 
 /// The options of `decode`, as they were written.
@@ -26,7 +30,9 @@ pub struct TellTexts<'a> {
     pub values: bool,
     /// The text of `--vout`: the format of voltages whose own format the trace doesn't teach.
     pub vout: Option<&'a str>,
-    /// `--all`: packets of codes that the command table doesn't have are told by their bytes.
+    /// The text of `--readings`: the formats of READ_VIN, READ_IOUT and READ_TEMPERATURE_1.
+    pub readings: Option<&'a str>,
+    /// `--all`: packets without PEC, and of codes that the command table doesn't have, are told too.
     pub all: bool,
     /// `--long`: the trace may have more than 1 MiB.
     pub long: bool,
@@ -43,7 +49,7 @@ impl<'a> TellTexts<'a> {
     /// # Errors
     ///
     /// Whatever `clap` refuses, with its text for the user: help that was asked for, a word that is no
-    /// option, `--vout` with no text, an option that is given twice; and want of memory.
+    /// option, `--vout` or `--readings` with no text, an option that is given twice; and want of memory.
     pub fn read(alloc: Global, words: &'a [&'a str]) -> Result<TellTexts<'a>, Error>
         ensures given { IfOk result (λ given. HasTexts given (matches_of tell_app (texts words.entry.now))) }
         ensures kinds { FailsBy (fault_of tell_app (texts words.entry.now)) result }
@@ -54,6 +60,7 @@ impl<'a> TellTexts<'a> {
         Ok(TellTexts {
             values: is_given(&matches, "values"),
             vout: given_text(&matches, "vout"),
+            readings: given_text(&matches, "readings"),
             all: is_given(&matches, "all"),
             long: is_given(&matches, "long"),
             times: is_given(&matches, "times"),
@@ -62,14 +69,15 @@ impl<'a> TellTexts<'a> {
     }
 
     /// The telling that the options ask for, or the first fault of them: `--vout` without `--values`, and then
-    /// a text of it that is no format or one that can't be. The formats are those of `number`.
+    /// a text of it that is no format or one that can't be; then the same of `--readings`. The formats are those of `number`.
     pub fn options(&self) -> Result<TellOptions, TellFault>
         ensures { IsAsked self.now result }
     {
         let vout = self.vout_format()?;
+        let readings = self.reading_formats()?;
         Ok(TellOptions {
             values: self.values,
-            vout,
+            formats: GivenFormats { vout, readings },
             all: self.all,
             long: self.long,
             times: self.times,
@@ -90,6 +98,22 @@ impl<'a> TellTexts<'a> {
         match format_in(text) {
             Some(format) => Ok(Some(format)),
             None => Err(TellFault::Vout),
+        }
+    }
+
+    // The formats of readings that are asked for.
+    fn reading_formats(&self) -> Result<[Option<ReadingFormat>; 8], TellFault>
+        ensures { result_map_both (λ made. flat_map if_any made) (λ fault. fault) result ≡ readings_asked self.now }
+    {
+        let Some(text) = self.readings else {
+            return Ok([None; 8]);
+        };
+        if !self.values {
+            return Err(TellFault::ReadingsAlone);
+        }
+        match read_readings(text) {
+            Some(made) => Ok(made),
+            None => Err(TellFault::Readings),
         }
     }
 }

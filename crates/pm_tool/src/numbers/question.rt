@@ -3,7 +3,7 @@ ghost use Rattle.std.specs.Prelude.{◌≡◌, ◌∷◌, [], codes, IfOk, IfSom
 ghost use Rattle.std.specs.Prelude.{option_and_then};
 ghost use Rattle.pm_lines.specs.Digits.{signed_of};
 ghost use Rattle.pm_tool.specs.Question.{HasExponent, direct_format, exponent_format, format_by};
-ghost use Rattle.pm_tool.specs.Question.{asked_by, format_of, parts};
+ghost use Rattle.pm_tool.specs.Question.{asked_by, format_of, items, parts};
 
 use crate::numbers::fault::NumberFault;
 use pm_lines::{read_i8, read_i16, read_i64, read_word};
@@ -113,9 +113,17 @@ fn direct_of(m: &str, b: &str, r: &str) -> Option<FormatText>
 }
 
 /// What stands before a text's first colon and after it, or None where it has no colon.
-fn first_part(text: &str) -> Option<(&str, &str)>
+pub(crate) fn first_part(text: &str) -> Option<(&str, &str)>
     ensures { MatchOption result (parts text.now ≡ text.now ∷ [])
         (λ found. parts text.now ≡ found.0.now ∷ parts found.1.now) }
 {
     text.split_once(':')
+}
+
+/// What stands before a text's first comma and after it, or None where it has no comma.
+pub(crate) fn first_item(text: &str) -> Option<(&str, &str)>
+    ensures { MatchOption result (items text.now ≡ text.now ∷ [])
+        (λ found. items text.now ≡ found.0.now ∷ items found.1.now) }
+{
+    text.split_once(',')
 }

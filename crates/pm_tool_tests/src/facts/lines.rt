@@ -3,7 +3,7 @@
 use super::Row;
 
 /// Rows under each option.
-pub(super) static LINES: [Row; 11] = [
+pub(super) static LINES: [Row; 14] = [
     (
         &["pmb", "decode"],
         1,
@@ -58,35 +58,56 @@ lines 18 accepted 0 faults 16 bad 2
         &["pmb", "decode", "--all"],
         0,
         "
-B0 96 / B1 34 12 B1 -> 58 code 96 read 34 12, PEC right
-B0 96 / B1 34 12 B0 -> 58 code 96 read 34 12 B0, no PEC
-B0 96 / B1 34 12 -> 58 code 96 read 34 12, no PEC
-B0 96 / B1 -> 58 code 96 read, no PEC
-B0 96 / B1 6B -> 58 code 96 read, PEC right
-B0 86 02 01 02 / B1 03 04 1E -> 58 code 86 write 02 01 02 read 03 04, PEC right
-B0 86 02 01 02 / B1 -> 58 code 86 write 02 01 02 read, no PEC
+B0 96 / B1 34 12 B1 -> 58 code 96 READ_POUT read 34 12, PEC right
+B0 96 / B1 34 12 B0 -> 58 code 96 READ_POUT read 34 12 B0, no PEC
+B0 96 / B1 34 12 -> 58 code 96 READ_POUT read 34 12, no PEC
+B0 96 / B1 -> 58 code 96 READ_POUT read, no PEC
+B0 96 / B1 6B -> 58 code 96 READ_POUT read, PEC right
+B0 86 02 01 02 / B1 03 04 1E -> 58 code 86 READ_EIN write 02 01 02 read 03 04, PEC right
+B0 86 02 01 02 / B1 -> 58 code 86 READ_EIN write 02 01 02 read, no PEC
 B0 D4 01 02 03 -> 58 code D4 write 01 02 03, no PEC
 B0 D4 01 02 03 1C -> 58 code D4 write 01 02 03, PEC right
 B0 D4 -> 58 code D4 send, no PEC
 B0 D4 6D -> 58 code D4 send, PEC right
-B0 21 CD 34 -> 58 code 21 VOUT_COMMAND write CD 34, no PEC
-B0 03 -> 58 code 03 CLEAR_FAULTS send, no PEC
-B0 06 02 00 21 / B1 02 CD 34 -> 58 code 06 PAGE_PLUS_READ write 02 00 21 read 02 CD 34, no PEC
-B0 05 03 00 21 CD 48 -> 58 code 05 PAGE_PLUS_WRITE write 03 00 21 CD, PEC right
-B0 05 03 00 D4 07 65 -> 58 code 05 PAGE_PLUS_WRITE write 03 00 D4 07, PEC right
+B0 05 03 00 21 CD 48 -> 58 page 0 code 21 VOUT_COMMAND write CD, PEC right
+B0 05 03 00 D4 07 65 -> 58 page 0 code D4 write 07, PEC right
+B0 05 02 07 D4 10 -> 58 page 7 code D4 send, PEC right
+B0 05 02 FF 0B -> 58 page 255 code 0B send, no PEC
+B0 05 04 00 D4 07 07 -> 58 code 05 PAGE_PLUS_WRITE write 04 00 D4 07, PEC right
+B0 05 01 00 -> 58 code 05 PAGE_PLUS_WRITE write 01 00, no PEC
+B0 06 02 00 EF / B1 01 60 7D -> 58 page 0 code EF read 60, PEC right
+B0 06 02 01 EF / B1 02 60 07 -> 58 page 1 code EF read 60 07, no PEC
+B0 06 02 01 EF / B1 00 -> 58 page 1 code EF read, no PEC
+B0 06 02 01 EF / B1 02 60 -> 58 code 06 PAGE_PLUS_READ write 02 01 EF read 02 60, no PEC
+B0 06 03 01 EF / B1 01 60 -> 58 code 06 PAGE_PLUS_READ write 03 01 EF read 01 60, no PEC
+B0 06 02 01 EF 00 / B1 01 60 -> 58 code 06 PAGE_PLUS_READ write 02 01 EF 00 read 01 60, no PEC
+B0 05 02 00 06 4B -> 58 page 0 code 06 PAGE_PLUS_READ send, PEC right
 B0 21 CD 34 38 01 -> 58 code 21 VOUT_COMMAND write CD 34 38 01, no PEC
-B0 88 / B1 00 D3 -> 58 code 88 READ_VIN read 00 D3, no PEC
+B0 21 CD -> 58 code 21 VOUT_COMMAND write CD, no PEC
+B0 21 CD 34 38 -> 58 VOUT_COMMAND write 34CD
+B0 78 20 00 -> 58 code 78 STATUS_BYTE write 20, PEC right
+B0 20 14 -> 58 code 20 VOUT_MODE write 14, no PEC
+B0 20 14 28 -> 58 code 20 VOUT_MODE write 14, PEC right
+B0 79 00 08 -> 58 code 79 STATUS_WORD write 00 08, no PEC
+B0 8B CD 34 -> 58 code 8B READ_VOUT write CD 34, no PEC
+B0 03 / B1 05 -> 58 code 03 CLEAR_FAULTS read 05, no PEC
 EE D4 -> 77 code D4 send, no PEC
 10 D4 -> 08 code D4 send, no PEC
+count VOUT_COMMAND 1
 count code 03 1
 count code 05 2
-count code 06 1
-count code 21 2
+count code 06 4
+count code 0B 1
+count code 20 2
+count code 21 3
+count code 78 1
+count code 79 1
 count code 86 2
-count code 88 1
+count code 8B 1
 count code 96 5
-count code D4 6
-lines 20 accepted 0 other 20 faults 0 bad 0
+count code D4 8
+count code EF 3
+lines 35 accepted 1 other 34 faults 0 bad 0
 ",
     ),
     (
@@ -94,10 +115,10 @@ lines 20 accepted 0 other 20 faults 0 bad 0
         0,
         "
 B0 03 47 -> 58 write F5 WrongPec 2
-B0 8B CD 34 -> 58 write F5 WrongPec 3
+B0 21 CD 34 39 -> 58 write F5 WrongPec 4
 B0 05 04 00 D4 CD 34 F7 -> 58 write F5 WrongPec 7
-B0 78 20 00 -> 58 write F7 WrongDirection 1
-B0 05 02 00 06 4B -> 58 write F8 Nested 4
+B0 78 / B1 42 3C -> 58 read F5 WrongPec 2
+B0 06 02 00 21 / B1 02 CD 34 B8 -> 58 read F5 WrongPec 4
 B0 -> 58 write F2 Short 1
 B0 / B1 00 -> 58 write F2 Short 1
 B0 96 / B3 34 12 -> 58 write F6 UnknownCode 1
@@ -107,6 +128,68 @@ B0 21 / B3 CD -> 58 read F1 NotOurs
 0E D4 -> -- write F1 NotOurs
 F0 D4 -> -- write F1 NotOurs
 lines 13 accepted 0 other 0 faults 13 bad 0
+",
+    ),
+    (
+        &["pmb", "decode", "--all"],
+        0,
+        "
+B0 21 CD 34 -> 58 VOUT_COMMAND write 34CD, no PEC
+B0 03 -> 58 CLEAR_FAULTS send, no PEC
+B0 01 94 -> 58 OPERATION write 94, no PEC
+B0 88 / B1 00 D3 -> 58 READ_VIN read D300, no PEC
+B0 78 / B1 42 -> 58 STATUS_BYTE read 42, no PEC
+B0 05 04 01 21 CD 34 -> 58 page 1 VOUT_COMMAND write 34CD, no PEC
+B0 05 02 01 03 -> 58 page 1 CLEAR_FAULTS send, no PEC
+B0 06 02 00 21 / B1 02 CD 34 -> 58 page 0 VOUT_COMMAND read 34CD, no PEC
+B0 30 02 21 00 / B1 05 01 00 00 00 03 -> 58 COEFFICIENTS of 21 side 0 read m 1 b 0 r 3, no PEC
+B0 8B / B1 FF FF -> 58 code 8B READ_VOUT read FF FF, all ones: nobody answered
+B0 8B / B1 FF FF FF -> 58 code 8B READ_VOUT read FF FF FF, all ones: nobody answered
+B0 7A / B1 FF -> 58 code 7A STATUS_VOUT read FF, all ones: nobody answered
+B0 06 02 00 21 / B1 FF FF FF FF -> 58 code 06 PAGE_PLUS_READ write 02 00 21 read FF FF FF FF, all ones: nobody answered
+B0 D4 / B1 FF FF FF FF FF -> 58 code D4 read FF FF FF FF FF, all ones: nobody answered
+B0 D4 / B1 FF FE -> 58 code D4 read FF FE, no PEC
+B0 D4 / B1 -> 58 code D4 read, no PEC
+B0 D4 FF FF -> 58 code D4 write FF FF, no PEC
+B0 8B / B1 FF FF DF -> 58 READ_VOUT read FFFF
+count VOUT_COMMAND 3
+count CLEAR_FAULTS 2
+count OPERATION 1
+count READ_VIN 1
+count STATUS_BYTE 1
+count COEFFICIENTS 1
+count READ_VOUT 1
+count code 06 1
+count code 7A 1
+count code 8B 2
+count code D4 4
+lines 18 accepted 10 other 8 faults 0 bad 0
+",
+    ),
+    (
+        &["pmb", "decode", "--all", "--values"],
+        0,
+        "
+B0 88 / B1 00 D3 -> 58 READ_VIN read D300, no PEC
+B0 20 / B1 17 -> 58 VOUT_MODE read 17 ULINEAR16 -9, no PEC
+B0 88 / B1 00 D3 -> 58 READ_VIN read D300 12 V, no PEC
+B0 8C / B1 FB FF -> 58 READ_IOUT read FFFB -2.5 A, no PEC
+B2 88 / B3 00 D3 -> 59 READ_VIN read D300, no PEC
+B0 79 / B1 02 20 -> 58 STATUS_WORD read 2002 INPUT, CML, no PEC
+B0 06 02 01 20 / B1 01 14 -> 58 page 1 VOUT_MODE read 14 ULINEAR16 -12, no PEC
+B0 06 02 01 8B / B1 02 CD 34 -> 58 page 1 READ_VOUT read 34CD 3.300048 V, no PEC
+B0 8B / B1 CD 34 -> 58 READ_VOUT read 34CD, no PEC
+B0 79 00 08 -> 58 code 79 STATUS_WORD write 00 08, no PEC
+B0 88 / B1 FF FF -> 58 code 88 READ_VIN read FF FF, all ones: nobody answered
+B0 03 47 -> 58 write F5 WrongPec 2 bytes B0 03 47
+count READ_VIN 3
+count VOUT_MODE 2
+count READ_IOUT 1
+count STATUS_WORD 1
+count READ_VOUT 2
+count code 79 1
+count code 88 1
+lines 12 accepted 9 other 2 faults 1 bad 0
 ",
     ),
     (
@@ -126,9 +209,9 @@ lines 3 accepted 1 other 2 faults 0 bad 0
         &["pmb", "decode", "--all"],
         0,
         "
-B0 02 -> 58 code 02 send, no PEC
-B0 FF -> 58 code FF send, no PEC
-B0 FF / B1 FF -> 58 code FF read FF, no PEC
+B0 02 -> 58 code 02 ON_OFF_CONFIG send, no PEC
+B0 FF -> 58 code FF PMBUS_COMMAND_EXT send, no PEC
+B0 FF / B1 FF -> 58 code FF PMBUS_COMMAND_EXT read FF, all ones: nobody answered
 count code 02 1
 count code FF 2
 lines 3 accepted 0 other 3 faults 0 bad 0
@@ -169,10 +252,10 @@ lines 22 accepted 6 faults 3 bad 13
         &["pmb", "decode", "--json"],
         1,
         r#"
-B0 05 04 00 21 CD 34 5A -> {"line":1,"address":"58","page":0,"code":"21","name":"VOUT_COMMAND","direction":"write","bytes":"CD 34"}
-B0 06 02 01 21 / B1 02 CD 34 90 -> {"line":2,"address":"58","page":1,"code":"21","name":"VOUT_COMMAND","direction":"read","bytes":"CD 34"}
+B0 05 04 00 21 CD 34 5A -> {"line":1,"address":"58","page":0,"code":"21","name":"VOUT_COMMAND","direction":"write","payload":"CD 34"}
+B0 06 02 01 21 / B1 02 CD 34 90 -> {"line":2,"address":"58","page":1,"code":"21","name":"VOUT_COMMAND","direction":"read","payload":"CD 34"}
 B0 03 46 -> {"line":3,"address":"58","code":"03","name":"CLEAR_FAULTS","direction":"send"}
-B0 30 02 21 00 / B1 05 01 00 00 00 03 6B -> {"line":4,"address":"58","code":"30","name":"COEFFICIENTS","of":"21","side":0,"direction":"read","bytes":"01 00 00 00 03","value":"m 1 b 0 r 3"}
+B0 30 02 21 00 / B1 05 01 00 00 00 03 6B -> {"line":4,"address":"58","code":"30","name":"COEFFICIENTS","of":"21","side":0,"direction":"read","payload":"01 00 00 00 03","m":1,"b":0,"r":3}
 B0 05 04 01 21 CD 34 5A -> {"line":5,"address":"58","direction":"write","fault":"F5 WrongPec","place":7}
 B0 21 / B3 -> {"line":6,"address":"58","direction":"read","fault":"F1 NotOurs"}
 / -> {"line":7,"direction":"write","fault":"F1 NotOurs"}
@@ -189,20 +272,20 @@ B0 96 / B1 34 12 -> {"line":10,"address":"58","direction":"write","fault":"F6 Un
         &["pmb", "decode", "--json", "--values"],
         0,
         r#"
-B0 06 02 00 20 / B1 01 14 4E -> {"line":1,"address":"58","page":0,"code":"20","name":"VOUT_MODE","direction":"read","bytes":"14","value":"ULINEAR16 -12"}
-B0 05 04 00 21 CD 34 5A -> {"line":2,"address":"58","page":0,"code":"21","name":"VOUT_COMMAND","direction":"write","bytes":"CD 34","value":"13517/4096","micro":3300048,"unit":"V"}
-B0 88 / B1 00 D3 F6 -> {"line":3,"address":"58","code":"88","name":"READ_VIN","direction":"read","bytes":"00 D3","value":"12/1","unit":"V"}
-B0 8C / B1 FB FF E9 -> {"line":4,"address":"58","code":"8C","name":"READ_IOUT","direction":"read","bytes":"FB FF","value":"-5/2","unit":"A"}
-B0 8D / B1 19 00 65 -> {"line":5,"address":"58","code":"8D","name":"READ_TEMPERATURE_1","direction":"read","bytes":"19 00","value":"25/1","unit":"C"}
-B0 01 94 1A -> {"line":6,"address":"58","code":"01","name":"OPERATION","direction":"write","bytes":"94","value":"on, margin low"}
-B0 01 FF 0C -> {"line":7,"address":"58","code":"01","name":"OPERATION","direction":"write","bytes":"FF"}
-B0 10 80 34 -> {"line":8,"address":"58","code":"10","name":"WRITE_PROTECT","direction":"write","bytes":"80","value":"writes of WRITE_PROTECT"}
-B0 78 / B1 42 3D -> {"line":9,"address":"58","code":"78","name":"STATUS_BYTE","direction":"read","bytes":"42","flags":["OFF","CML"]}
-B0 79 / B1 00 00 D4 -> {"line":10,"address":"58","code":"79","name":"STATUS_WORD","direction":"read","bytes":"00 00","flags":[]}
-B0 7E / B1 04 95 -> {"line":11,"address":"58","code":"7E","name":"STATUS_CML","direction":"read","bytes":"04","flags":["bit 2"]}
-B0 05 04 01 21 CD 34 5A -> {"line":12,"address":"58","direction":"write","bytes":"B0 05 04 01 21 CD 34 5A","fault":"F5 WrongPec","place":7}
-B0 06 02 00 21 / B1 02 CD -> {"line":13,"address":"58","direction":"read","bytes":"B0 06 02 00 21 / B1 02 CD","fault":"F2 Short","place":3}
-B0 21 CD 34 38 -> {"line":14,"address":"58","code":"21","name":"VOUT_COMMAND","direction":"write","bytes":"CD 34"}
+B0 06 02 00 20 / B1 01 14 4E -> {"line":1,"address":"58","page":0,"code":"20","name":"VOUT_MODE","direction":"read","payload":"14","value":"ULINEAR16 -12"}
+B0 05 04 00 21 CD 34 5A -> {"line":2,"address":"58","page":0,"code":"21","name":"VOUT_COMMAND","direction":"write","payload":"CD 34","numerator":13517,"denominator":4096,"volts":3.300048}
+B0 88 / B1 00 D3 F6 -> {"line":3,"address":"58","code":"88","name":"READ_VIN","direction":"read","payload":"00 D3","numerator":768,"denominator":64,"volts":12}
+B0 8C / B1 FB FF E9 -> {"line":4,"address":"58","code":"8C","name":"READ_IOUT","direction":"read","payload":"FB FF","numerator":-5,"denominator":2,"amperes":-2.5}
+B0 8D / B1 19 00 65 -> {"line":5,"address":"58","code":"8D","name":"READ_TEMPERATURE_1","direction":"read","payload":"19 00","numerator":25,"denominator":1,"celsius":25}
+B0 01 94 1A -> {"line":6,"address":"58","code":"01","name":"OPERATION","direction":"write","payload":"94","value":"on, margin low"}
+B0 01 FF 0C -> {"line":7,"address":"58","code":"01","name":"OPERATION","direction":"write","payload":"FF"}
+B0 10 80 34 -> {"line":8,"address":"58","code":"10","name":"WRITE_PROTECT","direction":"write","payload":"80","value":"writes of WRITE_PROTECT"}
+B0 78 / B1 42 3D -> {"line":9,"address":"58","code":"78","name":"STATUS_BYTE","direction":"read","payload":"42","flags":["OFF","CML"]}
+B0 79 / B1 00 00 D4 -> {"line":10,"address":"58","code":"79","name":"STATUS_WORD","direction":"read","payload":"00 00","flags":[]}
+B0 7E / B1 04 95 -> {"line":11,"address":"58","code":"7E","name":"STATUS_CML","direction":"read","payload":"04","flags":["bit 2"]}
+B0 05 04 01 21 CD 34 5A -> {"line":12,"address":"58","direction":"write","packet":"B0 05 04 01 21 CD 34 5A","fault":"F5 WrongPec","place":7}
+B0 06 02 00 21 / B1 02 CD -> {"line":13,"address":"58","direction":"read","packet":"B0 06 02 00 21 / B1 02 CD","fault":"F2 Short","place":3}
+B0 21 CD 34 38 -> {"line":14,"address":"58","code":"21","name":"VOUT_COMMAND","direction":"write","payload":"CD 34"}
 {"count":"VOUT_MODE","lines":1}
 {"count":"VOUT_COMMAND","lines":2}
 {"count":"READ_VIN","lines":1}
@@ -220,23 +303,49 @@ B0 21 CD 34 38 -> {"line":14,"address":"58","code":"21","name":"VOUT_COMMAND","d
         &["pmb", "decode", "--all", "--json"],
         0,
         r#"
-B0 96 / B1 34 12 B1 -> {"line":1,"address":"58","code":"96","direction":"read","bytes":"34 12","pec":true}
-B0 86 02 01 02 / B1 03 04 -> {"line":2,"address":"58","code":"86","direction":"read","written":"02 01 02","bytes":"03 04","pec":false}
+B0 96 / B1 34 12 B1 -> {"line":1,"address":"58","code":"96","name":"READ_POUT","direction":"read","payload":"34 12","pec":true}
+B0 86 02 01 02 / B1 03 04 -> {"line":2,"address":"58","code":"86","name":"READ_EIN","direction":"read","written":"02 01 02","payload":"03 04","pec":false}
 B0 D4 -> {"line":3,"address":"58","code":"D4","direction":"send","pec":false}
-B0 D4 01 03 -> {"line":4,"address":"58","code":"D4","direction":"write","bytes":"01","pec":true}
-B0 21 CD 34 -> {"line":5,"address":"58","code":"21","name":"VOUT_COMMAND","direction":"write","bytes":"CD 34","pec":false}
-B0 96 / B1 -> {"line":6,"address":"58","code":"96","direction":"read","pec":false}
+B0 D4 01 03 -> {"line":4,"address":"58","code":"D4","direction":"write","payload":"01","pec":true}
+B0 21 CD 34 -> {"line":5,"address":"58","code":"21","name":"VOUT_COMMAND","direction":"write","payload":"CD 34","pec":false}
+B0 96 / B1 -> {"line":6,"address":"58","code":"96","name":"READ_POUT","direction":"read","pec":false}
 B0 03 46 -> {"line":7,"address":"58","code":"03","name":"CLEAR_FAULTS","direction":"send"}
-B0 02 -> {"line":8,"address":"58","code":"02","direction":"send","pec":false}
-B0 FF -> {"line":9,"address":"58","code":"FF","direction":"send","pec":false}
+B0 02 -> {"line":8,"address":"58","code":"02","name":"ON_OFF_CONFIG","direction":"send","pec":false}
+B0 FF -> {"line":9,"address":"58","code":"FF","name":"PMBUS_COMMAND_EXT","direction":"send","pec":false}
+B0 06 02 00 EF / B1 01 60 7D -> {"line":10,"address":"58","page":0,"code":"EF","direction":"read","payload":"60","pec":true}
+B0 05 02 FF D4 -> {"line":11,"address":"58","page":255,"code":"D4","direction":"send","pec":false}
+B0 06 02 00 21 / B1 FF FF -> {"line":12,"address":"58","code":"06","name":"PAGE_PLUS_READ","direction":"read","written":"02 00 21","payload":"FF FF","pec":false,"answered":false}
+B0 99 / B1 03 4C 54 43 -> {"line":13,"address":"58","code":"99","name":"MFR_ID","direction":"read","payload":"03 4C 54 43","pec":false}
+{"count":"VOUT_COMMAND","lines":1}
 {"count":"CLEAR_FAULTS","lines":1}
 {"code":"02","lines":1}
-{"code":"21","lines":1}
+{"code":"06","lines":1}
 {"code":"86","lines":1}
 {"code":"96","lines":2}
-{"code":"D4","lines":2}
+{"code":"99","lines":1}
+{"code":"D4","lines":3}
+{"code":"EF","lines":1}
 {"code":"FF","lines":1}
-{"lines":9,"accepted":1,"other":8,"faults":0,"bad":0}
+{"lines":13,"accepted":2,"other":11,"faults":0,"bad":0}
+"#,
+    ),
+    (
+        &["pmb", "decode", "--all", "--json", "--values"],
+        0,
+        r#"
+B0 99 / B1 03 4C 54 43 -> {"line":1,"address":"58","code":"99","name":"MFR_ID","direction":"read","payload":"03 4C 54 43","text":"LTC","pec":false}
+B0 7B / B1 82 CE -> {"line":2,"address":"58","code":"7B","name":"STATUS_IOUT","direction":"read","payload":"82","flags":["IOUT_OC_FAULT","POUT_OP_FAULT"],"pec":true}
+B0 02 16 -> {"line":3,"address":"58","code":"02","name":"ON_OFF_CONFIG","direction":"write","payload":"16","value":"by CONTROL, CONTROL active high, off with delay","pec":false}
+B0 19 / B1 B0 -> {"line":4,"address":"58","code":"19","name":"CAPABILITY","direction":"read","payload":"B0","value":"PEC, 400 kHz, SMBALERT#","pec":false}
+B0 20 / B1 17 E4 -> {"line":5,"address":"58","code":"20","name":"VOUT_MODE","direction":"read","payload":"17","value":"ULINEAR16 -9"}
+B0 8D / B1 D8 07 -> {"line":6,"address":"58","code":"8D","name":"READ_TEMPERATURE_1","direction":"read","payload":"D8 07","numerator":-40,"denominator":1,"celsius":-40,"pec":false}
+{"count":"CAPABILITY","lines":1}
+{"count":"VOUT_MODE","lines":1}
+{"count":"READ_TEMPERATURE_1","lines":1}
+{"code":"02","lines":1}
+{"code":"7B","lines":1}
+{"code":"99","lines":1}
+{"lines":6,"accepted":3,"other":3,"faults":0,"bad":0}
 "#,
     ),
     (

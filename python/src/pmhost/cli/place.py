@@ -26,7 +26,8 @@ class Options:
 class Place:
     """The part, with limits of its outputs. `outputs` is how many a model part on a desk has."""
 
-    def __init__(self, part: BoardPart, limits: dict[int, tuple[int, int]], options: Options, trace: Trace, outputs: int | None = None) -> None:
+    def __init__(self, part: BoardPart, limits: dict[int, tuple[int, int]], options: Options, trace: Trace,
+                 outputs: int | None = None) -> None:
         self.part, self.limits, self._options, self._trace = part, limits, options, trace
         self._outputs = outputs or part.outputs
         self._bus: DeskBus | LinuxBus | None = None

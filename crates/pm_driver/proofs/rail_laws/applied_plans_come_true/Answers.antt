@@ -4,19 +4,12 @@ use Rattle.pm_device.specs.Held.{Held}
 use Rattle.pm_world.specs.Bands.{HoldsMissing}
 use Rattle.pm_world.specs.Life.{now}
 use Rattle.pm_driver.specs.Rails.{events_of}
-use Rattle.pm_driver.proofs.RailLives.{Below, all-on, comes-true, none-restarted}
+use Rattle.pm_driver.proofs.RailLives.{all-on, comes-true, none-restarted}
 use Rattle.pm_driver.proofs.rail_laws.applied_plans_come_true.Goals as goal
 
 pub returns : goal.returns
 returns g c = λ output wanted tries old new course runs ends same config passes before spelled here lived holds none register word wants.
-    let laws : Below = record {
-      ends = c.ends_are_told.ensures;
-      lived = c.events_are_lived.ensures;
-      moves = c.settings_move_by_the_open_job.ensures;
-      plans = c.plans_hold_in_lives.ensures;
-      surveys = c.surveys_hold_in_lives.ensures;
-      apart = c.cells_are_told_apart.ensures;
-    } in
+    let laws = c.laws_of_rails.ensures in
     let part = old.guard.registers in
     let missing : HoldsMissing part config (now config passes before).device.words output =
     subst (λ (h : Held). HoldsMissing part config h.words output) (sym lived.held_is) holds in

@@ -5,7 +5,8 @@ use Rattle.pm_frame.proofs.plain_read.read_plain.Goals as goal
 
 pub returns-in_err-plain_checked-clause-accepts : goal.returns-in_err-plain_checked-clause-accepts
 returns-in_err-plain_checked-clause-accepts c = λ payload h.
-    let none = plain_read_fault-spelled c.args.addr c.args.code c.args.size payload c.args.got.now h in cc (c.in_err-plain_checked.ensures.fault)
+    let none = plain_read_fault-spelled c.args.addr c.args.code c.args.size payload c.args.got.now h in
+    cc (c.in_err-plain_checked.ensures.fault)
 
 pub returns-clause-payload : goal.returns-clause-payload
 returns-clause-payload c =

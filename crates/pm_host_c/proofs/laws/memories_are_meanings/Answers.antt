@@ -16,7 +16,8 @@ unfolding limits_kept
 meant images image g is = by (host_of image.host) refl
   where
     by : (host : Option Summary) → host_of image.host ≡ host
-        → option_map (λ (s : Summary). record { host = s; limits = limits_kept image; registers = registers_held image.registers }) host ≡ Some g → image ≡ memory_of g
+        → option_map (λ (s : Summary). record { host = s; limits = limits_kept image; registers = registers_held image.registers }) host
+        ≡ Some g → image ≡ memory_of g
     by None held same = cc
     by (Some s) held same =
         let holds : record { host = s; limits = limits_kept image; registers = registers_held image.registers } ≡ g = search rules in

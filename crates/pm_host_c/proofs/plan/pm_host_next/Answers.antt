@@ -15,5 +15,6 @@ returns-in-Some-clause-number c =
     ∙ sym (ap plan_answer is)
 
 pub returns-in-Err-clause-begun : goal.returns-in-Err-clause-begun
-returns-in-Err-clause-begun c = λ zero. absurd (some (guard_of c.args.host.now) c.args.output (wants_meant c.args.wanted.now) c.in-Err.refused
+returns-in-Err-clause-begun c =
+    λ zero. absurd (some (guard_of c.args.host.now) c.args.output (wants_meant c.args.wanted.now) c.in-Err.refused
     (sym c.planned-plan.ensures ∙ c.in-Err.is) zero)

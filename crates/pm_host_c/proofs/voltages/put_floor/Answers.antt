@@ -5,31 +5,20 @@ use Rattle.std.proofs.lemmas.Int.{ints}
 use Rattle.std.specs.Int.{w128}
 use Rattle.std.specs.Prelude.{int_lt}
 use Rattle.pm_num.specs.Ratio.{Ratio}
+use Rattle.pm_num.specs.Lemmas.Integers.{le_from_times, not_less}
 use Rattle.pm_host_c.specs.Voltages.{is_far, IsFloor, IsNear}
 use Rattle.pm_host_c.proofs.voltages.put_floor.Goals as goal
-
--- what isn't less is at least as great
-at_most : (a b : ℤ) → int_lt b a ≡ false → a ≤ℤ b
-at_most a b h = grind (arith, ints)
-
--- a denominator is left out on both sides
-within : (k : ℤ) (most den : ℕ) → 0 < den → (k *ℤ pos den) ≤ℤ (pos most *ℤ pos den) → k ≤ℤ pos most
-within (negsuc n) most den positive h = omega (arith, ints)
-within (pos n) most den positive h =
-    let below : n * den ≤ most * den = omega (arith, ints) in
-    let small : n ≤ most = le_of_mul-le-mul_right below positive in
-    omega (arith, ints)
 
 -- the floor of a value that isn't beyond the numbers' ends lies within them
 near : (value : Ratio) (x : ℤ) → 0 < value.den → is_far value ≡ false → IsFloor value x → IsNear x
 near value x positive is floor =
     let parts = or_parts _ _ is in
-    let most : (value.num *ℤ pos (10 ^ 6)) ≤ℤ (pos (10 ^ 15) *ℤ pos value.den) = at_most _ _ parts.0 in
-    let least : (neg_ℤ (pos (10 ^ 15)) *ℤ pos value.den) ≤ℤ (value.num *ℤ pos (10 ^ 6)) = at_most _ _ parts.1 in
+    let most : (value.num *ℤ pos (10 ^ 6)) ≤ℤ (pos (10 ^ 15) *ℤ pos value.den) = not_less _ _ parts.0 in
+    let least : (neg_ℤ (pos (10 ^ 15)) *ℤ pos value.den) ≤ℤ (value.num *ℤ pos (10 ^ 6)) = not_less _ _ parts.1 in
     let reached = floor.reached in
     record {
       above = floor.greatest (neg_ℤ (pos (10 ^ 15))) least;
-      below = within x (10 ^ 15) value.den positive (omega (arith, ints));
+      below = le_from_times x (pos (10 ^ 15)) value.den positive (omega (arith, ints));
     }
 
 -- the floor that was found

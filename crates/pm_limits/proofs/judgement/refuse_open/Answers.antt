@@ -1,6 +1,5 @@
-use Rattle.std.proofs.Common.{◌≡◌, ◌∙◌, Option, Some, ap, sym}
+use Rattle.std.proofs.Common.{◌∙◌, Option, Some, ap, sym}
 use Rattle.pm_host.specs.declared.stage.Stage.{Stage}
-use Rattle.pm_host.specs.declared.stage.Stage.TheVariants.{Writes, Reads}
 use Rattle.pm_host.specs.Image.{held}
 use Rattle.pm_limits.specs.Guard.{open_fault}
 use Rattle.pm_limits.proofs.judgement.refuse_open.Goals as goal

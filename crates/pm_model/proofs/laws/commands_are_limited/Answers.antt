@@ -1,12 +1,9 @@
 -- A value that is cut to its limits isn't outside them.
-use Rattle.std.proofs.Common.{◌≡◌, Bool, true, false, cond, ◌&&◌, ◌||◌, arith, refl}
+use Rattle.std.proofs.Common.{◌≡◌, Bool, true, false, cond, ◌&&◌, ◌||◌, refl}
+use Rattle.pm_num.specs.Lemmas.Order.{not-above-itself}
 use Rattle.pm_num.specs.Ratio.{Ratio}
 use Rattle.pm_model.specs.Commanded.{commanded, greatest_value, is_above, least_value, limited, selected_value}
 use Rattle.pm_model.proofs.laws.commands_are_limited.Goals as goal
-
--- no value is above itself
-not-above : (p : Ratio) → is_above p p ≡ false
-not-above p = grind arith
 
 -- the cut value isn't above the greatest, by whether the selected one is, and the least one
 most : (selected least greatest : Ratio) → is_above (limited selected least greatest) greatest ≡ false
@@ -15,8 +12,8 @@ most selected least greatest =
   where
     go : (over under crossed : Bool) → is_above selected greatest ≡ over → is_above least greatest ≡ crossed →
         is_above (cond (over || under && crossed) greatest (cond under least selected)) greatest ≡ false
-    go true under crossed o c = not-above greatest
-    go false true true o c = not-above greatest
+    go true under crossed o c = not-above-itself greatest
+    go false true true o c = not-above-itself greatest
     go false true false o c = c
     go false false crossed o c = o
 
@@ -30,7 +27,7 @@ floor selected least greatest apart =
         is_above least (cond (over || under && crossed) greatest (cond under least selected)) ≡ false
     go true under crossed u c = apart
     go false true true u c = apart
-    go false true false u c = not-above least
+    go false true false u c = not-above-itself least
     go false false crossed u c = u
 
 pub returns : goal.returns

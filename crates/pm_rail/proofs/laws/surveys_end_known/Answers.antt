@@ -1,4 +1,5 @@
 use Rattle.pm_rail.specs.Lemmas.Surveyed.{asks, format, known, protection, unread, whole}
+use Rattle.pm_rail.proofs.SurveyBand.{band}
 use Rattle.pm_rail.proofs.laws.surveys_end_known.Goals as goal
 
 pub returns : goal.returns
@@ -9,4 +10,5 @@ returns c = record {
   asks = asks;
   whole = whole;
   unread = unread;
+  band = band;
 }

@@ -15,7 +15,8 @@ returns c =
     c.next_order_in.ensures
     ∙ ap (λ (stage : Option Stage). plan_of c.registers.result (held stage c.state.result.now) c.limits-limits.result c.args.output wants)
     c.stage.ensures
-    ∙ ap (λ (s : Summary). plan_of c.registers.result s c.limits-limits.result c.args.output wants) (c.state.ensures.state ∙ c.host-host.ensures)
+    ∙ ap (λ (s : Summary). plan_of c.registers.result s c.limits-limits.result c.args.output wants)
+    (c.state.ensures.state ∙ c.host-host.ensures)
     ∙ ap (λ (l : Option Bounds). plan_of c.registers.result c.args.guard.now.host l c.args.output wants) c.limits-limits.ensures
     ∙ ap (λ (part : PartRegisters). plan_of part c.args.guard.now.host (limits_at c.args.guard.now c.args.output) c.args.output wants)
     c.registers.ensures

@@ -1,15 +1,10 @@
 -- The places of cells, whatever registers there are.
 use Rattle.std.proofs.Common.{◌≡◌, ℕ, ◌+◌, ◌*◌, ◌/◌, ◌%◌, ◌<◌, arith, refl, ap, ap₂, ◌∙◌}
-use Rattle.pm_table.specs.declared.reg.Reg.{Reg}
 use Rattle.pm_table.specs.declared.cell.Cell.{Cell}
 use Rattle.pm_table.specs.declared.cell.Cell.TheVariants.{Out, Protect}
 use Rattle.pm_table.specs.Cell.{register_number, register_at, register_count, place_of, places, protect_place, cell_in, IsCell}
-use Rattle.pm_table.specs.Lemmas.{register_number-below}
+use Rattle.pm_table.specs.Lemmas.{register_at-number, register_number-below}
 use Rattle.pm_table.proofs.laws.cells_have_places.Goals as goal
-
--- it leads back to the register
-register_at-number : (register : Reg) → register_at (register_number register) ≡ register
-register_at-number register = grind arith
 
 -- a number's register has that number
 register_number-at : (number : ℕ) → number < register_count

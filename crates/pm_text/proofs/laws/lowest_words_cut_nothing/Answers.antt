@@ -9,6 +9,7 @@ use Rattle.pm_num.specs.Ratio.{Ratio, AtMost}
 use Rattle.pm_num.specs.Value.{direct_least, direct_value, ulinear16_value}
 use Rattle.pm_num.specs.Lemmas.Slope.{direct-within}
 use Rattle.pm_num.specs.Lemmas.Unsigned.{ulinear16-within}
+use Rattle.pm_num.specs.Lemmas.Order.{not-above}
 use Rattle.pm_table.specs.declared.coefficients.Coefficients.{Coefficients}
 use Rattle.pm_table.specs.declared.vout_mode.VoutMode.{VoutMode}
 use Rattle.pm_table.specs.declared.vout_mode.VoutMode.TheVariants.{Linear, Direct}
@@ -16,10 +17,6 @@ use Rattle.pm_table.specs.Format.{is_decimal, shape_in}
 use Rattle.pm_device.specs.Start.{is_direct}
 use Rattle.pm_model.specs.Commanded.{is_above}
 use Rattle.pm_text.proofs.laws.lowest_words_cut_nothing.Goals as goal
-
--- a value that is at most another isn't above it
-not-above : (p q : Ratio) → AtMost p q → is_above p q ≡ false
-not-above p q most = grind (arith, ints)
 
 -- the shape that was made, or another where none was
 abbrev shape-or : Result Shape NumFault → Shape → Shape

@@ -1,4 +1,5 @@
-use Rattle.pm_world_examples.specs.ByName.{BeginsShort, CameInBytes, CheckEnds, CommandEnds, GoesThrough, IsAhead, IsReached, IsShort, PassEnds}
+use Rattle.pm_world_examples.specs.ByName.{BeginsShort, CameInBytes, CheckEnds, CommandEnds, GoesThrough, IsAhead, IsReached, IsShort}
+use Rattle.pm_world_examples.specs.ByName.{PassEnds}
 use Rattle.pm_world_examples.specs.ByName.{ReadBackEnds}
 use Rattle.pm_world_examples.proofs.laws.laws_by_name.Goals as goal
 

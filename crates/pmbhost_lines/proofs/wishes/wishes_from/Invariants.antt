@@ -1,5 +1,5 @@
 use Rattle.std.proofs.Common.{◌≡◌, Ok, length}
-use Rattle.pm_rail.specs.Survey.{nothing}
+use Rattle.pm_rail.specs.Registers.{nothing}
 use Rattle.pmbhost_lines.specs.Wishes.{wished, wished_all}
 use Rattle.pmbhost_lines.proofs.wishes.wishes_from.Given as goal
 

@@ -5,7 +5,7 @@ use Rattle.pm_driver.specs.Driven.{HasLife, HasLifeWithin, HasNoRestartSince}
 use Rattle.pm_driver.specs.Lives.{Driven, Leads}
 use Rattle.pm_driver.proofs.BegunJobs.{leads-lived}
 use Rattle.pm_driver.proofs.NoRestarts.{leads-since}
-use Rattle.pm_driver.proofs.WithinLimits.{restart-within}
+use Rattle.pm_driver.proofs.WithinLimits.{jobless-within}
 use Rattle.pm_driver.proofs.driver.Driver.restart.Goals as goal
 
 pub invariant_of-self : goal.invariant_of-self
@@ -21,7 +21,7 @@ returns-clause-within g c =
     let after : Driven g.row.B.Denot = record { host = c.restart.new.self.host; bus = bus } in
     let leads = subst (λ (h : Summary). Leads g.B.Bus.gives g.B.Bus.held g.B.Bus.restarts (Renewed ∷ []) None old (record { host = h; bus = bus }))
     (sym c.restart.ensures.after) (c.renewals_lead.ensures c.self.inside.guard.host bus) in
-    λ output bounds lived. restart-within c.laws_of_lives.ensures g.B.Bus.gives g.B.Bus.held g.B.Bus.restarts old after leads output bounds
+    λ output bounds lived. jobless-within c.laws_of_lives.ensures g.B.Bus.gives g.B.Bus.held g.B.Bus.restarts (Renewed ∷ []) old after refl leads output bounds
     (subst (λ d. HasLifeWithin output bounds d.guard.host (g.B.Bus.held d.bus)) (sym c.self.view_is) lived)
 
 pub returns-clause-since : goal.returns-clause-since

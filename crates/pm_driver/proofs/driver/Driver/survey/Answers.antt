@@ -16,19 +16,19 @@ jobs-init g c =
 pub jobs-preserved : goal.jobs-preserved
 jobs-preserved g c =
     let v = c.jobs.survey in
-    let so : c.told.new.self ≡ surveyed_by v c.in-Some.job c.read-end.result =
-    c.told.ensures ∙ ap (λ (x : Survey). ended x x.asked c.read-end.result)
+    let so : c.told.new.self ≡ surveyed_by v c.in-Some.job c.run_read-end.result =
+    c.told.ensures ∙ ap (λ (x : Survey). ended x x.asked c.run_read-end.result)
     (c.next.ensures.after ∙ ap (λ (o : Option Job). asking v o) c.in-Some.is) in
     let asks : asks_in v c.jobs.self.guard ≡ Some c.in-Some.job =
     ap (λ (x : Guarded). asks_in v x) (sym c.guard.ensures) ∙ (sym c.next.ensures.job ∙ c.in-Some.is) in
     record {
       runs = subst (λ (x : Survey). Surveys g.B.Bus.gives g.B.Bus.held g.B.Bus.restarts c.args.survey.now c.args.self.now x
-          c.read-end.new.self) (sym so)
-          (more v c.in-Some.job c.read-end.result c.jobs.self c.read-end.new.self c.jobs.invariant.runs asks c.read-end.ensures.runs);
-      own = ap (λ (x : Survey). x.output) so ∙ (asked-output v c.in-Some.job c.read-end.result ∙ c.jobs.invariant.own);
-      idle = c.read-end.ensures.idle;
+          c.run_read-end.new.self) (sym so)
+          (more v c.in-Some.job c.run_read-end.result c.jobs.self c.run_read-end.new.self c.jobs.invariant.runs asks c.run_read-end.ensures.runs);
+      own = ap (λ (x : Survey). x.output) so ∙ (asked-output v c.in-Some.job c.run_read-end.result ∙ c.jobs.invariant.own);
+      idle = c.run_read-end.ensures.idle;
       was = c.jobs.invariant.was;
-      limits = c.read-end.ensures.runs.limits ∙ c.jobs.invariant.limits;
-      registers = c.read-end.ensures.runs.registers ∙ c.jobs.invariant.registers;
-      kept = c.read-end.ensures.runs.kept ∙ c.jobs.invariant.kept;
+      limits = c.run_read-end.ensures.runs.limits ∙ c.jobs.invariant.limits;
+      registers = c.run_read-end.ensures.runs.registers ∙ c.jobs.invariant.registers;
+      kept = c.run_read-end.ensures.runs.kept ∙ c.jobs.invariant.kept;
     }

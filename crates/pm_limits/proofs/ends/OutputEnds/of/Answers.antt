@@ -19,5 +19,6 @@ returns-clause-selected c =
     } in
     λ side. each-selected
     (λ (r : Reg). word_on side (end_in ends r)
-    ≡ word_end side (shape_of c.args.format.now) (known_of c.args.registers (shape_of c.args.format.now) (held None c.args.host.now) c.args.output) r)
+    ≡ word_end side (shape_of c.args.format.now)
+    (known_of c.args.registers (shape_of c.args.format.now) (held None c.args.host.now) c.args.output) r)
     (c.ends_at.ensures side) (c.ends_at-2.ensures side) (c.ends_at-3.ensures side)

@@ -1,4 +1,4 @@
-use Rattle.std.proofs.Common.{◌≡◌, nat_lt, Bool, true, false, not, Option, None, w64, to_z, of_z, arith}
+use Rattle.std.proofs.Common.{◌≡◌, nat_lt, Bool, true, false, not, Option, w64, to_z, of_z, arith}
 use Rattle.std.specs.Option.{option_or}
 use Rattle.std.proofs.lemmas.Bool.Decides.{nat_tests}
 use Rattle.std.proofs.lemmas.Int.{ints}

@@ -1,18 +1,12 @@
 -- Spares the search: it finds these too, in 13 seconds.
-use Rattle.std.proofs.Common.{◌≡◌, ◌^◌, ◌∙◌, ℤ, pos, to_z, of_z, unsigned_abs, ap, arith}
-use mir.Syntax.{w8, w128}
+use Rattle.std.proofs.Common.{◌≡◌, ◌^◌, pos, to_z, of_z, unsigned_abs, arith}
+use mir.Syntax.{w128}
 use Rattle.std.proofs.lemmas.Int.{ints}
 use Rattle.std.proofs.lemmas.Nat.{mul-le}
 use Rattle.pm_num.specs.Value.{upper}
 use Rattle.pm_num.proofs.Rounding.{product_at, product_size}
-use Rattle.pm_num.proofs.SlopePlaces.{coefficient_times_ten}
+use Rattle.pm_num.proofs.SlopePlaces.{coefficient_times_ten, kept_power}
 use Rattle.pm_num.proofs.direct.Direct.offset.Goals as goal
-
--- The power's numerator at the exponent itself.
-power : (c : goal.After-product) → c.upper_of_ten.result ≡ pos (upper 10 c.args.self.now.r)
-power c =
-    let same : to_z w8 (of_z w8 c.args.self.now.r) ≡ c.args.self.now.r = omega (arith, ints) in
-    c.upper_of_ten.ensures.value ∙ ap (λ (z : ℤ). pos (upper 10 z)) same
 
 pub product-requires-clause-left : goal.product-requires-clause-left
 product-requires-clause-left c = omega (arith, ints)
@@ -23,7 +17,7 @@ product-requires-clause-right c = omega (arith, ints)
 pub returns-clause-value : goal.returns-clause-value
 returns-clause-value c =
     let f = c.args.self.now in
-    let u = power c in
+    let u = kept_power f.r (omega (arith, ints)) c.upper_of_ten.ensures.value in
     let is_left : to_z w128 (of_z w128 c.from.result) ≡ f.b = omega (arith, ints) in
     let is_right : to_z w128 (of_z w128 c.upper_of_ten.result) ≡ pos (upper 10 f.r) = omega (arith, ints) in
     product_at f.b (pos (upper 10 f.r)) c.product.ensures.value is_left is_right (omega (arith, ints))
@@ -31,7 +25,7 @@ returns-clause-value c =
 pub returns-clause-size : goal.returns-clause-size
 returns-clause-size c =
     let f = c.args.self.now in
-    let u = power c in
+    let u = kept_power f.r (omega (arith, ints)) c.upper_of_ten.ensures.value in
     let v = product_size f.b (pos (upper 10 f.r)) (returns-clause-value c) in
     let h = mul-le (unsigned_abs f.b) (upper 10 f.r) (2 ^ 15) (upper 10 f.r) (omega (arith, ints)) (omega arith) in
     omega (arith, ints)
@@ -39,7 +33,7 @@ returns-clause-size c =
 pub returns-clause-small : goal.returns-clause-small
 returns-clause-small c =
     let f = c.args.self.now in
-    let u = power c in
+    let u = kept_power f.r (omega (arith, ints)) c.upper_of_ten.ensures.value in
     let v = product_size f.b (pos (upper 10 f.r)) (returns-clause-value c) in
     let h = coefficient_times_ten (unsigned_abs f.b) (upper 10 f.r) (omega (arith, ints)) (omega (arith, ints)) in
     omega (arith, ints)

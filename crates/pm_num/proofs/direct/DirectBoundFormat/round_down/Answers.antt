@@ -1,7 +1,7 @@
 use Rattle.std.proofs.Common.{◌≡◌, ◌^◌, ◌<◌, ◌∙◌, to_z, of_z, arith}
 use mir.Syntax.{w128}
 use Rattle.std.proofs.lemmas.Int.{ints}
-use Rattle.pm_num.specs.Value.{direct_least, direct_greatest}
+use Rattle.pm_num.specs.Value.{direct_greatest}
 use Rattle.pm_num.specs.Lemmas.Slope.{direct-has_den, direct-within}
 use Rattle.pm_num.proofs.Bounding.{ordered_along, capped_along, IsAtMost-capped}
 use Rattle.pm_num.proofs.SlopePlaces.{found_fits, direct-ordered, direct-at_most, signed_at}

@@ -5,17 +5,17 @@ use Rattle.std.proofs.lemmas.Int.{ints, fits_signed_mul}
 use Rattle.pm_num.proofs.Rounding.{product_kept}
 use Rattle.pm_num.proofs.frac.Frac.cross.Goals as goal
 
--- The product of the parts fits,
+-- The product of the numerator and the other's denominator fits.
 fits : (c : goal.After-den) → FitsSigned w128 (c.args.self.now.num *ℤ pos c.args.o.now.den)
 fits c =
     fits_signed_mul w128 c.args.self.now.num (pos c.args.o.now.den) (2 ^ 55) (2 ^ 55)
     (let h = c.num.ensures.bounds in omega (arith, ints)) (let h = c.den.ensures.bounds in omega (arith, ints)) (lit< tt)
 
--- the numerator is kept by its cast,
+-- The numerator is kept by its cast.
 left : (c : goal.After-den) → to_z w128 (of_z w128 c.num.result) ≡ c.args.self.now.num
 left c = omega (arith, ints)
 
--- and so is the denominator.
+-- The denominator is kept by its cast.
 right : (c : goal.After-den) → to_z w128 (of_z w128 c.den.result) ≡ pos c.args.o.now.den
 right c = omega (arith, ints)
 

@@ -11,4 +11,5 @@ returns c =
     let x = c.args.x.now in
     let spacing_above : 0 < g.step * x.den = omega (arith, ints, c.spacing.ensures.positive) in
     IsPlaceAbove-ceiling g x _ spacing_above
-    (quotient_at IsCeiling (moved_num g x) (pos (g.step * x.den)) c.ceiling.ensures (omega (arith, ints)) (omega (arith, ints)) (omega (arith, ints)))
+    (quotient_at IsCeiling (moved_num g x) (pos (g.step * x.den)) c.ceiling.ensures (omega (arith, ints)) (omega (arith, ints))
+    (omega (arith, ints)))

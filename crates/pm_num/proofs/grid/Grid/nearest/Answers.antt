@@ -17,11 +17,11 @@ place c =
     quotient_at IsRounded (moved_num g x) (pos (g.step * x.den)) c.rounded.ensures
     (omega (arith, ints)) (omega (arith, ints)) (omega (arith, ints))
 
--- The denominator is positive,
+-- The denominator is positive.
 den_above : (c : goal.After-rounded) → 0 < c.args.self.now.den
 den_above c = omega (arith, ints, c.moved.ensures.sizes)
 
--- and so is the spacing.
+-- The spacing is positive.
 spacing_above : (c : goal.After-rounded) → 0 < c.args.self.now.step * c.args.x.now.den
 spacing_above c = omega (arith, ints, c.spacing.ensures.positive)
 

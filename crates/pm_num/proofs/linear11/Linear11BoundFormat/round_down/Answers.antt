@@ -12,7 +12,8 @@ use Rattle.pm_num.proofs.linear11.Linear11BoundFormat.round_down.Goals as goal
 
 -- The mantissa is one that can be settled.
 unsettled : (c : goal.After-mantissa_below-mantissa) → IsUnsettled c.place_for-place.result c.mantissa_below-mantissa.result
-unsettled c = IsUnsettled-floor c.in_ok-x.x c.place_for-place.result c.mantissa_below-mantissa.result c.place_for-place.ensures c.mantissa_below-mantissa.ensures
+unsettled c = IsUnsettled-floor c.in_ok-x.x c.place_for-place.result c.mantissa_below-mantissa.result c.place_for-place.ensures
+    c.mantissa_below-mantissa.ensures
 
 pub settled-requires-clause-above : goal.settled-requires-clause-above
 settled-requires-clause-above c = let h = unsettled c in omega (arith, ints)

@@ -12,7 +12,8 @@ use Rattle.pm_num.proofs.linear11.Linear11BoundFormat.round_up.Goals as goal
 
 -- The mantissa is one that can be settled.
 unsettled : (c : goal.After-mantissa_above-mantissa) → IsUnsettled c.place_for-place.result c.mantissa_above-mantissa.result
-unsettled c = IsUnsettled-ceiling c.in_ok-x.x c.place_for-place.result c.mantissa_above-mantissa.result c.place_for-place.ensures c.mantissa_above-mantissa.ensures
+unsettled c = IsUnsettled-ceiling c.in_ok-x.x c.place_for-place.result c.mantissa_above-mantissa.result c.place_for-place.ensures
+    c.mantissa_above-mantissa.ensures
 
 pub settled-requires-clause-above : goal.settled-requires-clause-above
 settled-requires-clause-above c = let h = unsettled c in omega (arith, ints)

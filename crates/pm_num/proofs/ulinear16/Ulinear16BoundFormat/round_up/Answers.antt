@@ -8,7 +8,8 @@ use Rattle.pm_num.proofs.UnsignedPlaces.{unsigned_spacing, ulinear16-above, ulin
 use Rattle.pm_num.proofs.ulinear16.Ulinear16BoundFormat.round_up.Goals as goal
 
 -- The number that is looked for lies in the range,
-raised : (c : goal.After-ceiling) → IsRaised (ulinear16_value c.args.self.now.n 0) (ulinear16_value c.args.self.now.n 65535) c.args.x c.in_ok-x.x
+raised : (c : goal.After-ceiling)
+    → IsRaised (ulinear16_value c.args.self.now.n 0) (ulinear16_value c.args.self.now.n 65535) c.args.x c.in_ok-x.x
 raised c = raised_along c.least.result _ c.greatest.result _ c.least.ensures c.greatest.ensures c.in_ok-x.ensures.raised
 
 -- at its place of the grid,

@@ -20,6 +20,7 @@ returns-clause-given c =
     let found = (has refl).0 in record {
       values = flag_at (codes "values") c.is_given.result c.is_given.ensures found;
       vout = c.given_text.ensures ∙ ap (λ (r : List Row). first_of (codes "vout") r) found;
+      readings = c.given_text-2.ensures ∙ ap (λ (r : List Row). first_of (codes "readings") r) found;
       all = flag_at (codes "all") c.is_given-2.result c.is_given-2.ensures found;
       long = flag_at (codes "long") c.is_given-3.result c.is_given-3.ensures found;
       times = flag_at (codes "times") c.is_given-4.result c.is_given-4.ensures found;

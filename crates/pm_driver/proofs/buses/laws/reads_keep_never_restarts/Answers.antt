@@ -1,0 +1,5 @@
+use Rattle.pm_driver.proofs.NeverRestarts.{reads-stay}
+use Rattle.pm_driver.proofs.buses.laws.reads_keep_never_restarts.Goals as goal
+
+pub returns : goal.returns
+returns c = reads-stay c.reads_restart_nothing.ensures

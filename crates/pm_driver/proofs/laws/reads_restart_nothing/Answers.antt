@@ -1,0 +1,5 @@
+use Rattle.pm_driver.proofs.NoRestarts.{reads-none}
+use Rattle.pm_driver.proofs.laws.reads_restart_nothing.Goals as goal
+
+pub returns : goal.returns
+returns g c = reads-none g.B.Bus.gives g.B.Bus.held g.B.Bus.restarts

@@ -1,0 +1,34 @@
+//! The example of the root.
+
+use super::calls::NOTHING;
+use super::checks::equal;
+use crate::guard_image::GuardImage;
+use crate::host::{pm_host_new, pm_host_order};
+use crate::host_step::HostStep;
+use crate::sending::pm_host_sending;
+use crate::sending_image::SendingImage;
+use crate::told::{pm_host_finished, pm_host_got};
+
+// 3.3 V for VOUT_COMMAND of output 0, by a host of a part at address 58h with two outputs.
+fn ordered(host: &mut GuardImage, frame: &mut SendingImage) -> HostStep {
+    pm_host_new(host, 0x58, 2, 2); // the last number: two passes
+    pm_host_order(host, 0, 0x21, 0x34CD);
+    pm_host_sending(host, frame); // a write: B0 05 04 00 21 CD 34 5A
+    pm_host_finished(host, 0); // no acknowledgement came; the host reads the cell back
+    pm_host_sending(host, frame); // a request: B0 06 02 00 21
+    pm_host_got(host, &[0xB1, 0x02, 0xCD, 0x34, 0xB9]) // kind 1 Done
+}
+
+#[test]
+fn the_example_of_the_root_runs(rt: HostRuntime) {
+    let mut host = GuardImage::blank();
+    let mut frame = NOTHING;
+    let step = ordered(&mut host, &mut frame);
+    equal(&rt, &(step.kind, step.word), &(1, 0), &1);
+    equal(
+        &rt,
+        &(frame.kind, frame.length, frame.bytes[1]),
+        &(2, 5, 0x06),
+        &2,
+    );
+}

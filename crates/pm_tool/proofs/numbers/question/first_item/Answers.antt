@@ -1,0 +1,5 @@
+use Rattle.pm_tool.proofs.PartLemmas.{cut_at_comma}
+use Rattle.pm_tool.proofs.numbers.question.first_item.Goals as goal
+
+pub returns : goal.returns
+returns c = cut_at_comma c.args.text.now c.split_once.result c.split_once.ensures.cases

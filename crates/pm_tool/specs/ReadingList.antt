@@ -1,0 +1,90 @@
+-- The formats of readings that the text of `--readings` lists. This project's own choice.
+use Rattle.std.specs.Prelude.{ℕ, zero, suc, Bool, true, ◌&&◌, ◌||◌, nat_lt, not, if◌then◌else◌, List, [], ◌∷◌}
+use Rattle.std.specs.Prelude.{Option, Some, None, option_and_then, option_map}
+use Rattle.std.specs.Result.{result_ok}
+use Rattle.pm_lines.specs.Digits.{hex_of}
+use Rattle.pm_num.specs.AnyFormat.{Shape, InLinear11, shape_of}
+use Rattle.pm_table.specs.Format.{shape_in}
+use Rattle.pm_table.specs.declared.vout_mode.VoutMode.TheVariants as mode
+use Rattle.pm_values.specs.Taught.{is_reading}
+use Rattle.pm_values.specs.declared.formats.ReadingFormat.{ReadingFormat}
+use Rattle.pm_tool.specs.Question.{Text, format_by, items, parts}
+use Rattle.pm_tool.specs.declared.numbers.question.FormatText.{FormatText}
+use Rattle.pm_tool.specs.declared.numbers.question.FormatText.TheVariants.{Linear11, Ulinear16, Direct}
+
+-- an entry of the list: the address and the code that have the format, each or all of them
+pub record Entry : Type 0 where
+  pub addr : Option ℕ
+  pub code : Option ℕ
+  pub shape : Shape
+
+-- an entry as it is kept
+abbrev pub entry_seen : ReadingFormat → Entry
+entry_seen made = record { addr = made.addr; code = made.code; shape = shape_of made.format }
+
+-- an entry, where there is one
+abbrev pub if_any : Option ReadingFormat → List Entry
+if_any None = []
+if_any (Some made) = entry_seen made ∷ []
+
+-- the format of a reading, LINEAR11 or DIRECT, where it can be
+abbrev pub reading_shape_named : FormatText → Option Shape
+reading_shape_named Linear11 = Some InLinear11
+reading_shape_named (Ulinear16 n) = None
+reading_shape_named (Direct m b r) = result_ok (shape_in mode.Direct (record { m = m; b = b; r = r }))
+
+-- a device's address, 08h to 77h, or none
+abbrev pub is_place : Option ℕ → Bool
+is_place None = true
+is_place (Some addr) = not (nat_lt addr 0x08 || nat_lt 0x77 addr)
+
+-- READ_VIN, READ_IOUT or READ_TEMPERATURE_1, or none
+abbrev pub is_asked_for : Option ℕ → Bool
+is_asked_for None = true
+is_asked_for (Some code) = is_reading code
+
+abbrev pub entry_at : Option ℕ → Option ℕ → Shape → Entry
+entry_at addr code shape = record { addr = addr; code = code; shape = shape }
+
+-- the entry of a format that is for an address and a code, where all three can be
+abbrev pub entry_for : Option ℕ → Option ℕ → Option FormatText → Option Entry
+entry_for addr code format = if is_place addr && is_asked_for code
+    then option_map (entry_at addr code) (option_and_then reading_shape_named format) else None
+
+-- behind a first part in two hexadecimal digits: the code, or the address and then the code
+abbrev pub entry_behind : ℕ → Option ℕ → Text → List Text → Option Entry
+entry_behind first None second more = entry_for None (Some first) (format_by (second ∷ more))
+entry_behind first (Some code) second more = entry_for (Some first) (Some code) (format_by more)
+
+abbrev pub entry_from : Option ℕ → Text → Text → List Text → Option Entry
+entry_from None first second more = entry_for None None (format_by (first ∷ second ∷ more))
+entry_from (Some number) first second more = entry_behind number (hex_of 2 second) second more
+
+abbrev pub entry_by : List Text → Option Entry
+entry_by [] = None
+entry_by (name ∷ []) = entry_for None None (format_by (name ∷ []))
+entry_by (first ∷ second ∷ more) = entry_from (hex_of 2 first) first second more
+
+-- an entry: `FORMAT`, `CC:FORMAT` or `AA:CC:FORMAT`
+abbrev pub entry_of : Text → Option Entry
+entry_of text = entry_by (parts text)
+
+-- one more entry before the others
+abbrev pub before_entries : Option Entry → Option (List Entry) → Option (List Entry)
+before_entries None entries = None
+before_entries (Some entry) entries = option_map (λ es. entry ∷ es) entries
+
+-- the entries of so many texts at most
+abbrev pub entries_in : ℕ → List Text → Option (List Entry)
+entries_in room [] = Some []
+entries_in zero (text ∷ texts) = None
+entries_in (suc room) (text ∷ texts) = before_entries (entry_of text) (entries_in room texts)
+
+-- the entries of a text, one to eight with commas between them
+abbrev pub entries_of : Text → Option (List Entry)
+entries_of text = entries_in 8 (items text)
+
+-- the same of what is left of a text, which may be nothing
+abbrev pub entries_left : ℕ → Option Text → Option (List Entry)
+entries_left room None = Some []
+entries_left room (Some text) = entries_in room (items text)
