@@ -52,9 +52,12 @@ def lines_of(text):
             yield "file", name.split()[0], rest
         elif kind == "sh" and not re.search(r"^\$ ", block, re.M):
             whole = re.sub(r"(\\|\|)\n +", lambda it: " " if it[1] == "\\" else "| ", block)
+            open_line = ""
             for line in whole.splitlines():
-                line = re.sub(r"(^|\s+)#( .*|$)", "", line).rstrip()
-                if line.strip():
+                line = open_line + re.sub(r"(^|\s+)#( .*|$)", "", line).rstrip()
+                # A word in quotes may go on in the next line.
+                open_line = line + "\n" if line.count("'") % 2 else ""
+                if line.strip() and not open_line:
                     yield "sh", line.strip(), ""
 
 
