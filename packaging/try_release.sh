@@ -51,7 +51,7 @@ asked "C over the part's shared object" "gcc -Wall -Werror $doc/examples/c/part.
 asked "C over both shared objects" "gcc -Wall -Werror $doc/examples/c/faults.c \$(pkg-config --cflags --libs pm_host pm_device) -o faults && ./faults 5000"
 asked "C over the archives" "gcc $doc/examples/c/faults.c -l:libpm_host.a -l:libpm_device.a -o faults && ./faults 5000"
 asked "the wheel" 'python3 -m venv v && v/bin/pip install --no-index /usr/share/pm-host/*.whl && v/bin/pmhost -b desk --outputs 2 --no-limit set 0 3.3V'
-asked "pmb decodes a capture" "pmb decode --values --vout=ulinear16:-12 < $doc/examples/bus.trace | grep -q 3300048"
+asked "pmb decodes a capture" "pmb decode --values --vout=ulinear16:-12 < $doc/examples/bus.trace | grep -q '3.300048 V'"
 asked "README's example" "pmb replay < $doc/examples/answer-lost.scenario | cmp - $doc/examples/answer-lost.report"
 asked "a capture of sigrok" "printf 'i2c-1: Start\ni2c-1: Address write: 58\n' | pmhost capture sigrok > trace"
 asked "manual pages and completions" 'for each in pmb pmbhost pmbpart pmhost; do test -x /usr/bin/$each && man -P cat $each 2> /dev/null | grep -qi NAME && bash -c ". /usr/share/bash-completion/completions/$each && complete -p $each"; done'
