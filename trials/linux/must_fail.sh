@@ -16,7 +16,7 @@ built=$CACHE
 # plant NAME FILE OLD NEW: a copy of what the trials read, with one text changed, which stands there once.
 plant() {
     mkdir -p "$work/$1/tree"
-    (cd "$root" && cp -r --parents tools trials python docs examples/c crates/pm_host_c/include "$work/$1/tree")
+    (cd "$root" && cp -r --parents tools trials python docs examples crates/pm_host_c/include "$work/$1/tree")
     python3 - "$work/$1/tree/$2" "$3" "$4" << 'END' || refuse "$1: the text to change doesn't stand once in $2"
 import sys
 path, old, new = sys.argv[1:]
