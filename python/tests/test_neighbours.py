@@ -120,8 +120,10 @@ class Wire:
         if who not in (None, pair):
             self.strays, self.answers = self.strays + 1, self.answers + bool(answer)
             if answer and self.draw.random() < 0.5:
-                # A host that puts its own read address in front, as the kernel's adapters do.
+                # A host that puts its own read address in front, as the kernel's adapters do. That is the answer's damaged byte: a
+                # second one may fit the packet error code, once in 255 times.
                 answer = bytes([pair.address << 1 | 1]) + answer[1:]
+                back = "whole" if back == "bit" else back
         came = returned(self.draw, back, answer)
         acked = self.draw.random() < 0.05 or acked and self.draw.random() < 0.9
         pair.told(acked, came, came if who is pair else b"")
