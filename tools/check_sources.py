@@ -19,6 +19,7 @@ It prints a line for each finding, and has status 1 if there is one. With --plac
     example    an example of a comment stands in no test, word for word
     claims     a law doesn't stand on its crate's page of docs/claims/, or on another one's too
     path       a path that a page, a script or a source names isn't there
+    tally      a script prints `N passed, M failed` by itself: tools/tally.py and tools/tally.sh count and print
     edit       a text that a planted bug replaces doesn't stand once in its file
 
 Tests are left out.
@@ -269,6 +270,19 @@ def lost_paths():
                         yield name, number, "path", "there is no %s" % path
 
 
+# A line that prints a tally, which begins with the number of what passed.
+TALLY = re.compile(r"\b(?:print|echo|printf)\b\W+f?[\"'](?:%d|\$\w+|\$?\{[^}]*\}) passed, ")
+
+
+def hand_tallies():
+    """Scripts that print a tally by themselves: tools/tally.py and tools/tally.sh count and print."""
+    names = subprocess.run(["git", "ls-files", "*.py", "*.sh"], capture_output=True, text=True).stdout.split("\n")
+    for name in names:
+        if os.path.isfile(name) and name not in ("tools/tally.py", "tools/tally.sh"):
+            with open(name, encoding="utf-8", errors="replace") as file:
+                yield from ((name, number, "tally", line.strip()) for number, line in enumerate(file, 1) if TALLY.search(line))
+
+
 LAW = re.compile(r"^pub fn (\w+)(?:<[^\n]*>)?\(\)(?: *$| *\{)", re.M)
 
 
@@ -341,7 +355,7 @@ def findings(crates):
     yield from hanging(crates)
     yield from unrun(crates)
     yield from unclaimed(crates)
-    yield from lost_paths() if "pmb" in crates else ()
+    yield from (*lost_paths(), *hand_tallies()) if "pmb" in crates else ()
     yield from planted.findings(crates)
 
 
