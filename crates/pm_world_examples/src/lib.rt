@@ -13,6 +13,7 @@
 //! - `damage`: damage that the packet error code betrays is legal, and stops no run.
 //! - `exact`: what the host calls possible is exact, and the words that show it can be had in a world.
 //! - `bands`: an output commands a voltage in the band that the host gives, which is exact where the possible words are.
+//! - `hearings`: what a converter makes of requests, and of frames for another address.
 //! - `limits`: limits that allow the start words of a usual part, by computing with them.
 //! - `orders`: an order that nothing disturbs goes through, and a run says which one it was.
 //! - `good`: what frames that nothing disturbs make of an open job, and how it ends once all its frames come whole.
@@ -33,6 +34,7 @@ pub mod exact;
 pub mod further;
 pub mod good;
 mod laws;
+pub mod hearings;
 pub mod limits;
 pub mod moves;
 pub mod neighbours;
