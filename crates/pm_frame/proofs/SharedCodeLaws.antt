@@ -44,8 +44,9 @@ pec_of-changes (x ∷ bytes) (y ∷ other) same =
 pub messages-shared : (bytes other : List ℕ) → length bytes ≡ length other
     → (pec_of bytes ≡ pec_of other ↔ pec_of (changes bytes other) ≡ 0)
 messages-shared bytes other same = (
-    λ one. pec_of-changes bytes other same ∙ ap (λ (n : ℕ). bit_xor n (pec_of other)) one ∙ xor_self (pec_of other),
-    λ none. same_from_xor (pec_of bytes) (pec_of other) (sym (pec_of-changes bytes other same) ∙ none))
+  λ one. pec_of-changes bytes other same ∙ ap (λ (n : ℕ). bit_xor n (pec_of other)) one ∙ xor_self (pec_of other),
+  λ none. same_from_xor (pec_of bytes) (pec_of other) (sym (pec_of-changes bytes other same) ∙ none),
+)
 
 -- The same bytes before two messages of one length decide nothing.
 behind : (front bytes other : List ℕ) → length bytes ≡ length other
@@ -54,18 +55,20 @@ behind front bytes other same =
     let both = messages-shared bytes other same in
     let before : ℕ = doubled_times (8 * length bytes) (pec_of front) in
     let moved : pec_of (front ++ other) ≡ bit_xor before (pec_of other) =
-    pec_of-append front other ∙ ap (λ (l : ℕ). bit_xor (doubled_times (8 * l) (pec_of front)) (pec_of other)) (sym same) in
-    (λ one. both.0 (cancel_left before (pec_of bytes) (pec_of other) (sym (pec_of-append front bytes) ∙ one ∙ moved)),
-    λ none. pec_of-append front bytes ∙ ap (bit_xor before) (both.1 none) ∙ sym moved)
+    pec_of-append front other ∙ ap (λ (l : ℕ). bit_xor (doubled_times (8 * l) (pec_of front)) (pec_of other)) (sym same) in (
+      λ one. both.0 (cancel_left before (pec_of bytes) (pec_of other) (sym (pec_of-append front bytes) ∙ one ∙ moved)),
+      λ none. pec_of-append front bytes ∙ ap (bit_xor before) (both.1 none) ∙ sym moved,
+    )
 
 -- Two bytes have the PEC 0 exactly where the second is the PEC of the first.
 pair-none : (first second : ℕ) → second < 2 ^ 8 → (pec_of (first ∷ second ∷ []) ≡ 0 ↔ pec_of (first ∷ []) ≡ second)
 pair-none first second small =
     let code : ℕ = pec_of (first ∷ []) in
-    let step : pec_of (first ∷ second ∷ []) ≡ doubled_times 8 (bit_xor code second) = pec_of-append_byte (first ∷ []) second small in
-    (λ none. same_from_xor code second
-    (doubled_times-none 8 (bit_xor code second) (xor_lt 8 code second (pec_of-lt (first ∷ [])) small) (sym step ∙ none)),
-    λ one. step ∙ ap (λ (n : ℕ). doubled_times 8 (bit_xor n second)) one ∙ ap (doubled_times 8) (xor_self second) ∙ doubled_times-zero 8)
+    let step : pec_of (first ∷ second ∷ []) ≡ doubled_times 8 (bit_xor code second) = pec_of-append_byte (first ∷ []) second small in (
+      λ none. same_from_xor code second
+          (doubled_times-none 8 (bit_xor code second) (xor_lt 8 code second (pec_of-lt (first ∷ [])) small) (sym step ∙ none)),
+      λ one. step ∙ ap (λ (n : ℕ). doubled_times 8 (bit_xor n second)) one ∙ ap (doubled_times 8) (xor_self second) ∙ doubled_times-zero 8,
+    )
 
 -- Two reads of outputs' registers.
 pub reads-shared : (addr page other_page code other_code : ℕ) → code < 2 ^ 8 → other_code < 2 ^ 8
@@ -102,6 +105,6 @@ writes-shared addr page other_page code other_code payload other same =
     let size : length (page ∷ code ∷ payload_bytes payload) ≡ length (other_page ∷ other_code ∷ payload_bytes other) = omega (arith, same) in
     let both = behind front (page ∷ code ∷ payload_bytes payload) (other_page ∷ other_code ∷ payload_bytes other) size in
     let told : pec_of (sent addr (PagePlusWrite other_page other_code other))
-        ≡ pec_of (front ++ other_page ∷ other_code ∷ payload_bytes other) =
+    ≡ pec_of (front ++ other_page ∷ other_code ∷ payload_bytes other) =
     ap (λ (n : ℕ). pec_of (write_address addr ∷ command.page_plus_write ∷ n ∷ other_page ∷ other_code ∷ payload_bytes other)) counted in
     (λ one. both.0 (one ∙ told), λ none. both.1 none ∙ sym told)
