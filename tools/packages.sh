@@ -24,6 +24,9 @@ esac
 folder=$(mktemp -d)
 trap 'rm -rf "$folder"' EXIT
 . tools/tally.sh
+for each in ${built:+pm_host_c pm_device_c}; do
+    [ -f "$built/lib$each.a" ] || { echo "packages.sh: no lib$each.a in $built" >&2; exit 2; }
+done
 
 # counted NAME PASSED FAILED STATUS: a part's tests; one that ends badly without a test that failed has failed once
 counted() {
