@@ -81,12 +81,10 @@ def board_of(arguments: argparse.Namespace) -> Board:
 def told(arguments: argparse.Namespace, board: Board, run: Any) -> int:
     """Carries it out, and says what became of it; the picture that is wanted comes behind that."""
     call: Call = arguments.call
-    why, is_dry = "", arguments.dry_run
+    is_dry: bool = arguments.dry_run
     file = WayFile(arguments, board, lambda rail: end_of(board, rail, is_dry))
     try:
-        run()
-    except Stopped as stopped:
-        why = told_of(board, stopped)
+        why = stop_of(board, run)
     except BaseException as fault:
         file.broken_off(fault)
         raise
@@ -128,6 +126,15 @@ def store(call: Call, board: Board, found: Answer) -> None:
     found.text = f"store {found.end}" + ("" if found.status else "; a restart loads what was stored, where no pin overrides it")
     if found.status and stored:
         found.why += f"; stored before: {', '.join(stored)}"
+
+
+def stop_of(board: Board, run: Any) -> str:
+    """Carries it out. Why it stopped, or nothing."""
+    try:
+        run()
+    except Stopped as stopped:
+        return told_of(board, stopped)
+    return ""
 
 
 def told_of(board: Board, stopped: Stopped) -> str:

@@ -16,6 +16,8 @@ from .told import in_volts
 
 COMMANDED = "commanded, by what the host knows"
 LEAST_LANE, LEAST_WIDTH, PITCH = 400, 700, 18
+# How much wider words are in bold.
+BOLD = 1.15
 HATCH, STRIPES = "url(#unknown)", ("#f3efe6", "#dcd6c8")
 LIMITED, WANTED = ' stroke-dasharray="2 3"', ' stroke-dasharray="7 4"'
 # What marks an order, by how it ended.
@@ -56,19 +58,19 @@ class WayLane(Lane):
     """What a rail commands by what the host knows, row by row. Bounds beyond the scale aren't drawn."""
 
     def __init__(self, rail: RailWay) -> None:
-        self.wanted, self.within_limits, self.states = rail.wanted, rail.limits, [row.known for row in rail.rows]
+        self.wanted, self.allowed, self.states = rail.wanted, rail.limits, [row.known for row in rail.rows]
         told = [(it.is_on is not False, it.value, None, it.bounds) for it in self.states]
         super().__init__(COMMANDED, told, [it.band for it in self.states], rail.limits)
         self.width = max(self.width, LEAST_LANE)
 
     def values(self) -> set[int]:
-        return {*self.within_limits, self.wanted, *(it.value for it in self.states if it.value is not None)}
+        return {*self.allowed, self.wanted, *(it.value for it in self.states if it.value is not None)}
 
     def words(self, place: int) -> str:
         return known_in_words(self.states[place])
 
     def commands(self) -> str:
-        return f"{rail_in_words(self.within_limits)}, wanted {in_volts(self.wanted)}"
+        return f"{rail_in_words(self.allowed)}, wanted {in_volts(self.wanted)}"
 
     def known(self, x: float, top_of: Tops, first: int, end: int) -> Iterator[str]:
         for start, stop, band in runs_of(self.bands[first:end], first):
@@ -88,9 +90,10 @@ class WayPicture:
         self.lanes = [WayLane(rail) for rail in rails]
         rows = [row for rail in rails for row in rail.rows]
         self.marks_at = EDGE + max(width_of(row.words, 12, True) for row in rows) + GAP
-        self.lanes_at = self.marks_at + MARK + max(width_of(row.end, 12) for row in rows) + GAP
+        names = max(max(BOLD * width_of(rail.name, 15), width_of(rail.place, 12)) for rail in rails)
+        self.lanes_at = max(self.marks_at + MARK + max(width_of(row.end, 12) for row in rows), EDGE + names) + GAP
         wide = max(lane.width for lane in self.lanes)
-        self.width = max(self.lanes_at + wide + EDGE, LEAST_WIDTH)
+        self.width = max(self.lanes_at + wide + EDGE, BOLD * width_of(title, 16) + 2 * EDGE, LEAST_WIDTH)
         for lane in self.lanes:
             lane.width = wide
         self.parts: list[str] = []
