@@ -21,7 +21,7 @@ PLANNED = "would be ordered"
 
 
 @dataclass(frozen=True)
-class Known:
+class Knowledge:
     """What is known of an output: whether it is on; the microvolts between which it is commanded, None where nothing is known of
     them; and those of its bounds, of one that isn't known None."""
 
@@ -36,16 +36,16 @@ class Known:
 
 
 @dataclass(frozen=True)
-class Row:
+class WayRow:
     """The start of a rail, an order or a survey: its words, how an order ended (a kind, and in words), and what was known then."""
 
     words: str
     kind: str
     end: str
-    known: Known
+    known: Knowledge
 
 
-def known_of(part: Pmbus, output: int, without: tuple[str, ...] = ()) -> Known:
+def known_of(part: Pmbus, output: int, without: tuple[str, ...] = ()) -> Knowledge:
     """What is known of an output of a part that lacks these registers."""
     state, form, bounds = part.host.rail(output), part.host.format(output), dict[str, int | None]()
     for key in (it for it in BOUNDS if SETTINGS[it] not in without):
@@ -54,7 +54,7 @@ def known_of(part: Pmbus, output: int, without: tuple[str, ...] = ()) -> Known:
             # What the library can't tell in microvolts is beyond every scale.
             with contextlib.suppress(NumberRefused):
                 bounds[key] = form.microvolts(word)
-    return Known(state.is_on, None if state.band is None else (state.band.least, state.band.greatest), bounds)
+    return Knowledge(state.is_on, None if state.band is None else (state.band.least, state.band.greatest), bounds)
 
 
 class Taking:
@@ -78,7 +78,7 @@ class Way:
 
     def __init__(self, board: Board, parts: Mapping[str, BoardPart]) -> None:
         self.board, self.parts = board, parts
-        self.rows: dict[str, list[Row]] = {rail.name: [] for rail in board.rails}
+        self.rows: dict[str, list[WayRow]] = {rail.name: [] for rail in board.rails}
         board.seen = self.see
 
     def see(self, rail: Rail, it: Setting | None, step: Step | None) -> None:
@@ -92,14 +92,14 @@ class Way:
         """What is known now of a rail, where it is another than before. The first row is its start."""
         rows, known = self.rows[rail.name], self.known(rail, self.board.on(rail))
         if not rows or rows[-1].known != known:
-            rows.append(Row(words if rows else "start", "", "", known))
+            rows.append(WayRow(words if rows else "start", "", "", known))
 
     def ordered(self, rail: Rail, it: Setting, step: Step) -> None:
         """An order of a setting, and how it ended."""
         words, part = self.order_words(it), self.board.on(rail)
         end = {"done": "done", "differs": f"differs: {self.word_words(it, step.word)}"}.get(step.kind, "no good answer")
         is_again = any(row.words == words for row in self.rows[rail.name])
-        self.rows[rail.name].append(Row(words, step.kind, f"given again: {end}" if is_again else end, self.known(rail, part)))
+        self.rows[rail.name].append(WayRow(words, step.kind, f"given again: {end}" if is_again else end, self.known(rail, part)))
 
     def rehearse(self, rail: Rail) -> None:
         """What the plan of a rail orders where each order is confirmed: a copy of the host is told so, and nothing is sent."""
@@ -109,9 +109,9 @@ class Way:
         while (order := host.next(rail.output, wanted)) is not None:
             it = next(each for each in self.board.of(rail) if each.register == order.register)
             part.carried_out()
-            self.rows[rail.name].append(Row(self.order_words(it), "", PLANNED, self.known(rail, part)))
+            self.rows[rail.name].append(WayRow(self.order_words(it), "", PLANNED, self.known(rail, part)))
 
-    def known(self, rail: Rail, part: Pmbus) -> Known:
+    def known(self, rail: Rail, part: Pmbus) -> Knowledge:
         return known_of(part, rail.output, self.parts[rail.part].without)
 
     def order_words(self, it: Setting) -> str:

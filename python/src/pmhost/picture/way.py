@@ -7,7 +7,7 @@ from __future__ import annotations
 from collections.abc import Iterator, Sequence
 from dataclasses import dataclass
 
-from ..way import Known, Row
+from ..way import Knowledge, WayRow
 from .drawing import (GOOD, LIMIT, LINE, MARKS, MONO, PALE, RAIL, box, hatched, legend, line, named, page, symbol, text, width_of,
                       wrapped)
 from .lane import INSIDE, OUTSIDE, SHADE, Lane, Tops, rail_in_words, runs_of
@@ -38,7 +38,7 @@ class RailWay:
     place: str
     limits: tuple[int, int]
     wanted: int
-    rows: Sequence[Row]
+    rows: Sequence[WayRow]
     end: str
     mark: str
 
@@ -105,7 +105,7 @@ class WayPicture:
             y += PITCH
         return y
 
-    def draw_row(self, top: float, row: Row) -> None:
+    def draw_row(self, top: float, row: WayRow) -> None:
         mark = MARKED.get(row.kind, "none")
         self.parts.append(line(EDGE, top, self.width - EDGE, top, "#dcdfe3"))
         self.parts.append(text(EDGE, top + 18, row.words, family=MONO))
@@ -139,7 +139,7 @@ class WayPicture:
         return page(self.title, self.width, y + 22, self.parts, [hatched("unknown", *STRIPES)])
 
 
-def known_in_words(known: Known) -> str:
+def known_in_words(known: Knowledge) -> str:
     """What an output commands, by what is known."""
     if known.band is None:
         words = "not known"
