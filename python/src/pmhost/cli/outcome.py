@@ -94,9 +94,9 @@ def commanded_words(found: Commanded, register: str, microvolts: int | None) -> 
         words = f"the output is off, and would command {band}"
     elif not selects(found, register):
         words = f"OPERATION selects {found.selected}: the output commands {band}"
-    elif wanted is not None and found.is_value(wanted):
+    elif wanted is None or found.is_value(wanted):
         words = f"the output commands {band}"
-    elif wanted is not None and found.least <= wanted <= found.greatest:
+    elif found.least <= wanted <= found.greatest:
         words = f"the output commands {band}, and isn't known to command {voltages.shown(wanted)}"
     else:
         words = f"CUT: the output commands {band}"
