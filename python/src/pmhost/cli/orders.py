@@ -18,7 +18,7 @@ from . import readings
 from .answer import Answer, in_digits
 from .call import Call, said
 from .completion import completed_by
-from .outcome import DEVICE, REGISTERS, VOLTAGES, answer_of, cell_words, ended_badly, rail_words, refused, surveyed, why_not
+from .outcome import DEVICE, REGISTERS, VOLTAGES, answer_of, cell_words, ended_badly, noted_of, rail_words, refused, surveyed, why_not
 from .parser import BadCall, bus_options, shown, whole
 
 MARGIN_HIGH, MARGIN_LOW = 0xA8, 0x94
@@ -239,7 +239,7 @@ def survey_output(arguments: argparse.Namespace) -> int:
     found = answer_of(arguments, call.part(), None, "told", text=rail_words(state))
     found.commanded = state
     if not state.is_well:
-        found.status, found.end, found.why = 1, "unsure", why_not(state)
+        found.status, found.end, found.why = 1, "unsure", why_not(state) + noted_of(call.part(), arguments.output, state)
     return call.say(found)
 
 
