@@ -91,7 +91,7 @@ else
 fi
 
 if command -v cargo > /dev/null; then
-    PM_ARCHIVES=$built CARGO_TARGET_DIR=$folder/cargo cargo test --offline --manifest-path rust/Cargo.toml > "$folder/log" 2>&1
+    PM_ARCHIVES=$built CARGO_TARGET_DIR=$folder/cargo cargo test --offline --all-features --manifest-path rust/Cargo.toml > "$folder/log" 2>&1
     status=$?
     read -r good bad < <(awk '/^test result: / {good += $4; bad += $6} END {print good + 0, bad + 0}' "$folder/log")
     counted "Rust" "$good" "$bad" $status

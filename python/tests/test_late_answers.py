@@ -7,7 +7,7 @@ import os
 import random
 import unittest
 
-from pmhost import Host, Survey
+from pmhost import Host, Packet, Survey, pec
 
 from . import plain_model  # noqa: F401
 from plain.converter import COMMAND, HIGH, LOW, MAX, MIN, OPERATION, PROTECT, Converter
@@ -21,6 +21,8 @@ ADDRESS, OUTPUTS, TRIES, READS = 0x58, 8, 32, 8
 REGISTERS = (OPERATION, COMMAND, MAX, HIGH, LOW, MIN)
 # A word for each register of each output, all of them different, within VOUT_MIN and VOUT_MAX or not.
 LINEAR, DIRECT = 0x14, 0x40
+# The reads of two outputs that share a packet error code, so that each one's answer is a good one of the other.
+PAIRS = [pair for page in range(OUTPUTS) for pair in (((page, COMMAND), (page ^ 1, LOW)), ((page, HIGH), (page ^ 2, MIN)))]
 
 
 def a_part(draw, mode):
@@ -145,14 +147,21 @@ class Surveys(unittest.TestCase):
 
     def test_a_first_answer_that_came_late_is_believed(self):
         """Why the first read has to come whole: an answer that two reads share is believed in the other's place, both ways."""
-        pairs = [((0, COMMAND), (1, LOW)), ((6, COMMAND), (7, LOW)), ((0, HIGH), (2, MIN)), ((5, HIGH), (7, MIN))]
-        for first, second in [*pairs, *((second, first) for first, second in pairs)]:
+        for first, second in [*PAIRS, *((second, first) for first, second in PAIRS)]:
             for made in (OfLibrary, OfPlain):
                 part = a_part(random.Random(43), LINEAR)
                 bus, ends = LateBus(part, (False, True)), made(1)
                 self.assertEqual((ends.check(first, bus), ends.check(second, bus)), ("done", "done"))
                 self.assertEqual(ends.possible(second), [part.cells[first]])
                 self.assertNotEqual(part.cells[first], part.cells[second])
+
+    def test_the_pairs_are_all_reads_that_share_an_answer(self):
+        """By the packet error code of what stands in front of the answer's own bytes, for each two reads of registers."""
+        reads = {(page, register): Packet("PAGE_PLUS_READ", register, page=page) for page in range(OUTPUTS) for register in REGISTERS}
+        fronts = {cell: (it.answer, pec(it.frame(ADDRESS) + bytes([ADDRESS << 1 | 1]))) for cell, it in reads.items()}
+        shared = {frozenset(two) for two in itertools.combinations(reads, 2) if fronts[two[0]] == fronts[two[1]]}
+        self.assertEqual({frozenset(two) for two in PAIRS}, shared)
+        self.assertEqual(len(PAIRS), 16)
 
     def test_an_answer_that_no_read_shares_is_refused(self):
         for first, second in (((0, COMMAND), (0, LOW)), ((0, COMMAND), (1, COMMAND)), ((0, HIGH), (1, MIN)), ((0, OPERATION), PROTECT),

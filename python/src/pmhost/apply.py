@@ -75,6 +75,8 @@ class Board:
     after_order: Callable[[Setting], None] = lambda setting: None
     seen: Callable[[Rail, Setting | None, Step | None], None] = lambda rail, setting, step: None
     settings: list[Setting] = field(default_factory=list)
+    # The format of each rail, which stands here since a host may forget it.
+    formats: dict[str, Format] = field(default_factory=dict)
     surveys: dict[str, Commanded] = field(default_factory=dict)
     orders: int = 0
     # How many orders there had been when a rail was surveyed last.
@@ -121,6 +123,9 @@ class Board:
             part.host.learn(rail.output)
             if part.carried_out().kind != "learned":
                 raise Stopped(f"{rail.name}: its format isn't known: {probe.why_not_learned(part, rail.output)}", rail.part, rail.output)
+            form = part.host.format(rail.output)
+            assert form is not None
+            self.formats[rail.name] = form
         for rail in self.rails:
             words = {key: self.word(rail, key) for key in SETTINGS if key in rail.settings}
             self.settings += [Setting(rail, key, word, word) for key, word in words.items()]
@@ -137,9 +142,7 @@ class Board:
             raise Stopped(f"{rail.name}.{key}: {voltages.shown(micro)}: {fault.letter} {fault.name}, in the rail's format") from None
 
     def format(self, rail: Rail) -> Format:
-        found = self.on(rail).host.format(rail.output)
-        assert found is not None
-        return found
+        return self.formats[rail.name]
 
     def of(self, rail: Rail) -> list[Setting]:
         return [it for it in self.settings if it.rail is rail]
