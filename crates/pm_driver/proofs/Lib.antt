@@ -26,3 +26,5 @@ mod Patience
 mod Plan
 mod NeverRestarts
 mod PlanEnds
+mod Surprises
+mod ReadJobs

@@ -76,8 +76,8 @@ pub use driver::Driver;
 pub use frames::carry_out;
 pub use laws::{
     ends_are_true, jobs_restart_nothing, leads_compose, new_converters_are_within,
-    new_converters_have_no_restart, new_converters_may_begin, reads_restart_nothing,
-    requests_are_no_writes, restarts_are_counted, undisturbed_orders_are_done,
+    new_converters_have_no_restart, new_converters_may_begin, one_surprise_at_most,
+    reads_restart_nothing, requests_are_no_writes, restarts_are_counted, undisturbed_orders_are_done,
     whole_frames_are_legal,
 };
 pub use rail_laws::{
