@@ -28,3 +28,4 @@ mod NeverRestarts
 mod PlanEnds
 mod Surprises
 mod ReadJobs
+mod FewChecks

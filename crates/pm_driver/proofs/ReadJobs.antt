@@ -1,5 +1,6 @@
 -- What the host is told while a check, or a learn, is open: what it knows then, and which of its answers surprise.
-use Rattle.std.specs.Prelude.{◌≡◌, ◌⊎◌, ◌+◌, ◌==◌, ◌||◌, ℕ, Bool, true, false, not, cond, refl, List, [], ◌∷◌, ◌++◌, length, Option, Some, None}
+use Rattle.std.specs.Prelude.{◌≡◌, ◌⊎◌, ◌+◌, ◌==◌, ◌||◌, ℕ, Bool, true, false, not, cond, refl, List, [], ◌∷◌, ◌++◌, length, Option, Some}
+use Rattle.std.specs.Prelude.{None}
 use Rattle.std.specs.Prelude.{IsSomeAnd, is_none, option_and_then, option_map, option_to_list}
 use Rattle.std.specs.List.{list_any}
 use Rattle.std.specs.Option.{option_map_or}
@@ -28,8 +29,10 @@ use Rattle.pm_host.specs.Now.{AreTold, now}
 use Rattle.pm_host.specs.Possible.{is_possible, possible_of}
 use Rattle.pm_host.specs.Refusals.{IsSetup, may_come, sends_read, sends_write}
 use Rattle.pm_host.specs.Standing.{standing_of}
-use Rattle.pm_host.specs.Summary.{Change, Summary, answered, asked, change, ends, finished, goes_on, idle, next, possible_at, stage_message, standing_at, step_by, step_of}
-use Rattle.pm_host.specs.Transcript.{Accepted, Check, Entry, Finished, Got, Job, Learn, Restarted, Setup, end_of, last_job, open_job, told_since}
+use Rattle.pm_host.specs.Summary.{Change, Summary, answered, asked, change, ends, finished, goes_on, idle, next, possible_at, stage_message}
+use Rattle.pm_host.specs.Summary.{standing_at, step_by, step_of}
+use Rattle.pm_host.specs.Transcript.{Accepted, Check, Entry, Finished, Got, Job, Learn, Restarted, Setup, end_of, last_job, open_job}
+use Rattle.pm_host.specs.Transcript.{told_since}
 use Rattle.pm_driver.specs.Surprises.{has_surprise, is_surprise}
 use Rattle.pm_driver.proofs.Followed.{Frames}
 
@@ -239,7 +242,8 @@ module _ (laws : TranscriptsAreFollowed) (told_ends : EndsAreTold) (setup : Setu
     go (found word none known confirmed count) = record { word = word; known = known; confirmed = confirmed; count = count }
     go (asking tries e known zero) =
         let open' = opened ((frames ++ Accepted (Check cell) ∷ []) ++ entries) tries e in
-        let closed = ap (λ (o : Option JobEnd). cond (is_none o) (last_job ((frames ++ Accepted (Check cell) ∷ []) ++ entries)) None) over in
+        let closed = ap (λ (o : Option JobEnd). cond (is_none o) (last_job ((frames ++ Accepted (Check cell) ∷ []) ++ entries)) None) over
+            in
         let bad = sym open' ∙ closed in cc
     go (lost none end) = let bad = sym end ∙ over in cc
 
@@ -294,12 +298,14 @@ learn-read setup output entries (Finished acked ∷ frames) are =
     still h = omega arith
 learn-read setup output entries (Got bytes ∷ frames) are =
     let was = learn-read setup output entries frames are in
-    let none = learn-goods setup ((frames ++ Accepted (Learn output) ∷ []) ++ entries) output bytes (last-learn output entries frames are) in
+    let none = learn-goods setup ((frames ++ Accepted (Learn output) ∷ []) ++ entries) output bytes (last-learn output entries frames are)
+        in
     record {
       marks_are = ap₂ (λ (ms new : List Mark). ms ++ (new ++ marks setup ((frames ++ Accepted (Learn output) ∷ []) ++ entries)))
           (learn-puts setup (Got bytes ∷ ((frames ++ Accepted (Learn output) ∷ []) ++ entries)) output
           (last-learn output entries frames are)) none ∙ was.marks_are;
-      count = still (ap (λ (new : List Mark). list_any (is_surprise (marks setup ((frames ++ Accepted (Learn output) ∷ []) ++ entries))) new)
+      count = still (ap (λ (new : List Mark). list_any (is_surprise (marks setup ((frames ++ Accepted (Learn output) ∷ []) ++ entries)))
+          new)
           none) was.count;
     }
   where

@@ -1,5 +1,6 @@
 -- Between two answers that surprise the converter restarted.
-use Rattle.std.specs.Prelude.{◌≡◌, ◌↔◌, ◌≤◌, ◌<◌, ◌+◌, ◌==◌, ◌||◌, ◌&&◌, ℕ, Bool, true, false, not, cond, refl, List, [], ◌∷◌, ◌++◌, Option, Some, None}
+use Rattle.std.specs.Prelude.{◌≡◌, ◌↔◌, ◌≤◌, ◌<◌, ◌+◌, ◌==◌, ◌||◌, ◌&&◌, ℕ, Bool, true, false, not, cond, refl, List, [], ◌∷◌, ◌++◌, Option}
+use Rattle.std.specs.Prelude.{Some, None}
 use Rattle.std.specs.Prelude.{option_and_then, option_map, option_to_list}
 use Rattle.std.specs.List.{list_any}
 use Rattle.std.proofs.Common.{arith, sym, ◌∙◌, ap, subst, append_assoc}
@@ -75,6 +76,21 @@ none-restarts (event ∷ before) none = go (restarts_converter event) none (λ h
       (list_any restarts_converter before ≡ false → restarts_in before ≡ 0) → cond b 1 0 + restarts_in before ≡ 0
   go true h f = cc
   go false h f = let rest = f h in omega arith
+
+-- the answers that surprise among two lists are those of both
+abbrev surprises_here : Config → ℕ → List Event → Event → ℕ
+surprises_here config passes before event = cond (is_surprised_by config passes before event) 1 0
+
+pub both-surprised : (config : Config) (passes : ℕ) (newer older before : List Event) →
+    surprises_in config passes (newer ++ older) before
+    ≡ surprises_in config passes newer (older ++ before) + surprises_in config passes older before
+both-surprised config passes [] older before = omega arith
+both-surprised config passes (event ∷ newer) older before =
+    let rest = both-surprised config passes newer older before in
+    let same : surprises_here config passes ((newer ++ older) ++ before) event
+    ≡ surprises_here config passes (newer ++ (older ++ before)) event =
+    ap (λ (es : List Event). surprises_here config passes es event) (append_assoc newer older before) in
+    omega arith
 
 module _ (apart : CellsAreToldApart) (words : PossibleWordsAreFollowed) where
   -- it stays so with a write that begins, and with a restore
@@ -250,19 +266,22 @@ module _ (apart : CellsAreToldApart) (words : PossibleWordsAreFollowed) where
       go true e = read (λ since. let bad = sym since
           ∙ ap (λ (b : Bool). cond b false (restarts_converter first || restarted_since config passes cell before)) e in cc)
       go false e = free (life-more before first cell
-          (told-wiped (setup_of config passes) (life config passes before).entries cell (share_of (now config passes before) first).told e is))
+          (told-wiped (setup_of config passes) (life config passes before).entries cell (share_of (now config passes before) first).told e
+              is))
     behind first before cell is (event ∷ middle) =
         go (reads_cell config passes cell (middle ++ first ∷ before) event) refl (behind first before cell is middle)
       where
         go : (b : Bool) → reads_cell config passes cell (middle ++ first ∷ before) event ≡ b → Behind middle (first ∷ before) cell →
             Behind (event ∷ middle) (first ∷ before) cell
         go true e was = read (λ since. let bad = sym since
-            ∙ ap (λ (b : Bool). cond b false (restarts_converter event || restarted_since config passes cell (middle ++ first ∷ before))) e in cc)
+            ∙ ap (λ (b : Bool). cond b false (restarts_converter event || restarted_since config passes cell (middle ++ first ∷ before))) e
+                in cc)
         go false e (free was) = free (life-more (middle ++ first ∷ before) event cell
             (told-free (setup_of config passes) (life config passes (middle ++ first ∷ before)).entries cell
             (share_of (now config passes (middle ++ first ∷ before)) event).told e was))
         go false e (read was) = read (λ since. by (restarts_converter event)
-            (sym (ap (λ (b : Bool). cond b false (restarts_converter event || restarted_since config passes cell (middle ++ first ∷ before))) e)
+            (sym (ap (λ (b : Bool). cond b false
+                (restarts_converter event || restarted_since config passes cell (middle ++ first ∷ before))) e)
             ∙ since))
           where
             by : (b : Bool) → (b || restarted_since config passes cell (middle ++ first ∷ before)) ≡ true →
@@ -284,7 +303,8 @@ module _ (apart : CellsAreToldApart) (words : PossibleWordsAreFollowed) where
         go (free any) = absurd (not-free (setup_of config passes) (life config passes (middle ++ first ∷ before)).entries
             (share_of (now config passes (middle ++ first ∷ before)) second).told named.0 named.1 any)
         go (read since) = since
-            ((held.seen config passes (second ∷ (middle ++ first ∷ before)) lived).surprises [] (middle ++ first ∷ before) second named.0 refl
+            ((held.seen config passes (second ∷ (middle ++ first ∷ before)) lived).surprises [] (middle ++ first ∷ before) second named.0
+                refl
             named.1).1
 
       -- ---- Counts ----
@@ -320,7 +340,8 @@ module _ (apart : CellsAreToldApart) (words : PossibleWordsAreFollowed) where
           go (is_surprised_by config passes (later ++ before) event) refl
           (counted later before (lives.earlier config passes (event ∷ []) (later ++ before) lived))
         where
-          go : (b : Bool) → is_surprised_by config passes (later ++ before) event ≡ b → Counted later before → Counted (event ∷ later) before
+          go : (b : Bool) → is_surprised_by config passes (later ++ before) event ≡ b → Counted later before
+              → Counted (event ∷ later) before
           go false e (none zero) = none (quiet-more event later before e ∙ zero)
           go false e (some newer older last is surprising few) =
               let same = quiet-more event later before e in
@@ -368,20 +389,6 @@ module _ (apart : CellsAreToldApart) (words : PossibleWordsAreFollowed) where
             (was_read config passes named.0 older before) (off named.0)).0 in
             let bad = sym no ∙ named.2 in cc
 
-      abbrev surprises_here : List Event → Event → ℕ
-      surprises_here before event = cond (is_surprised_by config passes before event) 1 0
-
-      both-surprised : (newer older before : List Event) →
-          surprises_in config passes (newer ++ older) before
-          ≡ surprises_in config passes newer (older ++ before) + surprises_in config passes older before
-      both-surprised [] older before = omega arith
-      both-surprised (event ∷ newer) older before =
-          let rest = both-surprised newer older before in
-          let same : surprises_here ((newer ++ older) ++ before) event
-              ≡ surprises_here (newer ++ (older ++ before)) event =
-          ap (λ (es : List Event). surprises_here es event) (append_assoc newer older before) in
-          omega arith
-
       one-surprise : (newer older before : List Event) → IsLived config passes ((newer ++ older) ++ before) →
           ((cell : Cell) → was_read config passes cell older before ≡ false) → list_any restarts_converter newer ≡ false →
           surprises_in config passes (newer ++ older) before ≤ 1
@@ -389,7 +396,7 @@ module _ (apart : CellsAreToldApart) (words : PossibleWordsAreFollowed) where
           let few = few-surprise newer (older ++ before) (subst (λ (es : List Event). IsLived config passes es)
           (append_assoc newer older before) lived) in
           let zero = unread older before off in
-          let parts = both-surprised newer older before in
+          let parts = both-surprised config passes newer older before in
           let still = none-restarts newer quiet in
           omega arith
 
@@ -404,7 +411,8 @@ one-at-most apart words held lives config passes events lived = record {
   );
   between = λ later middle before first second cell other is surprising again.
       shown apart words config passes held lives middle before first second
-      (lives.earlier config passes later (second ∷ (middle ++ first ∷ before)) (subst (λ (es : List Event). IsLived config passes es) is lived))
+      (lives.earlier config passes later (second ∷ (middle ++ first ∷ before))
+          (subst (λ (es : List Event). IsLived config passes es) is lived))
       (some-cell apart words (setup_of config passes) (life config passes before).entries
       (share_of (now config passes before) first).told cell surprising)
       (some-cell apart words (setup_of config passes) (life config passes (middle ++ first ∷ before)).entries
