@@ -6,7 +6,7 @@ use Rattle.std.specs.List.{list_any}
 use Rattle.std.proofs.Common.{arith, sym, ◌∙◌, ap, ap₂, subst, append_assoc, append-nil}
 use Rattle.pm_table.specs.declared.cell.Cell.{Cell}
 use Rattle.pm_table.specs.declared.cell.Cell.TheVariants.{Out, Protect}
-use Rattle.pm_table.specs.Cell.{IsCell, cell_accepts}
+use Rattle.pm_table.specs.Cell.{IsCell, cell_accepts, cell_in, places}
 use Rattle.pm_model.specs.Settings.{Words, word_at}
 use Rattle.pm_device.specs.declared.config.Config.{Config}
 use Rattle.pm_device.specs.Held.{Held as Converter}
@@ -17,18 +17,22 @@ use Rattle.pm_host.specs.declared.job_end.JobEnd.{JobEnd}
 use Rattle.pm_host.specs.declared.job_end.JobEnd.TheVariants.{Done}
 use Rattle.pm_host.specs.declared.standing.Standing.TheVariants.{Confirmed}
 use Rattle.pm_host.specs.Jobs.{accepted_job}
-use Rattle.pm_host.specs.Known.{HasPlaces, Known, known_after}
+use Rattle.pm_host.specs.Cells.{table}
+use Rattle.pm_host.specs.Known.{HasPlaces, known_after, known_now}
 use Rattle.pm_host.specs.Laws.{EndsAreTold, TranscriptsAreFollowed}
-use Rattle.pm_host.specs.Marks.{Good}
+use Rattle.pm_host.specs.Marks.{Good, marks}
 use Rattle.pm_host.specs.Now.{AreTold, now as host_now}
+use Rattle.pm_host.specs.Possible.{possible_of}
 use Rattle.pm_host.specs.Refusals.{is_busy}
+use Rattle.pm_host.specs.Standing.{standing_of}
 use Rattle.pm_host.specs.Summary.{Summary, standing_at}
-use Rattle.pm_host.specs.Transcript.{Accepted, Check, Entry, Job, Learn, Setup, end_of}
+use Rattle.pm_host.specs.Transcript.{Accepted, Check, Entry, Job, Learn, end_of}
 use Rattle.pm_limits.specs.declared.part_registers.PartRegisters.{PartRegisters}
 use Rattle.pm_limits.specs.Guard.{Guarded}
 use Rattle.pm_rail.specs.declared.survey.Survey.{Survey}
 use Rattle.pm_rail.specs.Survey.{next_job, nothing_read}
 use Rattle.pm_rail.specs.SurveyLength.{Answered, SurveysAreShort, checked, learned, nothing as unasked, reads_in, surprise}
+use Rattle.std.proofs.lemmas.List.FromFn.{length-map-range_with_len}
 use Rattle.pm_world.specs.declared.event.Event.{Event}
 use Rattle.pm_world.specs.Confirmed.{restarts_converter}
 use Rattle.pm_world.specs.Laws.{LivesAreFollowed}
@@ -47,7 +51,7 @@ use Rattle.pm_driver.specs.SurveyLaws.{events_read}
 use Rattle.pm_driver.proofs.EndedJobs.{now-end}
 use Rattle.pm_driver.proofs.Followed.{entries-are, host-is, told_in}
 use Rattle.pm_driver.proofs.RailLives.{Kind, Ran, checks, idle-check, idle-learn, learns, protects, ran}
-use Rattle.pm_driver.proofs.ReadJobs.{CheckRead, check-read, has-places, learn-known, learn-read, surprised}
+use Rattle.pm_driver.proofs.ReadJobs.{check-read, learn-known, learn-read, surprised}
 use Rattle.pm_driver.proofs.Surprises.{both-surprised}
 use Rattle.pm_driver.proofs.Surveyed.{asked-output, asks-so}
 use Rattle.pm_driver.proofs.SurveyRuns.{none-restarted, words-now}
@@ -86,10 +90,15 @@ accepts origin config passes events host held cell lived there =
     ap (λ (w : Words). cell_accepts cell (word_at w cell)) (sym (words-now config passes events host held lived))
     ∙ origin.accepted config (life config passes events).past cell lived.lived.sound there
 
--- the setup of a life's host
-host-setup : (config : Config) (passes : ℕ) (events : List Event) → (now config passes events).host.setup ≡ setup_of config passes
-unfolding now state_of host_now
-host-setup config passes events = refl
+-- the host of a life has a place for each cell
+life-places : (config : Config) (passes : ℕ) (events : List Event) → HasPlaces (now config passes events).host.known
+unfolding now state_of host_now known_now table
+life-places config passes events = record {
+  possible = length-map-range_with_len (λ place. possible_of (marks (setup_of config passes) (life config passes events).entries)
+      (cell_in place)) 0 places;
+  standing = length-map-range_with_len (λ place. standing_of (marks (setup_of config passes) (life config passes events).entries)
+      (cell_in place)) 0 places;
+}
 
 module _ (laws : LawsOfReads) (config : Config) (passes : ℕ) (before : List Event) (part : PartRegisters) (begun : Survey) (first : Summary)
     (here : begun.output < config.count) where
@@ -225,7 +234,7 @@ module _ (laws : LawsOfReads) (config : Config) (passes : ℕ) (before : List Ev
       (events_in gives held restarts end old new (accepted_job old.guard.host asked') runs.leads ++ es) (count + cond (is_check asked') 1 0)
   kind-on gives held restarts v es count _ end old new few learns done asks runs way =
       learn-on gives held restarts v es count end old new asks (idle-learn old.guard v.output (sym runs.fault)) runs.registers runs.leads
-          way
+      way
   kind-on gives held restarts v es count _ end old new few (checks r has) done asks runs way =
       let there : v.output < config.count = subst (λ (o : ℕ). o < config.count) (sym way.own) here in
       check-done gives held restarts v es count (Out v.output r) end old new there (omega arith) asks
@@ -241,16 +250,16 @@ module _ (laws : LawsOfReads) (config : Config) (passes : ℕ) (before : List Ev
       {new : Driving B} (here : begun.output < config.count) → config.count ≤ 8 → (runs : Surveys gives held restarts begun old v new) →
       AreAnswered runs → IsLife config passes before old.guard.host (held old.bus) →
       Way laws config passes before old.guard.registers begun old.guard.host here v new.guard (held new.bus) (events_read runs)
-          (checks_in runs)
+      (checks_in runs)
   way here few nothing done lived = record { lived = lived; part_is = refl; own = refl; answered = unasked }
   way {gives = gives} {held = held} {restarts = restarts} {begun = begun} {old = old} here few
       (more v asked' end middle last runs asks does) done lived =
       let was = way here few runs done.1 lived in
       kind-on laws config passes before old.guard.registers begun old.guard.host here gives held restarts v (events_read runs)
-          (checks_in runs)
+      (checks_in runs)
       asked' end middle last few
       (asks-so (λ (j : Asked). Kind old.guard.registers v j) old.guard.registers v middle.guard.host learns (λ r has. checks r has) protects
-          asked'
+      asked'
       (ap (λ (p : PartRegisters). next_job p v middle.guard.host) (sym was.part_is) ∙ asks))
       done.0 asks does was
 
@@ -265,11 +274,9 @@ module _ (laws : LawsOfReads) (config : Config) (passes : ℕ) (before : List Ev
       let one = (laws.one config passes (events_read runs ++ before) went.lived.lived).one newer older before
       (ap (λ (es : List Event). es ++ before) is) off quiet in
       let less = subst (λ (es : List Event). surprises_in config passes es before ≤ 1) (sym is) one in
-      let host : host_now (setup_of config passes) (life config passes before).entries ≡ old.guard.host =
-      sym (host-is config passes before) ∙ lived.host_is in
       laws.short.short old.guard.registers begun v old.guard.host new.guard.host (checks_in runs)
       (surprises_in config passes (events_read runs) before)
-      (subst (λ (s : Summary). HasPlaces s.known) host (has-places (setup_of config passes) (life config passes before).entries))
+      (subst (λ (s : Summary). HasPlaces s.known) lived.host_is (life-places config passes before))
       (omega arith) none went.answered less
 
 pub takes-few : LawsOfReads → {B : Type 0} (gives : B → Call → B → Type 0) (held : B → Converter) (restarts : B → ℕ) →
@@ -277,9 +284,7 @@ pub takes-few : LawsOfReads → {B : Type 0} (gives : B → Call → B → Type 
 takes-few laws gives held restarts = record {
   lives = λ begun v old new runs done none config passes before newer older here lived is off quiet.
       few-checks laws config passes before runs done none newer older here lived is off quiet;
-  counted = λ begun v old new runs done none there has same.
-      few-checks laws has.config has.passes has.events runs done none (events_read runs) []
-      (subst (λ (s : Setup). begun.output < s.outputs) (sym (ap (λ (s : Summary). s.setup) has.life.host_is)
-      ∙ host-setup has.config has.passes has.events) there)
-      has.life (sym (append-nil (events_read runs))) (λ cell. refl) (none-restarted restarts runs same);
+  counted = λ begun v old new runs done none has here same.
+      few-checks laws has.config has.passes has.events runs done none (events_read runs) [] here has.life
+      (sym (append-nil (events_read runs))) (λ cell. refl) (none-restarted restarts runs same);
 }

@@ -5,9 +5,8 @@ use Rattle.std.specs.Prelude.{IsSomeAnd, is_none, option_and_then, option_map, o
 use Rattle.std.specs.List.{list_any}
 use Rattle.std.specs.Option.{option_map_or}
 use Rattle.std.proofs.Common.{arith, inl, inr, sym, ◌∙◌, ap, ap₂, subst}
-use Rattle.std.proofs.lemmas.List.FromFn.{length-map-range_with_len}
 use Rattle.pm_table.specs.declared.cell.Cell.{Cell}
-use Rattle.pm_table.specs.Cell.{IsCell, cell_in, places}
+use Rattle.pm_table.specs.Cell.{IsCell}
 use Rattle.pm_frame.specs.Layout.{is_read_message}
 use Rattle.pm_host.specs.declared.possible.Possible.{Possible}
 use Rattle.pm_host.specs.declared.job_end.JobEnd.{JobEnd}
@@ -19,16 +18,14 @@ use Rattle.pm_host.specs.declared.standing.Standing.TheVariants.{Confirmed}
 use Rattle.pm_host.specs.declared.step.Step.{Step}
 use Rattle.pm_host.specs.declared.step.Step.TheVariants.{Ended}
 use Rattle.pm_host.specs.Answers.{good_payload, good_word, word_in}
-use Rattle.pm_host.specs.Cells.{table}
 use Rattle.pm_host.specs.Ended.{EndTells, IsRead, StepTells, job_in, stage_job}
-use Rattle.pm_host.specs.Known.{HasPlaces, Known, known_after, known_now, known_possible}
+use Rattle.pm_host.specs.Known.{Known, known_after, known_now, known_possible}
 use Rattle.pm_host.specs.Laws.{EndsAreTold, TranscriptsAreFollowed}
 use Rattle.pm_host.specs.Marks.{Good, Mark, goods, marks, put_by, puts, read_by}
 use Rattle.pm_host.specs.Messages.{cell_read}
 use Rattle.pm_host.specs.Now.{AreTold, now}
 use Rattle.pm_host.specs.Possible.{is_possible, possible_of}
 use Rattle.pm_host.specs.Refusals.{IsSetup, may_come, sends_read, sends_write}
-use Rattle.pm_host.specs.Standing.{standing_of}
 use Rattle.pm_host.specs.Summary.{Change, Summary, answered, asked, change, ends, finished, goes_on, idle, next, possible_at, stage_message}
 use Rattle.pm_host.specs.Summary.{standing_at, step_by, step_of}
 use Rattle.pm_host.specs.Transcript.{Accepted, Check, Entry, Finished, Got, Job, Learn, Restarted, Setup, end_of, last_job, open_job}
@@ -40,14 +37,6 @@ use Rattle.pm_driver.proofs.Followed.{Frames}
 abbrev pub surprised : Setup → List Entry → List Entry → ℕ
 surprised setup [] older = 0
 surprised setup (entry ∷ newer) older = cond (has_surprise setup (newer ++ older) (Some entry)) 1 0 + surprised setup newer older
-
--- a host that looks back over its marks has a place for each cell
-pub has-places : (setup : Setup) (entries : List Entry) → HasPlaces (now setup entries).known
-unfolding now known_now table
-has-places setup entries = record {
-  possible = length-map-range_with_len (λ place. possible_of (marks setup entries) (cell_in place)) 0 places;
-  standing = length-map-range_with_len (λ place. standing_of (marks setup entries) (cell_in place)) 0 places;
-}
 
 -- the address of a host stays
 same-address : (setup : Setup) (entries : List Entry) → (now setup entries).setup ≡ setup
@@ -243,7 +232,7 @@ module _ (laws : TranscriptsAreFollowed) (told_ends : EndsAreTold) (setup : Setu
     go (asking tries e known zero) =
         let open' = opened ((frames ++ Accepted (Check cell) ∷ []) ++ entries) tries e in
         let closed = ap (λ (o : Option JobEnd). cond (is_none o) (last_job ((frames ++ Accepted (Check cell) ∷ []) ++ entries)) None) over
-            in
+        in
         let bad = sym open' ∙ closed in cc
     go (lost none end) = let bad = sym end ∙ over in cc
 
@@ -299,7 +288,7 @@ learn-read setup output entries (Finished acked ∷ frames) are =
 learn-read setup output entries (Got bytes ∷ frames) are =
     let was = learn-read setup output entries frames are in
     let none = learn-goods setup ((frames ++ Accepted (Learn output) ∷ []) ++ entries) output bytes (last-learn output entries frames are)
-        in
+    in
     record {
       marks_are = ap₂ (λ (ms new : List Mark). ms ++ (new ++ marks setup ((frames ++ Accepted (Learn output) ∷ []) ++ entries)))
           (learn-puts setup (Got bytes ∷ ((frames ++ Accepted (Learn output) ∷ []) ++ entries)) output

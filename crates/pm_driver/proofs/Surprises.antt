@@ -124,7 +124,7 @@ module _ (apart : CellsAreToldApart) (words : PossibleWordsAreFollowed) where
     go (Some (host.Order put w)) = by_turn (host.is_write_turn (host.told_since entries)) put w
     go (Some job) = free
 
-  -- and with a good answer for another cell
+  -- it also does with a good answer for another cell
   other-free : (ms : List Mark) (read cell : Cell) (w : ℕ) → same_cell read cell ≡ false →
       (is_possible w (possible_of ms read) ≡ true → Free ms cell) → Free (Good read w ∷ ms) cell
   other-free ms read cell w two free word = words.good ms read cell w word ∙ go (same_cell read cell) two
@@ -267,7 +267,7 @@ module _ (apart : CellsAreToldApart) (words : PossibleWordsAreFollowed) where
           ∙ ap (λ (b : Bool). cond b false (restarts_converter first || restarted_since config passes cell before)) e in cc)
       go false e = free (life-more before first cell
           (told-wiped (setup_of config passes) (life config passes before).entries cell (share_of (now config passes before) first).told e
-              is))
+          is))
     behind first before cell is (event ∷ middle) =
         go (reads_cell config passes cell (middle ++ first ∷ before) event) refl (behind first before cell is middle)
       where
@@ -275,13 +275,13 @@ module _ (apart : CellsAreToldApart) (words : PossibleWordsAreFollowed) where
             Behind (event ∷ middle) (first ∷ before) cell
         go true e was = read (λ since. let bad = sym since
             ∙ ap (λ (b : Bool). cond b false (restarts_converter event || restarted_since config passes cell (middle ++ first ∷ before))) e
-                in cc)
+            in cc)
         go false e (free was) = free (life-more (middle ++ first ∷ before) event cell
             (told-free (setup_of config passes) (life config passes (middle ++ first ∷ before)).entries cell
             (share_of (now config passes (middle ++ first ∷ before)) event).told e was))
         go false e (read was) = read (λ since. by (restarts_converter event)
             (sym (ap (λ (b : Bool). cond b false
-                (restarts_converter event || restarted_since config passes cell (middle ++ first ∷ before))) e)
+            (restarts_converter event || restarted_since config passes cell (middle ++ first ∷ before))) e)
             ∙ since))
           where
             by : (b : Bool) → (b || restarted_since config passes cell (middle ++ first ∷ before)) ≡ true →
@@ -304,7 +304,7 @@ module _ (apart : CellsAreToldApart) (words : PossibleWordsAreFollowed) where
             (share_of (now config passes (middle ++ first ∷ before)) second).told named.0 named.1 any)
         go (read since) = since
             ((held.seen config passes (second ∷ (middle ++ first ∷ before)) lived).surprises [] (middle ++ first ∷ before) second named.0
-                refl
+            refl
             named.1).1
 
       -- ---- Counts ----
@@ -379,15 +379,15 @@ module _ (apart : CellsAreToldApart) (words : PossibleWordsAreFollowed) where
           (unread older before (λ cell. (or_parts (reads_cell config passes cell (older ++ before) event)
           (was_read config passes cell older before) (off cell)).1))
         where
-        go : (b : Bool) → is_surprised_by config passes (older ++ before) event ≡ b → surprises_in config passes older before ≡ 0 →
-            surprises_in config passes (event ∷ older) before ≡ 0
-        go false e zero = quiet-more event older before e ∙ zero
-        go true e zero =
-            let named = one-cell (setup_of config passes) (life config passes (older ++ before)).entries
-            (share_of (now config passes (older ++ before)) event).told e in
-            let no = (or_parts (reads_cell config passes named.0 (older ++ before) event)
-            (was_read config passes named.0 older before) (off named.0)).0 in
-            let bad = sym no ∙ named.2 in cc
+          go : (b : Bool) → is_surprised_by config passes (older ++ before) event ≡ b → surprises_in config passes older before ≡ 0 →
+              surprises_in config passes (event ∷ older) before ≡ 0
+          go false e zero = quiet-more event older before e ∙ zero
+          go true e zero =
+              let named = one-cell (setup_of config passes) (life config passes (older ++ before)).entries
+              (share_of (now config passes (older ++ before)) event).told e in
+              let no = (or_parts (reads_cell config passes named.0 (older ++ before) event)
+              (was_read config passes named.0 older before) (off named.0)).0 in
+              let bad = sym no ∙ named.2 in cc
 
       one-surprise : (newer older before : List Event) → IsLived config passes ((newer ++ older) ++ before) →
           ((cell : Cell) → was_read config passes cell older before ≡ false) → list_any restarts_converter newer ≡ false →
@@ -412,7 +412,7 @@ one-at-most apart words held lives config passes events lived = record {
   between = λ later middle before first second cell other is surprising again.
       shown apart words config passes held lives middle before first second
       (lives.earlier config passes later (second ∷ (middle ++ first ∷ before))
-          (subst (λ (es : List Event). IsLived config passes es) is lived))
+      (subst (λ (es : List Event). IsLived config passes es) is lived))
       (some-cell apart words (setup_of config passes) (life config passes before).entries
       (share_of (now config passes before) first).told cell surprising)
       (some-cell apart words (setup_of config passes) (life config passes (middle ++ first ∷ before)).entries

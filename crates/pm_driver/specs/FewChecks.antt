@@ -46,5 +46,5 @@ pub record SurveysTakeFewChecks {B : Type 0} (gives : B → Call → B → Type 
       ((cell : Cell) → was_read config passes cell older before ≡ false) → list_any restarts_converter newer ≡ false →
       checks_in runs ≤ 2 * reads_in v.read - 1
   pub counted : (begun v : Survey) (old new : Driving B) (runs : Surveys gives held restarts begun old v new) → AreAnswered runs →
-      begun.read ≡ nothing_read → begun.output < old.guard.host.setup.outputs → HasLife old.guard.host (held old.bus) →
+      begun.read ≡ nothing_read → (has : HasLife old.guard.host (held old.bus)) → begun.output < has.config.count →
       restarts new.bus ≡ restarts old.bus → checks_in runs ≤ 2 * reads_in v.read - 1

@@ -78,8 +78,8 @@ pub use frames::carry_out;
 pub use laws::{
     ends_are_true, jobs_restart_nothing, leads_compose, new_converters_are_within,
     new_converters_have_no_restart, new_converters_may_begin, one_surprise_at_most,
-    reads_restart_nothing, requests_are_no_writes, restarts_are_counted, undisturbed_orders_are_done,
-    whole_frames_are_legal,
+    reads_restart_nothing, requests_are_no_writes, restarts_are_counted,
+    undisturbed_orders_are_done, whole_frames_are_legal,
 };
 pub use rail_laws::{
     applied_plans_come_true, applied_plans_keep_rails, rails_lead, reached_plans_are_commanded,

@@ -14,7 +14,8 @@ use pm_host::{ends_are_told, transcripts_are_followed};
 use pm_rail::{surveys_are_short, surveys_end_known};
 use pm_table::cells_are_told_apart;
 use pm_world::{
-    events_are_lived, lives_are_followed, plans_hold_in_lives, settings_move_by_the_open_job, surveys_hold_in_lives,
+    events_are_lived, lives_are_followed, plans_hold_in_lives, settings_move_by_the_open_job,
+    surveys_hold_in_lives,
 };
 
 // What the crates below say, which the laws here are had from.
