@@ -1,5 +1,5 @@
 -- How many checks a survey takes that a driver carries out, by the events of its jobs.
-use Rattle.std.specs.Prelude.{◌≡◌, ◌<◌, ◌≤◌, ◌+◌, ◌-◌, ◌*◌, ℕ, Bool, true, false, not, cond, refl, List, [], ◌∷◌, ◌++◌, Option, Some, None}
+use Rattle.std.specs.Prelude.{◌≡◌, ◌<◌, ◌≤◌, ◌+◌, ◌-◌, ◌*◌, ℕ, true, false, cond, refl, List, [], ◌∷◌, ◌++◌, Option, Some, None}
 use Rattle.std.specs.Prelude.{Ok}
 use Rattle.std.specs.Prelude.{option_to_list}
 use Rattle.std.specs.List.{list_any}
@@ -41,7 +41,7 @@ use Rattle.pm_world.specs.Setup.{setup_of}
 use Rattle.pm_world.specs.State.{share_of}
 use Rattle.pm_world.specs.Surveys.{was_read}
 use Rattle.pm_driver.specs.Acts.{Began, Call}
-use Rattle.pm_driver.specs.Driven.{Driving, HasLife, Runs, driven}
+use Rattle.pm_driver.specs.Driven.{Driving, Runs, driven}
 use Rattle.pm_driver.specs.Ends.{EndSays}
 use Rattle.pm_driver.specs.FewChecks.{AreAnswered, SurveysTakeFewChecks, checks_in, is_check}
 use Rattle.pm_driver.specs.Lives.{IsLife, Leads}
@@ -83,10 +83,10 @@ told-count config passes (event ∷ older) before =
         (entries-are config passes before older) was
 
 -- a word that the converter holds is one that its cell takes
-accepts : WordsHaveAnOrigin → (config : Config) (passes : ℕ) (events : List Event) (host : Summary) (held : Converter) (cell : Cell) →
+accepts : WordsHaveAnOrigin → {config : Config} {passes : ℕ} {events : List Event} {host : Summary} {held : Converter} (cell : Cell) →
     IsLife config passes events host held → IsCell config.count cell → cell_accepts cell (word_at held.words cell) ≡ true
 unfolding now state_of
-accepts origin config passes events host held cell lived there =
+accepts origin {config = config} {passes = passes} {events = events} {host = host} {held = held} cell lived there =
     ap (λ (w : Words). cell_accepts cell (word_at w cell)) (sym (words-now config passes events host held lived))
     ∙ origin.accepted config (life config passes events).past cell lived.lived.sound there
 
@@ -197,7 +197,7 @@ module _ (laws : LawsOfReads) (config : Config) (passes : ℕ) (before : List Ev
       sym says.1.0 ∙ ap (λ (s : Summary). standing_at s cell) told.new_is ∙ one.confirmed in
       let word : says.0 ≡ one.word = cc in
       let taken : cell_accepts cell one.word ≡ true = ap (λ (w : ℕ). cell_accepts cell w) (sym word ∙ sym says.1.1)
-      ∙ accepts laws.origin config passes (evs ++ (es ++ before)) new.guard.host (held new.bus) cell went.life there in
+      ∙ accepts laws.origin cell went.life there in
       let total : surprises_in config passes (evs ++ es) before
       ≡ surprises_in config passes es before + surprise old.guard.host cell one.word =
       told.count ∙ turn (one.count ∙ ap (λ (s : Summary). surprise s cell one.word) (sym told.old_is)) in
@@ -279,6 +279,7 @@ module _ (laws : LawsOfReads) (config : Config) (passes : ℕ) (before : List Ev
       (subst (λ (s : Summary). HasPlaces s.known) lived.host_is (life-places config passes before))
       (omega arith) none went.answered less
 
+-- of each life, and where the bus counted no restart
 pub takes-few : LawsOfReads → {B : Type 0} (gives : B → Call → B → Type 0) (held : B → Converter) (restarts : B → ℕ) →
     SurveysTakeFewChecks gives held restarts
 takes-few laws gives held restarts = record {

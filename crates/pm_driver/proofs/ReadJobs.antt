@@ -1,10 +1,10 @@
 -- What the host is told while a check, or a learn, is open: what it knows then, and which of its answers surprise.
-use Rattle.std.specs.Prelude.{◌≡◌, ◌⊎◌, ◌+◌, ◌==◌, ◌||◌, ℕ, Bool, true, false, not, cond, refl, List, [], ◌∷◌, ◌++◌, length, Option, Some}
+use Rattle.std.specs.Prelude.{◌≡◌, ◌+◌, ◌==◌, ◌||◌, ℕ, Bool, true, false, not, cond, refl, List, [], ◌∷◌, ◌++◌, Option, Some}
 use Rattle.std.specs.Prelude.{None}
 use Rattle.std.specs.Prelude.{IsSomeAnd, is_none, option_and_then, option_map, option_to_list}
 use Rattle.std.specs.List.{list_any}
 use Rattle.std.specs.Option.{option_map_or}
-use Rattle.std.proofs.Common.{arith, inl, inr, sym, ◌∙◌, ap, ap₂, subst}
+use Rattle.std.proofs.Common.{arith, sym, ◌∙◌, ap, ap₂, subst}
 use Rattle.pm_table.specs.declared.cell.Cell.{Cell}
 use Rattle.pm_table.specs.Cell.{IsCell}
 use Rattle.pm_frame.specs.Layout.{is_read_message}
@@ -18,14 +18,14 @@ use Rattle.pm_host.specs.declared.standing.Standing.TheVariants.{Confirmed}
 use Rattle.pm_host.specs.declared.step.Step.{Step}
 use Rattle.pm_host.specs.declared.step.Step.TheVariants.{Ended}
 use Rattle.pm_host.specs.Answers.{good_payload, good_word, word_in}
-use Rattle.pm_host.specs.Ended.{EndTells, IsRead, StepTells, job_in, stage_job}
+use Rattle.pm_host.specs.Ended.{EndTells, IsRead, StepTells, stage_job}
 use Rattle.pm_host.specs.Known.{Known, known_after, known_now, known_possible}
 use Rattle.pm_host.specs.Laws.{EndsAreTold, TranscriptsAreFollowed}
 use Rattle.pm_host.specs.Marks.{Good, Mark, goods, marks, put_by, puts, read_by}
 use Rattle.pm_host.specs.Messages.{cell_read}
 use Rattle.pm_host.specs.Now.{AreTold, now}
 use Rattle.pm_host.specs.Possible.{is_possible, possible_of}
-use Rattle.pm_host.specs.Refusals.{IsSetup, may_come, sends_read, sends_write}
+use Rattle.pm_host.specs.Refusals.{IsSetup, may_come}
 use Rattle.pm_host.specs.Summary.{Change, Summary, answered, asked, change, ends, finished, goes_on, idle, next, possible_at, stage_message}
 use Rattle.pm_host.specs.Summary.{standing_at, step_by, step_of}
 use Rattle.pm_host.specs.Transcript.{Accepted, Check, Entry, Finished, Got, Job, Learn, Restarted, Setup, end_of, last_job, open_job}
@@ -54,6 +54,7 @@ data Answer (s : Summary) (cell : Cell) (found : Option ℕ) (changed : Change) 
   good : (word : ℕ) → found ≡ Some word → changed.after.stage ≡ None → changed.after.known ≡ known_after s.known (Good cell word) →
       changed.step ≡ Ended Done → Answer s cell found changed
 
+-- by the payload of a good answer
 answer-by : (s : Summary) (cell : Cell) (tries : ℕ) (payload : Option (List ℕ)) →
     Answer s cell (option_map word_in payload) (asked (idle s) (Word cell) tries payload)
 answer-by s cell tries None = go (tries + 1 == s.setup.passes) where
@@ -62,21 +63,23 @@ answer-by s cell tries None = go (tries + 1 == s.setup.passes) where
   go false = again (tries + 1) refl refl refl
 answer-by s cell tries (Some payload) = good (word_in payload) refl refl refl refl
 
+-- at the stage of a check
 answer : (s : Summary) (cell : Cell) (tries : ℕ) (bytes : List ℕ) → s.stage ≡ Some (Asks (Word cell) tries) →
     Answer s cell (good_word s.setup.addr cell bytes) (change s (Got bytes))
 answer s cell tries bytes e = subst (λ (o : Option Stage). Answer s cell (good_word s.setup.addr cell bytes) (answered (idle s) o bytes))
     (sym e) (answer-by s cell tries (good_payload s.setup.addr (cell_read cell) bytes))
 
--- what a host holds next, and what its call says
+-- what a host holds next
 next-is : (s : Summary) (entry : Entry) → next s entry ≡ (change s entry).after
 unfolding next
 next-is s entry = refl
 
+-- what the call says
 step-is : (s : Summary) (entry : Entry) → step_of s entry ≡ (change s entry).step
 unfolding step_of
 step-is s entry = refl
 
--- an answer surprises where its word wasn't possible
+-- bytes that are no good answer don't surprise
 surprise-none : (setup : Setup) (all : List Entry) (bytes : List ℕ) (cell : Cell) → open_job setup all ≡ Some (Check cell) →
     good_word setup.addr cell bytes ≡ None → has_surprise setup all (Some (Got bytes)) ≡ false
 unfolding goods
@@ -85,6 +88,7 @@ surprise-none setup all bytes cell opened none =
     (λ c. option_map (λ w. Good c w) (good_word setup.addr c bytes)) (read_by j (told_since all))))) opened
     ∙ ap (λ (o : Option ℕ). list_any (is_surprise (marks setup all)) (option_to_list (option_map (λ w. Good cell w) o))) none
 
+-- a good answer surprises where its word wasn't possible
 surprise-some : (setup : Setup) (all : List Entry) (bytes : List ℕ) (cell : Cell) (word : ℕ) →
     open_job setup all ≡ Some (Check cell) → good_word setup.addr cell bytes ≡ Some word →
     has_surprise setup all (Some (Got bytes)) ≡ not (is_possible word (possible_of (marks setup all) cell))
@@ -247,6 +251,7 @@ last-learn output entries (Got bytes ∷ frames) are = last-learn output entries
 last-learn output entries (Accepted job ∷ frames) are = absurd are
 last-learn output entries (Restarted ∷ frames) are = absurd are
 
+-- no write begins with a learn
 learn-puts : (setup : Setup) (all : List Entry) (output : ℕ) → last_job all ≡ Some (Learn output) → puts setup all ≡ []
 unfolding puts open_job
 learn-puts setup all output last = go (is_none (end_of setup all)) (last_job all) last where
@@ -254,6 +259,7 @@ learn-puts setup all output last = go (is_none (end_of setup all)) (last_job all
   go true job is = ap (λ (o : Option Job). put_by o (told_since all)) is
   go false job is = refl
 
+-- nothing that comes back is a word of a cell
 learn-goods : (setup : Setup) (all : List Entry) (output : ℕ) (bytes : List ℕ) → last_job all ≡ Some (Learn output) →
     goods setup all bytes ≡ []
 unfolding goods open_job
@@ -269,6 +275,7 @@ pub record LearnRead (setup : Setup) (output : ℕ) (entries frames : List Entry
   pub marks_are : marks setup ((frames ++ Accepted (Learn output) ∷ []) ++ entries) ≡ marks setup entries
   pub count : surprised setup (frames ++ Accepted (Learn output) ∷ []) entries ≡ 0
 
+-- by one frame after another
 pub learn-read : (setup : Setup) (output : ℕ) (entries frames : List Entry) → Frames frames → LearnRead setup output entries frames
 learn-read setup output entries [] are = record {
   marks_are = ap (λ (ms : List Mark). ms ++ marks setup entries)

@@ -1,5 +1,5 @@
 -- Between two answers that surprise the converter restarted.
-use Rattle.std.specs.Prelude.{◌≡◌, ◌↔◌, ◌≤◌, ◌<◌, ◌+◌, ◌==◌, ◌||◌, ◌&&◌, ℕ, Bool, true, false, not, cond, refl, List, [], ◌∷◌, ◌++◌, Option}
+use Rattle.std.specs.Prelude.{◌≡◌, ◌≤◌, ◌+◌, ◌==◌, ◌||◌, ◌&&◌, ℕ, Bool, true, false, not, cond, refl, List, [], ◌∷◌, ◌++◌, Option}
 use Rattle.std.specs.Prelude.{Some, None}
 use Rattle.std.specs.Prelude.{option_and_then, option_map, option_to_list}
 use Rattle.std.specs.List.{list_any}
@@ -13,11 +13,10 @@ use Rattle.pm_host.specs.declared.command.Command.{Command}
 use Rattle.pm_host.specs.declared.command.Command.TheVariants.{RestoreUserAll}
 use Rattle.pm_host.specs.Answers.{good_word}
 use Rattle.pm_host.specs.Laws.{PossibleWordsAreFollowed}
-use Rattle.pm_host.specs.Marks.{Mark, Put, Good, Restored, Restart, goods, marks, put_by, puts, read_by, send_marks}
+use Rattle.pm_host.specs.Marks.{Mark, Put, Good, Restored, goods, marks, put_by, puts, read_by, send_marks}
 use Rattle.pm_host.specs.Possible.{is_possible, possible_of}
 use Rattle.pm_host.specs.Transcript as host
 use Rattle.pm_world.specs.declared.event.Event.{Event}
-use Rattle.pm_world.specs.declared.event.Event.TheVariants.{RestartDevice}
 use Rattle.pm_world.specs.Confirmed.{is_good_for, reads, reads_cell, restarted_since, restarts_converter}
 use Rattle.pm_world.specs.Laws.{PossibleWordsAreHeld}
 use Rattle.pm_world.specs.Lemmas.{entries-more}
@@ -29,7 +28,7 @@ use Rattle.pm_world.specs.State.{share_of}
 use Rattle.pm_world.specs.Surveys.{was_read}
 use Rattle.pm_driver.specs.Bus.{restarts_in}
 use Rattle.pm_driver.specs.Lemmas.Restarts.{restarts-on}
-use Rattle.pm_driver.specs.Surprises.{OneSurpriseAtMost, SurprisesShowRestarts, has_surprise, is_surprise, is_surprised_by, surprises_in}
+use Rattle.pm_driver.specs.Surprises.{OneSurpriseAtMost, has_surprise, is_surprise, is_surprised_by, surprises_in}
 
 -- ---- Marks ----
 
@@ -38,6 +37,7 @@ data AreGoods : List Mark → Type 0 where
   no_good : AreGoods []
   one_good : (read : Cell) (word : ℕ) → AreGoods (Good read word ∷ [])
 
+-- by what was asked for
 are-goods : (setup : host.Setup) (before : List host.Entry) (bytes : List ℕ) → AreGoods (goods setup before bytes)
 unfolding goods
 are-goods setup before bytes = go (read_by (host.open_job setup before) (host.told_since before)) where
@@ -60,7 +60,7 @@ Free ms cell = (word : ℕ) → is_possible word (possible_of ms cell) ≡ true
 both-counted : (second first : List Event) → restarts_in (second ++ first) + 0 ≡ restarts_in second + restarts_in first
 both-counted second first = restarts-on second first 0 (restarts_in first) (restarts_in second + restarts_in first) (omega arith) refl
 
--- where there is one there is one at least, and where there is none there is none
+-- where there is one the count is one at least
 at-least : (events : List Event) → list_any restarts_converter events ≡ true → 1 ≤ restarts_in events
 at-least [] some = cc
 at-least (event ∷ before) some = go (restarts_converter event) some (λ h. at-least before h) where
@@ -69,6 +69,7 @@ at-least (event ∷ before) some = go (restarts_converter event) some (λ h. at-
   go true h f = omega arith
   go false h f = let rest = f h in omega arith
 
+-- where there is none the count is none
 none-restarts : (events : List Event) → list_any restarts_converter events ≡ false → restarts_in events ≡ 0
 none-restarts [] none = refl
 none-restarts (event ∷ before) none = go (restarts_converter event) none (λ h. none-restarts before h) where
@@ -77,10 +78,11 @@ none-restarts (event ∷ before) none = go (restarts_converter event) none (λ h
   go true h f = cc
   go false h f = let rest = f h in omega arith
 
--- the answers that surprise among two lists are those of both
+-- one event, counted where it surprises
 abbrev surprises_here : Config → ℕ → List Event → Event → ℕ
 surprises_here config passes before event = cond (is_surprised_by config passes before event) 1 0
 
+-- the answers that surprise among two lists are those of both
 pub both-surprised : (config : Config) (passes : ℕ) (newer older before : List Event) →
     surprises_in config passes (newer ++ older) before
     ≡ surprises_in config passes newer (older ++ before) + surprises_in config passes older before
