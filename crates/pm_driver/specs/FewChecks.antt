@@ -36,9 +36,10 @@ abbrev pub AreAnswered : {B : Type 0} {gives : B → Call → B → Type 0} {hel
 AreAnswered nothing = Unit {0}
 AreAnswered (more v job end middle last before asks runs) = (is_check job ≡ true → end ≡ Done) × AreAnswered before
 
--- A survey by a driver that began with nothing read, and each of whose checks is done, takes one check less than two for each
--- cell that it reads, at most: in any life in which the converter didn't restart since the first of its reads, which the host
--- had no good answer before (`lives`), and so where the bus counted no restart since it began (`counted`).
+-- A survey by a driver that began with nothing read, and each of whose checks is done, takes at most one check less than two
+-- for each cell that it reads. It does in any life in which the converter didn't restart since the first good answer of the
+-- survey: at the older of its events no cell was read (`lives`). So it does where the bus counted no restart since the survey
+-- began (`counted`).
 pub record SurveysTakeFewChecks {B : Type 0} (gives : B → Call → B → Type 0) (held : B → Held) (restarts : B → ℕ) : Type 0 where
   pub lives : (begun v : Survey) (old new : Driving B) (runs : Surveys gives held restarts begun old v new) → AreAnswered runs →
       begun.read ≡ nothing_read → (config : Config) (passes : ℕ) (before newer older : List Event) → begun.output < config.count →

@@ -38,11 +38,11 @@ surprises_in config passes [] before = 0
 surprises_in config passes (event ∷ later) before =
     cond (is_surprised_by config passes (later ++ before) event) 1 0 + surprises_in config passes later before
 
--- Between any two answers of a life that surprise, the converter restarted, whatever was ordered, restored or restarted in
--- between, and whichever cells they are for (`between`). So of any events that come after a moment, one more at most
--- surprises than there are restarts of the converter among them (`few`); and where it didn't restart since the first of them
--- at which the host had a good answer, one at most (`one`): at the older ones no cell was read. An answer surprises where it
--- does for some cell (`cell`).
+-- Between any two answers of a life that surprise, the converter restarted, whichever cells they are for, and whatever was
+-- ordered or restored in between, also where the host restarted (`between`). So of any events that come after a moment, at
+-- most one more surprises than there are restarts of the converter among them (`few`). Where it didn't restart since the first
+-- of them at which the host had a good answer, at most one surprises: at the older of them no cell was read (`one`). An answer
+-- surprises where it does for some cell (`cell`).
 pub record SurprisesShowRestarts (config : Config) (passes : ℕ) (events : List Event) : Type 0 where
   pub cell : (before : List Event) (event : Event) → is_surprised_by config passes before event ≡ true ↔
       ((cell : Cell) × (surprises_by config passes cell before event ≡ true))
