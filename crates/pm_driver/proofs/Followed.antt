@@ -204,7 +204,7 @@ host-same : (config : Config) (passes : ℕ) (one other : List Event) →
 unfolding now state_of
 host-same config passes one other e = ap (λ (es : List Entry). host_now (setup_of config passes) es) e
 
-host-is : (config : Config) (passes : ℕ) (events : List Event) →
+pub host-is : (config : Config) (passes : ℕ) (events : List Event) →
     (now config passes events).host ≡ host_now (setup_of config passes) (life config passes events).entries
 unfolding now state_of
 host-is config passes events = refl
