@@ -22,6 +22,8 @@
 //!         long: false,
 //!         times: false,
 //!         json: false,
+//!         pages: false,
+//!         gap: 0,
 //!     };
 //!     let mut sink = Sink::new(paper);
 //!     tell(alloc, &mut Source::new(trace), &mut sink, &options)?;
