@@ -48,6 +48,8 @@ pub fn decode<R: Read, W: Write>(
         long: false,
         times: false,
         json: false,
+        pages: false,
+        gap: 0,
     };
     tell(alloc, reader, writer, &options)
 }

@@ -22,6 +22,8 @@
 //!         long: false,
 //!         times: false,
 //!         json: false,
+//!         pages: false,
+//!         gap: 0,
 //!     };
 //!     let mut sink = Sink::new(paper);
 //!     tell(alloc, &mut Source::new(trace), &mut sink, &options)?;
@@ -31,6 +33,7 @@
 #![tactic(auto)]
 
 mod capture;
+mod comment;
 mod counts_text;
 mod decoding;
 mod heard_lines;
@@ -42,6 +45,7 @@ mod laws;
 mod line_text;
 mod options;
 mod others;
+mod page_step;
 mod telling;
 mod timed_line;
 mod told_text;

@@ -15,4 +15,8 @@ pub struct TellOptions {
     pub times: bool,
     /// Each line is told as an object of JSON.
     pub json: bool,
+    /// PAGE is followed: a packet that acts on an output and names none is told with the one that it reaches.
+    pub pages: bool,
+    /// With times and pages: behind a pause of an address of more than so many microseconds its page isn't known any more.
+    pub gap: u64,
 }

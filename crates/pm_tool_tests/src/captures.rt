@@ -19,6 +19,8 @@ const PLAIN: TellOptions = TellOptions {
     long: false,
     times: false,
     json: false,
+    pages: false,
+    gap: 0,
 };
 
 const VALUES: TellOptions = TellOptions {

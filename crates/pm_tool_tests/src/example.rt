@@ -30,6 +30,8 @@ fn told<R: Read + Drop, W: Write + Drop>(
         long: false,
         times: false,
         json: false,
+        pages: false,
+        gap: 0,
     };
     let mut sink = Sink::new(paper);
     tell(alloc, &mut Source::new(trace), &mut sink, &options)?;

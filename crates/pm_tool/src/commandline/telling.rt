@@ -82,6 +82,8 @@ impl<'a> TellTexts<'a> {
             long: self.long,
             times: self.times,
             json: self.json,
+            pages: false,
+            gap: 0,
         })
     }
 
