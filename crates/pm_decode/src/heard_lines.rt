@@ -166,7 +166,8 @@ impl HeardLines {
 
     /// Hears a comment, with its number.
     pub(crate) fn note(&mut self, number: u64, remark: Remark)
-        ensures { (options : TellOptions) → self.new ≡ heard_with options self.old (number, Noted remark) }
+        ensures heard { (options : TellOptions) → self.new ≡ heard_with options self.old (number, Noted remark) }
+        ensures few { heard_lines self.new ≡ heard_lines self.old }
     {
         match remark {
             Remark::Elsewhere => {}

@@ -103,7 +103,10 @@ impl TimedLine {
         let [first, ..] = bytes else {
             return bytes;
         };
-        if *first == b'\n' || self.is_marked_with(*first) {
+        if *first == b'\n' {
+            return bytes;
+        }
+        if self.is_marked_with(*first) {
             return bytes;
         }
         self.begin(*first);
