@@ -5,7 +5,8 @@ use Rattle.std.proofs.Common.{refl, sym, ap, subst, ◌∙◌, arith, append_ass
 use Rattle.std.proofs.lemmas.List.Folds.{list_any-append}
 use Rattle.std.proofs.lemmas.List.Sums.{fold-append}
 use Rattle.std.specs.Prelude.{nat_eq, nat_lt, codes}
-use Rattle.std.specs.List.{fold, list_all, list_any, pointwise, starts_with}
+use Rattle.std.specs.List.{fold, list_all, list_any, starts_with}
+use Rattle.std.specs.Cmp.Lexicographic.{pointwise}
 use Rattle.std.proofs.lemmas.Bool.{cases_lt, or_parts}
 use Rattle.std.proofs.lemmas.Bool.Decides.{nat_tests}
 use Rattle.std.proofs.lemmas.List.{take_all, length-take, length-take-le, take-append-le, take-take}
@@ -554,16 +555,17 @@ timed_skips true line =
     ∙ ap (λ c. starts_with nat_eq (without_return line) (codes "#") || c) (sym (no_word (without_return line)))
     ∙ or_turned (starts_with nat_eq (without_return line) (codes "#")) (list_all is_space (without_return line))
 
+-- a line is a comment by what is kept of it
+marked : (times : Bool) (line : List ℕ) → (timed_of times line).has_mark ≡ is_comment line
+unfolding timed_of
+marked times line = refl
+
 -- a line says nothing by what is kept of it
 pub timed_passes : (options : TellOptions) (line : List ℕ)
     → passes_timed options.pages (timed_of options.times line) ≡ is_passed options.pages (without_return line)
 timed_passes options line =
     ap (λ c. not (options.pages && c) && skips_timed (timed_of options.times line)) (marked options.times line ∙ sym (mark_kept line))
     ∙ ap (λ c. not (is_noted options.pages (without_return line)) && c) (timed_skips options.times line)
-  where
-    marked : (times : Bool) (line : List ℕ) → (timed_of times line).has_mark ≡ is_comment line
-    unfolding timed_of
-    marked times line = refl
 
 -- ---- a comment
 
