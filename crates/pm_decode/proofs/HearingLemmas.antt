@@ -1,5 +1,5 @@
 -- What is known, and what is written, behind one line more.
-use Rattle.std.proofs.Common.{◌≡◌, ℕ, ◌+◌, List, [], ◌∷◌, ◌++◌, Option, Some, None}
+use Rattle.std.proofs.Common.{◌≡◌, ℕ, ◌+◌, true, cond, List, [], ◌∷◌, ◌++◌, Option, Some, None}
 use Rattle.std.proofs.Common.{refl, sym, ap, ◌∙◌, arith, append_assoc, append-nil}
 use Rattle.std.specs.List.{filter_map}
 use Rattle.std.proofs.lemmas.List.Elements.{filter_map-append}
@@ -11,8 +11,10 @@ use Rattle.pm_trace.specs.Lemmas.Said.{counts_of-snoc}
 use Rattle.pm_decode.specs.CaptureText.{line_text, lines_text}
 use Rattle.pm_decode.specs.Hearing.{HeardLines, Known, heard_lines, heard_of, heard_with, known_by, known_from, more_if, other_code}
 use Rattle.pm_decode.specs.Hearing.{other_code_in, told_in, told_unless, unknown}
-use Rattle.pm_decode.specs.Readings.{Entry, Reading, Told, judged_as}
+use Rattle.pm_decode.specs.Readings.{Entry, Reading, Told, Noted, judged_as, remark_of}
+use Rattle.pm_decode.specs.TimedLines.{passes_timed, timed_said}
 use Rattle.pm_decode.specs.declared.options.TellOptions.{TellOptions}
+use Rattle.pm_decode.specs.declared.timed_line.TimedLine.{TimedLine}
 
 -- one line more is heard
 pub heard_of-snoc : (options : TellOptions) (entries : List Entry) (entry : Entry)
@@ -68,6 +70,12 @@ heard_one options heard number reading = by (other_code_in options.all reading.p
         ≡ heard_lines heard + 1
     by None judged = let more = one judged in omega (arith, more)
     by (Some code) judged = omega (arith, total_one_more heard.others code)
+
+-- where PAGE is followed a comment is heard by what it says
+pub comment_heard : (options : TellOptions) (heard : HeardLines) (number : ℕ) (line : TimedLine) → options.pages ≡ true
+    → line.has_mark ≡ true → heard_with options heard (number, Noted (remark_of line.head))
+    ≡ cond (passes_timed options.pages line) heard (heard_with options heard (number, timed_said options.pages line))
+comment_heard options heard number line pages mark = rw (pages, mark) refl
 
 -- the text of two lists of lines is that of the first, and that of the second by what is known behind the first
 pub lines_text-append : (options : TellOptions) (known : Known) (xs ys : List Entry)

@@ -614,13 +614,14 @@ pub timed_says : (options : TellOptions) (line : List ℕ)
 unfolding timed_of
 timed_says options line =
     by options.pages (is_comment line)
-    ∙ ap (λ c. cond (options.pages && c) (Noted (remark_of (without_return line))) (Told (reading_of options.times (without_return line))))
-    (sym (mark_kept line))
+    ∙ ap (λ c. cond (options.pages && c) (Noted (remark_of (without_return line)))
+    (Told (reading_of options.times (without_return line)))) (sym (mark_kept line))
   where
     told : Told (timed_read (timed_of options.times line)) ≡ Told (reading_of options.times (without_return line))
     told = ap Told (timed_reads options.times line)
 
-    by : (pages c : Bool) → cond (pages && c) (Noted (remark_of (cond c (take 16 line) []))) (Told (timed_read (timed_of options.times line)))
+    by : (pages c : Bool)
+        → cond (pages && c) (Noted (remark_of (cond c (take 16 line) []))) (Told (timed_read (timed_of options.times line)))
         ≡ cond (pages && c) (Noted (remark_of (without_return line))) (Told (reading_of options.times (without_return line)))
     by true true = ap Noted (remark_kept line)
     by true false = told

@@ -52,10 +52,13 @@ extra_text options taught reached parts judged =
 abbrev pub lack_text : Bool → List ℕ
 lack_text lacks = if lacks then codes ", no PEC" else []
 
--- behind one that contradicts a line
+-- behind one that contradicts a line: the two lines
+unfoldable pub two_lines : ℕ → ℕ → List ℕ
+two_lines line number = decimal line ++ (codes " and " ++ decimal number)
+
 abbrev pub wrong_text : ℕ → Option ℕ → List ℕ
 wrong_text number None = []
-wrong_text number (Some line) = codes " WRONG PAGE? lines " ++ (decimal line ++ (codes " and " ++ decimal number))
+wrong_text number (Some line) = codes " WRONG PAGE? lines " ++ two_lines line number
 
 -- ---- a line
 

@@ -4,7 +4,7 @@ ghost use Rattle.pm_trace.specs.ShownLines.{judged_in};
 ghost use Rattle.pm_trace.specs.Trace.{reading_judged};
 ghost use Rattle.pm_trace.specs.TraceText.{judged_text};
 ghost use Rattle.pm_values.specs.Taught.{Taught};
-ghost use Rattle.pm_decode.specs.CaptureText.{bytes_text, extra_text, json_line, lack_text, plain_line, meaning_text, packet_fields_by, packet_text_by, reached_text, read_bytes_text, time_text, told_line, wrong_text};
+ghost use Rattle.pm_decode.specs.CaptureText.{bytes_text, extra_text, json_line, lack_text, plain_line, meaning_text, packet_fields_by, packet_text_by, reached_text, read_bytes_text, time_text, told_line, two_lines, wrong_text};
 ghost use Rattle.pm_decode.specs.JsonText.{lack_field as spec_lack_field};
 ghost use Rattle.pm_decode.specs.Readings.{judged_by, other_address};
 ghost use Rattle.pm_decode.specs.ShownReadings.{packet_in};
@@ -182,6 +182,25 @@ fn push_packet_plain(
     push_decimal(text, number)?;
     push_time(text, time)?;
     text.push_str(" ")?;
+    push_packet_text(text, options, lessons, marks, number, packet, shown, other)
+}
+
+// The text of a packet.
+#[tactic(auto, using(pm_lines::specs::Lemmas::Joins::joins))]
+fn push_packet_text(
+    text: &mut String,
+    options: &TellOptions,
+    lessons: &Lessons,
+    marks: &Marks,
+    number: u64,
+    packet: &Packet<'_>,
+    shown: &Shown<'_>,
+    other: Option<u8>,
+) -> Result<(), AllocError>
+    requires shown { judged_in shown.now ≡ judged_by options.now.all (packet_in packet.now) }
+    ensures { OnOk result (string_bytes text.new ≡ string_bytes text.old
+        ++ packet_text_by options.now lessons.now marks.now number (packet_in packet.now) other) }
+{
     match other {
         None => {
             push_reached(text, marks.reached, number, shown)?;
@@ -217,7 +236,6 @@ fn push_reached(
 }
 
 // What stands behind a packet that contradicts a line.
-#[tactic(auto, using(pm_lines::specs::Lemmas::Joins::joins))]
 fn push_wrong(text: &mut String, number: u64, wrong: Option<u64>) -> Result<(), AllocError>
     ensures { OnOk result (string_bytes text.new ≡ string_bytes text.old ++ wrong_text number wrong) }
 {
@@ -225,6 +243,14 @@ fn push_wrong(text: &mut String, number: u64, wrong: Option<u64>) -> Result<(), 
         return Ok(());
     };
     text.push_str(" WRONG PAGE? lines ")?;
+    push_two_lines(text, line, number)
+}
+
+// The two lines of which one contradicts the other.
+#[tactic(auto, using(pm_lines::specs::Lemmas::Joins::joins), unfolding(crate::specs::CaptureText::two_lines))]
+fn push_two_lines(text: &mut String, line: u64, number: u64) -> Result<(), AllocError>
+    ensures { OnOk result (string_bytes text.new ≡ string_bytes text.old ++ two_lines line number) }
+{
     push_decimal(text, line)?;
     text.push_str(" and ")?;
     push_decimal(text, number)
