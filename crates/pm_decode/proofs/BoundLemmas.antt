@@ -2,7 +2,7 @@
 use Rattle.std.proofs.Common.{◌≡◌, ◌+◌, ◌≤◌, Bool, false, [], ap, arith}
 use Rattle.pm_trace.specs.Counts.{counts_of}
 use Rattle.pm_decode.specs.Capturing.{IsBounded, Kept}
-use Rattle.pm_decode.specs.Hearing.{HeardLines, heard_lines, heard_of}
+use Rattle.pm_decode.specs.Hearing.{HeardLines, heard_lines, unheard}
 use Rattle.pm_decode.specs.TimedLines.{timed_of}
 use Rattle.pm_decode.specs.declared.options.TellOptions.{TellOptions}
 use Rattle.pm_decode.specs.declared.timed_line.TimedLine.{TimedLine}
@@ -13,16 +13,16 @@ unfolding timed_of
 unbegun line times is = ap (λ l. l.is_begun) is
 
 -- no line was heard yet
-unheard : (heard : HeardLines) → heard ≡ heard_of false [] → heard_lines heard ≡ 0
-unfolding heard_of counts_of
-unheard heard is = ap heard_lines is
+none_heard : (heard : HeardLines) → heard ≡ unheard → heard_lines heard ≡ 0
+unfolding counts_of
+none_heard heard is = ap heard_lines is
 
 -- a capture of which no byte was taken and no line heard keeps the bounds of its counts
-pub bounded_none : (options : TellOptions) (heard : HeardLines) (line : TimedLine) (times : Bool) → heard ≡ heard_of false []
+pub bounded_none : (options : TellOptions) (heard : HeardLines) (line : TimedLine) (times : Bool) → heard ≡ unheard
     → line ≡ timed_of times []
     → IsBounded (record { options = options; taken = 0; ended = 0; heard = heard; line = line })
 bounded_none options heard line times none fresh =
-    let few = unheard heard none in
+    let few = none_heard heard none in
     let none_there : line.is_begun ≡ false = unbegun line times fresh in
     record { heard = omega (arith, few); ended = rw none_there (omega arith); taken = omega arith }
 

@@ -6,123 +6,127 @@ use Rattle.std.specs.List.{enumerate_from, fold, list_any}
 use Rattle.std.proofs.lemmas.List.{map-append, nil_from_length, take_all}
 use Rattle.std.proofs.lemmas.List.Elements.{filter-append}
 use Rattle.std.proofs.lemmas.List.Sums.{fold-append}
-use Rattle.pm_lines.specs.Lines.{has_bytes, is_line_feed, is_skipped, is_unskipped, lines_of, unskipped_from, without_empty_last}
+use Rattle.pm_lines.specs.Lines.{Numbered, has_bytes, is_line_feed, lines_of, without_empty_last}
 use Rattle.pm_lines.specs.Lines.{without_return}
 use Rattle.pm_trace.specs.Marks.{ended, since}
 use Rattle.pm_trace.specs.OpenLines.{IsAtLineFeed}
 use Rattle.pm_trace.specs.Lemmas.Marks.{ended-mark, ended-other, since-mark, since-other}
 use Rattle.pm_trace.specs.Lemmas.Runs.{taken-unmarked, told-append, told-unmarked}
 use Rattle.pm_trace.specs.Lemmas.Said.{enumerate_from-snoc, length-map, length-snoc, lines_at_end}
-use Rattle.pm_values.specs.Taught.{taught_from, untaught}
 use Rattle.pm_decode.specs.CaptureText.{capture_text, counts_text, line_text, lines_text}
 use Rattle.pm_decode.specs.Capturing.{Kept, entry_ended, heard_ended, kept_at_end, kept_of, kept_takes, line_ended, next, said, said_text}
 use Rattle.pm_decode.specs.Capturing.{text_ended, told, told_at_end}
-use Rattle.pm_decode.specs.Hearing.{heard_of, heard_with}
-use Rattle.pm_decode.specs.Readings.{Entry, entries_of, entry_of, judged_in, reading_of}
-use Rattle.pm_decode.specs.TimedLines.{PassesTimed, skips_timed, timed_of, timed_takes}
+use Rattle.pm_decode.specs.Hearing.{heard_of, heard_with, known_from, unknown}
+use Rattle.pm_decode.specs.Readings.{Entry, entries_of, entry_of, is_heard, is_passed, said_of}
+use Rattle.pm_decode.specs.TimedLines.{PassesTimed, passes_timed, timed_of, timed_takes}
 use Rattle.pm_decode.specs.declared.options.TellOptions.{TellOptions}
 use Rattle.pm_decode.specs.declared.timed_line.TimedLine.{TimedLine}
 use Rattle.pm_decode.proofs.HearingLemmas.{heard_of-snoc, lines_text-append}
-use Rattle.pm_decode.proofs.TimedLemmas.{timed_of-snoc, timed_reads, timed_skips}
+use Rattle.pm_decode.proofs.TimedLemmas.{timed_of-snoc, timed_passes, timed_says}
 
 -- ---- the lines
 
--- what lines say that are not skipped
-abbrev pub lines_said : Bool → List (List ℕ) → List Entry
-lines_said times lines = map (entry_of times) (filter is_unskipped (enumerate_from 1 lines))
+-- what lines say of which something is heard
+abbrev pub lines_said : TellOptions → List (List ℕ) → List Entry
+lines_said options lines = map (entry_of options) (filter (is_heard options.pages) (enumerate_from 1 lines))
 
 -- one line more
 abbrev pub entry_if : Bool → Entry → List Entry
-entry_if skipped entry = cond skipped [] (entry ∷ [])
+entry_if passed entry = cond passed [] (entry ∷ [])
 
--- a line at the end of others is said after what they say, with its number, where it isn't skipped
-lines_said-snoc : (times : Bool) (lines : List (List ℕ)) (line : List ℕ) → lines_said times (lines ++ line ∷ [])
-    ≡ lines_said times lines ++ entry_if (is_skipped line) (1 + length lines, reading_of times line)
-lines_said-snoc times lines line =
-    ap (λ l. map (entry_of times) (filter is_unskipped l)) (enumerate_from-snoc 1 lines line)
-    ∙ ap (map (entry_of times)) (filter-append is_unskipped (enumerate_from 1 lines) ((1 + length lines, line) ∷ []))
-    ∙ map-append (entry_of times) (filter is_unskipped (enumerate_from 1 lines)) (filter is_unskipped ((1 + length lines, line) ∷ []))
-    ∙ ap (λ l. lines_said times lines ++ l) (by (is_skipped line))
+-- a line at the end of others is said after what they say, with its number, where something is heard of it
+lines_said-snoc : (options : TellOptions) (lines : List (List ℕ)) (line : List ℕ) → lines_said options (lines ++ line ∷ [])
+    ≡ lines_said options lines ++ entry_if (is_passed options.pages line) (1 + length lines, said_of options line)
+lines_said-snoc options lines line =
+    ap (λ l. map (entry_of options) (filter heard l)) (enumerate_from-snoc 1 lines line)
+    ∙ ap (map (entry_of options)) (filter-append heard (enumerate_from 1 lines) ((1 + length lines, line) ∷ []))
+    ∙ map-append (entry_of options) (filter heard (enumerate_from 1 lines)) (filter heard ((1 + length lines, line) ∷ []))
+    ∙ ap (λ l. lines_said options lines ++ l) (by (is_passed options.pages line))
   where
-    by : (c : Bool) → map (entry_of times) (cond (not c) ((1 + length lines, line) ∷ []) [])
-        ≡ entry_if c (1 + length lines, reading_of times line)
+    heard : Numbered → Bool
+    heard = is_heard options.pages
+
+    by : (c : Bool) → map (entry_of options) (cond (not c) ((1 + length lines, line) ∷ []) [])
+        ≡ entry_if c (1 + length lines, said_of options line)
     by true = refl
     by false = refl
 
 -- the line that goes on, as if it ended here
 pub ended_entries : TellOptions → List ℕ → List Entry
-ended_entries options bytes = entry_if (skips_timed (kept_of options bytes).line) (entry_ended (kept_of options bytes))
+ended_entries options bytes =
+    entry_if (passes_timed (kept_of options bytes).options.pages (kept_of options bytes).line) (entry_ended (kept_of options bytes))
 
 -- the bytes since the last line feed say, as a line, what the line that goes on says if it ends here
 ended_here : (options : TellOptions) (bytes : List ℕ)
-    → entry_if (is_skipped (without_return (since is_line_feed bytes)))
-    (1 + length (map without_return (ended is_line_feed bytes)), reading_of options.times (without_return (since is_line_feed bytes)))
+    → entry_if (is_passed options.pages (without_return (since is_line_feed bytes)))
+    (1 + length (map without_return (ended is_line_feed bytes)), said_of options (without_return (since is_line_feed bytes)))
     ≡ ended_entries options bytes
 unfolding kept_of ended_entries
 ended_here options bytes =
     let count : 1 + length (map without_return (ended is_line_feed bytes)) ≡ length (ended is_line_feed bytes) + 1 =
     let mapped = length-map (ended is_line_feed bytes) in omega arith in
-    λ i. entry_if (sym (timed_skips options.times (since is_line_feed bytes)) i)
-    (count i, sym (timed_reads options.times (since is_line_feed bytes)) i)
+    λ i. entry_if (sym (timed_passes options (since is_line_feed bytes)) i)
+    (count i, sym (timed_says options (since is_line_feed bytes)) i)
 
 -- what is said with a line feed more
 said-mark : (options : TellOptions) (bytes : List ℕ) (b : ℕ) → is_line_feed b ≡ true
-    → said options.times (bytes ++ b ∷ []) ≡ said options.times bytes ++ ended_entries options bytes
+    → said options (bytes ++ b ∷ []) ≡ said options bytes ++ ended_entries options bytes
 unfolding said
 said-mark options bytes b is =
-    ap (λ l. lines_said options.times (map without_return l)) (ended-mark is_line_feed bytes b is)
-    ∙ ap (lines_said options.times) (map-append without_return (ended is_line_feed bytes) (since is_line_feed bytes ∷ []))
-    ∙ lines_said-snoc options.times (map without_return (ended is_line_feed bytes)) (without_return (since is_line_feed bytes))
-    ∙ ap (λ l. lines_said options.times (map without_return (ended is_line_feed bytes)) ++ l) (ended_here options bytes)
+    ap (λ l. lines_said options (map without_return l)) (ended-mark is_line_feed bytes b is)
+    ∙ ap (lines_said options) (map-append without_return (ended is_line_feed bytes) (since is_line_feed bytes ∷ []))
+    ∙ lines_said-snoc options (map without_return (ended is_line_feed bytes)) (without_return (since is_line_feed bytes))
+    ∙ ap (λ l. lines_said options (map without_return (ended is_line_feed bytes)) ++ l) (ended_here options bytes)
 
 -- what is said stays the same with a byte more that is no line feed
-said-other : (times : Bool) (bytes : List ℕ) (b : ℕ) → is_line_feed b ≡ false → said times (bytes ++ b ∷ []) ≡ said times bytes
+said-other : (options : TellOptions) (bytes : List ℕ) (b : ℕ) → is_line_feed b ≡ false
+    → said options (bytes ++ b ∷ []) ≡ said options bytes
 unfolding said
-said-other times bytes b other = ap (λ l. lines_said times (map without_return l)) (ended-other is_line_feed bytes b other)
+said-other options bytes b other = ap (λ l. lines_said options (map without_return l)) (ended-other is_line_feed bytes b other)
 
 -- ---- what is kept
 
 -- what was heard so far
-heard_now : (options : TellOptions) (bytes : List ℕ) → (kept_of options bytes).heard ≡ heard_of options.all (said options.times bytes)
+heard_now : (options : TellOptions) (bytes : List ℕ) → (kept_of options bytes).heard ≡ heard_of options (said options bytes)
 unfolding kept_of
 heard_now options bytes = refl
 
 -- what is heard where the line that goes on ends here
 heard_more : (options : TellOptions) (bytes : List ℕ)
-    → heard_of options.all (said options.times bytes ++ ended_entries options bytes) ≡ heard_ended (kept_of options bytes)
+    → heard_of options (said options bytes ++ ended_entries options bytes) ≡ heard_ended (kept_of options bytes)
 unfolding ended_entries kept_of
-heard_more options bytes = by (skips_timed (kept_of options bytes).line)
+heard_more options bytes = by (passes_timed options.pages (kept_of options bytes).line)
   where
     entry : Entry
     entry = entry_ended (kept_of options bytes)
 
-    by : (c : Bool) → heard_of options.all (said options.times bytes ++ entry_if c entry)
-        ≡ cond c (heard_of options.all (said options.times bytes))
-        (heard_with options.all (heard_of options.all (said options.times bytes)) entry)
-    by true = ap (heard_of options.all) (append-nil (said options.times bytes))
-    by false = heard_of-snoc options.all (said options.times bytes) entry
+    by : (c : Bool) → heard_of options (said options bytes ++ entry_if c entry)
+        ≡ cond c (heard_of options (said options bytes))
+        (heard_with options (heard_of options (said options bytes)) entry)
+    by true = ap (heard_of options) (append-nil (said options bytes))
+    by false = heard_of-snoc options (said options bytes) entry
 
 -- the text of a line that ends is the one that is written of it
 text_here : (options : TellOptions) (bytes : List ℕ)
-    → lines_text options (taught_from untaught (map (judged_in options.all) (said options.times bytes))) (ended_entries options bytes)
+    → lines_text options (known_from options unknown (said options bytes)) (ended_entries options bytes)
     ≡ text_ended (kept_of options bytes)
 unfolding ended_entries kept_of heard_of
-text_here options bytes = by (skips_timed (kept_of options bytes).line)
+text_here options bytes = by (passes_timed options.pages (kept_of options bytes).line)
   where
-    by : (c : Bool) → lines_text options (taught_from untaught (map (judged_in options.all) (said options.times bytes)))
+    by : (c : Bool) → lines_text options (known_from options unknown (said options bytes))
         (entry_if c (entry_ended (kept_of options bytes)))
-        ≡ cond c [] (line_text options (taught_from untaught (map (judged_in options.all) (said options.times bytes)))
+        ≡ cond c [] (line_text options (known_from options unknown (said options bytes))
         (entry_ended (kept_of options bytes)))
     by true = refl
-    by false = append-nil (line_text options (taught_from untaught (map (judged_in options.all) (said options.times bytes)))
+    by false = append-nil (line_text options (known_from options unknown (said options bytes))
         (entry_ended (kept_of options bytes)))
 
 -- the text of the line that goes on, if it ends here, is written behind that of the lines that ended
 text_more : (options : TellOptions) (bytes : List ℕ)
-    → lines_text options untaught (said options.times bytes ++ ended_entries options bytes)
+    → lines_text options unknown (said options bytes ++ ended_entries options bytes)
     ≡ said_text options bytes ++ text_ended (kept_of options bytes)
 text_more options bytes =
-    lines_text-append options untaught (said options.times bytes) (ended_entries options bytes)
+    lines_text-append options unknown (said options bytes) (ended_entries options bytes)
     ∙ ap (λ l. said_text options bytes ++ l) (text_here options bytes)
 
 -- what is kept with a line feed more
@@ -133,7 +137,7 @@ kept_of-mark options bytes b is = λ i. record {
   options = options;
   taken = length-snoc bytes b i;
   ended = (ap length (ended-mark is_line_feed bytes b is) ∙ length-append (ended is_line_feed bytes) (since is_line_feed bytes ∷ [])) i;
-  heard = (ap (heard_of options.all) (said-mark options bytes b is) ∙ heard_more options bytes) i;
+  heard = (ap (heard_of options) (said-mark options bytes b is) ∙ heard_more options bytes) i;
   line = timed_of options.times (since-mark is_line_feed bytes b is i);
 }
 
@@ -146,7 +150,7 @@ kept_of-other options bytes b other = λ i. record {
   options = options;
   taken = length-snoc bytes b i;
   ended = length (ended-other is_line_feed bytes b other i);
-  heard = heard_of options.all (said-other options.times bytes b other i);
+  heard = heard_of options (said-other options bytes b other i);
   line = (ap (timed_of options.times) (since-other is_line_feed bytes b other) ∙ timed_of-snoc options.times (since is_line_feed bytes) b)
       i;
 }
@@ -170,8 +174,8 @@ said_text-snoc options bytes b = by (is_line_feed b) refl
   where
     by : (c : Bool) → is_line_feed b ≡ c
         → said_text options (bytes ++ b ∷ []) ≡ said_text options bytes ++ cond c (text_ended (kept_of options bytes)) []
-    by true is = ap (lines_text options untaught) (said-mark options bytes b is) ∙ text_more options bytes
-    by false other = ap (lines_text options untaught) (said-other options.times bytes b other) ∙ sym (append-nil (said_text options bytes))
+    by true is = ap (lines_text options unknown) (said-mark options bytes b is) ∙ text_more options bytes
+    by false other = ap (lines_text options unknown) (said-other options bytes b other) ∙ sym (append-nil (said_text options bytes))
 
 -- ---- further bytes
 
@@ -219,14 +223,14 @@ one_came kept x xs is =
 -- ---- the end
 
 -- a capture is told line by line
-capture_lines : (times : Bool) (text : List ℕ) → entries_of times text ≡ lines_said times (lines_of text)
-unfolding entries_of unskipped_from
-capture_lines times text = refl
+capture_lines : (options : TellOptions) (text : List ℕ) → entries_of options text ≡ lines_said options (lines_of text)
+unfolding entries_of
+capture_lines options text = refl
 
 -- what is said is told of the lines that ended
-said_lines : (times : Bool) (text : List ℕ) → said times text ≡ lines_said times (map without_return (ended is_line_feed text))
+said_lines : (options : TellOptions) (text : List ℕ) → said options text ≡ lines_said options (map without_return (ended is_line_feed text))
 unfolding said
-said_lines times text = refl
+said_lines options text = refl
 
 -- a line goes on where bytes follow the last line feed
 line_begun : (options : TellOptions) (text : List ℕ) → (kept_of options text).line.is_begun ≡ has_bytes (since is_line_feed text)
@@ -234,46 +238,46 @@ unfolding kept_of timed_of
 line_begun options text = refl
 
 -- what is said at the end
-pub entries_at_end : (options : TellOptions) (text : List ℕ) → entries_of options.times text
-    ≡ said options.times text ++ cond (has_bytes (since is_line_feed text)) (ended_entries options text) []
+pub entries_at_end : (options : TellOptions) (text : List ℕ) → entries_of options text
+    ≡ said options text ++ cond (has_bytes (since is_line_feed text)) (ended_entries options text) []
 entries_at_end options text =
-    capture_lines options.times text ∙ ap (lines_said options.times) (lines_at_end text) ∙ by (has_bytes (since is_line_feed text))
-    ∙ ap (λ l. l ++ cond (has_bytes (since is_line_feed text)) (ended_entries options text) []) (sym (said_lines options.times text))
+    capture_lines options text ∙ ap (lines_said options) (lines_at_end text) ∙ by (has_bytes (since is_line_feed text))
+    ∙ ap (λ l. l ++ cond (has_bytes (since is_line_feed text)) (ended_entries options text) []) (sym (said_lines options text))
   where
     lines : List (List ℕ)
     lines = map without_return (ended is_line_feed text)
 
-    by : (c : Bool) → lines_said options.times (lines ++ map without_return (cond c (since is_line_feed text ∷ []) []))
-        ≡ lines_said options.times lines ++ cond c (ended_entries options text) []
+    by : (c : Bool) → lines_said options (lines ++ map without_return (cond c (since is_line_feed text ∷ []) []))
+        ≡ lines_said options lines ++ cond c (ended_entries options text) []
     by true =
-        lines_said-snoc options.times lines (without_return (since is_line_feed text))
-        ∙ ap (λ l. lines_said options.times lines ++ l) (ended_here options text)
-    by false = ap (lines_said options.times) (append-nil lines) ∙ sym (append-nil (lines_said options.times lines))
+        lines_said-snoc options lines (without_return (since is_line_feed text))
+        ∙ ap (λ l. lines_said options lines ++ l) (ended_here options text)
+    by false = ap (lines_said options) (append-nil lines) ∙ sym (append-nil (lines_said options lines))
 
 -- what is heard of a whole capture
 pub heard-end : (options : TellOptions) (text : List ℕ)
-    → heard_of options.all (entries_of options.times text) ≡ (kept_at_end (kept_of options text)).heard
-heard-end options text = ap (heard_of options.all) (entries_at_end options text)
+    → heard_of options (entries_of options text) ≡ (kept_at_end (kept_of options text)).heard
+heard-end options text = ap (heard_of options) (entries_at_end options text)
     ∙ by (has_bytes (since is_line_feed text)) (line_begun options text)
   where
     by : (c : Bool) → (kept_of options text).line.is_begun ≡ c
-        → heard_of options.all (said options.times text ++ cond c (ended_entries options text) [])
+        → heard_of options (said options text ++ cond c (ended_entries options text) [])
         ≡ (kept_at_end (kept_of options text)).heard
     by true is = heard_more options text ∙ sym (ap (λ d. (cond d (line_ended (kept_of options text)) (kept_of options text)).heard) is)
-    by false is = ap (heard_of options.all) (append-nil (said options.times text)) ∙ sym (heard_now options text)
+    by false is = ap (heard_of options) (append-nil (said options text)) ∙ sym (heard_now options text)
         ∙ sym (ap (λ d. (cond d (line_ended (kept_of options text)) (kept_of options text)).heard) is)
 
 -- what is written of its lines
 pub lines-end : (options : TellOptions) (text : List ℕ)
-    → lines_text options untaught (entries_of options.times text) ≡ said_text options text ++ told_at_end (kept_of options text)
+    → lines_text options unknown (entries_of options text) ≡ said_text options text ++ told_at_end (kept_of options text)
 lines-end options text =
-    ap (lines_text options untaught) (entries_at_end options text) ∙ by (has_bytes (since is_line_feed text)) (line_begun options text)
+    ap (lines_text options unknown) (entries_at_end options text) ∙ by (has_bytes (since is_line_feed text)) (line_begun options text)
   where
     by : (c : Bool) → (kept_of options text).line.is_begun ≡ c
-        → lines_text options untaught (said options.times text ++ cond c (ended_entries options text) [])
+        → lines_text options unknown (said options text ++ cond c (ended_entries options text) [])
         ≡ said_text options text ++ told_at_end (kept_of options text)
     by true is = text_more options text ∙ sym (ap (λ d. said_text options text ++ cond d (text_ended (kept_of options text)) []) is)
-    by false is = ap (lines_text options untaught) (append-nil (said options.times text)) ∙ sym (append-nil (said_text options text))
+    by false is = ap (lines_text options unknown) (append-nil (said options text)) ∙ sym (append-nil (said_text options text))
         ∙ sym (ap (λ d. said_text options text ++ cond d (text_ended (kept_of options text)) []) is)
 
 -- what is written of a whole capture
@@ -281,9 +285,9 @@ pub capture_text-end : (options : TellOptions) (text : List ℕ) → capture_tex
     ≡ said_text options text ++ (told_at_end (kept_of options text) ++ counts_text options (kept_at_end (kept_of options text)).heard)
 unfolding capture_text
 capture_text-end options text =
-    ap (λ l. l ++ counts_text options (heard_of options.all (entries_of options.times text))) (lines-end options text)
+    ap (λ l. l ++ counts_text options (heard_of options (entries_of options text))) (lines-end options text)
     ∙ append_assoc (said_text options text) (told_at_end (kept_of options text))
-    (counts_text options (heard_of options.all (entries_of options.times text)))
+    (counts_text options (heard_of options (entries_of options text)))
     ∙ ap (λ h. said_text options text ++ (told_at_end (kept_of options text) ++ counts_text options h)) (heard-end options text)
 
 -- ---- how many bytes were taken

@@ -11,7 +11,7 @@ use Rattle.pm_lines.specs.declared.fault.TextFault.TheVariants.{Syntax, BadHex, 
 use Rattle.pm_lines.specs.Streams.{AppendsFront}
 use Rattle.pm_trace.specs.TraceText.{end_of}
 use Rattle.pm_trace.specs.Written.{Puts}
-use Rattle.pm_lines.specs.Lines.{is_line_feed, lines_of, unskipped_from}
+use Rattle.pm_lines.specs.Lines.{is_line_feed, lines_of}
 use Rattle.pm_trace.specs.Counts.{counts_of}
 use Rattle.pm_trace.specs.declared.decode_end.DecodeEnd.{DecodeEnd}
 use Rattle.pm_trace.specs.declared.decode_end.DecodeEnd.TheVariants.{Clean}
@@ -35,7 +35,7 @@ said_none options = refl
 
 -- a capture of no bytes ends well
 nothing_end : (options : TellOptions) → Clean ≡ capture_end options []
-unfolding entries_of unskipped_from lines_of heard_of counts_of
+unfolding entries_of lines_of heard_of counts_of
 nothing_end options = refl
 
 -- nothing was read yet

@@ -1,88 +1,63 @@
 -- What is known, and what is written, behind one line more.
-use Rattle.std.proofs.Common.{◌≡◌, ℕ, ◌+◌, Bool, cond, not, List, [], ◌∷◌, ◌++◌, map, filter, Option, Some, None}
+use Rattle.std.proofs.Common.{◌≡◌, ℕ, ◌+◌, true, cond, List, [], ◌∷◌, ◌++◌, Option, Some, None}
 use Rattle.std.proofs.Common.{refl, sym, ap, ◌∙◌, arith, append_assoc, append-nil}
-use Rattle.std.specs.Prelude.{is_some}
 use Rattle.std.specs.List.{filter_map}
-use Rattle.std.proofs.lemmas.List.{map-append}
-use Rattle.std.proofs.lemmas.List.Elements.{filter-append, filter_map-append}
+use Rattle.std.proofs.lemmas.List.Elements.{filter_map-append}
 use Rattle.std.proofs.lemmas.List.Sums.{fold-append}
-use Rattle.pm_trace.specs.Counts.{counted, counts_of, lines_in, one_counted, one_more}
+use Rattle.pm_trace.specs.Counts.{counted, counts_of, counts_with, lines_in, one_counted, one_more, total_of}
 use Rattle.pm_trace.specs.Trace.{Judged, ToldLine, Accepted, Faulty, BadSyntax, BadHex}
 use Rattle.pm_trace.specs.Lemmas.Counts.{total_one_more}
 use Rattle.pm_trace.specs.Lemmas.Said.{counts_of-snoc}
-use Rattle.pm_values.specs.Taught.{Taught, taught_by, taught_from, untaught}
 use Rattle.pm_decode.specs.CaptureText.{line_text, lines_text}
-use Rattle.pm_decode.specs.Hearing.{HeardLines, counted_with, heard_lines, heard_of, heard_with, is_usual, other_code, told_in}
-use Rattle.pm_decode.specs.Readings.{Entry, judged_in}
+use Rattle.pm_decode.specs.Hearing.{HeardLines, Known, heard_lines, heard_of, heard_with, known_by, known_from, more_if, other_code}
+use Rattle.pm_decode.specs.Hearing.{other_code_in, told_in, told_unless, unknown}
+use Rattle.pm_decode.specs.Readings.{Entry, Reading, Told, Noted, judged_as, remark_of}
+use Rattle.pm_decode.specs.TimedLines.{passes_timed, timed_said}
 use Rattle.pm_decode.specs.declared.options.TellOptions.{TellOptions}
-
--- what the lines teach, and one more
-taught-snoc : (all : Bool) (taught : Taught) (entries : List Entry) (entry : Entry)
-    → taught_from taught (map (judged_in all) (entries ++ entry ∷ [])) ≡ taught_by (taught_from taught (map (judged_in all) entries)) (judged_in all entry)
-taught-snoc all taught entries entry =
-    ap (taught_from taught) (map-append (judged_in all) entries (entry ∷ []))
-    ∙ fold-append taught_by taught (map (judged_in all) entries) (judged_in all entry ∷ [])
-
--- the lines that are told as the table has them
-usual-snoc : (all : Bool) (entries : List Entry) (entry : Entry) → map (told_in all) (filter (is_usual all) (entries ++ entry ∷ []))
-    ≡ map (told_in all) (filter (is_usual all) entries) ++ map (told_in all) (filter (is_usual all) (entry ∷ []))
-usual-snoc all entries entry =
-    ap (map (told_in all)) (filter-append (is_usual all) entries (entry ∷ []))
-    ∙ map-append (told_in all) (filter (is_usual all) entries) (filter (is_usual all) (entry ∷ []))
+use Rattle.pm_decode.specs.declared.timed_line.TimedLine.{TimedLine}
 
 -- one line more is heard
-pub heard_of-snoc : (all : Bool) (entries : List Entry) (entry : Entry)
-    → heard_of all (entries ++ entry ∷ []) ≡ heard_with all (heard_of all entries) entry
+pub heard_of-snoc : (options : TellOptions) (entries : List Entry) (entry : Entry)
+    → heard_of options (entries ++ entry ∷ []) ≡ heard_with options (heard_of options entries) entry
 unfolding heard_of
-heard_of-snoc all entries entry = by (other_code all entry) refl
+heard_of-snoc options entries entry = λ i. record {
+  known = fold-append (known_by options) unknown entries (entry ∷ []) i;
+  counts = counts (told_in options.all entry) refl i;
+  others = others (other_code options.all entry) refl i;
+}
   where
     lines : List ToldLine
-    lines = map (told_in all) (filter (is_usual all) entries)
+    lines = filter_map (told_in options.all) entries
 
     codes_before : List ℕ
-    codes_before = filter_map (other_code all) entries
+    codes_before = filter_map (other_code options.all) entries
 
-    kept : (other : Option ℕ) → other_code all entry ≡ other
-        → lines ++ map (told_in all) (filter (is_usual all) (entry ∷ [])) ≡ lines ++ cond (not (is_some other)) (told_in all entry ∷ []) []
-    kept None is = rw is refl
-    kept (Some code) is = rw is refl
+    counts : (told : Option ToldLine) → told_in options.all entry ≡ told
+        → counts_of (filter_map (told_in options.all) (entries ++ entry ∷ [])) ≡ counts_with (counts_of lines) told
+    counts None is =
+        let same : filter_map (told_in options.all) (entries ++ entry ∷ []) ≡ lines ++ [] =
+        filter_map-append (told_in options.all) entries (entry ∷ []) ∙ rw is refl in
+        ap counts_of (same ∙ append-nil lines)
+    counts (Some told) is =
+        let same : filter_map (told_in options.all) (entries ++ entry ∷ []) ≡ lines ++ told ∷ [] =
+        filter_map-append (told_in options.all) entries (entry ∷ []) ∙ rw is refl in
+        ap counts_of same ∙ counts_of-snoc lines told
 
-    counts : (other : Option ℕ) → other_code all entry ≡ other
-        → counts_of (map (told_in all) (filter (is_usual all) (entries ++ entry ∷ [])))
-        ≡ counts_of (lines ++ cond (not (is_some other)) (told_in all entry ∷ []) [])
-    counts other is =
-        let same : map (told_in all) (filter (is_usual all) (entries ++ entry ∷ [])) ≡ lines
-        ++ cond (not (is_some other)) (told_in all entry ∷ []) [] =
-        usual-snoc all entries entry ∙ kept other is in
-        ap counts_of same
-
-    others : (other : Option ℕ) → other_code all entry ≡ other
-        → counted (filter_map (other_code all) (entries ++ entry ∷ [])) ≡ counted (codes_before ++ filter_map (λ o. o) (other ∷ []))
+    others : (other : Option ℕ) → other_code options.all entry ≡ other
+        → counted (filter_map (other_code options.all) (entries ++ entry ∷ [])) ≡ more_if (counted codes_before) other
     others None is =
-        let same : filter_map (other_code all) (entries ++ entry ∷ []) ≡ codes_before ++ [] =
-        filter_map-append (other_code all) entries (entry ∷ []) ∙ rw is refl in
-        ap counted same
+        let same : filter_map (other_code options.all) (entries ++ entry ∷ []) ≡ codes_before ++ [] =
+        filter_map-append (other_code options.all) entries (entry ∷ []) ∙ rw is refl in
+        ap counted (same ∙ append-nil codes_before)
     others (Some code) is =
-        let same : filter_map (other_code all) (entries ++ entry ∷ []) ≡ codes_before ++ code ∷ [] =
-        filter_map-append (other_code all) entries (entry ∷ []) ∙ rw is refl in
-        ap counted same
+        let same : filter_map (other_code options.all) (entries ++ entry ∷ []) ≡ codes_before ++ code ∷ [] =
+        filter_map-append (other_code options.all) entries (entry ∷ []) ∙ rw is refl in
+        ap counted same ∙ fold-append one_more [] codes_before (code ∷ [])
 
-    by : (other : Option ℕ) → other_code all entry ≡ other
-        → heard_of all (entries ++ entry ∷ []) ≡ counted_with (heard_of all entries) other (judged_in all entry)
-    by None is = λ i. record {
-      taught = taught-snoc all untaught entries entry i;
-      counts = (counts None is ∙ counts_of-snoc lines (told_in all entry)) i;
-      others = (others None is ∙ ap counted (append-nil codes_before)) i;
-    }
-    by (Some code) is = λ i. record {
-      taught = taught-snoc all untaught entries entry i;
-      counts = (counts (Some code) is ∙ ap counts_of (append-nil lines)) i;
-      others = (others (Some code) is ∙ fold-append one_more [] codes_before (code ∷ [])) i;
-    }
-
--- one line more is one more that is counted
-pub heard_one : (all : Bool) (heard : HeardLines) (entry : Entry) → heard_lines (heard_with all heard entry) ≡ heard_lines heard + 1
-heard_one all heard entry = by (other_code all entry)
+-- a line that is told is one more that is counted
+pub heard_one : (options : TellOptions) (heard : HeardLines) (number : ℕ) (reading : Reading)
+    → heard_lines (heard_with options heard (number, Told reading)) ≡ heard_lines heard + 1
+heard_one options heard number reading = by (other_code_in options.all reading.parts) (judged_as options.all reading.parts)
   where
     one : (judged : Judged) → lines_in (one_counted heard.counts judged) ≡ lines_in heard.counts + 1
     one (Accepted addr message answer) = omega arith
@@ -90,15 +65,23 @@ heard_one all heard entry = by (other_code all entry)
     one BadSyntax = omega arith
     one BadHex = omega arith
 
-    by : (other : Option ℕ) → heard_lines (counted_with heard other (judged_in all entry)) ≡ heard_lines heard + 1
-    by None = let more = one (judged_in all entry) in omega (arith, more)
-    by (Some code) = omega (arith, total_one_more heard.others code)
+    by : (other : Option ℕ) (judged : Judged)
+        → lines_in (counts_with heard.counts (told_unless other (number, judged))) + total_of (more_if heard.others other)
+        ≡ heard_lines heard + 1
+    by None judged = let more = one judged in omega (arith, more)
+    by (Some code) judged = omega (arith, total_one_more heard.others code)
 
--- the text of two lists of lines is that of the first, and that of the second with what the first taught
-pub lines_text-append : (options : TellOptions) (taught : Taught) (xs ys : List Entry)
-    → lines_text options taught (xs ++ ys) ≡ lines_text options taught xs ++ lines_text options (taught_from taught (map (judged_in options.all) xs)) ys
-lines_text-append options taught [] ys = refl
-lines_text-append options taught (x ∷ xs) ys =
-    ap (λ l. line_text options taught x ++ l) (lines_text-append options (taught_by taught (judged_in options.all x)) xs ys)
-    ∙ sym (append_assoc (line_text options taught x) (lines_text options (taught_by taught (judged_in options.all x)) xs)
-    (lines_text options (taught_from (taught_by taught (judged_in options.all x)) (map (judged_in options.all) xs)) ys))
+-- where PAGE is followed a comment is heard by what it says
+pub comment_heard : (options : TellOptions) (heard : HeardLines) (number : ℕ) (line : TimedLine) → options.pages ≡ true
+    → line.has_mark ≡ true → heard_with options heard (number, Noted (remark_of line.head))
+    ≡ cond (passes_timed options.pages line) heard (heard_with options heard (number, timed_said options.pages line))
+comment_heard options heard number line pages mark = rw (pages, mark) refl
+
+-- the text of two lists of lines is that of the first, and that of the second by what is known behind the first
+pub lines_text-append : (options : TellOptions) (known : Known) (xs ys : List Entry)
+    → lines_text options known (xs ++ ys) ≡ lines_text options known xs ++ lines_text options (known_from options known xs) ys
+lines_text-append options known [] ys = refl
+lines_text-append options known (x ∷ xs) ys =
+    ap (λ l. line_text options known x ++ l) (lines_text-append options (known_by options known x) xs ys)
+    ∙ sym (append_assoc (line_text options known x) (lines_text options (known_by options known x) xs)
+    (lines_text options (known_from options (known_by options known x) xs) ys))

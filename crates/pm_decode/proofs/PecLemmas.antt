@@ -3,8 +3,7 @@ use Rattle.std.proofs.Common.{◌≡◌, ◌∙◌, Bool, true, false, cond, Lis
 use Rattle.std.specs.Prelude.{is_some}
 use Rattle.pm_trace.specs.Trace.{Judged, parts_judged}
 use Rattle.pm_values.specs.Otherwise.{IsCompleted, completed_judged, judged_with, lacks_pec}
-use Rattle.pm_decode.specs.Hearing.{is_without_pec}
-use Rattle.pm_decode.specs.Readings.{judged_by}
+use Rattle.pm_decode.specs.Readings.{is_without_pec, judged_by}
 
 -- a choice that is made
 chosen : (b : Bool) (x y : Judged) → b ≡ true → cond b x y ≡ x

@@ -1,13 +1,15 @@
 -- What is kept of a line with one byte more at its end, and what it reads as where it ends.
 use Rattle.std.proofs.Common.{◌≡◌, ℕ, ◌+◌, ◌-◌, ◌<◌, ◌≤◌, eqb, Bool, true, false, cond, not, ◌||◌, ◌&&◌, List, [], ◌∷◌, ◌++◌, length, take}
 use Rattle.std.proofs.Common.{drop, get_or, None}
-use Rattle.std.proofs.Common.{refl, sym, ap, subst, ◌∙◌, arith, append_assoc, append-nil, length-append, ne_eqb}
+use Rattle.std.proofs.Common.{refl, sym, ap, subst, ◌∙◌, arith, append_assoc, append-nil, inl, inr, length-append, ne_eqb}
 use Rattle.std.proofs.lemmas.List.Folds.{list_any-append}
 use Rattle.std.proofs.lemmas.List.Sums.{fold-append}
 use Rattle.std.specs.Prelude.{nat_eq, nat_lt, codes}
 use Rattle.std.specs.List.{fold, list_all, list_any, starts_with}
+use Rattle.std.specs.Cmp.Lexicographic.{pointwise}
+use Rattle.std.proofs.lemmas.Bool.{cases_lt, or_parts}
 use Rattle.std.proofs.lemmas.Bool.Decides.{nat_tests}
-use Rattle.std.proofs.lemmas.List.{take_all, length-take}
+use Rattle.std.proofs.lemmas.List.{take_all, length-take, length-take-le, take-append-le, take-take}
 use Rattle.std.proofs.Math.Bool.{or-true, or-false, and-true}
 use Rattle.pm_lines.specs.Lines.{has_bytes, is_line_feed, is_skipped, is_space, without_return}
 use Rattle.pm_trace.specs.Marks.{before}
@@ -18,8 +20,12 @@ use Rattle.pm_trace.specs.Trace.{line_read}
 use Rattle.pm_trace.specs.Lemmas.OpenLines.{has_last, line_of-snoc, turned, without_return-snoc}
 use Rattle.pm_trace.specs.Lemmas.PlainLines.{part_of-snoc}
 use Rattle.pm_trace.specs.Lemmas.Said.{open_reads, skipped_kind}
-use Rattle.pm_decode.specs.Readings.{behind_word, first_word, from_first, past_spaces, reading_of, time_in, timed}
-use Rattle.pm_decode.specs.TimedLines.{PassesTimed, begun_with, skips_timed, timed_of, timed_read, timed_takes, word_ended}
+use Rattle.pm_decode.specs.Readings.{Told, Noted, behind_word, first_word, from_first, is_comment, is_noted, is_passed, past_spaces, reading_of}
+use Rattle.pm_decode.specs.Readings.{remark_of, said_of, time_in, timed}
+use Rattle.pm_decode.specs.TimedLines.{PassesTimed, begun_with, head_takes, passes_timed, skips_timed, timed_of, timed_read, timed_said}
+use Rattle.pm_decode.specs.TimedLines.{timed_takes, word_ended}
+use Rattle.pm_decode.specs.declared.comment.Remark.TheVariants.{Elsewhere, Unacknowledged, Loss}
+use Rattle.pm_decode.specs.declared.options.TellOptions.{TellOptions}
 use Rattle.pm_decode.specs.declared.timed_line.TimedLine.{TimedLine}
 
 -- ---- the first word with one byte more
@@ -146,6 +152,34 @@ mark-snoc : (xs : List ℕ) (b : ℕ) → starts_with nat_eq (xs ++ b ∷ []) (c
 mark-snoc [] b = and-true (eqb 35 b) ∙ turned 35 b
 mark-snoc (x ∷ xs) b = refl
 
+-- the first bytes take a byte where there is room for it
+take-snoc : (xs : List ℕ) (b : ℕ) → take 16 (xs ++ b ∷ []) ≡ head_takes (take 16 xs) b
+take-snoc xs b =
+    elim (cases_lt (length xs) 16) [
+      | inl room ↦
+          let whole : take 16 xs ≡ xs = take_all 16 xs (omega arith) in
+          let more : take 16 (xs ++ b ∷ []) ≡ xs ++ b ∷ [] = take_all 16 (xs ++ b ∷ []) (omega (arith, length-append xs (b ∷ []))) in
+          let fits : nat_lt (length xs) 16 ≡ true = grind (arith, nat_tests) in
+          rw (more, whole, fits) refl
+      | inr full ↦
+          let same : take 16 (xs ++ b ∷ []) ≡ take 16 xs = take-append-le 16 xs (b ∷ []) full in
+          let size : length (take 16 xs) ≡ 16 = length-take-le 16 xs full in
+          let fits : nat_lt (length (take 16 xs)) 16 ≡ false = grind (arith, nat_tests) in
+          rw (same, fits) refl
+    ]
+
+-- the beginning of a comment takes a byte where that makes or leaves the line one
+head-snoc : (xs : List ℕ) (b : ℕ) → cond (is_comment (xs ++ b ∷ [])) (take 16 (xs ++ b ∷ [])) []
+    ≡ cond (cond (has_bytes xs) (is_comment xs) (eqb b 35)) (head_takes (cond (is_comment xs) (take 16 xs) []) b)
+    (cond (is_comment xs) (take 16 xs) [])
+head-snoc [] b = ap (λ c. cond c (b ∷ []) []) (mark-snoc [] b)
+head-snoc (x ∷ xs) b = by (is_comment (x ∷ xs)) (take 16 ((x ∷ xs) ++ b ∷ [])) (take 16 (x ∷ xs)) (take-snoc (x ∷ xs) b)
+  where
+    by : (c : Bool) (more kept : List ℕ) → more ≡ head_takes kept b
+        → cond c more [] ≡ cond c (head_takes (cond c kept []) b) (cond c kept [])
+    by true more kept is = is
+    by false more kept is = refl
+
 -- a word has a byte where one is kept
 has_kept : (word : List ℕ) → has_bytes (part_of word).bytes ≡ has_bytes word
 unfolding part_of
@@ -192,6 +226,7 @@ timed_of-snoc false xs b = λ i. record {
   has_mark = mark-snoc xs b i;
   is_begun = some_there xs b i;
   is_over = true;
+  head = head-snoc xs b i;
   word = part_of [];
   packet = line_of-snoc xs b i;
 }
@@ -200,6 +235,7 @@ timed_of-snoc true xs b = λ i. record {
   has_mark = mark-snoc xs b i;
   is_begun = some_there xs b i;
   is_over = is_ended i;
+  head = head-snoc xs b i;
   word = word i;
   packet = packet i;
 }
@@ -229,56 +265,61 @@ timed_of-snoc true xs b = λ i. record {
 
 -- ---- bytes of a piece
 
--- a line all of whose further bytes are the packet's own
-pub packet_fold : (line : TimedLine) (front : List ℕ) → line.is_begun ≡ true → line.is_over ≡ true
+-- a line that is no comment, and all of whose further bytes are the packet's own
+pub packet_fold : (line : TimedLine) (front : List ℕ) → line.is_begun ≡ true → line.is_over ≡ true → line.has_mark ≡ false
     → fold timed_takes line front ≡ record line { packet = fold line_takes line.packet front }
 unfolding timed_takes
-packet_fold line [] begun over = refl
-packet_fold line (b ∷ front) begun over =
+packet_fold line [] begun over plain = refl
+packet_fold line (b ∷ front) begun over plain =
     packet_fold (timed_takes line b) front refl (ap (λ c. c || (is_space b && has_bytes line.word.bytes)) over)
+    (ap (λ c. cond c line.has_mark (eqb b 35)) begun ∙ plain)
     ∙ λ i. record {
       times = line.times;
       has_mark = ap (λ c. cond c line.has_mark (eqb b 35)) begun i;
       is_begun = sym begun i;
       is_over = (ap (λ c. c || (is_space b && has_bytes line.word.bytes)) over ∙ sym over) i;
+      head = ap (λ c. cond c (head_takes line.head b) line.head) (ap (λ c. cond c line.has_mark (eqb b 35)) begun ∙ plain) i;
       word = ap (λ c. cond ((c || (is_space b && has_bytes line.word.bytes)) || is_space b) line.word (part_takes line.word b)) over i;
       packet = fold line_takes (ap (λ c. cond (c || (is_space b && has_bytes line.word.bytes)) (line_takes line.packet b) line.packet) over
           i) front;
     }
 
--- a line all of whose bytes are the packet's own, of which this is one
-packet_begun : (line : TimedLine) (x : ℕ) (front : List ℕ) → line.is_over ≡ true
+-- a line that is no comment, and all of whose bytes are the packet's own, of which this is one
+packet_begun : (line : TimedLine) (x : ℕ) (front : List ℕ) → line.is_over ≡ true → cond line.is_begun line.has_mark (eqb x 35) ≡ false
     → fold timed_takes line (x ∷ front) ≡ record (begun_with line x) { packet = fold line_takes line.packet (x ∷ front) }
 unfolding timed_takes
-packet_begun line x front over =
-    packet_fold (timed_takes line x) front refl (ap (λ c. c || (is_space x && has_bytes line.word.bytes)) over)
+packet_begun line x front over plain =
+    packet_fold (timed_takes line x) front refl (ap (λ c. c || (is_space x && has_bytes line.word.bytes)) over) plain
     ∙ λ i. record {
       times = line.times;
       has_mark = cond line.is_begun line.has_mark (eqb x 35);
       is_begun = true;
       is_over = (ap (λ c. c || (is_space x && has_bytes line.word.bytes)) over ∙ sym over) i;
+      head = ap (λ c. cond c (head_takes line.head x) line.head) plain i;
       word = ap (λ c. cond ((c || (is_space x && has_bytes line.word.bytes)) || is_space x) line.word (part_takes line.word x)) over i;
       packet = fold line_takes (ap (λ c. cond (c || (is_space x && has_bytes line.word.bytes)) (line_takes line.packet x) line.packet) over
           i) front;
     }
 
--- the packet took all bytes up to the first line feed, of which there are some
+-- the packet took all bytes up to the first line feed, of which there are some, of a line that is no comment
 pub passes_packet : (old : TimedLine) (bytes rest : List ℕ) (packet : OpenLine) → old.is_over ≡ true → 1 ≤ length bytes
-    → (get_or bytes 0 0 ≡ 10 → ⊥) → Passes old.packet bytes rest packet → IsAtLineFeed rest
+    → (get_or bytes 0 0 ≡ 10 → ⊥) → cond old.is_begun old.has_mark (eqb (get_or bytes 0 0) 35) ≡ false
+    → Passes old.packet bytes rest packet → IsAtLineFeed rest
     → PassesTimed old bytes rest (record (begun_with old (get_or bytes 0 0)) { packet = packet })
-passes_packet old bytes rest packet over some other passes stops = by passes.front bytes passes.split passes.plain passes.line some other
+passes_packet old bytes rest packet over some other unmarked passes stops =
+    by passes.front bytes passes.split passes.plain passes.line some other unmarked
   where
     none : (rest : List ℕ) → IsAtLineFeed rest → 1 ≤ length rest → (get_or rest 0 0 ≡ 10 → ⊥) → ⊥
     none [] at some other = omega (arith, some)
     none (x ∷ xs) at some other = other at
 
     by : (front bytes : List ℕ) → bytes ≡ front ++ rest → list_any is_line_feed front ≡ false → packet ≡ fold line_takes old.packet front
-        → 1 ≤ length bytes → (get_or bytes 0 0 ≡ 10 → ⊥)
+        → 1 ≤ length bytes → (get_or bytes 0 0 ≡ 10 → ⊥) → cond old.is_begun old.has_mark (eqb (get_or bytes 0 0) 35) ≡ false
         → PassesTimed old bytes rest (record (begun_with old (get_or bytes 0 0)) { packet = packet })
-    by [] bytes split plain line some other =
+    by [] bytes split plain line some other unmarked =
         let at : IsAtLineFeed bytes = subst (λ l. IsAtLineFeed l) (sym split) stops in
         absurd (none bytes at some other)
-    by (x ∷ front) bytes split plain line some other =
+    by (x ∷ front) bytes split plain line some other unmarked =
         let first : x ≡ get_or bytes 0 0 = sym (ap (λ l. get_or l 0 0) split) in
         record {
           front = x ∷ front;
@@ -286,7 +327,7 @@ passes_packet old bytes rest packet over some other passes stops = by passes.fro
           plain = plain;
           line = ap (λ p. record (begun_with old (get_or bytes 0 0)) { packet = p }) line
               ∙ ap (λ n. record (begun_with old n) { packet = fold line_takes old.packet (x ∷ front) }) (sym first)
-              ∙ sym (packet_begun old x front over);
+              ∙ sym (packet_begun old x front over (ap (λ n. cond old.is_begun old.has_mark (eqb n 35)) first ∙ unmarked));
         }
 
 -- no byte
@@ -513,3 +554,75 @@ timed_skips true line =
     ∙ ap (λ c. c || not (has_bytes (first_word (without_return line)))) (sym (mark_kept line))
     ∙ ap (λ c. starts_with nat_eq (without_return line) (codes "#") || c) (sym (no_word (without_return line)))
     ∙ or_turned (starts_with nat_eq (without_return line) (codes "#")) (list_all is_space (without_return line))
+
+-- a line is a comment by what is kept of it
+marked : (times : Bool) (line : List ℕ) → (timed_of times line).has_mark ≡ is_comment line
+unfolding timed_of
+marked times line = refl
+
+-- a line says nothing by what is kept of it
+pub timed_passes : (options : TellOptions) (line : List ℕ)
+    → passes_timed options.pages (timed_of options.times line) ≡ is_passed options.pages (without_return line)
+timed_passes options line =
+    ap (λ c. not (options.pages && c) && skips_timed (timed_of options.times line)) (marked options.times line ∙ sym (mark_kept line))
+    ∙ ap (λ c. not (is_noted options.pages (without_return line)) && c) (timed_skips options.times line)
+
+-- ---- a comment
+
+-- a line begins with bytes of which none is a carriage return where it does so without the one at its end
+start_returned : (line start : List ℕ) → list_any (λ c. eqb c 13) start ≡ false
+    → starts_with nat_eq (without_return line) start ≡ starts_with nat_eq line start
+start_returned [] start plain = refl
+start_returned (x ∷ xs) start plain =
+    let last = has_last x xs in
+    let P : List ℕ → Type 0 = λ l. starts_with nat_eq (without_return l) start ≡ starts_with nat_eq l start in
+    subst P (sym last.is) (at_end last.front last.last)
+  where
+    front_alone : (front start : List ℕ) (b : ℕ) → eqb b 13 ≡ true → list_any (λ c. eqb c 13) start ≡ false
+        → starts_with nat_eq front start ≡ starts_with nat_eq (front ++ b ∷ []) start
+    front_alone front [] b is plain = refl
+    front_alone [] (y ∷ ys) b is plain =
+        let same : b ≡ 13 = grind (arith, nat_tests) in
+        let other : eqb y 13 ≡ false = (or_parts (eqb y 13) (list_any (λ c. eqb c 13) ys) plain).0 in
+        let first : eqb y b ≡ false = ap (eqb y) same ∙ other in
+        rw first refl
+    front_alone (x ∷ front) (y ∷ ys) b is plain =
+        ap (λ c. eqb y x && c) (front_alone front ys b is (or_parts (eqb y 13) (list_any (λ c. eqb c 13) ys) plain).1)
+
+    at_end : (front : List ℕ) (b : ℕ) → starts_with nat_eq (without_return (front ++ b ∷ [])) start
+        ≡ starts_with nat_eq (front ++ b ∷ []) start
+    at_end front b = ap (λ l. starts_with nat_eq l start) (without_return-snoc front b) ∙ by (eqb b 13) refl
+      where
+        by : (c : Bool) → eqb b 13 ≡ c
+            → starts_with nat_eq (cond c front (front ++ b ∷ [])) start ≡ starts_with nat_eq (front ++ b ∷ []) start
+        by true is = front_alone front start b is plain
+        by false is = refl
+
+-- the first bytes of a comment say what the line does
+remark_kept : (line : List ℕ) → remark_of (take 16 line) ≡ remark_of (without_return line)
+remark_kept line = λ i. cond (start (codes "# another device") (omega arith) refl i) Elsewhere
+    (cond (start (codes "# byte ") (omega arith) refl i) Unacknowledged Loss)
+  where
+    start : (begin : List ℕ) → length begin ≤ 16 → list_any (λ c. eqb c 13) begin ≡ false
+        → starts_with nat_eq (take 16 line) begin ≡ starts_with nat_eq (without_return line) begin
+    start begin few plain =
+        ap (pointwise nat_eq begin) (take-take (length begin) 16 line few) ∙ sym (start_returned line begin plain)
+
+-- a line is by what is kept of it what it is
+pub timed_says : (options : TellOptions) (line : List ℕ)
+    → timed_said options.pages (timed_of options.times line) ≡ said_of options (without_return line)
+unfolding timed_of
+timed_says options line =
+    by options.pages (is_comment line)
+    ∙ ap (λ c. cond (options.pages && c) (Noted (remark_of (without_return line)))
+    (Told (reading_of options.times (without_return line)))) (sym (mark_kept line))
+  where
+    told : Told (timed_read (timed_of options.times line)) ≡ Told (reading_of options.times (without_return line))
+    told = ap Told (timed_reads options.times line)
+
+    by : (pages c : Bool)
+        → cond (pages && c) (Noted (remark_of (cond c (take 16 line) []))) (Told (timed_read (timed_of options.times line)))
+        ≡ cond (pages && c) (Noted (remark_of (without_return line))) (Told (reading_of options.times (without_return line)))
+    by true true = ap Noted (remark_kept line)
+    by true false = told
+    by false c = told

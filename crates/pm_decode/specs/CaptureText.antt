@@ -5,18 +5,20 @@ use Rattle.std.specs.Map.{lookup}
 use Rattle.pm_lines.specs.Numbers.{hex_byte}
 use Rattle.pm_trace.specs.Counts.{total_of}
 use Rattle.pm_trace.specs.Trace.{Judged, Accepted, Faulty, BadSyntax, BadHex, reading_judged}
-use Rattle.pm_trace.specs.TraceText.{count_line, end_of, judged_text}
+use Rattle.pm_trace.specs.TraceText.{count_line, end_of, judged_text, message_text}
 use Rattle.pm_trace.specs.declared.decode_end.DecodeEnd.{DecodeEnd}
 use Rattle.pm_trace.specs.declared.line_fault.LineFault.{LineFault}
 use Rattle.pm_trace.specs.declared.trace_line.TraceLine.{TraceLine}
 use Rattle.pm_values.specs.Otherwise.{other_text, spaced}
-use Rattle.pm_values.specs.Taught.{Taught, taught_by, untaught}
+use Rattle.pm_values.specs.Taught.{Taught}
 use Rattle.pm_values.specs.ValueText.{known_text}
 use Rattle.pm_values.specs.Values.{packet_value}
-use Rattle.pm_decode.specs.Hearing.{HeardLines, heard_of, heard_lines, is_without_pec, other_address}
-use Rattle.pm_decode.specs.JsonText.{count_json, judged_fields, lack_field, number_field_if, other_fields, other_jsons, text_field, totals_json}
-use Rattle.pm_decode.specs.Readings.{Entry, entries_of, judged_by, judged_in}
+use Rattle.pm_decode.specs.Hearing.{HeardLines, Known, heard_of, heard_lines, known_by, unknown}
+use Rattle.pm_decode.specs.JsonText.{count_json, judged_fields, lack_field, number_field_if, other_fields, other_jsons, text_field, totals_json, wrong_field}
+use Rattle.pm_decode.specs.PageSteps.{marks_in}
+use Rattle.pm_decode.specs.Readings.{Entry, Said, Told, Noted, entries_of, judged_by, other_address}
 use Rattle.pm_decode.specs.declared.options.TellOptions.{TellOptions}
+use Rattle.pm_decode.specs.declared.page_step.Marks.{Marks}
 
 -- ---- what stands behind a packet's text
 
@@ -35,74 +37,103 @@ abbrev pub bytes_text : TraceLine → List ℕ
 bytes_text parts = bytes_by parts.write parts.read
 
 -- the value of a packet, and the bytes of one with a fault
-abbrev pub meaning_text : TellOptions → Taught → TraceLine → Judged → List ℕ
-meaning_text options taught parts (Accepted addr message answer) =
-    known_text (packet_value options.formats taught addr message answer)
-meaning_text options taught parts (Faulty addr is_read fault) = bytes_text parts
-meaning_text options taught parts BadSyntax = []
-meaning_text options taught parts BadHex = []
+abbrev pub meaning_text : TellOptions → Taught → Option ℕ → TraceLine → Judged → List ℕ
+meaning_text options taught reached parts (Accepted addr message answer) =
+    known_text (packet_value options.formats taught addr reached message answer)
+meaning_text options taught reached parts (Faulty addr is_read fault) = bytes_text parts
+meaning_text options taught reached parts BadSyntax = []
+meaning_text options taught reached parts BadHex = []
 
-abbrev pub extra_text : TellOptions → Taught → TraceLine → Judged → List ℕ
-extra_text options taught parts judged = if options.values then meaning_text options taught parts judged else []
+abbrev pub extra_text : TellOptions → Taught → Option ℕ → TraceLine → Judged → List ℕ
+extra_text options taught reached parts judged =
+    if options.values then meaning_text options taught reached parts judged else []
 
 -- behind a packet that lacks its PEC
 abbrev pub lack_text : Bool → List ℕ
 lack_text lacks = if lacks then codes ", no PEC" else []
 
+-- behind one that contradicts a line: the two lines
+unfoldable pub two_lines : ℕ → ℕ → List ℕ
+two_lines line number = decimal line ++ (codes " and " ++ decimal number)
+
+abbrev pub wrong_text : ℕ → Option ℕ → List ℕ
+wrong_text number None = []
+wrong_text number (Some line) = codes " WRONG PAGE? lines " ++ two_lines line number
+
 -- ---- a line
 
--- a packet as the command table has it, in the line of this number, or by its code and bytes
-abbrev pub packet_text_by : TellOptions → Taught → ℕ → TraceLine → Option ℕ → List ℕ
-packet_text_by options taught number parts None = judged_text number (judged_by options.all parts)
-    ++ (extra_text options taught parts (judged_by options.all parts) ++ lack_text (is_without_pec options.all parts))
-packet_text_by options taught number parts (Some addr) = other_text options.values addr parts.write parts.read
+-- what the line of this number says of a packet, with the output that it reaches where PAGE was followed
+abbrev pub reached_text : Option ℕ → ℕ → Judged → List ℕ
+reached_text None number judged = judged_text number judged
+reached_text (Some page) number (Accepted addr message answer) = hex_byte addr
+    ++ (codes " page " ++ (decimal page ++ (codes "?" ++ (codes " " ++ message_text message answer))))
+reached_text (Some page) number (Faulty addr is_read fault) = judged_text number (Faulty addr is_read fault)
+reached_text (Some page) number BadSyntax = judged_text number BadSyntax
+reached_text (Some page) number BadHex = judged_text number BadHex
 
-abbrev pub packet_text : TellOptions → Taught → ℕ → TraceLine → List ℕ
-packet_text options taught number parts =
-    packet_text_by options taught number parts (other_address options.all parts)
+-- A packet as the command table has it, in the line of this number, or by its code and bytes. One that is told by these
+-- contradicts no line.
+abbrev pub packet_text_by : TellOptions → Taught → Marks → ℕ → TraceLine → Option ℕ → List ℕ
+packet_text_by options taught marks number parts None = reached_text marks.reached number (judged_by options.all parts)
+    ++ (extra_text options taught marks.reached parts (judged_by options.all parts)
+    ++ (lack_text marks.lacks ++ wrong_text number marks.wrong))
+packet_text_by options taught marks number parts (Some addr) = other_text options.values addr parts.write parts.read
+
+abbrev pub packet_text : TellOptions → Taught → Marks → ℕ → TraceLine → List ℕ
+packet_text options taught marks number parts =
+    packet_text_by options taught marks number parts (other_address options.all parts)
 
 abbrev pub time_text : Option ℕ → List ℕ
 time_text None = []
 time_text (Some time) = codes " " ++ (decimal time ++ codes " us")
 
 -- what follows a line's number
-abbrev pub reading_text : TellOptions → Taught → ℕ → Option ℕ → Result TraceLine LineFault → List ℕ
-reading_text options taught number time (Ok parts) =
-    time_text time ++ (codes " " ++ packet_text options taught number parts)
-reading_text options taught number time (Err fault) = codes " " ++ judged_text number (reading_judged (Err fault))
+abbrev pub reading_text : TellOptions → Taught → Marks → ℕ → Option ℕ → Result TraceLine LineFault → List ℕ
+reading_text options taught marks number time (Ok parts) =
+    time_text time ++ (codes " " ++ packet_text options taught marks number parts)
+reading_text options taught marks number time (Err fault) = codes " " ++ judged_text number (reading_judged (Err fault))
 
 -- a line as it is told to a person
-unfoldable pub plain_line : TellOptions → Taught → Entry → List ℕ
-plain_line options taught entry = decimal entry.0
-    ++ (reading_text options taught entry.0 entry.1.time entry.1.parts ++ codes "\n")
+unfoldable pub plain_line : TellOptions → Taught → Marks → ℕ → Option ℕ → Result TraceLine LineFault → List ℕ
+plain_line options taught marks number time parts = decimal number
+    ++ (reading_text options taught marks number time parts ++ codes "\n")
 
 -- a packet as fields of JSON
-abbrev pub packet_fields_by : TellOptions → Taught → TraceLine → Option ℕ → List ℕ
-packet_fields_by options taught parts None = judged_fields options.formats options.values taught parts.write parts.read
-    (judged_by options.all parts) ++ lack_field (is_without_pec options.all parts)
-packet_fields_by options taught parts (Some addr) = other_fields options.values addr parts.write parts.read
+abbrev pub packet_fields_by : TellOptions → Taught → Marks → ℕ → TraceLine → Option ℕ → List ℕ
+packet_fields_by options taught marks number parts None = judged_fields options.formats options.values taught marks.reached
+    parts.write parts.read (judged_by options.all parts) ++ (lack_field marks.lacks ++ wrong_field number marks.wrong)
+packet_fields_by options taught marks number parts (Some addr) = other_fields options.values addr parts.write parts.read
 
-abbrev pub reading_fields : TellOptions → Taught → ℕ → Option ℕ → Result TraceLine LineFault → List ℕ
-reading_fields options taught number time (Ok parts) = number_field_if (codes "time") time
-    ++ packet_fields_by options taught parts (other_address options.all parts)
-reading_fields options taught number time (Err fault) =
+abbrev pub reading_fields : TellOptions → Taught → Marks → ℕ → Option ℕ → Result TraceLine LineFault → List ℕ
+reading_fields options taught marks number time (Ok parts) = number_field_if (codes "time") time
+    ++ packet_fields_by options taught marks number parts (other_address options.all parts)
+reading_fields options taught marks number time (Err fault) =
     text_field (codes "fault") (judged_text number (reading_judged (Err fault)))
 
 -- a line as an object of JSON
-unfoldable pub json_line : TellOptions → Taught → Entry → List ℕ
-json_line options taught entry = codes "{\"line\":" ++ (decimal entry.0
-    ++ (reading_fields options taught entry.0 entry.1.time entry.1.parts ++ codes "}\n"))
+unfoldable pub json_line : TellOptions → Taught → Marks → ℕ → Option ℕ → Result TraceLine LineFault → List ℕ
+json_line options taught marks number time parts = codes "{\"line\":" ++ (decimal number
+    ++ (reading_fields options taught marks number time parts ++ codes "}\n"))
 
--- what is written of a line, with a line feed, by what the lines before it taught
-unfoldable pub line_text : TellOptions → Taught → Entry → List ℕ
-line_text options taught entry =
-    if options.json then json_line options taught entry else plain_line options taught entry
+-- a line with a line feed, by what the lines before it taught, and by its marks
+unfoldable pub told_line : TellOptions → Taught → Marks → ℕ → Option ℕ → Result TraceLine LineFault → List ℕ
+told_line options taught marks number time parts = if options.json
+    then json_line options taught marks number time parts else plain_line options taught marks number time parts
+
+-- what is written of a line by what is known before it: nothing of a comment
+abbrev pub said_line : TellOptions → Known → ℕ → Said → List ℕ
+said_line options known number (Told reading) = told_line options known.taught
+    (marks_in options known.pages reading.time reading.parts) number reading.time reading.parts
+said_line options known number (Noted remark) = []
+
+abbrev pub line_text : TellOptions → Known → Entry → List ℕ
+line_text options known entry = said_line options known entry.0 entry.1
 
 -- what is written of lines one after another
-abbrev pub lines_text : TellOptions → Taught → List Entry → List ℕ
-lines_text options taught [] = []
-lines_text options taught (entry ∷ entries) = line_text options taught entry
-    ++ lines_text options (taught_by taught (judged_in options.all entry)) entries
+abbrev pub lines_text : TellOptions → Known → List Entry → List ℕ
+lines_text options known [] = []
+lines_text options known (entry ∷ entries) =
+    line_text options known entry ++ lines_text options (known_by options known entry) entries
 
 -- ---- the counts
 
@@ -147,8 +178,8 @@ counts_text options heard = if options.json then json_counts options.all heard e
 
 -- what is written of a capture
 unfoldable pub capture_text : TellOptions → List ℕ → List ℕ
-capture_text options text = lines_text options untaught (entries_of options.times text)
-    ++ counts_text options (heard_of options.all (entries_of options.times text))
+capture_text options text = lines_text options unknown (entries_of options text)
+    ++ counts_text options (heard_of options (entries_of options text))
 
 -- what is written of one without bytes, by whether it is told as JSON, and whether other codes are told
 abbrev pub empty_by : Bool → Bool → List ℕ
@@ -159,4 +190,4 @@ empty_by true true = codes "{\"lines\":0,\"accepted\":0,\"other\":0,\"faults\":0
 
 -- how it ends: there are bad lines, or none
 abbrev pub capture_end : TellOptions → List ℕ → DecodeEnd
-capture_end options text = end_of (heard_of options.all (entries_of options.times text)).counts
+capture_end options text = end_of (heard_of options (entries_of options text)).counts

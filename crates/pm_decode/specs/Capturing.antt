@@ -3,14 +3,13 @@
 -- choice.
 use Rattle.std.specs.Prelude.{ℕ, ◌+◌, ◌-◌, ◌^◌, ◌≤◌, Bool, if◌then◌else◌, List, [], ◌∷◌, ◌++◌, length, map, filter}
 use Rattle.std.specs.List.{enumerate_from, fold}
-use Rattle.pm_lines.specs.Lines.{is_line_feed, is_unskipped, without_return}
+use Rattle.pm_lines.specs.Lines.{is_line_feed, without_return}
 use Rattle.pm_lines.specs.Streams.{max_text}
 use Rattle.pm_trace.specs.Marks.{ended, since, told_at_marks}
-use Rattle.pm_values.specs.Taught.{untaught}
 use Rattle.pm_decode.specs.CaptureText.{line_text, lines_text}
-use Rattle.pm_decode.specs.Hearing.{HeardLines, heard_lines, heard_of, heard_with}
-use Rattle.pm_decode.specs.Readings.{Entry, entry_of}
-use Rattle.pm_decode.specs.TimedLines.{skips_timed, timed_of, timed_read, timed_takes}
+use Rattle.pm_decode.specs.Hearing.{HeardLines, heard_lines, heard_of, heard_with, unknown}
+use Rattle.pm_decode.specs.Readings.{Entry, entry_of, is_heard}
+use Rattle.pm_decode.specs.TimedLines.{passes_timed, timed_of, timed_said, timed_takes}
 use Rattle.pm_decode.specs.declared.options.TellOptions.{TellOptions}
 use Rattle.pm_decode.specs.declared.timed_line.TimedLine.{TimedLine}
 
@@ -25,14 +24,14 @@ pub record Kept : Type 0 where
   pub heard : HeardLines
   pub line : TimedLine
 
--- the lines that a line feed ended, those that are skipped apart
-unfoldable pub said : Bool → List ℕ → List Entry
-said times bytes = map (entry_of times) (filter is_unskipped
+-- the lines that a line feed ended, those that say nothing apart
+unfoldable pub said : TellOptions → List ℕ → List Entry
+said options bytes = map (entry_of options) (filter (is_heard options.pages)
     (enumerate_from 1 (map without_return (ended is_line_feed bytes))))
 
 -- what is written of them
 abbrev pub said_text : TellOptions → List ℕ → List ℕ
-said_text options bytes = lines_text options untaught (said options.times bytes)
+said_text options bytes = lines_text options unknown (said options bytes)
 
 -- what is kept of these bytes
 unfoldable pub kept_of : TellOptions → List ℕ → Kept
@@ -40,7 +39,7 @@ kept_of options bytes = record {
   options = options;
   taken = length bytes;
   ended = length (ended is_line_feed bytes);
-  heard = heard_of options.all (said options.times bytes);
+  heard = heard_of options (said options bytes);
   line = timed_of options.times (since is_line_feed bytes);
 }
 
@@ -48,16 +47,16 @@ kept_of options bytes = record {
 
 -- the line that ends here
 abbrev pub entry_ended : Kept → Entry
-entry_ended kept = (kept.ended + 1, timed_read kept.line)
+entry_ended kept = (kept.ended + 1, timed_said kept.options.pages kept.line)
 
 -- what is heard where a line ends here, and what is written of it
 abbrev pub heard_ended : Kept → HeardLines
-heard_ended kept = if skips_timed kept.line then kept.heard
-    else heard_with kept.options.all kept.heard (entry_ended kept)
+heard_ended kept = if passes_timed kept.options.pages kept.line then kept.heard
+    else heard_with kept.options kept.heard (entry_ended kept)
 
 abbrev pub text_ended : Kept → List ℕ
-text_ended kept = if skips_timed kept.line then []
-    else line_text kept.options kept.heard.taught (entry_ended kept)
+text_ended kept = if passes_timed kept.options.pages kept.line then []
+    else line_text kept.options kept.heard.known (entry_ended kept)
 
 -- what is kept where a line ends here
 abbrev pub line_ended : Kept → Kept

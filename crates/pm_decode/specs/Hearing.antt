@@ -1,25 +1,49 @@
--- What is known behind the lines of a capture: what they teach, and how many there were of each kind. This project's
--- own choice.
-use Rattle.std.specs.Prelude.{ℕ, ◌+◌, Bool, false, not, if◌then◌else◌, List, map, filter, is_some, Option, Some, None, Result, Ok, Err}
-use Rattle.std.specs.List.{filter_map}
-use Rattle.pm_trace.specs.Counts.{Counts, counted, counts_of, lines_in, one_counted, one_more, total_of}
-use Rattle.pm_trace.specs.Trace.{Judged, ToldLine}
+-- What is known behind the lines of a capture: what they teach and say of PAGE, and how many there were of each kind. This
+-- project's own choice.
+use Rattle.std.specs.Prelude.{ℕ, ◌+◌, Bool, List, [], Option, Some, None, Result, Ok, Err}
+use Rattle.std.specs.List.{filter_map, fold}
+use Rattle.pm_trace.specs.Counts.{Counts, counted, counts_of, counts_with, lines_in, one_more, total_of}
+use Rattle.pm_trace.specs.Pages.{Pages, no_pages}
+use Rattle.pm_trace.specs.Trace.{ToldLine}
 use Rattle.pm_trace.specs.declared.line_fault.LineFault.{LineFault}
 use Rattle.pm_trace.specs.declared.trace_line.TraceLine.{TraceLine}
-use Rattle.pm_values.specs.Otherwise.{address_otherwise, content_of, judged_anyway, lacks_pec}
-use Rattle.pm_values.specs.Taught.{Taught, taught_by, taught_from, untaught}
-use Rattle.pm_decode.specs.Readings.{Entry, judged_in}
+use Rattle.pm_values.specs.Otherwise.{content_of}
+use Rattle.pm_values.specs.Taught.{Taught, taught_by, untaught}
+use Rattle.pm_decode.specs.PageSteps.{marks_in, pages_noted, pages_read}
+use Rattle.pm_decode.specs.Readings.{Entry, Reading, Said, Told, Noted, judged_as, other_address}
+use Rattle.pm_decode.specs.declared.options.TellOptions.{TellOptions}
 
--- the address of a packet that is told otherwise, where that is wanted
-abbrev pub other_address : Bool → TraceLine → Option ℕ
-other_address all parts = if all
-    then address_otherwise parts.write parts.read (judged_anyway parts.write parts.read) else None
+-- ---- what is known
 
--- whether a packet is told as good that lacks its PEC
-abbrev pub is_without_pec : Bool → TraceLine → Bool
-is_without_pec all parts = if all then lacks_pec parts.write parts.read else false
+-- what was taught of formats, and said of PAGE
+pub record Known : Type 0 where
+  pub taught : Taught
+  pub pages : Pages
 
--- the code of a line that is told otherwise
+abbrev pub unknown : Known
+unknown = record { taught = untaught; pages = no_pages }
+
+-- behind a line that isn't skipped
+abbrev pub known_read : TellOptions → ℕ → Option ℕ → Result TraceLine LineFault → Known → Known
+known_read options number time parts known = record {
+  taught = taught_by (marks_in options known.pages time parts).reached known.taught (judged_as options.all parts);
+  pages = pages_read options number time parts known.pages;
+}
+
+abbrev pub known_said : TellOptions → ℕ → Said → Known → Known
+known_said options number (Told reading) known = known_read options number reading.time reading.parts known
+known_said options number (Noted remark) known = record known { pages = pages_noted number remark known.pages }
+
+abbrev pub known_by : TellOptions → Known → Entry → Known
+known_by options known entry = known_said options entry.0 entry.1 known
+
+-- behind several
+abbrev pub known_from : TellOptions → Known → List Entry → Known
+known_from options known entries = fold (known_by options) known entries
+
+-- ---- how a line is counted
+
+-- the code of a packet that is told otherwise
 abbrev pub code_if : Option ℕ → ℕ → Option ℕ
 code_if None code = None
 code_if (Some addr) code = Some code
@@ -28,30 +52,45 @@ abbrev pub other_code_in : Bool → Result TraceLine LineFault → Option ℕ
 other_code_in all (Ok parts) = code_if (other_address all parts) (content_of parts.write parts.read).code
 other_code_in all (Err fault) = None
 
+abbrev pub other_code_of : Bool → Said → Option ℕ
+other_code_of all (Told reading) = other_code_in all reading.parts
+other_code_of all (Noted remark) = None
+
 abbrev pub other_code : Bool → Entry → Option ℕ
-other_code all entry = other_code_in all entry.1.parts
+other_code all entry = other_code_of all entry.1
 
--- the lines that are told as the command table has them
-abbrev pub is_usual : Bool → Entry → Bool
-is_usual all entry = not (is_some (other_code all entry))
+-- a line that is told as the command table has it
+abbrev pub told_unless : Option ℕ → ToldLine → Option ToldLine
+told_unless None told = Some told
+told_unless (Some code) told = None
 
-abbrev pub told_in : Bool → Entry → ToldLine
-told_in all entry = (entry.0, judged_in all entry)
+abbrev pub told_as : Bool → ℕ → Said → Option ToldLine
+told_as all number (Told reading) = told_unless (other_code_in all reading.parts) (number, judged_as all reading.parts)
+told_as all number (Noted remark) = None
 
--- what is known: what was taught, the counts of the lines that are told as the command table has them, and how often
--- each other code was carried
+abbrev pub told_in : Bool → Entry → Option ToldLine
+told_in all entry = told_as all entry.0 entry.1
+
+-- ---- all that is heard
+
+-- what is known, the counts of the lines that are told as the command table has them, and how often each other code was
+-- carried
 pub record HeardLines : Type 0 where
-  pub taught : Taught
+  pub known : Known
   pub counts : Counts
   pub others : List (ℕ × ℕ)
 
--- behind these lines; `all` says whether other codes are told by themselves
-unfoldable pub heard_of : Bool → List Entry → HeardLines
-heard_of all entries = record {
-  taught = taught_from untaught (map (judged_in all) entries);
-  counts = counts_of (map (told_in all) (filter (is_usual all) entries));
-  others = counted (filter_map (other_code all) entries);
+-- behind these lines
+unfoldable pub heard_of : TellOptions → List Entry → HeardLines
+heard_of options entries = record {
+  known = known_from options unknown entries;
+  counts = counts_of (filter_map (told_in options.all) entries);
+  others = counted (filter_map (other_code options.all) entries);
 }
+
+-- before the first
+abbrev pub unheard : HeardLines
+unheard = record { known = unknown; counts = counts_of []; others = [] }
 
 -- how many lines there were
 abbrev pub heard_lines : HeardLines → ℕ
@@ -59,16 +98,13 @@ heard_lines heard = lines_in heard.counts + total_of heard.others
 
 -- ---- one line more
 
--- a line of an other code, or one of a usual packet
-abbrev pub counted_with : HeardLines → Option ℕ → Judged → HeardLines
-counted_with heard None judged = record heard {
-  taught = taught_by heard.taught judged;
-  counts = one_counted heard.counts judged;
-}
-counted_with heard (Some code) judged = record heard {
-  taught = taught_by heard.taught judged;
-  others = one_more heard.others code;
-}
+abbrev pub more_if : List (ℕ × ℕ) → Option ℕ → List (ℕ × ℕ)
+more_if others None = others
+more_if others (Some code) = one_more others code
 
-abbrev pub heard_with : Bool → HeardLines → Entry → HeardLines
-heard_with all heard entry = counted_with heard (other_code all entry) (judged_in all entry)
+abbrev pub heard_with : TellOptions → HeardLines → Entry → HeardLines
+heard_with options heard entry = record {
+  known = known_by options heard.known entry;
+  counts = counts_with heard.counts (told_in options.all entry);
+  others = more_if heard.others (other_code options.all entry);
+}

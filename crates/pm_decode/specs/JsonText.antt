@@ -114,11 +114,16 @@ code_fields code = text_field (codes "code") (hex_byte code) ++ text_field (code
 abbrev pub numbers_fields : Coefficients → List ℕ
 numbers_fields c = signed_field (codes "m") c.m ++ (signed_field (codes "b") c.b ++ signed_field (codes "r") c.r)
 
+-- the output that a packet reaches where PAGE was followed, or the one that it names
+abbrev pub page_fields : Option ℕ → Option ℕ → List ℕ
+page_fields None named = number_field_if (codes "page") named
+page_fields (Some page) named = number_field (codes "page") page ++ codes ",\"followed\":true"
+
 -- a packet that asks for nothing but its code's value, or writes it
-abbrev pub plain_fields : GivenFormats → Bool → Taught → ℕ → Message → Option (List ℕ) → List ℕ
-plain_fields given values taught addr message answer = number_field_if (codes "page") (message_page message)
+abbrev pub plain_fields : GivenFormats → Bool → Taught → Option ℕ → ℕ → Message → Option (List ℕ) → List ℕ
+plain_fields given values taught reached addr message answer = page_fields reached (message_page message)
     ++ (code_fields (message_code message) ++ (payload_fields (carried message None) answer
-    ++ (if values then value_fields_if (packet_value given taught addr message answer) else [])))
+    ++ (if values then value_fields_if (packet_value given taught addr reached message answer) else [])))
 
 -- the answer to a request for coefficients
 abbrev pub coefficients_fields : ℕ → ℕ → List ℕ → List ℕ
@@ -126,15 +131,21 @@ coefficients_fields code side answer = code_fields 0x30 ++ (text_field (codes "o
     ++ (number_field (codes "side") side ++ (payload_fields [] (Some answer)
     ++ numbers_fields (coefficients_of answer))))
 
-abbrev pub message_fields : GivenFormats → Bool → Taught → ℕ → Message → Option (List ℕ) → List ℕ
-message_fields given values taught addr (ReadCoefficients code side) answer = coefficients_fields code side (unwrap_or answer [])
-message_fields given values taught addr (SendByte code) answer = plain_fields given values taught addr (SendByte code) answer
-message_fields given values taught addr (WriteByte code byte) answer = plain_fields given values taught addr (WriteByte code byte) answer
-message_fields given values taught addr (WriteWord code word) answer = plain_fields given values taught addr (WriteWord code word) answer
-message_fields given values taught addr (PagePlusWrite page code payload) answer =
-    plain_fields given values taught addr (PagePlusWrite page code payload) answer
-message_fields given values taught addr (ReadCommand code) answer = plain_fields given values taught addr (ReadCommand code) answer
-message_fields given values taught addr (PagePlusRead page code) answer = plain_fields given values taught addr (PagePlusRead page code) answer
+abbrev pub message_fields : GivenFormats → Bool → Taught → Option ℕ → ℕ → Message → Option (List ℕ) → List ℕ
+message_fields given values taught reached addr (ReadCoefficients code side) answer =
+    coefficients_fields code side (unwrap_or answer [])
+message_fields given values taught reached addr (SendByte code) answer =
+    plain_fields given values taught reached addr (SendByte code) answer
+message_fields given values taught reached addr (WriteByte code byte) answer =
+    plain_fields given values taught reached addr (WriteByte code byte) answer
+message_fields given values taught reached addr (WriteWord code word) answer =
+    plain_fields given values taught reached addr (WriteWord code word) answer
+message_fields given values taught reached addr (PagePlusWrite page code payload) answer =
+    plain_fields given values taught reached addr (PagePlusWrite page code payload) answer
+message_fields given values taught reached addr (ReadCommand code) answer =
+    plain_fields given values taught reached addr (ReadCommand code) answer
+message_fields given values taught reached addr (PagePlusRead page code) answer =
+    plain_fields given values taught reached addr (PagePlusRead page code) answer
 
 -- ---- a packet with a fault
 
@@ -205,14 +216,23 @@ other_fields values addr write read = address_field (Some addr) ++ (content_fiel
 abbrev pub lack_field : Bool → List ℕ
 lack_field lacks = if lacks then codes ",\"pec\":false" else []
 
+-- behind one that contradicts a line: the two lines
+unfoldable pub lines_field : ℕ → ℕ → List ℕ
+lines_field line number = key (codes "wrong") ++ (codes "[" ++ (decimal line ++ (codes "," ++ (decimal number ++ codes "]"))))
+
+abbrev pub wrong_field : ℕ → Option ℕ → List ℕ
+wrong_field number None = []
+wrong_field number (Some line) = lines_field line number
+
 -- ---- a line
 
-abbrev pub judged_fields : GivenFormats → Bool → Taught → List ℕ → Option (List ℕ) → Judged → List ℕ
-judged_fields given values taught write read (Accepted addr message answer) =
-    address_field (Some addr) ++ message_fields given values taught addr message answer
-judged_fields given values taught write read (Faulty addr is_read fault) = fault_fields values write read addr is_read fault
-judged_fields given values taught write read BadSyntax = []
-judged_fields given values taught write read BadHex = []
+abbrev pub judged_fields : GivenFormats → Bool → Taught → Option ℕ → List ℕ → Option (List ℕ) → Judged → List ℕ
+judged_fields given values taught reached write read (Accepted addr message answer) =
+    address_field (Some addr) ++ message_fields given values taught reached addr message answer
+judged_fields given values taught reached write read (Faulty addr is_read fault) =
+    fault_fields values write read addr is_read fault
+judged_fields given values taught reached write read BadSyntax = []
+judged_fields given values taught reached write read BadHex = []
 
 -- ---- the counts
 

@@ -5,12 +5,21 @@ use Rattle.pm_values.specs.declared.formats.GivenFormats.{GivenFormats}
 use Rattle.pm_decode.specs.CaptureText.{capture_text}
 use Rattle.pm_decode.specs.declared.options.TellOptions.{TellOptions}
 
--- no option that changes what is told; a format of voltages is told of none, and a limit is none of the text's
-abbrev pub plain_options : GivenFormats → Bool → TellOptions
-plain_options formats long =
-    record { values = false; formats = formats; all = false; long = long; times = false; json = false }
+-- no option that changes what is told; a format of voltages is told of none, a limit is none of the text's, and a pause ends
+-- no page
+abbrev pub plain_options : GivenFormats → Bool → ℕ → TellOptions
+plain_options formats long gap = record {
+  values = false;
+  formats = formats;
+  all = false;
+  long = long;
+  times = false;
+  json = false;
+  pages = false;
+  gap = gap;
+}
 
 -- what is told then is what `pm_trace` tells of the same text
 abbrev pub PlainCapturesAreTraces : Type 0
-PlainCapturesAreTraces = (formats : GivenFormats) (long : Bool) (text : List ℕ) →
-    capture_text (plain_options formats long) text ≡ trace_text text
+PlainCapturesAreTraces = (formats : GivenFormats) (long : Bool) (gap : ℕ) (text : List ℕ) →
+    capture_text (plain_options formats long gap) text ≡ trace_text text

@@ -5,6 +5,7 @@ pub mod JsonText
 pub mod Laws
 pub mod LongEngine
 pub mod Outcome
+pub mod PageSteps
 pub mod Readings
 -- How it is kept.
 pub mod Captures

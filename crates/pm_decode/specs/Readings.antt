@@ -1,14 +1,18 @@
 -- What a line of a capture reads as: the packet's bytes, as `pm_trace` reads them, and with times the number that
 -- stands before them. The forms are this project's own choice.
-use Rattle.std.specs.Prelude.{ℕ, ℤ, pos, negsuc, Bool, true, false, not, ◌||◌, ◌==◌, nat_lt, if◌then◌else◌, List, [], ◌∷◌, length, map, slice_index, Option, Some, None, Result, Ok, Err}
+use Rattle.std.specs.Prelude.{ℕ, ℤ, pos, negsuc, Bool, true, false, not, ◌&&◌, ◌||◌, ◌==◌, nat_eq, nat_lt, if◌then◌else◌, List, [], ◌∷◌, codes, length, map, filter, slice_index, Option, Some, None, Result, Ok, Err}
+use Rattle.std.specs.List.{enumerate_from, starts_with}
 use Rattle.pm_lines.specs.Digits.{signed_of}
-use Rattle.pm_lines.specs.Lines.{Numbered, is_space, unskipped_from}
+use Rattle.pm_lines.specs.Lines.{Numbered, is_skipped, is_space, lines_of}
 use Rattle.pm_trace.specs.Marks.{before}
 use Rattle.pm_trace.specs.Trace.{Judged, line_read, parts_judged, reading_judged}
 use Rattle.pm_trace.specs.declared.line_fault.LineFault.{LineFault}
 use Rattle.pm_trace.specs.declared.line_fault.LineFault.TheVariants as fault
 use Rattle.pm_trace.specs.declared.trace_line.TraceLine.{TraceLine}
-use Rattle.pm_values.specs.Otherwise.{judged_anyway}
+use Rattle.pm_values.specs.Otherwise.{address_otherwise, judged_anyway, lacks_pec}
+use Rattle.pm_decode.specs.declared.comment.Remark.{Remark}
+use Rattle.pm_decode.specs.declared.comment.Remark.TheVariants.{Elsewhere, Unacknowledged, Loss}
+use Rattle.pm_decode.specs.declared.options.TellOptions.{TellOptions}
 
 -- ---- the word before a packet
 
@@ -56,18 +60,50 @@ abbrev pub reading_of : Bool → List ℕ → Reading
 reading_of true line = timed (time_in (first_word line)) (line_read (behind_word line))
 reading_of false line = record { time = None; parts = line_read line }
 
+-- ---- a comment
+
+-- a line whose first byte is `#`
+abbrev pub is_comment : List ℕ → Bool
+is_comment line = starts_with nat_eq line (codes "#")
+
+-- what a comment says, as `pmhost capture` writes them
+abbrev pub remark_of : List ℕ → Remark
+remark_of line = if starts_with nat_eq line (codes "# another device") then Elsewhere
+    else (if starts_with nat_eq line (codes "# byte ") then Unacknowledged else Loss)
+
+-- comments are noted where PAGE is followed
+abbrev pub is_noted : Bool → List ℕ → Bool
+is_noted pages line = pages && is_comment line
+
 -- ---- the lines
 
--- a line that isn't skipped, with its number
+-- what a line is: one that is told, by what it reads as, or a comment that is noted
+pub data Said : Type 0 where
+  Told : Reading → Said
+  Noted : Remark → Said
+
+abbrev pub said_of : TellOptions → List ℕ → Said
+said_of options line = if is_noted options.pages line then Noted (remark_of line) else Told (reading_of options.times line)
+
+-- the same with the line's number
 abbrev pub Entry : Type 0
-Entry = ℕ × Reading
+Entry = ℕ × Said
 
-abbrev pub entry_of : Bool → Numbered → Entry
-entry_of times numbered = (numbered.0, reading_of times numbered.1)
+abbrev pub entry_of : TellOptions → Numbered → Entry
+entry_of options numbered = (numbered.0, said_of options numbered.1)
 
--- the lines of a capture that aren't skipped
-unfoldable pub entries_of : Bool → List ℕ → List Entry
-entries_of times text = map (entry_of times) (unskipped_from 1 text)
+-- a line says nothing: it is skipped, and it isn't noted
+abbrev pub is_passed : Bool → List ℕ → Bool
+is_passed pages line = not (is_noted pages line) && is_skipped line
+
+abbrev pub is_heard : Bool → Numbered → Bool
+is_heard pages numbered = not (is_passed pages numbered.1)
+
+-- the lines of a capture that say something
+unfoldable pub entries_of : TellOptions → List ℕ → List Entry
+entries_of options text = map (entry_of options) (filter (is_heard options.pages) (enumerate_from 1 (lines_of text)))
+
+-- ---- what a packet says
 
 -- what a packet says; where `all` is told, its PEC may be missing
 abbrev pub judged_by : Bool → TraceLine → Judged
@@ -78,5 +114,11 @@ abbrev pub judged_as : Bool → Result TraceLine LineFault → Judged
 judged_as all (Ok parts) = judged_by all parts
 judged_as all (Err fault) = reading_judged (Err fault)
 
-abbrev pub judged_in : Bool → Entry → Judged
-judged_in all entry = judged_as all entry.1.parts
+-- the address of a packet that is told otherwise, where that is wanted
+abbrev pub other_address : Bool → TraceLine → Option ℕ
+other_address all parts = if all
+    then address_otherwise parts.write parts.read (judged_anyway parts.write parts.read) else None
+
+-- whether a packet is told as good that lacks its PEC
+abbrev pub is_without_pec : Bool → TraceLine → Bool
+is_without_pec all parts = if all then lacks_pec parts.write parts.read else false

@@ -1,20 +1,22 @@
 -- What is kept of a line of a capture while its bytes come one after another, as a look back over its bytes so far
 -- (`timed_of`), and what one more byte makes of it (`timed_takes`). This project's own choice.
-use Rattle.std.specs.Prelude.{◌≡◌, ℕ, Bool, true, false, not, ◌&&◌, ◌||◌, ◌==◌, nat_eq, if◌then◌else◌, List, [], ◌++◌, codes, None}
-use Rattle.std.specs.List.{fold, list_any, starts_with}
+use Rattle.std.specs.Prelude.{◌≡◌, ℕ, Bool, true, false, not, ◌&&◌, ◌||◌, ◌==◌, nat_eq, nat_lt, if◌then◌else◌, List, [], ◌∷◌, ◌++◌, codes, length, take, None}
+use Rattle.std.specs.List.{fold, list_any}
 use Rattle.pm_lines.specs.Lines.{has_bytes, is_line_feed, is_space, without_return}
 use Rattle.pm_trace.specs.OpenLines.{is_skipped_kind, line_of, line_takes, open_read}
 use Rattle.pm_trace.specs.Parts.{part_of, part_takes}
-use Rattle.pm_decode.specs.Readings.{Reading, behind_word, first_word, time_in, timed}
+use Rattle.pm_decode.specs.Readings.{Reading, Said, Told, Noted, behind_word, first_word, is_comment, remark_of, time_in, timed}
 use Rattle.pm_decode.specs.declared.timed_line.TimedLine.{TimedLine}
 
--- these bytes of a line; the packet's own are all of them where lines have no time
+-- these bytes of a line; the packet's own are all of them where lines have no time, and the first 16 of a comment tell what it
+-- says
 unfoldable pub timed_of : Bool → List ℕ → TimedLine
 timed_of times line = record {
   times = times;
-  has_mark = starts_with nat_eq line (codes "#");
+  has_mark = is_comment line;
   is_begun = has_bytes line;
   is_over = if times then has_bytes (behind_word line) else true;
+  head = if is_comment line then take 16 line else [];
   word = part_of (if times then first_word line else []);
   packet = line_of (if times then behind_word line else line);
 }
@@ -30,6 +32,10 @@ begun_with line byte = record line {
   is_begun = true;
 }
 
+-- the first bytes of a comment, and one more
+abbrev pub head_takes : List ℕ → ℕ → List ℕ
+head_takes head byte = if nat_lt (length head) 16 then head ++ byte ∷ [] else head
+
 -- one byte more
 unfoldable pub timed_takes : TimedLine → ℕ → TimedLine
 timed_takes line byte = record {
@@ -37,6 +43,7 @@ timed_takes line byte = record {
   has_mark = if line.is_begun then line.has_mark else byte == 35;
   is_begun = true;
   is_over = is_of_packet line byte;
+  head = if (if line.is_begun then line.has_mark else byte == 35) then head_takes line.head byte else line.head;
   word = if is_of_packet line byte || is_space byte then line.word else part_takes line.word byte;
   packet = if is_of_packet line byte then line_takes line.packet byte else line.packet;
 }
@@ -57,6 +64,13 @@ abbrev pub timed_read : TimedLine → Reading
 timed_read line = if line.times
     then timed (if line.word.is_long then None else time_in (word_ended line)) (open_read line.packet)
     else record { time = None; parts = open_read line.packet }
+
+-- it says nothing, or what it is
+abbrev pub passes_timed : Bool → TimedLine → Bool
+passes_timed pages line = not (pages && line.has_mark) && skips_timed line
+
+abbrev pub timed_said : Bool → TimedLine → Said
+timed_said pages line = if pages && line.has_mark then Noted (remark_of line.head) else Told (timed_read line)
 
 -- ---- bytes of a piece
 

@@ -2,7 +2,7 @@
 ghost use Rattle.std.specs.Prelude.{[], ◌≡◌, ◌+◌, ◌≤◌, ◌<◌, ◌^◌, ◌++◌, if◌then◌else◌, OnOk, OnErr};
 ghost use Rattle.pm_decode.specs.CaptureText.{line_text};
 ghost use Rattle.pm_decode.specs.Hearing.{heard_lines, heard_with};
-ghost use Rattle.pm_decode.specs.TimedLines.{skips_timed, timed_read};
+ghost use Rattle.pm_decode.specs.TimedLines.{passes_timed, timed_said};
 
 use crate::counts_text::push_counts;
 use crate::heard_lines::HeardLines;
@@ -182,7 +182,8 @@ impl Capture {
     }
 }
 
-// Gathers what a line says that ends here, with its number, and has it heard, if it isn't skipped.
+// Gathers what a line says that ends here, with its number, and has it heard, if it isn't skipped, or is a comment where PAGE
+// is followed.
 #[tactic(auto, using(crate::proofs::HearingLemmas::heard_one))]
 fn hear_line(
     heard: &mut HeardLines,
@@ -192,13 +193,17 @@ fn hear_line(
     gathered: &mut ToldText,
 ) -> Result<(), AllocError>
     requires { heard_lines heard.old + 1 < 2 ^ 64 }
-    ensures heard { OnOk result (heard.new ≡ (if skips_timed line.now then heard.old
-        else heard_with options.now.all heard.old (number, timed_read line.now))) }
-    ensures told { OnOk result (gathered.new ≡ gathered.old ++ (if skips_timed line.now then []
-        else line_text options.now heard.old.taught (number, timed_read line.now))) }
+    ensures heard { OnOk result (heard.new ≡ (if passes_timed options.now.pages line.now then heard.old
+        else heard_with options.now heard.old (number, timed_said options.now.pages line.now))) }
+    ensures told { OnOk result (gathered.new ≡ gathered.old ++ (if passes_timed options.now.pages line.now then []
+        else line_text options.now heard.old.known (number, timed_said options.now.pages line.now))) }
     ensures unchanged { OnErr result (gathered.new ≡ gathered.old) }
     ensures few { heard_lines heard.new ≤ heard_lines heard.old + 1 }
 {
+    if options.pages && line.is_comment() {
+        heard.note(number, line.remark());
+        return Ok(());
+    }
     if line.is_skipped() {
         return Ok(());
     }

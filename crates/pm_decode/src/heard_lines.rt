@@ -3,23 +3,26 @@ ghost use Rattle.std.specs.Prelude.{◌≡◌, Err, IfSome, is_some, option_map}
 ghost use Rattle.pm_trace.specs.ShownLines.{judged_in};
 ghost use Rattle.pm_trace.specs.Trace.{parts_judged, reading_judged};
 ghost use Rattle.pm_values.specs.Otherwise.{IsCompleted, content_of};
-ghost use Rattle.pm_decode.specs.Hearing.{is_without_pec};
+ghost use Rattle.pm_decode.specs.Readings.{is_without_pec};
 ghost use Rattle.pm_decode.specs.ShownReadings.{packet_in};
 
+use crate::comment::Remark;
 use crate::line_text::{push_bad_line, push_packet_line};
 use crate::options::TellOptions;
 use crate::others::Others;
+use crate::page_step::{Marks, learn_step, page_step};
 use crate::timed_line::LineReading;
 use arrayvec::ArrayVec;
-use pm_trace::{LineFault, Shown, Tally, packet_shown};
+use pm_trace::{LineFault, Pages, Shown, Tally, packet_shown};
 use pm_values::{Lessons, Packet, address_otherwise, completed_part, shown_with};
 use std::alloc::{AllocError, Global};
 use std::marker::Model;
 
-/// What the lines taught, and how many there were of each kind.
+/// What the lines taught and said of PAGE, and how many there were of each kind.
 #[derive(Debug, Drop)]
 pub(crate) struct HeardLines {
     lessons: Lessons,
+    pages: Pages,
     tally: Tally,
     others: Others,
 }
@@ -29,31 +32,32 @@ impl Model for HeardLines {
 
     ghost Value = { HeardLines };
 
-    ghost view = { λ h. record { taught = h.lessons; counts = h.tally; others = h.others } };
+    ghost view = { λ h. record { known = record { taught = h.lessons; pages = h.pages }; counts = h.tally; others = h.others } };
 }
 
 impl HeardLines {
-    ghost use Rattle.std.specs.Prelude.{[], ◌+◌, ◌<◌, ◌≤◌, ◌^◌, ◌++◌, codes, false, OnOk, Ok, string_bytes};
+    ghost use Rattle.std.specs.Prelude.{◌+◌, ◌<◌, ◌≤◌, ◌^◌, ◌++◌, codes, OnOk, Ok, string_bytes};
     ghost use Rattle.pm_trace.specs.Counts.{lines_in};
     ghost use Rattle.pm_decode.specs.CaptureText.{line_text};
-    ghost use Rattle.pm_decode.specs.Hearing.{counted_with, heard_lines, heard_of, heard_with};
-    ghost use Rattle.pm_decode.specs.Readings.{judged_by};
+    ghost use Rattle.pm_decode.specs.Hearing.{heard_lines, heard_with, unheard};
+    ghost use Rattle.pm_decode.specs.Readings.{Noted, Told, judged_by};
     ghost use Rattle.pm_decode.specs.ShownReadings.{reading_in};
+    ghost use Rattle.pm_decode.specs.declared.options.TellOptions.{TellOptions};
 
     /// No line yet. Takes no memory.
-    #[tactic(auto, unfolding(crate::specs::Hearing::heard_of))]
     pub(crate) fn new(alloc: Global) -> HeardLines
-        ensures { result ≡ heard_of false [] }
+        ensures { result ≡ unheard }
     {
         HeardLines {
             lessons: Lessons::new(alloc),
+            pages: Pages::new(alloc),
             tally: Tally::new(alloc),
             others: Others::new(alloc),
         }
     }
 
     /// Appends what a line says to a text, with its number and without a line feed, and counts it. Takes memory for the
-    /// text, and for a code and an output that is new.
+    /// text, and for a code, an output and an address that is new.
     #[tactic(auto, using(crate::proofs::HearingLemmas::heard_one))]
     pub(crate) fn hear(
         &mut self,
@@ -64,14 +68,17 @@ impl HeardLines {
     ) -> Result<(), AllocError>
         requires { heard_lines self.old + 1 < 2 ^ 64 }
         ensures text { OnOk result (string_bytes text.new ++ codes "\n" ≡ string_bytes text.old
-            ++ line_text options.now self.old.taught (number, reading_in line.now)) }
-        ensures heard { OnOk result (self.new ≡ heard_with options.now.all self.old (number, reading_in line.now)) }
+            ++ line_text options.now self.old.known (number, Told (reading_in line.now))) }
+        ensures heard { OnOk result (self.new ≡ heard_with options.now self.old (number, Told (reading_in line.now))) }
         ensures few { heard_lines self.new ≤ heard_lines self.old + 1 }
     {
         match &line.packet {
             Ok(packet) => self.hear_packet(options, number, line.time, packet, text),
             Err(fault) => {
                 push_bad_line(text, options, number, *fault)?;
+                if options.pages {
+                    self.pages.lose(number);
+                }
                 self.tally.count(&bad_shown(*fault))
             }
         }
@@ -89,9 +96,10 @@ impl HeardLines {
     ) -> Result<(), AllocError>
         requires { heard_lines self.old + 1 < 2 ^ 64 }
         ensures text { OnOk result (string_bytes text.new ++ codes "\n" ≡ string_bytes text.old
-            ++ line_text options.now self.old.taught (number, record { time = time; parts = Ok (packet_in packet.now) })) }
+            ++ line_text options.now self.old.known
+            (number, Told (record { time = time; parts = Ok (packet_in packet.now) }))) }
         ensures heard { OnOk result (self.new
-            ≡ heard_with options.now.all self.old (number, record { time = time; parts = Ok (packet_in packet.now) })) }
+            ≡ heard_with options.now self.old (number, Told (record { time = time; parts = Ok (packet_in packet.now) }))) }
         ensures few { heard_lines self.new ≤ heard_lines self.old + 1 }
     {
         let shown = packet_shown(packet.write, packet.read);
@@ -120,9 +128,10 @@ impl HeardLines {
         requires shown { judged_in shown.now ≡ judged_by options.now.all (packet_in packet.now) }
         requires lacks { lacks ≡ is_without_pec options.now.all (packet_in packet.now) }
         ensures text { OnOk result (string_bytes text.new ++ codes "\n" ≡ string_bytes text.old
-            ++ line_text options.now self.old.taught (number, record { time = time; parts = Ok (packet_in packet.now) })) }
+            ++ line_text options.now self.old.known
+            (number, Told (record { time = time; parts = Ok (packet_in packet.now) }))) }
         ensures heard { OnOk result (self.new
-            ≡ heard_with options.now.all self.old (number, record { time = time; parts = Ok (packet_in packet.now) })) }
+            ≡ heard_with options.now self.old (number, Told (record { time = time; parts = Ok (packet_in packet.now) }))) }
         ensures few { heard_lines self.new ≤ heard_lines self.old + 1 }
     {
         let other = if options.all {
@@ -130,21 +139,43 @@ impl HeardLines {
         } else {
             None
         };
+        let step = if options.pages {
+            Some(page_step(&self.pages, options.gap, time, packet, shown, other))
+        } else {
+            None
+        };
+        let marks = Marks::of(lacks, &step);
         push_packet_line(
             text,
             options,
             &self.lessons,
+            &marks,
             number,
             time,
             packet,
             shown,
-            lacks,
             other,
         )?;
-        self.lessons.learn(shown)?;
+        self.lessons.learn(marks.reached, shown)?;
+        learn_step(&mut self.pages, number, step)?;
         match other {
             None => self.tally.count(shown),
             Some(_) => self.others.count(told_code(packet)),
+        }
+    }
+
+    /// Hears a comment, with its number.
+    pub(crate) fn note(&mut self, number: u64, remark: Remark)
+        ensures heard { (options : TellOptions) → self.new ≡ heard_with options self.old (number, Noted remark) }
+        ensures few { heard_lines self.new ≡ heard_lines self.old }
+    {
+        match remark {
+            Remark::Elsewhere => {}
+            Remark::Unacknowledged => {
+                self.pages.lose(number);
+                self.pages.doubt();
+            }
+            Remark::Loss => self.pages.lose(number),
         }
     }
 

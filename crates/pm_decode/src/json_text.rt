@@ -4,7 +4,7 @@ ghost use Rattle.pm_frame.specs.FaultWords.{frame_fault_place};
 ghost use Rattle.pm_table.specs.Coefficients.{coefficients_of};
 ghost use Rattle.pm_trace.specs.ShownLines.{judged_in};
 ghost use Rattle.pm_values.specs.Contents.{content_in};
-ghost use Rattle.pm_decode.specs.JsonText.{code_fields, coefficients_fields, fault_fields, judged_fields, content_fields, kind_fields, meaning_fields, message_fields, name_field, numbers_fields, other_fields, other_payload_by, payload_fields, pec_fields as spec_pec_fields, plain_fields, sent_direction as spec_sent_direction, sent_fields, whole_field, whole_words};
+ghost use Rattle.pm_decode.specs.JsonText.{code_fields, coefficients_fields, fault_fields, judged_fields, content_fields, kind_fields, lines_field, meaning_fields, message_fields, name_field, numbers_fields, other_fields, other_payload_by, page_fields, payload_fields, pec_fields as spec_pec_fields, plain_fields, sent_direction as spec_sent_direction, sent_fields, whole_field, whole_words, wrong_field};
 
 use crate::json_fields::{
     push_address_field, push_bytes_field, push_hex_field, push_key, push_number_field,
@@ -13,7 +13,7 @@ use crate::json_fields::{
 use crate::json_value::push_value_fields;
 use crate::options::TellOptions;
 use pm_frame::{FrameFault, FrameView, Message};
-use pm_lines::push_hex;
+use pm_lines::{push_decimal, push_hex};
 use pm_table::{Code, Coefficients};
 use pm_trace::{Shown, answered, coefficients_in};
 use pm_values::{Content, Lessons, Packet, other_value, packet_value, push_spaced, standard_name};
@@ -25,17 +25,18 @@ pub(crate) fn push_judged_fields(
     text: &mut String,
     options: &TellOptions,
     lessons: &Lessons,
+    reached: Option<u8>,
     packet: &Packet<'_>,
     shown: &Shown<'_>,
 ) -> Result<(), AllocError>
     ensures { OnOk result (string_bytes text.new ≡ string_bytes text.old
-        ++ judged_fields options.now.formats options.now.values lessons.now packet.now.write.now
+        ++ judged_fields options.now.formats options.now.values lessons.now reached packet.now.write.now
         (option_map (λ bytes. bytes.now) packet.now.read) (judged_in shown.now)) }
 {
     match shown {
         Shown::Accepted { addr, view, answer } => {
             push_address_field(text, Some(*addr))?;
-            push_message_fields(text, options, lessons, *addr, view, *answer)
+            push_message_fields(text, options, lessons, reached, *addr, view, *answer)
         }
         Shown::Faulty { addr, read, fault } => {
             push_fault_fields(text, options.values, packet, *addr, *read, *fault)
@@ -50,46 +51,64 @@ fn push_message_fields(
     text: &mut String,
     options: &TellOptions,
     lessons: &Lessons,
+    reached: Option<u8>,
     addr: u8,
     view: &FrameView<'_>,
     answer: Option<&[u8]>,
 ) -> Result<(), AllocError>
     ensures { OnOk result (string_bytes text.new ≡ string_bytes text.old
-        ++ message_fields options.now.formats options.now.values lessons.now addr view.now
+        ++ message_fields options.now.formats options.now.values lessons.now reached addr view.now
         (option_map (λ bytes. bytes.now) answer.entry)) }
 {
     match view.message() {
         Message::ReadCoefficients { code, side } => {
             push_coefficients_fields(text, code, side, answered(answer))
         }
-        _ => push_plain_fields(text, options, lessons, addr, view, answer),
+        _ => push_plain_fields(text, options, lessons, reached, addr, view, answer),
     }
 }
 
-// The page that a packet names, its code, its payload and its value.
+// The page that a packet names or reaches, its code, its payload and its value.
 #[tactic(auto, using(pm_lines::specs::Lemmas::Joins::joins))]
 fn push_plain_fields(
     text: &mut String,
     options: &TellOptions,
     lessons: &Lessons,
+    reached: Option<u8>,
     addr: u8,
     view: &FrameView<'_>,
     answer: Option<&[u8]>,
 ) -> Result<(), AllocError>
     ensures { OnOk result (string_bytes text.new ≡ string_bytes text.old
-        ++ plain_fields options.now.formats options.now.values lessons.now addr view.now
+        ++ plain_fields options.now.formats options.now.values lessons.now reached addr view.now
         (option_map (λ bytes. bytes.now) answer.entry)) }
 {
-    push_number_field_if(text, "page", view.page().map(u64::from))?;
+    push_page_fields(text, reached, view.page())?;
     push_code_fields(text, view.code())?;
     push_payload_fields(text, view.payload(), answer)?;
     if options.values {
         push_value_fields(
             text,
-            packet_value(&options.formats, lessons, addr, view, answer),
+            packet_value(&options.formats, lessons, addr, reached, view, answer),
         )?;
     }
     Ok(())
+}
+
+// The output that a packet reaches where PAGE was followed, or the one that it names.
+#[tactic(auto, using(pm_lines::specs::Lemmas::Joins::joins))]
+fn push_page_fields(
+    text: &mut String,
+    reached: Option<u8>,
+    named: Option<u8>,
+) -> Result<(), AllocError>
+    ensures { OnOk result (string_bytes text.new ≡ string_bytes text.old ++ page_fields reached named) }
+{
+    let Some(page) = reached else {
+        return push_number_field_if(text, "page", named.map(u64::from));
+    };
+    push_number_field(text, "page", u64::from(page))?;
+    text.push_str(",\"followed\":true")
 }
 
 // A code, and its name.
@@ -246,6 +265,33 @@ fn push_whole_words(text: &mut String, packet: &Packet<'_>) -> Result<(), AllocE
             push_spaced(text, read)
         }
     }
+}
+
+/// Appends the field of the two lines of which one contradicts the other, where there are two.
+pub(crate) fn push_wrong_field(
+    text: &mut String,
+    number: u64,
+    wrong: Option<u64>,
+) -> Result<(), AllocError>
+    ensures { OnOk result (string_bytes text.new ≡ string_bytes text.old ++ wrong_field number wrong) }
+{
+    match wrong {
+        Some(line) => push_lines_field(text, line, number),
+        None => Ok(()),
+    }
+}
+
+// The same of two lines.
+#[tactic(auto, using(pm_lines::specs::Lemmas::Joins::joins), unfolding(crate::specs::JsonText::lines_field))]
+fn push_lines_field(text: &mut String, line: u64, number: u64) -> Result<(), AllocError>
+    ensures { OnOk result (string_bytes text.new ≡ string_bytes text.old ++ lines_field line number) }
+{
+    push_key(text, "wrong")?;
+    text.push_str("[")?;
+    push_decimal(text, line)?;
+    text.push_str(",")?;
+    push_decimal(text, number)?;
+    text.push_str("]")
 }
 
 /// Appends the fields of a packet that is told by its code and bytes, with what the bytes say where `values` asks for that.

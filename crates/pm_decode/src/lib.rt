@@ -33,6 +33,7 @@
 #![tactic(auto)]
 
 mod capture;
+mod comment;
 mod counts_text;
 mod decoding;
 mod heard_lines;
@@ -44,6 +45,7 @@ mod laws;
 mod line_text;
 mod options;
 mod others;
+mod page_step;
 mod telling;
 mod timed_line;
 mod told_text;

@@ -4,30 +4,31 @@ ghost use Rattle.pm_trace.specs.ShownLines.{judged_in};
 ghost use Rattle.pm_trace.specs.Trace.{reading_judged};
 ghost use Rattle.pm_trace.specs.TraceText.{judged_text};
 ghost use Rattle.pm_values.specs.Taught.{Taught};
-ghost use Rattle.pm_decode.specs.CaptureText.{bytes_text, extra_text, json_line, lack_text, line_text, plain_line, meaning_text, packet_fields_by, packet_text_by, read_bytes_text, time_text};
-ghost use Rattle.pm_decode.specs.Hearing.{is_without_pec, other_address};
+ghost use Rattle.pm_decode.specs.CaptureText.{bytes_text, extra_text, json_line, lack_text, plain_line, meaning_text, packet_fields_by, packet_text_by, reached_text, read_bytes_text, time_text, told_line, two_lines, wrong_text};
 ghost use Rattle.pm_decode.specs.JsonText.{lack_field as spec_lack_field};
-ghost use Rattle.pm_decode.specs.Readings.{judged_by};
+ghost use Rattle.pm_decode.specs.Readings.{judged_by, other_address};
 ghost use Rattle.pm_decode.specs.ShownReadings.{packet_in};
+ghost use Rattle.pm_decode.specs.declared.page_step.Marks.{Marks};
 
 use crate::json_fields::{push_number_field_if, push_text_field};
-use crate::json_text::{push_judged_fields, push_other_fields};
+use crate::json_text::{push_judged_fields, push_other_fields, push_wrong_field};
 use crate::options::TellOptions;
-use pm_lines::{TextFault, push_decimal};
-use pm_trace::{LineFault, Shown, push_shown};
+use crate::page_step::Marks;
+use pm_lines::{TextFault, push_decimal, push_hex};
+use pm_trace::{LineFault, Shown, push_packet, push_shown};
 use pm_values::{Lessons, Packet, packet_value, push_known, push_otherwise, push_spaced};
 use std::alloc::AllocError;
 
 /// Appends a line that can't be read to a text, with its number and without a line feed.
-#[tactic(auto, unfolding(crate::specs::CaptureText::line_text))]
+#[tactic(auto, unfolding(crate::specs::CaptureText::told_line))]
 pub(crate) fn push_bad_line(
     text: &mut String,
     options: &TellOptions,
     number: u64,
     fault: LineFault,
 ) -> Result<(), AllocError>
-    ensures { OnOk result ((taught : Taught) (time : Option ℕ) → string_bytes text.new ++ codes "\n" ≡ string_bytes text.old
-        ++ line_text options.now taught (number, record { time = time; parts = Err fault })) }
+    ensures { OnOk result ((taught : Taught) (marks : Marks) (time : Option ℕ) → string_bytes text.new ++ codes "\n"
+        ≡ string_bytes text.old ++ told_line options.now taught marks number time (Err fault)) }
 {
     if options.json {
         push_bad_json(text, options, number, fault)
@@ -44,8 +45,8 @@ fn push_bad_json(
     number: u64,
     fault: LineFault,
 ) -> Result<(), AllocError>
-    ensures { OnOk result ((taught : Taught) (time : Option ℕ) → string_bytes text.new ++ codes "\n" ≡ string_bytes text.old
-        ++ json_line options.now taught (number, record { time = time; parts = Err fault })) }
+    ensures { OnOk result ((taught : Taught) (marks : Marks) (time : Option ℕ) → string_bytes text.new ++ codes "\n"
+        ≡ string_bytes text.old ++ json_line options.now taught marks number time (Err fault)) }
 {
     text.push_str("{\"line\":")?;
     push_decimal(text, number)?;
@@ -61,8 +62,8 @@ fn push_bad_plain(
     number: u64,
     fault: LineFault,
 ) -> Result<(), AllocError>
-    ensures { OnOk result ((taught : Taught) (time : Option ℕ) → string_bytes text.new ++ codes "\n" ≡ string_bytes text.old
-        ++ plain_line options.now taught (number, record { time = time; parts = Err fault })) }
+    ensures { OnOk result ((taught : Taught) (marks : Marks) (time : Option ℕ) → string_bytes text.new ++ codes "\n"
+        ≡ string_bytes text.old ++ plain_line options.now taught marks number time (Err fault)) }
 {
     push_decimal(text, number)?;
     text.push_str(" ")?;
@@ -81,31 +82,30 @@ fn fault_words(number: u64, fault: LineFault) -> &'static str
 
 /// Appends a packet's line to a text, with its number and without a line feed: as the command table has the packet, or by
 /// its address, code and bytes where `other` is its address.
-#[tactic(auto, unfolding(crate::specs::CaptureText::line_text))]
+#[tactic(auto, unfolding(crate::specs::CaptureText::told_line))]
 pub(crate) fn push_packet_line(
     text: &mut String,
     options: &TellOptions,
     lessons: &Lessons,
+    marks: &Marks,
     number: u64,
     time: Option<u64>,
     packet: &Packet<'_>,
     shown: &Shown<'_>,
-    lacks: bool,
     other: Option<u8>,
 ) -> Result<(), AllocError>
     requires shown { judged_in shown.now ≡ judged_by options.now.all (packet_in packet.now) }
-    requires lacks { lacks ≡ is_without_pec options.now.all (packet_in packet.now) }
     requires other { other ≡ other_address options.now.all (packet_in packet.now) }
     ensures { OnOk result (string_bytes text.new ++ codes "\n" ≡ string_bytes text.old
-        ++ line_text options.now lessons.now (number, record { time = time; parts = Ok (packet_in packet.now) })) }
+        ++ told_line options.now lessons.now marks.now number time (Ok (packet_in packet.now))) }
 {
     if options.json {
         push_packet_json(
-            text, options, lessons, number, time, packet, shown, lacks, other,
+            text, options, lessons, marks, number, time, packet, shown, other,
         )
     } else {
         push_packet_plain(
-            text, options, lessons, number, time, packet, shown, lacks, other,
+            text, options, lessons, marks, number, time, packet, shown, other,
         )
     }
 }
@@ -116,23 +116,22 @@ fn push_packet_json(
     text: &mut String,
     options: &TellOptions,
     lessons: &Lessons,
+    marks: &Marks,
     number: u64,
     time: Option<u64>,
     packet: &Packet<'_>,
     shown: &Shown<'_>,
-    lacks: bool,
     other: Option<u8>,
 ) -> Result<(), AllocError>
     requires shown { judged_in shown.now ≡ judged_by options.now.all (packet_in packet.now) }
-    requires lacks { lacks ≡ is_without_pec options.now.all (packet_in packet.now) }
     requires other { other ≡ other_address options.now.all (packet_in packet.now) }
     ensures { OnOk result (string_bytes text.new ++ codes "\n" ≡ string_bytes text.old
-        ++ json_line options.now lessons.now (number, record { time = time; parts = Ok (packet_in packet.now) })) }
+        ++ json_line options.now lessons.now marks.now number time (Ok (packet_in packet.now))) }
 {
     text.push_str("{\"line\":")?;
     push_decimal(text, number)?;
     push_number_field_if(text, "time", time)?;
-    push_packet_fields(text, options, lessons, packet, shown, lacks, other)?;
+    push_packet_fields(text, options, lessons, marks, number, packet, shown, other)?;
     text.push_str("}")
 }
 
@@ -142,20 +141,21 @@ fn push_packet_fields(
     text: &mut String,
     options: &TellOptions,
     lessons: &Lessons,
+    marks: &Marks,
+    number: u64,
     packet: &Packet<'_>,
     shown: &Shown<'_>,
-    lacks: bool,
     other: Option<u8>,
 ) -> Result<(), AllocError>
     requires shown { judged_in shown.now ≡ judged_by options.now.all (packet_in packet.now) }
-    requires lacks { lacks ≡ is_without_pec options.now.all (packet_in packet.now) }
     ensures { OnOk result (string_bytes text.new ≡ string_bytes text.old
-        ++ packet_fields_by options.now lessons.now (packet_in packet.now) other) }
+        ++ packet_fields_by options.now lessons.now marks.now number (packet_in packet.now) other) }
 {
     match other {
         None => {
-            push_judged_fields(text, options, lessons, packet, shown)?;
-            text.push_str(lack_field(lacks))
+            push_judged_fields(text, options, lessons, marks.reached, packet, shown)?;
+            text.push_str(lack_field(marks.lacks))?;
+            push_wrong_field(text, number, marks.wrong)
         }
         Some(addr) => push_other_fields(text, options.values, addr, packet),
     }
@@ -167,30 +167,93 @@ fn push_packet_plain(
     text: &mut String,
     options: &TellOptions,
     lessons: &Lessons,
+    marks: &Marks,
     number: u64,
     time: Option<u64>,
     packet: &Packet<'_>,
     shown: &Shown<'_>,
-    lacks: bool,
     other: Option<u8>,
 ) -> Result<(), AllocError>
     requires shown { judged_in shown.now ≡ judged_by options.now.all (packet_in packet.now) }
-    requires lacks { lacks ≡ is_without_pec options.now.all (packet_in packet.now) }
     requires other { other ≡ other_address options.now.all (packet_in packet.now) }
     ensures { OnOk result (string_bytes text.new ++ codes "\n" ≡ string_bytes text.old
-        ++ plain_line options.now lessons.now (number, record { time = time; parts = Ok (packet_in packet.now) })) }
+        ++ plain_line options.now lessons.now marks.now number time (Ok (packet_in packet.now))) }
 {
     push_decimal(text, number)?;
     push_time(text, time)?;
     text.push_str(" ")?;
+    push_packet_text(text, options, lessons, marks, number, packet, shown, other)
+}
+
+// The text of a packet.
+#[tactic(auto, using(pm_lines::specs::Lemmas::Joins::joins))]
+fn push_packet_text(
+    text: &mut String,
+    options: &TellOptions,
+    lessons: &Lessons,
+    marks: &Marks,
+    number: u64,
+    packet: &Packet<'_>,
+    shown: &Shown<'_>,
+    other: Option<u8>,
+) -> Result<(), AllocError>
+    requires shown { judged_in shown.now ≡ judged_by options.now.all (packet_in packet.now) }
+    ensures { OnOk result (string_bytes text.new ≡ string_bytes text.old
+        ++ packet_text_by options.now lessons.now marks.now number (packet_in packet.now) other) }
+{
     match other {
         None => {
-            push_shown(text, number, shown)?;
-            push_extra(text, options, lessons, packet, shown)?;
-            text.push_str(lack_words(lacks))
+            push_reached(text, marks.reached, number, shown)?;
+            push_extra(text, options, lessons, marks.reached, packet, shown)?;
+            text.push_str(lack_words(marks.lacks))?;
+            push_wrong(text, number, marks.wrong)
         }
         Some(addr) => push_otherwise(text, options.values, addr, packet),
     }
+}
+
+// What a packet says, with the output that it reaches where PAGE was followed.
+#[tactic(auto, using(pm_lines::specs::Lemmas::Joins::joins))]
+fn push_reached(
+    text: &mut String,
+    reached: Option<u8>,
+    number: u64,
+    shown: &Shown<'_>,
+) -> Result<(), AllocError>
+    ensures { OnOk result (string_bytes text.new ≡ string_bytes text.old
+        ++ reached_text reached number (judged_in shown.now)) }
+{
+    match (reached, shown) {
+        (Some(page), Shown::Accepted { addr, view, answer }) => {
+            push_hex(text, *addr)?;
+            text.push_str(" page ")?;
+            push_decimal(text, u64::from(page))?;
+            text.push_str("?")?;
+            push_packet(text, view, *answer)
+        }
+        _ => push_shown(text, number, shown),
+    }
+}
+
+// What stands behind a packet that contradicts a line.
+fn push_wrong(text: &mut String, number: u64, wrong: Option<u64>) -> Result<(), AllocError>
+    ensures { OnOk result (string_bytes text.new ≡ string_bytes text.old ++ wrong_text number wrong) }
+{
+    let Some(line) = wrong else {
+        return Ok(());
+    };
+    text.push_str(" WRONG PAGE? lines ")?;
+    push_two_lines(text, line, number)
+}
+
+// The two lines of which one contradicts the other.
+#[tactic(auto, using(pm_lines::specs::Lemmas::Joins::joins), unfolding(crate::specs::CaptureText::two_lines))]
+fn push_two_lines(text: &mut String, line: u64, number: u64) -> Result<(), AllocError>
+    ensures { OnOk result (string_bytes text.new ≡ string_bytes text.old ++ two_lines line number) }
+{
+    push_decimal(text, line)?;
+    text.push_str(" and ")?;
+    push_decimal(text, number)
 }
 
 // What stands behind a packet that lacks its PEC.
@@ -226,11 +289,12 @@ fn push_extra(
     text: &mut String,
     options: &TellOptions,
     lessons: &Lessons,
+    reached: Option<u8>,
     packet: &Packet<'_>,
     shown: &Shown<'_>,
 ) -> Result<(), AllocError>
     ensures { OnOk result (string_bytes text.new ≡ string_bytes text.old
-        ++ extra_text options.now lessons.now (packet_in packet.now) (judged_in shown.now)) }
+        ++ extra_text options.now lessons.now reached (packet_in packet.now) (judged_in shown.now)) }
 {
     if !options.values {
         return Ok(());
@@ -239,7 +303,7 @@ fn push_extra(
         Shown::Accepted { addr, view, answer } => {
             push_known(
                 text,
-                packet_value(&options.formats, lessons, *addr, view, *answer),
+                packet_value(&options.formats, lessons, *addr, reached, view, *answer),
             )
         }
         Shown::Faulty { .. } => push_bytes(text, packet),

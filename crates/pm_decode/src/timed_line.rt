@@ -2,12 +2,13 @@
 ghost use Rattle.std.specs.Prelude.{◌≡◌};
 ghost use Rattle.pm_decode.specs.Readings.{time_in as spec_time_in};
 
+use crate::comment::{CommentHead, Remark};
 use pm_lines::{read_i64, without_carriage_return};
 use pm_trace::{LineFault, LinePart, OpenLine};
 use pm_values::Packet;
 
 /// What is kept of a line while its bytes come one after another: the word that is the packet's time, where lines
-/// have one, and the packet.
+/// have one, the packet, and the beginning of a comment.
 #[derive(Debug, Drop)]
 pub(crate) struct TimedLine {
     // Lines begin with a time.
@@ -18,6 +19,8 @@ pub(crate) struct TimedLine {
     is_begun: bool,
     // Bytes are the packet's own: lines have no time, or a space ended the word.
     is_over: bool,
+    // What a comment begins with.
+    head: CommentHead,
     // The first word, where lines begin with a time.
     word: LinePart,
     // The packet, with the space before it.
@@ -32,9 +35,10 @@ pub(crate) struct LineReading<'a> {
 }
 
 impl TimedLine {
-    ghost use Rattle.std.specs.Prelude.{[], None, if◌then◌else◌};
+    ghost use Rattle.std.specs.Prelude.{[], ◌==◌, None, if◌then◌else◌};
     ghost use Rattle.pm_trace.specs.OpenLines.{open_read};
     ghost use Rattle.pm_trace.specs.OpenLines.{IsAtLineFeed};
+    ghost use Rattle.pm_decode.specs.Readings.{remark_of};
     ghost use Rattle.pm_decode.specs.ShownReadings.{parts_in, reading_in};
     ghost use Rattle.pm_decode.specs.TimedLines.{PassesTimed, begun_with, skips_timed, timed_of, timed_read, timed_takes, word_ended};
 
@@ -48,6 +52,7 @@ impl TimedLine {
             has_mark: false,
             is_begun: false,
             is_over: !times,
+            head: CommentHead::new(),
             word: LinePart::new(),
             packet: OpenLine::new(),
         }
@@ -61,6 +66,7 @@ impl TimedLine {
         self.has_mark = false;
         self.is_begun = false;
         self.is_over = !self.times;
+        self.head.clear();
         self.word.clear();
         self.packet.clear();
     }
@@ -100,6 +106,9 @@ impl TimedLine {
         if *first == b'\n' {
             return bytes;
         }
+        if self.is_marked_with(*first) {
+            return bytes;
+        }
         self.begin(*first);
         self.packet.take_line(bytes)
     }
@@ -110,6 +119,9 @@ impl TimedLine {
         ensures { self.new ≡ timed_takes self.old byte }
     {
         self.begin(byte);
+        if self.has_mark {
+            self.head.take(byte);
+        }
         if byte == b' ' && !self.word.bytes().is_empty() {
             self.is_over = true;
         }
@@ -120,14 +132,37 @@ impl TimedLine {
         }
     }
 
+    // Whether the line's first byte is `#`, with this byte more.
+    fn is_marked_with(&self, byte: u8) -> bool
+        ensures { result ≡ (if self.now.is_begun then self.now.has_mark else byte == 35) }
+    {
+        if self.is_begun {
+            self.has_mark
+        } else {
+            byte == b'#'
+        }
+    }
+
     // Notes that the line has a byte, of which this is the first one where it had none.
     fn begin(&mut self, byte: u8)
         ensures { self.new ≡ begun_with self.old byte }
     {
-        if !self.is_begun {
-            self.has_mark = byte == b'#';
-            self.is_begun = true;
-        }
+        self.has_mark = self.is_marked_with(byte);
+        self.is_begun = true;
+    }
+
+    /// Whether the line is a comment.
+    pub(crate) fn is_comment(&self) -> bool
+        ensures { result ≡ self.now.has_mark }
+    {
+        self.has_mark
+    }
+
+    /// What a comment says.
+    pub(crate) fn remark(&self) -> Remark
+        ensures { result ≡ remark_of self.now.head }
+    {
+        self.head.remark()
     }
 
     /// Whether the line is skipped, where it ends here.

@@ -27,6 +27,7 @@ impl ToldText {
     ghost use Rattle.std.specs.Prelude.{[], ◌+◌, ◌<◌, ◌≤◌, ◌++◌, ◌^◌, OnErr, OnOk, length};
     ghost use Rattle.pm_decode.specs.CaptureText.{counts_text, line_text};
     ghost use Rattle.pm_decode.specs.Hearing.{heard_lines, heard_with};
+    ghost use Rattle.pm_decode.specs.Readings.{Told};
     ghost use Rattle.pm_decode.specs.ShownReadings.{reading_in};
 
     /// No line. Takes no memory.
@@ -70,8 +71,8 @@ impl ToldText {
     ) -> Result<(), AllocError>
         requires { heard_lines heard.old + 1 < 2 ^ 64 }
         ensures told { OnOk result (self.new
-            ≡ self.old ++ line_text options.now heard.old.taught (number, reading_in line.now)) }
-        ensures heard { OnOk result (heard.new ≡ heard_with options.now.all heard.old (number, reading_in line.now)) }
+            ≡ self.old ++ line_text options.now heard.old.known (number, Told (reading_in line.now))) }
+        ensures heard { OnOk result (heard.new ≡ heard_with options.now heard.old (number, Told (reading_in line.now))) }
         ensures unchanged { OnErr result (self.new ≡ self.old) }
         ensures few { heard_lines heard.new ≤ heard_lines heard.old + 1 }
     {

@@ -174,3 +174,56 @@ fn each_line_is_an_object_of_json(rt: HostRuntime) {
         },
     );
 }
+
+static PAGES: [(&str, &str); 2] = [
+    (
+        "B0 00 01 ED\nB0 20 / B1 14 ED\nB0 21 CD 34 38\nB0 00 / B1 00 C2\nB0 21 CD 34 38\nB0 00 01\nB0 21 CD 34 38\n",
+        "1 58 PAGE write 01\n2 58 page 1? VOUT_MODE read 14 ULINEAR16 -12\n3 58 page 1? VOUT_COMMAND write 34CD 3.300048 V\n4 58 PAGE read 00 WRONG PAGE? lines 1 and 4\n5 58 page 0? VOUT_COMMAND write 34CD\n6 58 write F2 Short 3 bytes B0 00 01\n7 58 VOUT_COMMAND write 34CD WRONG PAGE? lines 6 and 7\ncount PAGE 2\ncount VOUT_MODE 1\ncount VOUT_COMMAND 3\nlines 7 accepted 6 faults 1 bad 0\n",
+    ),
+    (
+        "B0 00 03 E3\n# another device: A0 00\n\nB0 03 46\n# another devic\nB0 03 46\nB0 00 03 E3\nB2 03 46\nB0 03 46\nB0 9\nB0 03 46\n# byte 2 wasn't acknowledged\nB0 00 03 E3\nB0 03 46",
+        "1 58 PAGE write 03\n4 58 page 3? CLEAR_FAULTS send\n6 58 CLEAR_FAULTS send\n7 58 PAGE write 03\n8 59 write F5 WrongPec 2 bytes B2 03 46\n9 58 page 3? CLEAR_FAULTS send\n10 X2 BadHex\n11 58 CLEAR_FAULTS send\n13 58 PAGE write 03\n14 58 CLEAR_FAULTS send WRONG PAGE? lines 13 and 14\ncount PAGE 3\ncount CLEAR_FAULTS 5\nlines 10 accepted 8 faults 1 bad 1\n",
+    ),
+];
+
+#[test]
+fn a_plain_packet_is_told_with_the_output_that_it_reaches(rt: HostRuntime) {
+    are_told(
+        &rt,
+        &PAGES,
+        &TellOptions {
+            pages: true,
+            ..VALUES
+        },
+    );
+}
+
+static PAUSES: [(&str, &str); 1] = [(
+    "0 B0 00 01\n2000 B0 03 46\n4001 B0 03 46\n4001 B0 00 02 E4\n4000 B0 03\n4000 B0 00 / B1 01 C5\n4000 B0 00 / B1 FF\n4000 B0 03 46\n",
+    "{\"line\":1,\"time\":0,\"address\":\"58\",\"code\":\"00\",\"name\":\"PAGE\",\"direction\":\"write\",\"payload\":\"01\",\"pec\":false}\n\
+{\"line\":2,\"time\":2000,\"address\":\"58\",\"page\":1,\"followed\":true,\"code\":\"03\",\"name\":\"CLEAR_FAULTS\",\"direction\":\"send\"}\n\
+{\"line\":3,\"time\":4001,\"address\":\"58\",\"code\":\"03\",\"name\":\"CLEAR_FAULTS\",\"direction\":\"send\"}\n\
+{\"line\":4,\"time\":4001,\"address\":\"58\",\"code\":\"00\",\"name\":\"PAGE\",\"direction\":\"write\",\"payload\":\"02\"}\n\
+{\"line\":5,\"time\":4000,\"address\":\"58\",\"code\":\"03\",\"name\":\"CLEAR_FAULTS\",\"direction\":\"send\",\"pec\":false}\n\
+{\"line\":6,\"time\":4000,\"address\":\"58\",\"code\":\"00\",\"name\":\"PAGE\",\"direction\":\"read\",\"payload\":\"01\"}\n\
+{\"line\":7,\"time\":4000,\"address\":\"58\",\"code\":\"00\",\"name\":\"PAGE\",\"direction\":\"read\",\"payload\":\"FF\",\"pec\":false,\"answered\":false}\n\
+{\"line\":8,\"time\":4000,\"address\":\"58\",\"code\":\"03\",\"name\":\"CLEAR_FAULTS\",\"direction\":\"send\",\"wrong\":[7,8]}\n\
+{\"count\":\"PAGE\",\"lines\":3}\n{\"count\":\"CLEAR_FAULTS\",\"lines\":4}\n{\"code\":\"00\",\"lines\":1}\n\
+{\"lines\":8,\"accepted\":7,\"other\":1,\"faults\":0,\"bad\":0}\n",
+)];
+
+#[test]
+fn behind_a_pause_a_page_is_not_known(rt: HostRuntime) {
+    are_told(
+        &rt,
+        &PAUSES,
+        &TellOptions {
+            all: true,
+            times: true,
+            json: true,
+            pages: true,
+            gap: 2000,
+            ..PLAIN
+        },
+    );
+}

@@ -36,6 +36,6 @@ pub use laws::pieces_do_not_matter;
 pub use line_fault::LineFault;
 pub use pages::{PageLine, PageUse, Pages, Place, page_use};
 pub use shown::{Shown, packet_shown};
-pub use shown_text::{answered, coefficients_in, push_shown};
+pub use shown_text::{answered, coefficients_in, push_packet, push_shown};
 pub use tally::{Tally, count_code};
 pub use trace_line::{TraceLine, read_trace_line, render_line};

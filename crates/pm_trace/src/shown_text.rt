@@ -76,9 +76,9 @@ fn push_place(text: &mut String, place: Option<usize>) -> Result<(), AllocError>
     push_decimal(text, place as u64)
 }
 
-// A space, and what a packet says that was accepted.
+/// Appends a space, and what a packet says that was accepted, to a text.
 #[tactic(auto, using(pm_lines::specs::Lemmas::Joins::joins), unfolding(crate::specs::TraceText::plain_text))]
-fn push_packet(
+pub fn push_packet(
     text: &mut String,
     view: &FrameView<'_>,
     answer: Option<&[u8]>,

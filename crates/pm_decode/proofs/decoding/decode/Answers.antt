@@ -7,4 +7,4 @@ use Rattle.pm_decode.proofs.decoding.decode.Goals as goal
 pub returns-clause-ends : goal.returns-clause-ends
 returns-clause-ends g c =
     subst (λ (engine : Engine DecodeEnd). EngineEnds engine (over g.R.Read.remaining c.args.reader.now c.tell.new.reader
-    g.W.Write.contents c.args.writer.now c.tell.new.writer) c.tell.result) (plain_engine _ false) (c.tell.ensures.short refl)
+    g.W.Write.contents c.args.writer.now c.tell.new.writer) c.tell.result) (plain_engine _ false 0) (c.tell.ensures.short refl)

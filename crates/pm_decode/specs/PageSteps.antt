@@ -1,0 +1,98 @@
+-- PAGE followed through a capture: what is known of the address of a packet as it comes, and what the packet is marked with.
+-- What ends a page is this project's own choice.
+use Rattle.std.specs.Prelude.{ℕ, Bool, true, false, not, ◌&&◌, ◌||◌, if◌then◌else◌, List, [], ◌∷◌, Option, Some, None, Result, Ok, Err}
+use Rattle.pm_trace.specs.Pages.{Pages, contradicted, doubting, lost_in, nowhere, output_of, pages_by, place_in, use_of}
+use Rattle.pm_trace.specs.Trace.{Judged, Accepted, Faulty, BadSyntax, BadHex}
+use Rattle.pm_trace.specs.declared.line_fault.LineFault.{LineFault}
+use Rattle.pm_trace.specs.declared.pages.Place.{Place}
+use Rattle.pm_trace.specs.declared.trace_line.TraceLine.{TraceLine}
+use Rattle.pm_values.specs.Otherwise.{content_of, has_pec, is_all_ones}
+use Rattle.pm_decode.specs.Readings.{is_without_pec, judged_by, other_address}
+use Rattle.pm_decode.specs.declared.comment.Remark.{Remark}
+use Rattle.pm_decode.specs.declared.comment.Remark.TheVariants.{Elsewhere, Unacknowledged, Loss}
+use Rattle.pm_decode.specs.declared.options.TellOptions.{TellOptions}
+use Rattle.pm_decode.specs.declared.page_step.Marks.{Marks}
+use Rattle.pm_decode.specs.declared.page_step.PageStep.{PageStep}
+
+-- ---- a packet as it comes
+
+-- the address of a packet, where it has one
+abbrev pub judged_address : Judged → Option ℕ
+judged_address (Accepted addr message answer) = Some addr
+judged_address (Faulty addr is_read fault) = addr
+judged_address BadSyntax = None
+judged_address BadHex = None
+
+-- there is an answer, of no bytes
+abbrev pub is_empty_answer : Option (List ℕ) → Bool
+is_empty_answer None = false
+is_empty_answer (Some []) = true
+is_empty_answer (Some (byte ∷ bytes)) = false
+
+-- nobody answered: what was read is nothing but ones, or no byte and no PEC
+abbrev pub is_unanswered : TraceLine → Bool
+is_unanswered parts = is_all_ones parts.write parts.read
+    || (is_empty_answer (content_of parts.write parts.read).answer && not (has_pec parts.write parts.read))
+
+-- nobody can say what a packet did that isn't good: it has a fault, or is told otherwise, where it has an address for that,
+-- and nobody answered
+abbrev pub is_lost : TraceLine → Option ℕ → Bool
+is_lost parts None = true
+is_lost parts (Some addr) = is_unanswered parts
+
+-- what is known of an address, if there is one, when a packet comes at a time
+abbrev pub place_by : ℕ → Option ℕ → Pages → Option ℕ → Place
+place_by gap time pages None = nowhere
+place_by gap time pages (Some addr) = place_in gap time pages addr
+
+-- the address of a packet that comes at a time, what is known of it, and what the packet says of its page; `other` is the
+-- address of one that is told otherwise
+abbrev pub step_by : ℕ → Option ℕ → Pages → TraceLine → Judged → Option ℕ → PageStep
+step_by gap time pages parts judged other = record {
+  addr = judged_address judged;
+  place = place_by gap time pages (judged_address judged);
+  used = use_of parts.write (is_lost parts other) judged;
+}
+
+-- where PAGE is followed
+abbrev pub step_of : TellOptions → Pages → Option ℕ → TraceLine → Option PageStep
+step_of options pages time parts = if options.pages
+    then Some (step_by options.gap time pages parts (judged_by options.all parts) (other_address options.all parts))
+    else None
+
+-- ---- what it is marked with
+
+-- a packet that lacks its PEC or doesn't, with the output that it reaches where it names none, and the line that it contradicts
+abbrev pub marks_by : Bool → Option PageStep → Marks
+marks_by lacks None = record { lacks = lacks; reached = None; wrong = None }
+marks_by lacks (Some step) = record {
+  lacks = lacks;
+  reached = output_of step.place step.used;
+  wrong = contradicted step.place step.used;
+}
+
+abbrev pub marks_of : TellOptions → Pages → Option ℕ → TraceLine → Marks
+marks_of options pages time parts = marks_by (is_without_pec options.all parts) (step_of options pages time parts)
+
+-- a line that can't be read has no mark
+abbrev pub marks_in : TellOptions → Pages → Option ℕ → Result TraceLine LineFault → Marks
+marks_in options pages time (Ok parts) = marks_of options pages time parts
+marks_in options pages time (Err fault) = marks_by false None
+
+-- ---- behind it
+
+-- behind the packet of a line
+abbrev pub pages_at : ℕ → Option PageStep → Pages → Pages
+pages_at number None pages = pages
+pages_at number (Some step) pages = pages_by number step.addr step.place step.used pages
+
+-- behind a line that isn't skipped
+abbrev pub pages_read : TellOptions → ℕ → Option ℕ → Result TraceLine LineFault → Pages → Pages
+pages_read options number time (Ok parts) pages = pages_at number (step_of options pages time parts) pages
+pages_read options number time (Err fault) pages = if options.pages then lost_in number pages else pages
+
+-- behind a comment, which tells a loss but where it speaks of a device whose packets are no lines
+abbrev pub pages_noted : ℕ → Remark → Pages → Pages
+pages_noted number Elsewhere pages = pages
+pages_noted number Unacknowledged pages = doubting (lost_in number pages)
+pages_noted number Loss pages = lost_in number pages
