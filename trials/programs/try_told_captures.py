@@ -28,7 +28,7 @@ from told_rows import (  # noqa: E402
 )
 
 JSON = "--json"
-EVERY = ["--values", "--all", "--long", "--times"]
+EVERY = ["--values", "--all", "--long", "--times", "--pages"]
 MIB, LONG = 1_048_576, 5_242_880
 # So much more memory may be in use behind 5 MiB than behind the first one.
 MOST_GROWTH = 128
