@@ -150,7 +150,7 @@ def compare_numbers(dice, count, seen):
     for _ in range(count):
         form, word, micro = draw_lines.question(dice)
         option = f"--word={word:04X}" if micro is None else f"--micro={micro}"
-        words = ["number", f"--format={':'.join(map(str, form))}", option]
+        words = ["number", f"--format={dice.choice(':/').join(map(str, form))}", option]
         found, wanted = ran(words), commands.number(form, word, micro)
         kind = "number: " + (wanted[2].split()[1] if wanted[2] else "word" if micro is None else "micro")
         seen[kind] = seen.get(kind, 0) + 1

@@ -14,11 +14,14 @@ MODES = [0x14, 0x14, 0x17, 0x00, 0x0F, 0x10, 0x1F, 0x40, 0x40, 0x40, 0x21, 0x60,
 FORMATS = ["linear11", "ulinear16:-12", "ulinear16:-12", "ulinear16/-12", "ulinear16:15", "ulinear16:-16", "direct:1:0:3",
            "direct/-7:-32768:-12", "direct:32767:5:12", "direct:1:-1:0"]
 NO_FORMATS = ["", "linear16", "ulinear16", "ulinear16:16", "ulinear16:-17", "ulinear16:1:2", "direct:0:0:0", "direct:1:0:13",
-              "direct:1:0:-13", "direct:1:0", "direct:32768:0:0", "linear11:0", "ulinear16:+1", "ulinear16: 1", "direct:1:0:128"]
+              "direct:1:0:-13", "direct:1:0", "direct:32768:0:0", "linear11:0", "ulinear16:+1", "ulinear16: 1", "direct:1:0:128",
+              "ulinear16//1", "/"]
 READING_FORMATS = ["linear11", "linear11", "direct:1:0:2", "direct:-3:5:-1", "direct/7/0/12", "direct:32767:-32768:-12"]
 WHERE = ["", "", "88:", "8C:", "8d:", "58:88:", "58:8C:", "08:8D:", "77/8c/"]
 NO_READINGS = ["", ",", "linear11,", "ulinear16:-12", "8B:linear11", "58:linear11", "07:88:linear11", "78:88:linear11", "88:58:linear11",
-               "88:", "8:linear11", "58:88:8C:linear11", "direct:0:0:0", "88:direct:1:0:13", ",".join(["linear11"] * 9)]
+               "88:", "8:linear11", "58:88:8C:linear11", "direct:0:0:0", "88:direct:1:0:13", "88//linear11",
+               ",".join(["linear11"] * 9)]
+OF_OUTPUTS = [code for code, row in TABLE.items() if row[4] == "output"] + [CODES["VOUT_COMMAND"], CODES["READ_VOUT"]] * 4
 GAPS = ["0", "1", "5", "1000", "1000000", "0000999"]
 NO_GAPS = ["", "x", "-1", "+1", "1000001", "00000001", "1.5"]
 SWITCHES = ["--all", "--long", "--times", "--json", "--pages"]
@@ -130,11 +133,25 @@ def page_line(dice):
 
 def plain_line(dice):
     """A plain packet of a code that acts on an output."""
-    address = dice.choice(PLACES)[0]
-    code = dice.choice([it for it, row in TABLE.items() if row[4] == "output"] + [CODES["VOUT_COMMAND"], CODES["READ_VOUT"]] * 4)
+    address, code = dice.choice(PLACES)[0], dice.choice(OF_OUTPUTS)
     if is_written(code) and (not is_read(code) or dice.random() < 0.5):
         return write_line(dice, address, ("write", None, code, payload_of(dice, code)))
     return read_line(dice, address, ("read", None, code), payload_of(dice, code))
+
+
+def followed_line(dice):
+    """A packet of a trace with few faults, in which pages are known for long: one of PAGE, of another length now and then, or a
+    plain one."""
+    if dice.random() < 0.1:
+        return dice.choice([page_line, plain_line, known_line, named_line])(dice)
+    address, code = dice.choice([0x58, 0x58, 0x58, 0x08]), dice.choice([CODES["PAGE"], dice.choice(OF_OUTPUTS)])
+    payload = [dice.choice([0, 1, 1, 2, 0xFF])] if code == CODES["PAGE"] else payload_of(dice, code)
+    if dice.random() < 0.1:
+        return spelled(dice, [2 * address, code, *payload * 3])
+    if is_written(code) and (not is_read(code) or dice.random() < 0.5):
+        return spelled(dice, write_part(address, ("write", None, code, payload)))
+    message = "read", None, code
+    return spelled(dice, write_part(address, message)) + b"/" + spelled(dice, answer_of(address, message, payload))
 
 
 def payload_of_other(dice, code):
@@ -231,9 +248,9 @@ def timed(dice, lines):
 
 def packets(dice):
     """The lines of a trace without times."""
-    lines, strange = skipped_lines(dice) if dice.random() < 0.4 else [], dice.choice([0, 0, 0.05, 0.3])
+    lines, strange, is_calm = skipped_lines(dice) if dice.random() < 0.4 else [], dice.choice([0, 0, 0.05, 0.3]), dice.random() < 0.2
     for _ in range(dice.choice([0, 1, 2, 5, 20, 60])):
-        lines.insert(dice.randrange(len(lines) + 1), packet_line(dice, strange))
+        lines.insert(dice.randrange(len(lines) + 1), followed_line(dice) if is_calm else packet_line(dice, strange))
         if dice.random() < 0.05:
             lines.insert(dice.randrange(len(lines) + 1), dice.choice(COMMENTS))
     return lines
