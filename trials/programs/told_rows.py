@@ -1051,7 +1051,7 @@ B0 21 CD 34 *                             58 VOUT_COMMAND write 34CD
 B0 00 02 *                                58 PAGE write 02
 B0 21 CD 34 *                             58 page 2? VOUT_COMMAND write 34CD
 """),
-    # A byte that wasn't acknowledged is one of the next packet, whatever that is; another comment may stand between.
+    # A byte that wasn't acknowledged is one of the next packet, whatever that is; a comment or a bad line may stand between.
     ("--pages", """
 # byte 2 wasn't acknowledged
 # byte 0 of the answer wasn't acknowledged
@@ -1076,6 +1076,12 @@ B0 00 01 *                                58 PAGE write 01
 B0 03 *                                   58 CLEAR_FAULTS send WRONG PAGE? lines 20 and 21
 #byte 2 wasn't acknowledged
 B0 00 01 *                                58 PAGE write 01
+B0 03 *                                   58 page 1? CLEAR_FAULTS send
+# byte 2 wasn't acknowledged
+B0 9                                      X2 BadHex
+B0 00 01 *                                58 PAGE write 01
+B0 03 *                                   58 CLEAR_FAULTS send WRONG PAGE? lines 27 and 28
+B0 00 / B1 01 *                           58 PAGE read 01
 B0 03 *                                   58 page 1? CLEAR_FAULTS send
 # byte 2 wasn't acknowledged
 B0 05 04 00 21 CD 34 *                    58 page 0 VOUT_COMMAND write 34CD
