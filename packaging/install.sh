@@ -67,7 +67,7 @@ for each in pm_host_c pm_device_c; do
 done
 if [ -z "$library" ]; then
     program "$pmb" "by (cd crates/pmb && rt run -- replay < stdin), set PMB"
-    program "$pmbhost" "as docs/board.md says, set PMBHOST"
+    program "$pmbhost" "as docs/no-board.md says, set PMBHOST"
     program "$pmbpart" "as docs/no-board.md says, set PMBPART"
     command -v python3 > /dev/null || die "no python3 on this machine: pmhost wants it; or give --library"
 fi
@@ -166,6 +166,6 @@ made share/pm-host
 sort -u "$work/list" > "$list"
 told
 echo "installed below $to: libpm_host and libpm_device for C${library:-, pmhost, pmb, pmbhost and pmbpart with manual pages and completions, README, docs and examples}" | sed 's/Cyes$/C/'
-echo "next: cc order.c \$(pkg-config --cflags --libs pm_host)"
+echo "next: cc -I$prefix/include examples/c/order.c $prefix/lib/libpm_host.a"
 [ -n "$library" ] || echo "      pmhost -b desk --outputs 2 --limit 0:3.135V:3.465V set 0 3.3V   # a model part, no board; man pmhost"
 case ":$PATH:" in *":$prefix/bin:"*) ;; *) [ -n "$library" ] || echo "      ($prefix/bin isn't on your PATH yet)" ;; esac

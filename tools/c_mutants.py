@@ -12,7 +12,7 @@ from crate_copy import read, write
 from program import ROOT
 
 # The tests that stand in rust/src.
-UNITS = {"an_address_is_locked_for_one_open_file", "enxio_alone_is_unheard"}
+UNITS = {"an_address_is_locked_for_one_open_file", "enxio_alone_is_unheard", "ones_of_the_kernel_are_no_answer"}
 
 
 class Copy:

@@ -24,6 +24,9 @@ esac
 folder=$(mktemp -d)
 trap 'rm -rf "$folder"' EXIT
 . tools/tally.sh
+for each in ${built:+pm_host_c pm_device_c}; do
+    [ -f "$built/lib$each.a" ] || { echo "packages.sh: no lib$each.a in $built" >&2; exit 2; }
+done
 
 # counted NAME PASSED FAILED STATUS: a part's tests; one that ends badly without a test that failed has failed once
 counted() {
@@ -88,7 +91,7 @@ else
 fi
 
 if command -v cargo > /dev/null; then
-    PM_ARCHIVES=$built CARGO_TARGET_DIR=$folder/cargo cargo test --offline --manifest-path rust/Cargo.toml > "$folder/log" 2>&1
+    PM_ARCHIVES=$built CARGO_TARGET_DIR=$folder/cargo cargo test --offline --all-features --manifest-path rust/Cargo.toml > "$folder/log" 2>&1
     status=$?
     read -r good bad < <(awk '/^test result: / {good += $4; bad += $6} END {print good + 0, bad + 0}' "$folder/log")
     counted "Rust" "$good" "$bad" $status

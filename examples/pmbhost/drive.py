@@ -1,5 +1,5 @@
 #!/usr/bin/env python3
-"""Drives the proved host `pmbhost` over a bus: each line of standard input is said to it, what it wants sent goes over the
+r"""Drives the proved host `pmbhost` over a bus: each line of standard input is said to it, what it wants sent goes over the
 bus, what came of it is told, and its last answer to the line is printed.
 
     printf 'learn 0\nvolts 0 VOUT_COMMAND 3300000\n' | examples/pmbhost/drive.py 1 58 2 0:3135000:3465000

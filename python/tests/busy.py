@@ -1,6 +1,8 @@
 """Parts that are busy or away for a while of the clock of runs.py, that fall silent, or whose lines are held low."""
 import errno
 
+from pmhost import Output, Part
+
 from . import kernel, odd_parts, runs
 
 STORE_USER_ALL, RESTORE_USER_ALL = 0x15, 0x16
@@ -144,6 +146,53 @@ class Zeros1At48(At48):
 
 class Zeros2At48(At48):
     zeros_from = 2
+
+
+class ProtectedAt48(odd_parts.Named):
+    """A part at 48h that holds WRITE_PROTECT 40h: while the data line is held low all is acknowledged, and reads are zeros."""
+
+    low = False
+
+    def __init__(self):
+        super().__init__(0x48)
+        self.part = Part(0x48, [Output(command=word) for word in self.commands], protect=0x40)
+
+    def hear(self, frame, ending):
+        self.before(frame[1:])
+        answer = [0] * 300 if self.low else super().hear(frame, ending)
+        if self.low:
+            self.lines.append("low")
+        self.behind(frame[1:])
+        return answer
+
+    def before(self, asked):
+        """The line may fall before a transfer."""
+
+    def behind(self, asked):
+        """It may fall or rise behind one."""
+
+
+class ZerosFromProtectAt48(ProtectedAt48):
+    """The line falls before the first read of WRITE_PROTECT, for good."""
+
+    def before(self, asked):
+        self.low = self.low or asked == [0x10]
+
+
+class ZerosToProtectAt48(ProtectedAt48):
+    """The line falls before the last question before that of WRITE_PROTECT, which is of OPERATION, and rises behind that of
+    WRITE_PROTECT."""
+
+    # What is asked before: the last block of a probe, VOUT_MIN of a survey.
+    fronts = ([0x9B], [0x06, 2, 0, 0x2B])
+    is_next = False
+
+    def before(self, asked):
+        self.low = self.low or self.is_next and asked in ([0x10], [0x06, 2, 0, 0x01])
+
+    def behind(self, asked):
+        self.is_next = asked in self.fronts
+        self.low = self.low and asked != [0x10]
 
 
 class Nobody:

@@ -9,7 +9,8 @@ from unittest import mock
 
 from pmhost import DeskBus, LinuxBus, NoBus, NoTransfer, Pmbus, Smbus2Bus
 from pmhost.bus.ones import given
-from pmhost.bus.linux import I2C_FUNCS, I2C_RDWR, I2C_SLAVE, Message, Messages
+from pmhost.bus import Trace, linux
+from pmhost.bus.linux import I2C_FUNCS, I2C_RDWR, I2C_SLAVE, BusTrace, Message, Messages
 
 from . import kernel
 from .busy import OnesAlone
@@ -81,6 +82,24 @@ class Linux(unittest.TestCase):
                                                    "B0 06 02 00 21 / B1 02 CD 34 B9\n")
         with self.assertRaisesRegex(NoBus, "^/nowhere/t: No such file or directory$"):
             self.bus(trace="/nowhere/t")
+
+    def test_no_line_is_made_without_a_trace(self):
+        """Of a write, an answer and a transfer that failed; over one bus, and over one of several of a trace."""
+        def transfers(bus):
+            bus.write(FRAME)
+            bus.read(REQUEST, 4)
+            with self.assertRaises(NoTransfer):
+                bus.read(REQUEST, 4)
+
+        with tempfile.NamedTemporaryFile() as file:
+            for path in (None, file.name):
+                for trace in (Trace(path), BusTrace(Trace(path), "7")):
+                    with self.subTest(path=path, trace=trace), mock.patch.object(linux, "in_hex", side_effect=linux.in_hex) as made, \
+                            mock.patch.object(trace, "note", side_effect=trace.note) as noted:
+                        transfers(self.bus("ok", "ok", "short0", trace=trace))
+                        trace.close()
+                        self.assertEqual((made.call_count, noted.call_count), (4, 3) if path else (0, 0))
+            self.assertEqual(len(file.read().splitlines()), 3 + 4)
 
     def test_ones_are_no_answer(self):
         for mishap in (None, "ones"):

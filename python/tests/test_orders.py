@@ -85,7 +85,8 @@ class Orders(unittest.TestCase):
         part = kernel.Part()
         words = ["-b", "7", "-a", "58", "--outputs", "2", "--no-limit", "set", "0", "3.3V"]
         status, _, err = called(words, kernel.FakeKernel(part, ["ok"] * 8 + ["deaf"] * 3))
-        self.assertEqual((status, part.lines[-1]), (1, "B0 06 02 00 24 /"), err)
+        # Behind it the two status registers alone.
+        self.assertEqual((status, part.lines[-3:]), (1, ["B0 06 02 00 24 /", "B0 7E /", "B0 06 02 00 7A /"]), err)
 
     def test_everything_is_read_before_the_first_write(self):
         part, *_ = self.apply(TWO)

@@ -7,6 +7,8 @@ import unittest
 
 import pmhost
 
+from .running import ROOT, stored
+
 FOLDER = os.path.dirname(os.path.abspath(pmhost.__file__))
 # A bus of smbus2 is handed in by who has that package.
 BESIDE = {"smbus2"}
@@ -29,6 +31,17 @@ def imported(path):
             yield from (alias.name.partition(".")[0] for alias in node.names)
         elif isinstance(node, ast.ImportFrom) and node.level == 0 and node.module:
             yield node.module.partition(".")[0]
+
+
+class Gate(unittest.TestCase):
+    def test_the_rust_crate_is_tried_with_its_bus_of_linux(self):
+        """Some of its tests stand behind the feature `linux`."""
+        scripts = ("tools/packages.sh", "trials/c/run.sh")
+        if not all(os.path.isfile(os.path.join(ROOT, path)) for path in scripts):
+            self.skipTest("the package is installed elsewhere")
+        for path in scripts:
+            tried = [line for line in stored(ROOT, path).splitlines() if "cargo test --" in line]
+            self.assertEqual(["--all-features" in line for line in tried], [True], path)
 
 
 class Project(unittest.TestCase):

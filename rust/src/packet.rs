@@ -190,7 +190,8 @@ impl Deref for Block {
 
 impl Block {
     /// What came back for a block of any code, whose request is the address byte and the code: the read address first, then the
-    /// count, at most 32. F1 to F5.
+    /// count, at most 32. Of the 34 bytes that were read those up to the count + 3 are handed over, the read address in front
+    /// counted, and all where the count is above 32, since all 34 of a shorter block are too many (F3). F1 to F5.
     ///
     /// ```
     /// # use pm_host::{pec, Block};

@@ -142,6 +142,6 @@ where
 }
 
 /// Whether there are bytes, and all of them are FFh.
-fn is_ones(bytes: &[u8]) -> bool {
+pub(crate) fn is_ones(bytes: &[u8]) -> bool {
     !bytes.is_empty() && bytes.iter().all(|byte| *byte == 0xFF)
 }

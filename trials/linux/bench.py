@@ -12,7 +12,8 @@ At address 0A of the first bus, text is taken: `part WORDS` puts a part there (p
 `mux` puts there and which stays; `struck XX` says whose transfers meet mishaps, where it isn't the first part; `adapter errno` or
 `adapter count` says who asks; `plan WORD ..` has a mishap for each coming transfer; `restart` restarts the part; `low sda` and
 `low scl` have a line of the wire held low until `low none`. A read there tells as JSON what the parts hold, each word that a register of them held since it was put there
-(`ever`), and how many transfers met the mishaps. A read of a byte at 0B tells the error of the last
+(`ever`), how many transfers met the mishaps (`count`), and how many mishaps struck: one that holds a line of the wire low at a
+clock does where that clock comes. A read of a byte at 0B tells the error of the last
 failed transfer, by its number, for an adapter that answers errors. The mishaps are those of python/tests/kernel.py, and
 
     lostall   as `lost`, and of a read no message goes, where `lost` lets the first one go
@@ -26,8 +27,10 @@ failed transfer, by its number, for an adapter that answers errors. The mishaps 
     ones      nobody hears it, writes are acknowledged, and reads are ones
     zeros     the same, and reads are zeros
     flip      a bit of a write's last byte but one is changed on its way, and the write is acknowledged
-    sdaK      on the wire alone: SDA is held low behind K bytes of the frame, until the fourth stop
-    sclK      on the wire alone: SCL is held low behind K bytes of the frame, until the fourth stop
+    sdaK.B    on the wire alone: SDA goes low at clock B of byte K of the transfer, which has the bytes of the frame, the read
+              address and the answer, and is held low until the fourth stop. Bytes and clocks are counted from 1; clock 9 is that of
+              the acknowledgement
+    sclK.B    on the wire alone: the same of SCL
     stretchN  on the wire alone: the clock is held low for N milliseconds before an answer
     stale     on the wire alone: the read address isn't acknowledged, and the next one that comes alone gets the answer
     held      it is under way until the guest takes the file `held` away
@@ -62,13 +65,16 @@ class Bench:
         self.folder = folder
         self.has_errors, self.mux = False, None
         # What the wire does where a line is held low or let go.
-        self.settle = lambda: None
+        self.settle = self.let_go = lambda: None
         self.put(["proved"])
 
     def put(self, words):
         part, self.address = parts.made(words)
         self.part = parts.Watched(part)
         self.standing, self.plan, self.count, self.error, self.low = {self.address: self.part}, [], 0, 0, None
+        self.struck = 0
+        self.let_go()
+        self.settle()
         if self.mux:
             self.mux.channels, self.standing[MUX] = {}, self.mux
         # The bytes of the last answer, behind the read address.
@@ -89,10 +95,15 @@ class Bench:
         """The part holds the data line low."""
         return getattr(self.part, "is_low", False)
 
+    def next_mishap(self):
+        """What will befall the next transfer."""
+        return self.plan[0] if self.plan else "ok"
+
     def mishap(self):
         """What befalls the transfer that begins."""
         self.count += 1
         found = self.plan.pop(0) if self.plan else "ok"
+        self.struck += found != "ok" and not wire.STRIKE.fullmatch(found)
         if found == "restart":
             self.parts[self.address].restart()
         if found in SIGNALS:
@@ -133,7 +144,8 @@ class Bench:
             self.part.restart()
 
     def told(self):
-        told = {"held": parts.held(self.part), "word": self.part.word(), "count": self.count, "plan": self.plan,
+        told = {"held": parts.held(self.part), "word": self.part.word(), "count": self.count, "struck": self.struck,
+                "plan": self.plan,
                 "kind": type(getattr(self.part, "converter", self.part)).__name__, "maxima": getattr(self.part, "maxima", list)(),
                 "cells": parts.cells(self.part), "ever": self.part.told_ever(),
                 "wrong": getattr(self.part, "wrong", [])[:MOST_WRONG], "behind restart": parts.behind_restart(self.part)}

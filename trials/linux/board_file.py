@@ -126,7 +126,7 @@ def main(words):
         table.tally.tell(f"bus {bench.number}, no fault", [] if clean.status == 0 else [clean.err])
         length = clean.told["count"]
         for kind in kinds:
-            for place in places(bench, length, 1):
+            for place in places(bench, length, 1, seed=seed):
                 table.run(small, struck, ["ok"] * place + [kind])
         table.show(f"a board of three parts, {length} transfers of {struck} struck")
     others = [kind for kind in kinds if kind not in RESTARTS]

@@ -110,7 +110,7 @@ def main(words):
         number = goes_through(seed)
         length = table.run(number, []).told["count"]
         for kind in kinds:
-            for place in places(bench, length, FEW):
+            for place in places(bench, length, FEW, seed=seed):
                 table.run(number, ["ok"] * place + [kind])
         table.show(f"board {number}, of {length} transfers, under one fault")
     drawn, others = random.Random(seed), [kind for kind in kinds if kind not in RESTARTS]

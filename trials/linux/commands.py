@@ -1,14 +1,15 @@
 """The commands of docs/board.md and docs/captures.md, word for word, over a bus of the guest: commands BUS.
 
 The page's bus is 1; over another its number stands in the commands in the place of that. A command that the page doesn't
-have is a fault. Beside them: pmhost capture i2ctransfer with i2c-tools where transfers fail, and what the page says of a
-driver that holds the part.
+have is a fault. Beside them: pmhost capture i2ctransfer with i2c-tools where transfers fail, what the page says of a driver that
+holds the part, and i2cdetect over all addresses, which finds the part and changes nothing.
 """
 import os
 import re
 import subprocess
 
-from guest_bus import Bench, root_file
+from counted import BENCH, ERROR
+from guest_bus import WIRE, Bench, root_file
 from rows import bound, read
 from tally import Tally
 
@@ -120,9 +121,25 @@ def drivers(page):
         page.tell("pmhost -b 1 -a 58 probe", "probe: PEC yes.*\n" + FURTHER, BEFORE)
 
 
+def detect(page):
+    """i2cdetect asks every address, by a write without a byte or a read of one: the part is there, no register of it changes, and
+    bench and part answer as before."""
+    page.bench.put("proved")
+    before, ran = page.bench.ask(), page.run(f"i2cdetect -y {page.number}")
+    found = {int(address, 16) for line in ran.stdout.splitlines()[1:] for address in line.partition(":")[2].split() if address != "--"}
+    # (where the bench is spoken to stands on the buses of messages)
+    wanted = {0x58} | (set() if page.number == WIRE else {BENCH, ERROR})
+    after = page.bench.ask()
+    page.tally.tell(f"bus {page.number}, i2cdetect -y", [*([] if ran.returncode == 0 and found == wanted else [f"{ran}"]),
+                                                        *(f"{name}: {before[name]}, and then {after[name]}" for name in ("cells", "ever", "held", "plan")
+                                                          if before[name] != after[name])])
+    page.tell("pmhost -b 1 -a 58 probe", "probe: PEC yes.*\n" + FURTHER, BEFORE)
+
+
 def main(words):
     page = Page(int(words[0]))
     board(page)
     frames(page)
     drivers(page)
+    detect(page)
     return page.tally.end()

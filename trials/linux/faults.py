@@ -1,4 +1,4 @@
-"""Eight orders by pmhost under every placement of one fault, and under drawn lists of two to four: faults BUS.
+"""Eight orders by pmhost under every placement of one fault, and under drawn lists of two to four: faults BUS [SEED [LISTS]].
 
 The nine kinds: the part restarts; it doesn't take the frame; it takes the frame and the transfer fails, in two ways; an
 acknowledgement is false; an answer is damaged, or cut; a write is cut, or a bit of it is flipped. Each strikes each
@@ -6,7 +6,7 @@ transfer of the orders once, with 1 and with 3 passes. On the wire a tenth comes
 that the kernel sends by itself. After each run the host is asked for both outputs and whether it saw a restart, and that
 is compared with what the part holds: a word ordered for one output must never stand at the other, and nothing that was
 said may be false. Both are counted; what isn't promised is counted too, and no fault: a word that was confirmed and went
-with a restart.
+with a restart. SEED (7) draws LISTS (60) lists.
 """
 import collections
 import contextlib
@@ -110,6 +110,7 @@ class Table:
 
 def main(words):
     bench = Bench(int(words[0]))
+    seed, lists = (int(words[1]) if len(words) > 1 else SEED), (int(words[2]) if len(words) > 2 else LISTS)
     table, kinds = Table(bench), {**KINDS, **(ON_WIRE if bench.number == 5 else {})}
     clean = Run(bench, [], 3)
     print(f"bus {bench.number}: {clean.count} transfers, the part is {bench.ask()['kind']}", flush=True)
@@ -117,8 +118,8 @@ def main(words):
         for kind, name in kinds.items():
             for place in range(clean.count):
                 table.run(f"{name}, {passes} pass{'es' * (passes > 1)}", ["ok"] * place + [kind], passes)
-    drawn = random.Random(SEED)
-    for _ in range(LISTS):
+    drawn = random.Random(seed)
+    for _ in range(lists):
         plan = ["ok"] * 24
         for _ in range(drawn.choice((2, 3, 4))):
             plan[drawn.randrange(clean.count)] = drawn.choice(list(kinds))

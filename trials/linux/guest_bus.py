@@ -43,10 +43,10 @@ class Bench:
         self.say(f"plan {mishaps}")
 
 
-def places(bench, length, few, is_short=False):
+def places(bench, length, few, is_short=False, seed=7):
     """The transfers that a fault strikes in turn: all of them, and over the slow bus, or in a short trial, so few that are drawn."""
     is_few = is_short or bench.number == WIRE
-    return sorted(random.Random(length).sample(range(length), min(few, length))) if is_few else range(length)
+    return sorted(random.Random(f"{seed} {length}").sample(range(length), min(few, length))) if is_few else range(length)
 
 
 def root_file(*parts):

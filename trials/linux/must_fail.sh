@@ -38,7 +38,7 @@ plant frames python/src/pmhost/capture/i2ctransfer.py "if ran.returncode or ran.
     "if ran.returncode:"
 tried frames commands 0
 plant address python/src/pmhost/bus/linux.py "return self._sent(self.address, " "return self._sent(min(self.address, 0x59), "
-tried address several 0 short
+tried address several 0 7 short
 plant ones python/src/pmhost/bus/linux.py "return given(answer)" "return answer"
 tried ones ones 0
 names="package frames address ones"

@@ -17,18 +17,18 @@
 # Buses: 0 is i2c-virtio, whose failed transfers are short counts; 1 answers errors; 5 is bit-banged, i2c-gpio.
 #
 #   rows      every run of python/tests/data that is about a bus, on bus 0 by pmhost as a process
-#   faults    eight orders under nine kinds of fault at each transfer, and 60 lists of two to four faults
-#   commands  the commands of docs/board.md and docs/captures.md
+#   faults    eight orders under nine kinds of fault at each transfer, and 60 lists of two to four faults (SEED and LISTS in the environment)
+#   commands  the commands of docs/board.md and docs/captures.md, and i2cdetect over all addresses
 #   programs  examples/c/i2c_dev.c and examples/pmbhost/drive.py under each fault
 #   captures  one run, told by pmhost's trace, the kernel's tracepoints and the waveform of the wires
-#   drawn     jobs of every kind under drawn faults, all registers asked behind (SEED and LISTS in the environment)
-#   lines     lines that are held low, at rest and behind each byte
-#   ones      answers of ones and of zeros where they are good ones, and a clock that is held
+#   drawn     jobs of every kind under drawn faults, all registers asked behind (SEED, LISTS)
+#   lines     lines that are held low, at rest and from each clock of each byte on
+#   ones      answers of ones and of zeros where they are good ones, and a clock that is held (SEED)
 #   patience  parts that are busy behind each write or away behind a store, by missing acknowledgements and by ones
 #   signals   a signal while a transfer is under way, at each transfer of a call with a job of every kind
 #   boards    `pmhost apply` of a board under each fault at each transfer, and of 200 drawn ones under drawn faults (SEED, BOARDS)
-#   several   two parts at two addresses and one behind a multiplexer, a pmhost for each at once, under each fault
-#   board_file  the same three parts by one board file, under each fault, and 40 drawn board files of eight rails
+#   several   two parts at two addresses and one behind a multiplexer, a pmhost for each at once, under each fault (SEED)
+#   board_file  the same three parts by one board file, under each fault, and 40 drawn board files of eight rails, 4 on bus 5 (SEED, BOARDS)
 #   together  both hosts at once, a part that is unplugged, a pmhost that is killed
 #
 # What is wrong is printed, each trial's own last line, and last how many runs passed and failed in all.
@@ -37,6 +37,9 @@ case " $* " in *" --help "* | *" -h "*) sed -n '2,/^[^#]/s/^# \{0,1\}//p' "$0"; 
 here=$(cd "$(dirname "$0")" && pwd)
 root=$(cd "$here/../.." && pwd)
 . "$here/start.sh"
+has_cargo=$(command -v cargo) has_sigrok=$(command -v sigrok-cli)
+[ -n "$has_cargo" ] || echo "no cargo: the example in Rust isn't tried"
+[ -n "$has_sigrok" ] || echo "no sigrok-cli: the waveform isn't compared; install sigrok-cli"
 command -v i2ctransfer > /dev/null || [ -x /usr/sbin/i2ctransfer ] || refuse "no i2ctransfer: install i2c-tools"
 start "$@"
 began=$(date +%s)
@@ -44,13 +47,11 @@ kinds="several board_file boards faults rows signals commands captures together 
 gcc -O2 -Wall -Wextra -Werror -I"$root/crates/pm_host_c/include" "$root/examples/c/i2c_dev.c" "$archive" -o "$CACHE/i2c_dev" ||
     refuse "examples/c/i2c_dev.c doesn't build"
 rm -f "$CACHE/i2c_dev_rust"
-if command -v cargo > /dev/null; then
+if [ -n "$has_cargo" ]; then
     mkdir -p "$CACHE/archives" && cp "$archive" "$CACHE/archives/libpm_host_c.a" && cp "$part" "$CACHE/archives/libpm_device_c.a"
     PM_ARCHIVES=$CACHE/archives CARGO_TARGET_DIR=$CACHE/cargo cargo build --quiet --offline --release --features linux \
         --example i2c_dev --manifest-path "$root/rust/Cargo.toml" || refuse "rust/examples/i2c_dev.rs doesn't build"
     cp "$CACHE/cargo/release/examples/i2c_dev" "$CACHE/i2c_dev_rust"
-else
-    echo "no cargo: the example in Rust isn't tried"
 fi
 names=()
 for kind in $kinds; do
@@ -58,13 +59,16 @@ for kind in $kinds; do
     for bus in 5 0 1; do
         names+=("$kind$bus") more=()
         [ $kind$bus != rows0 ] || more=(processes)
-        [ $kind != drawn ] || more=("${SEED-7}" "${LISTS-60}")
-        [ $kind != boards ] || more=("${SEED-7}" "${BOARDS-200}")
+        case $kind in
+            faults | drawn) more=("${SEED-7}" "${LISTS-60}") ;;
+            boards | board_file) more=("${SEED-7}" ${BOARDS:+"$BOARDS"}) ;;
+            several | ones) more=("${SEED-7}") ;;
+        esac
         VCD=$([ $kind$bus = captures5 ] && echo 1) trial $kind$bus $kind $bus "${more[@]}"
     done
 done
 wait
-python3 "$here/waveform.py" "$work/captures5" > "$work/waveform" 2>&1
+[ -z "$has_sigrok" ] || python3 "$here/waveform.py" "$work/captures5" > "$work/waveform" 2>&1
 . "$root/tools/tally.sh"
 # count NAME FILE: what a trial said, and its last line's numbers.
 count() {
@@ -78,7 +82,7 @@ count() {
     failed=$((failed + ${last%% *}))
 }
 for name in "${names[@]}"; do count "$name" "$work/$name/said"; done
-if command -v sigrok-cli > /dev/null; then count waveform "$work/waveform"; else cat "$work/waveform"; fi
+[ -z "$has_sigrok" ] || count waveform "$work/waveform"
 [ -z "${KEEP-}" ] || cp -r "$work" "$KEEP"
 echo "$(($(date +%s) - began)) s, $at_once guests at once"
 end_tally

@@ -1,5 +1,5 @@
 """Two parts at two addresses of a bus and one behind a multiplexer that the kernel drives, a pmhost for each, all three at once:
-several BUS [short].
+several BUS [SEED [short]].
 
 The parts have the addresses 58, 59 and, behind channel 3 of a PCA9548 at 70, 5A. Each pmhost is a process of its own. Each kind
 of fault strikes each transfer of one of them once (over the slow bus 5, and where the trial is short, three of them), with 1 and
@@ -17,8 +17,9 @@ import os
 import re
 import signal
 
+from boards import MORE, RESTARTS
 from drawn import KNOWN, WORD
-from faults import KINDS, ON_WIRE
+from faults import KINDS, ON_WIRE, SEED
 from guest_bus import WIRE, Bench, places
 from pmhost import cli
 from pmhost.values import CODES
@@ -111,7 +112,7 @@ class Call:
 
     def untrue(self, cells, kind, is_struck):
         """What it said and isn't so; its part is struck by this kind of fault, or another is."""
-        has_restarted = is_struck and kind == "restart"
+        has_restarted = is_struck and kind in RESTARTS
         known = [found for found in map(KNOWN.fullmatch, self.said) if found]
         if len(known) != 13 or self.status not in (0, 1) or not is_struck and not self.is_done():
             yield f"{self.place}: status {self.status}, {self.said}"
@@ -167,12 +168,12 @@ class Trial:
                     yield f"{place}: {name} held {word:04X}, which nobody ordered"
 
 
-def by_processes(bench, tally, kinds, rests, is_short):
+def by_processes(bench, tally, kinds, rests, drawn):
     trial, counts = Trial(bench, PLACES), collections.Counter()
     for struck, address in STRUCK.items():
         length = trial.run(address, [], 3)[1]["count"]
         for kind in kinds:
-            for place in places(bench, length, FEW, is_short):
+            for place in places(bench, length, FEW, **drawn):
                 passes, plan = 1 + 2 * (place & 1), ["ok"] * place + [kind]
                 calls, told, wrong = trial.run(address, plan, passes)
                 untrue = [fault for each in calls for fault in each.untrue(told["all"][each.place]["cells"], kind, each.place == struck)]
@@ -184,12 +185,12 @@ def by_processes(bench, tally, kinds, rests, is_short):
           + ", ".join(f"{name} {count}" for name, count in counts.items()), flush=True)
 
 
-def by_selects(bench, kinds, rests, is_short):
+def by_selects(bench, kinds, rests, drawn):
     """The multiplexer's own transfers are struck, with two parts of one address behind it."""
     trial, counts = Trial(bench, ("58", f"{CHANNEL}/5A", f"{OTHER}/5A")), collections.defaultdict(collections.Counter)
     length = trial.run(MUX, [], 3)[1]["count"]
     for kind in kinds:
-        for place in places(bench, length, FEW, is_short):
+        for place in places(bench, length, FEW, **drawn):
             _, _, wrong = trial.run(MUX, ["ok"] * place + [kind], 3)
             counts[kind].update({"runs": 1, "a word at the other part": bool(wrong)})
     trial.close()
@@ -199,11 +200,12 @@ def by_selects(bench, kinds, rests, is_short):
 
 
 def main(words):
-    bench, tally, is_short = Bench(int(words[0])), Tally(), words[1:] == ["short"]
-    kinds, mux = {**KINDS, **(ON_WIRE if bench.number == WIRE else {})}, Multiplexer(bench)
+    bench, tally = Bench(int(words[0])), Tally()
+    drawn = {"seed": int(words[1]) if len(words) > 1 else SEED, "is_short": words[2:] == ["short"]}
+    kinds, mux = {**KINDS, **MORE, **RESTARTS, **(ON_WIRE if bench.number == WIRE else {})}, Multiplexer(bench)
     for rests, way in RESTS.items():
         mux.rests(way)
-        by_processes(bench, tally, kinds, rests, is_short)
-        by_selects(bench, {kind: name for kind, name in kinds.items() if kind in ("restart", "deaf", "lost", "false")}, rests, is_short)
+        by_processes(bench, tally, kinds, rests, drawn)
+        by_selects(bench, {kind: name for kind, name in kinds.items() if kind in ("restart", "deaf", "lost", "false")}, rests, drawn)
     mux.take_away()
     return tally.end()

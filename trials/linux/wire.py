@@ -2,7 +2,8 @@
 
 Both lines are open drain: a line is low where either end pulls it. The part samples SDA where SCL rises and changes it
 where SCL falls. i2c-algo-bit asks four times for an address that isn't acknowledged, each time with a stop and a start
-before it, so a mishap of the address lasts for four of them.
+before it, so a mishap of the address lasts for four of them, and so does a line that is held low. A part whose clock was
+held for so long has forgotten what it heard since the start, as SMBus asks of it.
 """
 import errno
 import re
@@ -20,6 +21,9 @@ PAGE_PLUS_WRITE, PAGE_PLUS_READ, COEFFICIENTS = 0x05, 0x06, 0x30
 MORE_TRIES = 3
 ABSENT = errno.ENXIO
 NACK, STRETCH = re.compile(r"nack(\d)"), re.compile(r"stretch(\d+)")
+# A line that goes low, and the byte and the clock of the transfer, each from 1, at whose rise it does.
+STRIKE = re.compile(r"(sda|scl)(\d+)\.([1-9])")
+LINES = {"sda": SDA, "scl": SCL}
 TICK = 5
 VCD_HEAD = ("$timescale 1 us $end\n$scope module bus $end\n$var wire 1 c SCL $end\n$var wire 1 d SDA $end\n"
             "$upscope $end\n$enddefinitions $end\n#0\n1c\n1d\n")
@@ -42,15 +46,18 @@ class Wire:
         # What each end lets go (1) or pulls (0); the part pulls SCL where a mishap holds it.
         self.host, self.part = [1, 1], [1, 1]
         self.sda = self.scl = 1
-        self.state, self.bits, self.byte = "idle", 0, 0
+        # Of the byte that is under way, the clocks that rose; the bytes that went before it, from the first address on.
+        self.state, self.bits, self.byte, self.before = "idle", 0, 0, 0
         self.frame, self.answer, self.mishap = [], [], "ok"
+        # The mishap of the transfer was drawn inside its address.
+        self.is_drawn = False
         # When a clock that is held for a time is let go.
         self.let_go_at = None
         # The part has acknowledged its address since the start; addresses that it won't acknowledge; stops while held.
         self.is_open, self.refusals, self.stops, self.kept = False, 0, 0, None
-        # The part that was addressed, and the line that it holds low whatever the part does.
+        # The part that was addressed, and the line that is held low whatever the part does.
         self.addressed, self.held_low = bench.part, None
-        bench.settle = self.settle
+        bench.settle, bench.let_go = self.settle, self.let_go
         if vcd:
             vcd.write(VCD_HEAD)
 
@@ -59,11 +66,17 @@ class Wire:
         if self.host[line] == value:
             return
         self.host[line] = value
-        if line == SDA and value and (self.host[SCL] and not self.part[SCL] or self.held_low is not None):
+        if line == SDA and value and self.host[SCL] and (not self.part[SCL] or self.held_low is not None):
             self.stops += 1
             if self.stops > MORE_TRIES:
-                self.part, self.state, self.held_low, self.let_go_at = [1, 1], "idle", None, None
+                self.let_go()
         self.settle()
+
+    def let_go(self):
+        """Whoever holds a line lets it go."""
+        if self.held_low == SCL or not self.part[SCL]:
+            self.frame, self.is_open = [], False
+        self.part, self.state, self.held_low, self.let_go_at, self.is_drawn = [1, 1], "idle", None, None, False
 
     def look(self):
         """Lets a clock go that was held long enough."""
@@ -74,7 +87,7 @@ class Wire:
     def settle(self):
         """Each change of a line is seen by the part, which may change SDA in turn."""
         while True:
-            low = SDA if self.bench.is_low() else {"sda": SDA, "scl": SCL}.get(self.bench.low, self.held_low)
+            low = SDA if self.bench.is_low() else LINES.get(self.bench.low, self.held_low)
             sda, scl = (self.host[line] & self.part[line] & (line != low) for line in (SDA, SCL))
             if (sda, scl) == (self.sda, self.scl):
                 return
@@ -92,13 +105,14 @@ class Wire:
                            f"{f'{self.sda}d' + chr(10) if has_sda else ''}")
 
     def start(self):
+        self.before = self.before if self.is_open else 0
         self.part[SDA] = 1
         self.state, self.bits, self.byte = "address", 0, 0
 
     def stop(self):
         if self.is_open and self.frame:
             self.hear_write()
-        self.part[SDA], self.state, self.frame, self.is_open = 1, "idle", [], False
+        self.part[SDA], self.state, self.frame, self.is_open, self.is_drawn = 1, "idle", [], False, False
         if self.vcd:
             self.vcd.flush()
 
@@ -108,8 +122,22 @@ class Wire:
         if self.state == "read" and self.bits == 8 and self.sda:
             self.state = "done"
         self.bits += 1
+        self.strike()
+
+    def strike(self):
+        """A line goes low while this clock is high, and stays so until the fourth stop: of SDA that is a start, where the bit is 1."""
+        is_first = self.state == "address" and not self.is_open and self.kept is None and not self.is_drawn
+        is_mine = self.byte == 2 * self.bench.address >> 8 - self.bits if is_first and self.bits <= 8 else not is_first
+        found = STRIKE.fullmatch(self.bench.next_mishap() if is_first else self.mishap) if is_mine else None
+        if found and (self.before + 1, self.bits) == (int(found[2]), int(found[3])):
+            if is_first:
+                self.bench.mishap()
+                self.is_drawn = True
+            self.mishap, self.held_low, self.stops = "ok", LINES[found[1]], 0
+            self.bench.struck += 1
 
     def fall(self):
+        self.before += self.bits == 9 and self.state in ("write", "answering", "read")
         if self.state in ("address", "write"):
             if self.bits == 8:
                 self.part[SDA] = 0 if self.acknowledges() else 1
@@ -135,8 +163,6 @@ class Wire:
         """A byte came. Whether it is acknowledged; the state after it."""
         if self.state == "write":
             self.frame.append(self.byte)
-            if self.mishap in (f"sda{len(self.frame)}", f"scl{len(self.frame)}"):
-                self.held_low, self.stops = {"sda": SDA, "scl": SCL}[self.mishap[:3]], 0
             return not self.refuses_byte()
         return self.acknowledges_address(self.byte >> 1, self.byte & 1)
 
@@ -146,7 +172,7 @@ class Wire:
             self.state = "ignore"
             return False
         self.addressed = self.bench.parts[address]
-        if not self.is_open and self.kept is None:
+        if not self.is_open and self.kept is None and not self.is_drawn:
             self.mishap = self.bench.mishap() if address == self.bench.address else "ok"
         if self.is_unheard():
             return False

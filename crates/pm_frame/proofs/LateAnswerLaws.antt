@@ -37,13 +37,13 @@ back before other rest same =
     same_from_xor a b (doubled_times-none n (bit_xor a b) (xor_lt 8 a b (pec_of-lt before) (pec_of-lt other)) none)
 
 -- Two requests that have one code up to the read address have one code without it.
-same_sent : (addr : ℕ) (request other : Message) → request_code addr request ≡ request_code addr other
+pub same_sent : (addr : ℕ) (request other : Message) → request_code addr request ≡ request_code addr other
     → pec_of (sent addr request) ≡ pec_of (sent addr other)
 unfolding request_code
 same_sent addr request other same = back (sent addr request) (sent addr other) (read_address addr ∷ []) same
 
 -- Two requests of one code have one code up to the read address.
-same_code : (addr : ℕ) (request other : Message) → pec_of (sent addr request) ≡ pec_of (sent addr other)
+pub same_code : (addr : ℕ) (request other : Message) → pec_of (sent addr request) ≡ pec_of (sent addr other)
     → request_code addr request ≡ request_code addr other
 unfolding request_code
 same_code addr request other same = onward (sent addr request) (sent addr other) (read_address addr ∷ []) same

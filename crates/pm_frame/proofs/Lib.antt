@@ -13,5 +13,6 @@ mod Parts
 mod RequestLaws
 mod Residues
 mod RuleLemmas
+mod SharedCodeLaws
 mod Whole
 mod WriteLaws

@@ -9,6 +9,7 @@ pub mod Laws
 pub mod Layout
 pub mod Pec
 pub mod PlainRead
+pub mod SharedCodes
 pub mod View
 -- How it is kept.
 pub mod Lemmas

@@ -4,6 +4,7 @@
 
 ghost use Rattle.pm_frame.specs.Laws.{WritesAreExact, RequestsAreExact, AnswersAreExact, DamageIsRefused, BetrayalIsRefused};
 ghost use Rattle.pm_frame.specs.LateAnswers.{LateAnswersPass};
+ghost use Rattle.pm_frame.specs.SharedCodes.{CodesAreShared};
 ghost use Rattle.pm_frame.specs.Laws.{BurstsAreBetrayed, FewChangesAreBetrayed, DamageIsBetrayed};
 
 use pm_table::payloads_are_short;
@@ -69,4 +70,10 @@ pub fn damage_is_betrayed()
 /// requests have one PEC up to the read address and their answers one form. What comes back is then judged alike for both.
 pub fn late_answers_pass()
     ensures { LateAnswersPass }
+{}
+
+/// Which messages share their PEC: two of one length do exactly where what changed between them has the PEC 0. So it is
+/// said of two reads of outputs' registers, of two plain reads, and of two writes of outputs' registers.
+pub fn codes_are_shared()
+    ensures { CodesAreShared }
 {}

@@ -53,9 +53,9 @@ pub use block_read::read_block;
 pub use fault::FrameFault;
 pub use frame_view::FrameView;
 pub use laws::{
-    answers_are_exact, betrayal_is_refused, bursts_are_betrayed, damage_is_betrayed,
-    damage_is_refused, few_changes_are_betrayed, late_answers_pass, requests_are_exact,
-    writes_are_exact,
+    answers_are_exact, betrayal_is_refused, bursts_are_betrayed, codes_are_shared,
+    damage_is_betrayed, damage_is_refused, few_changes_are_betrayed, late_answers_pass,
+    requests_are_exact, writes_are_exact,
 };
 pub use message::{Message, fits};
 pub use packet_error_code::{pec, pec_after};

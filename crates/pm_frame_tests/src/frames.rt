@@ -39,7 +39,7 @@ pub(crate) struct ReadRow {
 }
 
 /// Packets that write.
-pub(crate) static WRITES: [WriteRow; 17] = [
+pub(crate) static WRITES: [WriteRow; 19] = [
     WriteRow {
         addr: 0x58,
         message: Message::SendByte { code: 0x03 },
@@ -125,6 +125,31 @@ pub(crate) static WRITES: [WriteRow; 17] = [
         page: Some(0),
         code: 0x21,
         payload: &[0xCD, 0x34],
+    },
+    // These two share their PEC with the write above: 01h and 07h changed in page and code, or in the word's bytes.
+    WriteRow {
+        addr: 0x58,
+        message: Message::PagePlusWrite {
+            page: 1,
+            code: 0x26,
+            payload: Payload::Word(0x34CD),
+        },
+        bytes: &[0xB0, 0x05, 0x04, 0x01, 0x26, 0xCD, 0x34, 0x5A],
+        page: Some(1),
+        code: 0x26,
+        payload: &[0xCD, 0x34],
+    },
+    WriteRow {
+        addr: 0x58,
+        message: Message::PagePlusWrite {
+            page: 0,
+            code: 0x21,
+            payload: Payload::Word(0x33CC),
+        },
+        bytes: &[0xB0, 0x05, 0x04, 0x00, 0x21, 0xCC, 0x33, 0x5A],
+        page: Some(0),
+        code: 0x21,
+        payload: &[0xCC, 0x33],
     },
     WriteRow {
         addr: 0x58,

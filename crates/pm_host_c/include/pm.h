@@ -439,8 +439,9 @@ typedef struct {
 } pm_block;
 
 /* What came back for a read of any code, whose request is the address byte and the code; the read address first. A block has a
- * count, at most 32; of a plain read so many bytes were asked for, at most 32. PM_NO_ADDRESS, PM_NO_PACKET where more were asked
- * for, F1 to F5; then nothing is written. */
+ * count, at most 32; of a plain read so many bytes were asked for, at most 32. Of a block's 34 bytes hand over those up to its count + 3,
+ * the read address in front counted, and all where the count is above 32, since all 34 of a shorter one are too many (F3).
+ * PM_NO_ADDRESS, PM_NO_PACKET where more were asked for, F1 to F5; then nothing is written. */
 uint8_t pm_read_block(uint8_t address, uint8_t code, const uint8_t *bytes, uint64_t count, pm_block *block);
 uint8_t pm_read_plain(uint8_t address, uint8_t code, uint8_t size, const uint8_t *bytes, uint64_t count, pm_block *block);
 

@@ -16,7 +16,8 @@ use Rattle.pm_frame.specs.Layout.{read_address, write_address}
 use Rattle.pm_frame.specs.Pec.{doubled, residue, residues_of, pec_of}
 use Rattle.pm_frame.specs.Lemmas.{cancel_left, cancel_right}
 use Rattle.pm_host.specs.Messages.{cell_read, coefficients_read, mode_read}
-use Rattle.pm_world_examples.specs.SharedCodes.{read_codes, request_code, shares}
+use Rattle.pm_frame.specs.LateAnswers.{request_code}
+use Rattle.pm_world_examples.specs.SharedCodes.{read_codes, shares}
 
 -- truth values that are found to be one
 same_from_beq : (b c : Bool) → beq b c ≡ true → b ≡ c

@@ -1,21 +1,15 @@
 -- Which of a host's requests to one converter have the same packet error code (PEC) up to the read address, with which
 -- the answer begins. A late answer to one of these may pass for an answer to the other. The PEC is SMBus's; which requests
 -- a host sends is this project's own choice.
-use Rattle.std.specs.Prelude.{◌≡◌, ◌≢◌, ◌<◌, ℕ, Bool, ◌&&◌, ◌||◌, ◌==◌, List, [], ◌∷◌, ◌++◌, map, bit_xor}
+use Rattle.std.specs.Prelude.{◌≡◌, ◌≢◌, ◌<◌, ℕ, Bool, ◌&&◌, ◌||◌, ◌==◌, List, ◌∷◌, map, bit_xor}
 use Rattle.std.specs.List.{Contains}
 use Rattle.pm_table.specs.declared.cell.Cell.TheVariants.{Protect}
 use Rattle.pm_table.specs.Cell.{register_code, registers}
 use Rattle.pm_table.specs.Codes as command
-use Rattle.pm_frame.specs.declared.message.Message.{Message}
 use Rattle.pm_frame.specs.declared.message.Message.TheVariants.{PagePlusRead}
 use Rattle.pm_frame.specs.Fault.{whole_answer}
-use Rattle.pm_frame.specs.Layout.{read_address, sent}
-use Rattle.pm_frame.specs.Pec.{pec_of}
+use Rattle.pm_frame.specs.LateAnswers.{request_code}
 use Rattle.pm_host.specs.Messages.{cell_read, coefficients_read, mode_read}
-
--- the PEC of a request and of the read address, with which its answer begins
-unfoldable pub request_code : ℕ → Message → ℕ
-request_code addr request = pec_of (sent addr request ++ read_address addr ∷ [])
 
 -- the codes that a host reads of an output: VOUT_MODE, and those of its registers
 abbrev pub read_codes : List ℕ

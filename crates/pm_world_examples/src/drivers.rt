@@ -1,17 +1,16 @@
 //! A driver over a simulated bus: while a plan restarts nothing, what the host confirms is held, also where a status is read
 //! between two orders; over an empty plan an order is done. The same of a patient bus, whose adapter is a simulated one.
 
-ghost use Rattle.std.specs.Prelude.{◌≡◌, ℕ, true, IfOk, IfSome};
+ghost use Rattle.std.specs.Prelude.{◌≡◌, ℕ, true, IfSome};
 ghost use Rattle.pm_table.specs.declared.cell.Cell.{Cell as Place};
 ghost use Rattle.pm_table.specs.Cell.{IsCell};
 ghost use Rattle.pm_model.specs.Settings.{word_at};
 ghost use Rattle.pm_device.specs.History.{start_of};
-ghost use Rattle.pm_host.specs.declared.job_end.JobEnd.TheVariants.{Done};
 ghost use Rattle.pm_host.specs.declared.standing.Standing.TheVariants.{Confirmed};
 ghost use Rattle.pm_host.specs.Summary.{standing_at};
 ghost use Rattle.pm_driver.specs.NeverRestarts.{NeverRestarts, PatientNeverRestarts};
 ghost use Rattle.pm_driver.specs.Plan.{restarts_of};
-ghost use Rattle.pm_driver.specs.PlanEnds.{IsAllowed, PatientWentThrough, is_ready};
+ghost use Rattle.pm_driver.specs.PlanEnds.{IsAllowed, PatientWentThrough, WentThrough, is_ready};
 
 use pm_device::Config;
 use pm_driver::{
@@ -91,18 +90,20 @@ pub fn orders_around_a_read<'a>(
     Some(driver)
 }
 
-/// The first order over an empty plan is done, where WRITE_PROTECT allows it and nothing refuses it.
-pub fn first_order(
+/// The first order over an empty plan is done, where WRITE_PROTECT allows it and nothing refuses it, and the converter holds
+/// its word then.
+pub fn first_order<'a>(
     c: Config,
     passes: u8,
     cell: Cell,
     word: u16,
-) -> Option<Result<JobEnd, LimitFault>>
+) -> Option<(Driver<SimulatedBus<'a>>, Result<JobEnd, LimitFault>)>
     requires { IsAllowed cell (start_of c) }
-    ensures { IfSome result (λ ended. IfOk ended (λ end. end ≡ Done)) }
+    ensures { IfSome result (λ made. WentThrough cell word made.1 made.0) }
 {
     let mut driver = driver_over(c, passes, &[])?;
-    Some(order_through(&mut driver, cell, word))
+    let ended = order_through(&mut driver, cell, word);
+    Some((driver, ended))
 }
 
 /// An order over a patient bus that has a try, over a plan at its end, is done, too.

@@ -13,12 +13,14 @@
 //! - `damage`: damage that the packet error code betrays is legal, and stops no run.
 //! - `exact`: what the host calls possible is exact, and the words that show it can be had in a world.
 //! - `bands`: an output commands a voltage in the band that the host gives, which is exact where the possible words are.
+//! - `hearings`: what a converter makes of requests, and of frames for another address.
 //! - `limits`: limits that allow the start words of a usual part, by computing with them.
 //! - `orders`: an order that nothing disturbs goes through, and a run says which one it was.
 //! - `good`: what frames that nothing disturbs make of an open job, and how it ends once all its frames come whole.
 //! - `whole`: a job that is open after a run ends by frames that come whole.
 //! - `moves`: what moves a setting or the store.
 //! - `plans`: what plans and surveys of rails are worth.
+//! - `surprises`: between two answers that surprise the converter restarted.
 //! - `neighbours`: hosts and converters in pairs on one bus, each as if it were alone.
 //! - `own_loop`: events that a caller's own loop lets happen.
 //! - `rails`: what a survey and a plan over any bus are worth.
@@ -32,6 +34,7 @@ pub mod ends;
 pub mod exact;
 pub mod further;
 pub mod good;
+pub mod hearings;
 mod laws;
 pub mod limits;
 pub mod moves;
@@ -40,6 +43,7 @@ pub mod orders;
 pub mod own_loop;
 pub mod plans;
 pub mod rails;
+pub mod surprises;
 pub mod whole;
 
 pub use laws::{laws_by_name, ones_are_no_answer, reads_that_share_their_code};

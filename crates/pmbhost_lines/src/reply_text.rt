@@ -1,7 +1,8 @@
 //! The line of an answer. Nothing here takes memory: the longest line has 110 bytes.
-ghost use Rattle.std.specs.Prelude.{◌≡◌, ◌+◌, ◌*◌, ◌≤◌, ◌++◌, codes, length};
+ghost use Rattle.std.specs.Prelude.{◌≡◌, ◌+◌, ◌*◌, ◌≤◌, ◌++◌, codes, decimal, length};
 ghost use Rattle.std.specs.Fmt.{signed_decimal};
 ghost use Rattle.arrayvec.specs.ArrayVec.{array_vec_len};
+ghost use Rattle.pm_lines.specs.Numbers.{spaced_bytes};
 ghost use Rattle.pm_text.specs.Report.{cell_text, end_text, possible_text, spaced_words, standing_text};
 ghost use Rattle.pm_table.specs.Cell.{register_code};
 ghost use Rattle.pm_table.specs.Commands.{name_of};
@@ -37,75 +38,82 @@ fn push_reply(text: &mut AnswerText, reply: &Reply)
     ensures room { array_vec_len text.new ≤ 127 }
 {
     match reply {
-        Reply::Write(frame) => {
-            push_text(text, b"send");
-            push_spaced_bytes(text, frame.as_slice());
-        }
-        Reply::Request(frame, count) => {
-            let mut digits = itoa::Buffer::new();
-            push_text(text, b"send");
-            push_spaced_bytes(text, frame.as_slice());
-            push_text(text, b" read ");
-            push_text(text, digits.format(*count).as_bytes());
-        }
+        Reply::Write(frame) => push_write(text, frame.as_slice()),
+        Reply::Request(frame, count) => push_request(text, frame.as_slice(), *count),
         Reply::Idle => push_text(text, b"idle"),
-        Reply::Ended(end) => {
-            push_text(text, b"ended ");
-            push_end(text, *end);
-        }
+        Reply::Ended(end) => push_ended(text, *end),
         Reply::Restarted => push_text(text, b"restarted"),
         Reply::State(cell, standing, possible) => push_state(text, *cell, *standing, possible),
-        Reply::Seen(seen) => {
-            push_text(text, b"seen ");
-            push_seen(text, *seen);
-        }
-        Reply::Band(band) => {
-            push_text(text, b"band");
-            push_band(text, *band);
-        }
-        Reply::Limits(limits) => {
-            push_text(text, b"limits");
-            push_limits(text, *limits);
-        }
+        Reply::Seen(seen) => push_seen(text, *seen),
+        Reply::Band(band) => push_band(text, *band),
+        Reply::Limits(limits) => push_limits(text, *limits),
         Reply::Narrowed => push_text(text, b"narrowed"),
-        Reply::Rail(rail) => {
-            push_text(text, b"rail ");
-            push_rail(text, rail);
-        }
-        Reply::Plan(order) => {
-            push_text(text, b"plan ");
-            push_plan(text, *order);
-        }
-        Reply::Survey(done) => {
-            push_text(text, b"survey ");
-            push_survey(text, *done);
-        }
-        Reply::Refused(refusal) => {
-            push_text(text, b"refused ");
-            push_refusal(text, *refusal);
-        }
+        Reply::Rail(rail) => push_rail(text, rail),
+        Reply::Plan(order) => push_plan(text, *order),
+        Reply::Survey(done) => push_survey(text, *done),
+        Reply::Refused(refusal) => push_refused(text, *refusal),
     }
+}
+
+// Appends a frame that is to be written.
+#[tactic(auto, using(pm_lines::specs::Lemmas::Joins::joins))]
+fn push_write(text: &mut AnswerText, frame: &[u8])
+    requires few { length frame.now ≤ 16 }
+    requires { array_vec_len text.old ≡ 0 }
+    ensures words { text.new.items ≡ text.old.items ++ (codes "send" ++ spaced_bytes frame.now) }
+    ensures room { array_vec_len text.new ≤ 100 }
+{
+    push_text(text, b"send");
+    push_spaced_bytes(text, frame);
+}
+
+// Appends the frame of a request, and how many bytes come back.
+#[tactic(auto, using(pm_lines::specs::Lemmas::Joins::joins))]
+fn push_request(text: &mut AnswerText, frame: &[u8], count: usize)
+    requires few { length frame.now ≤ 16 }
+    requires { array_vec_len text.old ≡ 0 }
+    ensures words { text.new.items ≡ text.old.items
+        ++ (codes "send" ++ (spaced_bytes frame.now ++ (codes " read " ++ decimal count))) }
+    ensures room { array_vec_len text.new ≤ 127 }
+{
+    let mut digits = itoa::Buffer::new();
+    push_write(text, frame);
+    push_text(text, b" read ");
+    push_text(text, digits.format(count).as_bytes());
+}
+
+// Appends how a job ended, behind a word of its own.
+#[tactic(auto, using(pm_lines::specs::Lemmas::Joins::joins))]
+fn push_ended(text: &mut AnswerText, end: JobEnd)
+    requires { array_vec_len text.old ≡ 0 }
+    ensures words { text.new.items ≡ text.old.items ++ (codes "ended " ++ end_text end) }
+    ensures room { array_vec_len text.new ≤ 127 }
+{
+    push_text(text, b"ended ");
+    push_end(text, end);
 }
 
 // Appends whether a restart was seen.
 fn push_seen(text: &mut AnswerText, seen: bool)
-    requires { array_vec_len text.old + 3 ≤ 128 }
-    ensures words { text.new.items ≡ text.old.items ++ seen_text seen }
-    ensures room { array_vec_len text.new ≤ array_vec_len text.old + 3 }
+    requires { array_vec_len text.old ≡ 0 }
+    ensures words { text.new.items ≡ text.old.items ++ (codes "seen " ++ seen_text seen) }
+    ensures room { array_vec_len text.new ≤ 127 }
 {
     if seen {
-        push_text(text, b"yes");
+        push_text(text, b"seen yes");
     } else {
-        push_text(text, b"no");
+        push_text(text, b"seen no");
     }
 }
 
 // Appends a band.
+#[tactic(auto, using(pm_lines::specs::Lemmas::Joins::joins))]
 fn push_band(text: &mut AnswerText, band: Option<Band>)
-    requires { array_vec_len text.old + 82 ≤ 128 }
-    ensures words { text.new.items ≡ text.old.items ++ band_text band }
-    ensures room { array_vec_len text.new ≤ array_vec_len text.old + 82 }
+    requires { array_vec_len text.old ≡ 0 }
+    ensures words { text.new.items ≡ text.old.items ++ (codes "band" ++ band_text band) }
+    ensures room { array_vec_len text.new ≤ 127 }
 {
+    push_text(text, b"band");
     match band {
         Some(band) => push_voltages(text, band),
         None => push_text(text, b" unknown"),
@@ -122,11 +130,13 @@ fn push_voltages(text: &mut AnswerText, band: Band)
 }
 
 // Appends limits.
+#[tactic(auto, using(pm_lines::specs::Lemmas::Joins::joins))]
 fn push_limits(text: &mut AnswerText, limits: Option<Limits>)
-    requires { array_vec_len text.old + 82 ≤ 128 }
-    ensures words { text.new.items ≡ text.old.items ++ limits_text limits }
-    ensures room { array_vec_len text.new ≤ array_vec_len text.old + 82 }
+    requires { array_vec_len text.old ≡ 0 }
+    ensures words { text.new.items ≡ text.old.items ++ (codes "limits" ++ limits_text limits) }
+    ensures room { array_vec_len text.new ≤ 127 }
 {
+    push_text(text, b"limits");
     match limits {
         Some(limits) => push_pair(text, i128::from(limits.least()), i128::from(limits.most())),
         None => push_text(text, b" none"),
@@ -169,10 +179,11 @@ fn push_number(text: &mut AnswerText, number: i128)
 // Appends what an output commands.
 #[tactic(auto, using(pm_lines::specs::Lemmas::Joins::joins))]
 fn push_rail(text: &mut AnswerText, rail: &Rail)
-    requires { array_vec_len text.old + 90 ≤ 128 }
-    ensures words { text.new.items ≡ text.old.items ++ rail_text rail.now }
-    ensures room { array_vec_len text.new ≤ array_vec_len text.old + 90 }
+    requires { array_vec_len text.old ≡ 0 }
+    ensures words { text.new.items ≡ text.old.items ++ (codes "rail " ++ rail_text rail.now) }
+    ensures room { array_vec_len text.new ≤ 127 }
 {
+    push_text(text, b"rail ");
     match rail.band {
         Some(band) => {
             push_text(text, power_text(rail.power).as_bytes());
@@ -211,10 +222,11 @@ fn within_text(within: Within) -> &'static str
 // Appends the order of a plan.
 #[tactic(auto, using(pm_lines::specs::Lemmas::Joins::joins))]
 fn push_plan(text: &mut AnswerText, order: Option<PlanOrder>)
-    requires { array_vec_len text.old + 37 ≤ 128 }
-    ensures words { text.new.items ≡ text.old.items ++ plan_text order }
-    ensures room { array_vec_len text.new ≤ array_vec_len text.old + 37 }
+    requires { array_vec_len text.old ≡ 0 }
+    ensures words { text.new.items ≡ text.old.items ++ (codes "plan " ++ plan_text order) }
+    ensures room { array_vec_len text.new ≤ 127 }
 {
+    push_text(text, b"plan ");
     match order {
         Some(order) => {
             push_text(text, register_name(order.register).as_bytes());
@@ -236,24 +248,25 @@ fn register_name(register: Reg) -> &'static str
 
 // Appends how a survey has ended.
 fn push_survey(text: &mut AnswerText, done: bool)
-    requires { array_vec_len text.old + 5 ≤ 128 }
-    ensures words { text.new.items ≡ text.old.items ++ survey_text done }
-    ensures room { array_vec_len text.new ≤ array_vec_len text.old + 5 }
+    requires { array_vec_len text.old ≡ 0 }
+    ensures words { text.new.items ≡ text.old.items ++ (codes "survey " ++ survey_text done) }
+    ensures room { array_vec_len text.new ≤ 127 }
 {
     if done {
-        push_text(text, b"done");
+        push_text(text, b"survey done");
     } else {
-        push_text(text, b"spent");
+        push_text(text, b"survey spent");
     }
 }
 
 // Appends a refusal, and the name of what it is about.
 #[tactic(auto, using(pm_lines::specs::Lemmas::Joins::joins))]
-fn push_refusal(text: &mut AnswerText, refusal: Refusal)
-    requires { array_vec_len text.old + 65 ≤ 128 }
-    ensures words { text.new.items ≡ text.old.items ++ refusal_text refusal }
-    ensures room { array_vec_len text.new ≤ array_vec_len text.old + 65 }
+fn push_refused(text: &mut AnswerText, refusal: Refusal)
+    requires { array_vec_len text.old ≡ 0 }
+    ensures words { text.new.items ≡ text.old.items ++ (codes "refused " ++ refusal_text refusal) }
+    ensures room { array_vec_len text.new ≤ 127 }
 {
+    push_text(text, b"refused ");
     push_text(text, short_words(refusal).as_bytes());
     if let Some(code) = refusal.code() {
         push_text(text, b" ");

@@ -12,6 +12,7 @@ from typing import Callable
 
 from . import probe, voltages
 from .errors import PlanRefused, Refused
+from .host import Step
 from .parts import BoardPart
 from .plans import PlanOrder, Wanted
 from .pmbus import Pmbus
@@ -24,6 +25,8 @@ from .values import Format
 PROTECT = "WRITE_PROTECT"
 # The orders of a rail at most: a plan has five, each may be given twice, and one whose end isn't known is given again.
 MOST_ORDERS = 16
+# The states of a setting that holds what is wanted.
+AS_WANTED = ("confirmed", "accepted")
 
 
 class Stopped(Exception):
@@ -60,7 +63,7 @@ class Board:
     """The rails of a file, and the parts that have them, by their names. `described` has what a board file says of its parts; why a
     part doesn't answer is said by `unanswered`, with nothing where it answers. `accept` is how near a word has to be that a part makes
     of an ordered one, in microvolts; `before_order` is told of each order before its first frame, `after_order` of each that is
-    confirmed."""
+    confirmed, and `seen` of a rail behind each survey, and behind each order how that ended."""
 
     parts: dict[str, Pmbus]
     rails: list[Rail]
@@ -70,7 +73,10 @@ class Board:
     wants_store: bool = False
     before_order: Callable[[Setting], None] = lambda setting: None
     after_order: Callable[[Setting], None] = lambda setting: None
+    seen: Callable[[Rail, Setting | None, Step | None], None] = lambda rail, setting, step: None
     settings: list[Setting] = field(default_factory=list)
+    # The format of each rail, which stands here since a host may forget it.
+    formats: dict[str, Format] = field(default_factory=dict)
     surveys: dict[str, Commanded] = field(default_factory=dict)
     orders: int = 0
     # How many orders there had been when a rail was surveyed last.
@@ -117,6 +123,9 @@ class Board:
             part.host.learn(rail.output)
             if part.carried_out().kind != "learned":
                 raise Stopped(f"{rail.name}: its format isn't known: {probe.why_not_learned(part, rail.output)}", rail.part, rail.output)
+            form = part.host.format(rail.output)
+            assert form is not None
+            self.formats[rail.name] = form
         for rail in self.rails:
             words = {key: self.word(rail, key) for key in SETTINGS if key in rail.settings}
             self.settings += [Setting(rail, key, word, word) for key, word in words.items()]
@@ -133,9 +142,7 @@ class Board:
             raise Stopped(f"{rail.name}.{key}: {voltages.shown(micro)}: {fault.letter} {fault.name}, in the rail's format") from None
 
     def format(self, rail: Rail) -> Format:
-        found = self.on(rail).host.format(rail.output)
-        assert found is not None
-        return found
+        return self.formats[rail.name]
 
     def of(self, rail: Rail) -> list[Setting]:
         return [it for it in self.settings if it.rail is rail]
@@ -155,6 +162,7 @@ class Board:
         """Surveys a rail for its plan. Stops where a register gives no good answer, or a restart was seen."""
         found = self.surveys[rail.name] = survey(self.on(rail), rail.output, self.wanted(rail))
         self.surveyed_at[rail.name] = self.orders
+        self.seen(rail, None, None)
         self.look(rail)
         for register, why in found.missing.items():
             raise Stopped(f"{self.name_of(rail, register)}: no good answer{': ' * bool(why)}{why}", rail.part, rail.output)
@@ -199,6 +207,7 @@ class Board:
             self.before_order(it)
             it.is_ordered, self.orders = True, self.orders + 1
             step = part.carried_out()
+            self.seen(rail, it, step)
             if step.kind == "differs":
                 self.differs(it, step.word, held[it.register], differed)
             elif step.kind == "done":
@@ -282,7 +291,7 @@ class Board:
     def finish(self) -> None:
         """Stops where a setting isn't as it is wanted, or a rail doesn't command its voltage within its limits."""
         self.take()
-        wrong = [it.name for it in self.settings if it.state not in ("confirmed", "accepted")]
+        wrong = [it.name for it in self.settings if it.state not in AS_WANTED]
         if wrong:
             raise Stopped(f"not as wanted: {', '.join(wrong)}")
         unsure = [f"{rail.name}: {why}" for rail in self.rails if (why := self.why_not_well(rail))]

@@ -9,6 +9,7 @@ from .pmbus import Pmbus
 from .reads import TRIES, Read, Reads
 from .transfers import Transfers
 from .values import CODES, Format
+from .zeros import NotBelieved, guarded
 
 MOST_OUTPUTS = 8
 # A page that no part of at most eight outputs has.
@@ -86,7 +87,7 @@ class Probe:
             no_page = self._no_page() if found.outputs else no_page
         if revision.payload is not None or no_page.payload is not None or found.outputs:
             found.identity = {name: reads.block(code) for name, code in MFR_BLOCKS.items()}
-            found.protect = reads.packet(PROTECT)
+            found.protect = self._protect()
             if no_page.has_answer:
                 found.outputs, found.verdict = [], f"PEC yes, {BLIND} (page 1F answers {spaced(no_page.came)}): {UNFIT}"
         elif no_page.has_answer:
@@ -97,6 +98,14 @@ class Probe:
     def _no_page(self) -> Read:
         """What page 1Fh answers."""
         return Read(None) if self.given else self.reads.packet(Packet("PAGE_PLUS_READ", VOUT_MODE, page=NO_PAGE))
+
+    def _protect(self) -> Read:
+        """What WRITE_PROTECT answers."""
+        try:
+            return guarded(self.address, "WRITE_PROTECT", lambda: self._word(0, "OPERATION")[1], lambda: self.reads.packet(PROTECT))
+        except NotBelieved as doubt:
+            self.found.doubt = self.found.doubt or "OPERATION of output 0 gave no good answer beside WRITE_PROTECT: probe again"
+            return Read(None, why=str(doubt))
 
     def write(self) -> Found:
         """Sends CLEAR_FAULTS without its packet error code, and then with a wrong one, twice each. It is sent with the right one

@@ -7,10 +7,13 @@ from functools import lru_cache
 
 from . import probe
 from .errors import LimitRefused, SetupRefused
+from .host import Host
 from .part import Output, Part
 from .plans import Survey, Wanted
 from .pmbus import Pmbus
+from .transfers import Transfers
 from .values import NAMES
+from .zeros import NotBelieved, guarded
 
 # A model output whose three registers hold different words, by which word it commands.
 SELECTED = {3: "VOUT_COMMAND", 4: "VOUT_MARGIN_HIGH", 2: "VOUT_MARGIN_LOW"}
@@ -81,21 +84,38 @@ def commanded(part: Pmbus, output: int) -> Commanded:
 
 def survey(part: Pmbus, output: int, wanted: Wanted | None = None) -> Commanded:
     """Surveys an output: its format, OPERATION, the register that this selects, VOUT_MAX and VOUT_MIN; for a plan each register
-    of which a word is wanted, and WRITE_PROTECT, too. It ends at the first one that gives no good answer."""
+    of which a word is wanted, and WRITE_PROTECT, too. It ends at the first one that gives no good answer; where that of WRITE_PROTECT
+    isn't believed nothing is known any more."""
     it, missing, state = Survey(output, wanted, TRIES), dict[str, str](), "begun"
     while not missing and (state := part.host.survey(it)) == "begun":
         sending = part.host.sending()
-        step = part.carried_out()
+        assert sending is not None
+        # A request ends with its code: that of a learn is VOUT_MODE, which is no cell.
+        register = NAMES.get(sending.frame[-1], "VOUT_MODE")
+        try:
+            step = guarded(part.host.address, register, lambda: unanswered(part), part.carried_out)
+        except NotBelieved as doubt:
+            part.restart()
+            missing[register] = str(doubt)
+            break
         it.told(step)
-        if step.kind == "unknown" and sending is not None:
-            # A request ends with its code: that of a learn is VOUT_MODE, which is no cell. With good answers alone it is the format.
-            register, why = NAMES.get(sending.frame[-1], "VOUT_MODE"), part.transfers.why()
+        if step.kind == "unknown":
+            why = part.transfers.why()
+            # With good answers alone it is the format.
             missing[register if why else FORMAT] = why or probe.why_not_learned(part, output)
     found = commanded(part, output)
     found.missing = missing
     found.unended = {"spent": "the part restarts again and again",
                      "stuck": f"OPERATION selects {found.selected}, which the part doesn't have"}.get(state, "")
     return found
+
+
+def unanswered(part: Pmbus) -> str:
+    """Why a check of OPERATION of output 0 gives no good answer, nothing where it gives one: by a host of its own, since a job is open
+    or its end isn't believed yet."""
+    host, transfers = Host(part.host.address, 1, part.host.passes), Transfers()
+    host.check(0, "OPERATION")
+    return "" if host.run(part.bus, transfers).kind == "done" else transfers.why() or "no good answer"
 
 
 def read(part: Pmbus, output: int, register: str) -> None:

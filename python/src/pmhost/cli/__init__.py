@@ -20,7 +20,7 @@ from . import capture, desk, known, orders, pictures, probe, rails, streams
 from .answer import Answer
 from .completion import bash
 from .call import Call, Interrupted, complain, interruptible
-from .parser import OPTIONS, BadCall, Parser, bus_options, shown
+from .parser import BadCall, Parser, bus_options, shown
 
 # The modules of the commands, in the order of the help.
 MODULES: list[ModuleType] = [probe, orders, known, rails, desk, capture, pictures]
@@ -81,22 +81,27 @@ def parts_of(words: list[str]) -> list[list[str]]:
 
 def commands_of(words: list[str]) -> list[argparse.Namespace]:
     """The commands of a command line, each with its own words as `said`."""
-    whole, _ = parser()
+    whole, commands = parser()
     options, found = options_of(whole), []
     for part in parts_of(words):
         for word in () if part[:1] and part[0] in OWN_JOBS else part:
             if word.startswith("--") and word.partition("=")[0] not in options:
                 raise BadCall(f"{shown(word)}: no such option; --help tells which there are")
         arguments = whole.parse_args(part)
-        arguments.said = " ".join([arguments.command, *words_behind(arguments.command, part)])
+        has_value = valued(whole) | valued(commands[arguments.command])
+        arguments.said = " ".join([arguments.command, *words_behind(arguments.command, part, has_value)])
         found.append(arguments)
     return found
 
 
-def words_behind(command: str, part: list[str]) -> list[str]:
-    """The words of a command without its options."""
-    found, has_value = [], {"--accept", *(flag for flags, words in OPTIONS.values() if "const" not in words for flag in flags)}
-    words = iter(part)
+def valued(found: argparse.ArgumentParser) -> set[str]:
+    """The options of a parser behind which a value stands."""
+    return {flag for action in found._actions if action.nargs != 0 for flag in action.option_strings}
+
+
+def words_behind(command: str, part: list[str], has_value: set[str]) -> list[str]:
+    """The words of a command without its options, of which these have a value."""
+    found, words = [], iter(part)
     for word in words:
         if word in has_value:
             next(words, None)

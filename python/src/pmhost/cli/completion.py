@@ -41,11 +41,15 @@ def reply(words: str) -> str:
 
 def bash(parser: argparse.ArgumentParser, commands: dict[str, argparse.ArgumentParser]) -> str:
     """The script."""
-    lines = [HEAD + f"            {'|'.join(commands)}) command=${{COMP_WORDS[at]}} ;;\n        esac\n    done", "    case $before in"]
+    lines = [HEAD + f"            {'|'.join(commands)}) command=${{COMP_WORDS[at]}} ;;\n        esac\n    done",
+             "    case $command:$before in"]
     seen: set[str] = set()
-    for found in (parser, *commands.values()):
+    # What has a value in one command and none in another is told by its command.
+    alone = {flag for each in commands.values() for action in each._actions if action.nargs == 0 for flag in action.option_strings}
+    for name, found in (("*", parser), *commands.items()):
         for action in found._actions:
-            fresh = [flag for flag in action.option_strings if flag not in seen]
+            fresh = [f"{name if flag in alone else '*'}:{flag}" for flag in action.option_strings]
+            fresh = [it for it in fresh if it not in seen]
             if fresh and action.nargs != 0:
                 seen.update(fresh)
                 lines.append(f"        {'|'.join(fresh)}) {reply(words_of(action))}; return ;;")

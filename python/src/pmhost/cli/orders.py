@@ -8,20 +8,20 @@ from typing import Any, Callable
 
 from .. import probe, voltages
 from ..errors import Refused
+from ..host import Step
 from ..pmbus import Pmbus
 from ..readings import KINDS
 from ..rounded import is_near
 from ..survey import read as read_register, survey
+from ..zeros import NotBelieved, guarded
 from . import readings
 from .answer import Answer, in_digits
 from .call import Call, said
 from .completion import completed_by
-from .outcome import DEVICE, REGISTERS, VOLTAGES, answer_of, cell_words, ended_badly, rail_words, refused, surveyed, why_not
+from .outcome import DEVICE, REGISTERS, VOLTAGES, answer_of, cell_words, ended_badly, noted_of, rail_words, refused, surveyed, why_not
 from .parser import BadCall, bus_options, shown, whole
 
 MARGIN_HIGH, MARGIN_LOW = 0xA8, 0x94
-# At this address zeros behind the read address are a good answer to a read of WRITE_PROTECT.
-ZEROS_ADDRESS = 0x48
 # What each command sends beside reads, for an interruption to say.
 STORES = "the user store may hold the old or the new settings of every output"
 GO_OFF, MAY_GO_OFF = "--outputs-may-go-off", "on parts where it is a reset the outputs go off"
@@ -213,15 +213,17 @@ def read(arguments: argparse.Namespace) -> int:
     part, register = call.part(), arguments.register
     if register in VOLTAGES:
         learned(part, arguments.output)
-    if why := doubt(call, part, register):
-        return call.say(not_told(arguments, part, why))
-    try:
+
+    def checked() -> Step:
         part.host.check(arguments.output or 0, register)
+        return part.carried_out()
+
+    try:
+        step = guarded(part.host.address, register, call.only().unanswered, checked)
     except Refused as fault:
         return call.say(refused(arguments, part, register, fault))
-    step = part.carried_out()
-    if why := doubt(call, part, register):
-        return call.say(not_told(arguments, part, why))
+    except NotBelieved as doubt:
+        return call.say(not_told(arguments, part, doubt))
     if step.kind != "done":
         return call.say(ended_badly(arguments, part, register, step))
     found = answer_of(arguments, part, register, "done")
@@ -237,22 +239,14 @@ def survey_output(arguments: argparse.Namespace) -> int:
     found = answer_of(arguments, call.part(), None, "told", text=rail_words(state))
     found.commanded = state
     if not state.is_well:
-        found.status, found.end, found.why = 1, "unsure", why_not(state)
+        found.status, found.end, found.why = 1, "unsure", why_not(state) + noted_of(call.part(), arguments.output, state)
     return call.say(found)
 
 
-def doubt(call: Call, part: Pmbus, register: str) -> str:
-    """Before and behind a check of WRITE_PROTECT where zeros are a good answer to it: why OPERATION gave none, and nothing where
-    it gave one."""
-    return call.only().unanswered() if register == DEVICE and part.host.address == ZEROS_ADDRESS else ""
-
-
-def not_told(arguments: argparse.Namespace, part: Pmbus, why: str) -> Answer:
+def not_told(arguments: argparse.Namespace, part: Pmbus, doubt: NotBelieved) -> Answer:
     """No state of WRITE_PROTECT is given, and nothing is known any more."""
     part.restart()
-    return answer_of(arguments, part, DEVICE, "unknown", status=1, text=f"{DEVICE} unknown, any word is possible",
-                     why="OPERATION of output 0 gave no good answer beside it, and zeros from a line held low would be a good "
-                         f"answer of {DEVICE} at 48: {why}")
+    return answer_of(arguments, part, DEVICE, "unknown", status=1, text=f"{DEVICE} unknown, any word is possible", why=str(doubt))
 
 
 def carried_out(arguments: argparse.Namespace, register: str, begin: Callable[[], object], wanted: int | None = None) -> int:
@@ -272,16 +266,18 @@ def carried_out(arguments: argparse.Namespace, register: str, begin: Callable[[]
             found.text += "; nothing was ordered"
             return call.say(found)
         held = part.host.possible(output, register)
-    if why := doubt(call, part, register):
-        return call.say(not_told(arguments, part, why))
-    try:
+
+    def ordered() -> Step:
         begin()
+        call.maybe = f"{register if output is None else f'output {output} {register}'} may hold the old or the ordered word"
+        return part.carried_out()
+
+    try:
+        step = guarded(part.host.address, register, call.only().unanswered, ordered)
     except Refused as fault:
         return call.say(refused(arguments, part, register, fault))
-    call.maybe = f"{register if output is None else f'output {output} {register}'} may hold the old or the ordered word"
-    step = part.carried_out()
-    if why := doubt(call, part, register):
-        return call.say(not_told(arguments, part, why))
+    except NotBelieved as doubt:
+        return call.say(not_told(arguments, part, doubt))
     if (step.kind == "differs" and wanted is not None
             and is_near(part, output, register, wanted, int(arguments.accept), held, step.word)):
         return call.say(surveyed(arguments, part, register, is_accepted=True))

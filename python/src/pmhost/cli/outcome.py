@@ -94,9 +94,9 @@ def commanded_words(found: Commanded, register: str, microvolts: int | None) -> 
         words = f"the output is off, and would command {band}"
     elif not selects(found, register):
         words = f"OPERATION selects {found.selected}: the output commands {band}"
-    elif wanted is not None and found.is_value(wanted):
+    elif wanted is None or found.is_value(wanted):
         words = f"the output commands {band}"
-    elif wanted is not None and found.least <= wanted <= found.greatest:
+    elif found.least <= wanted <= found.greatest:
         words = f"the output commands {band}, and isn't known to command {voltages.shown(wanted)}"
     else:
         words = f"CUT: the output commands {band}"
@@ -163,9 +163,15 @@ def surveyed(arguments: argparse.Namespace, part: Pmbus, register: str, is_accep
         found.text = f"{words}; {commanded_words(surveyed, register, micro)}"
         if not is_well(surveyed, register, micro):
             found.status, found.end, found.why = 1, "cut" if surveyed.is_well else "unsure", why_not(surveyed)
+    found.why += noted_of(part, output, surveyed)
     if found.restart_seen:
         found.text += "; restart seen, or the part rounds" if is_accepted else "; restart seen"
     return found
+
+
+def noted_of(part: Pmbus, output: int, found: Commanded) -> str:
+    """What the part noted behind a survey of which a job ended badly; nothing where none did."""
+    return noted(part, output) if found.missing else ""
 
 
 def why_not(found: Commanded) -> str:

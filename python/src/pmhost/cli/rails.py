@@ -5,9 +5,10 @@ import argparse
 from typing import Any
 
 from .. import rails
-from ..apply import Board, Setting, Stopped
+from ..apply import AS_WANTED, Board, Setting, Stopped
 from ..parts import BadRails
 from ..rails import Rail
+from . import way
 from .answer import Answer, in_digits, number
 from .call import Call, said
 from .completion import FILES, completed_by
@@ -15,6 +16,7 @@ from .orders import ACCEPT, STORES
 from .outcome import rail_words
 from .parser import BadCall, bus_options, file_of
 from .readings import noted
+from .way import WayFile, output_of
 
 
 def add(commands: Any) -> None:
@@ -23,12 +25,13 @@ def add(commands: Any) -> None:
                             ("verify", verify, "compares them with a file of rails, and orders nothing")):
         found = commands.add_parser(name, help=help, description=help[0].upper() + help[1:] + ".")
         completed_by(found.add_argument("file", metavar="FILE", type=file_of, help="settings of a board's rails, in TOML"), FILES)
-        found.set_defaults(run=run, judge_file=judge_file, dry_run=False, is_order=name == "apply")
+        found.set_defaults(run=run, judge_file=judge_file, judge=way.judge, dry_run=False, picture=None, is_order=name == "apply")
         if name == "apply":
             found.add_argument("--dry-run", action="store_true", help="reads, and says what would be ordered")
             found.add_argument("--store", action="store_true", dest="wants_store",
                                help="has the part store its settings, once all rails are as the file has them")
             found.add_argument("--accept", **ACCEPT)
+            way.add(found)
         bus_options(found)
 
 
@@ -75,25 +78,28 @@ def board_of(arguments: argparse.Namespace) -> Board:
     return board
 
 
-def output_of(rail: Rail) -> str:
-    """An output, and the part that has it."""
-    return f"output {rail.output}{f' of {rail.part}' * bool(rail.part)}"
-
-
 def told(arguments: argparse.Namespace, board: Board, run: Any) -> int:
-    """Carries it out, and says what became of it."""
+    """Carries it out, and says what became of it; the picture that is wanted comes behind that."""
     call: Call = arguments.call
-    why = ""
+    is_dry: bool = arguments.dry_run
+    file = WayFile(arguments, board, lambda rail: end_of(board, rail, is_dry))
     try:
-        run()
-    except Stopped as stopped:
-        why = told_of(board, stopped)
-    call.maybe, is_dry = "", arguments.dry_run
+        why = stop_of(board, run)
+    except BaseException as fault:
+        file.broken_off(fault)
+        raise
+    call.maybe = ""
     board.take()
     if why and arguments.command == "apply" and not is_dry:
         why += after_a_stop(board)
     found = Answer(said(arguments), "stopped" if why else "would order" if is_dry else "done", status=1 if why else 0, why=why,
                    rows=rows(board, is_dry))
+    with file.written(found.end, why):
+        return answered(call, board, found, is_dry)
+
+
+def answered(call: Call, board: Board, found: Answer, is_dry: bool) -> int:
+    """Says it, and has the parts store where that is wanted."""
     if not call.is_json and board.settings:
         surveyed = [rail for rail in board.rails if rail.name in board.surveys]
         call.say_lines([*table(board, is_dry), *(f"{rail.name}: {rail_words(board.state(rail))}" for rail in surveyed)])
@@ -122,6 +128,15 @@ def store(call: Call, board: Board, found: Answer) -> None:
         found.why += f"; stored before: {', '.join(stored)}"
 
 
+def stop_of(board: Board, run: Any) -> str:
+    """Carries it out. Why it stopped, or nothing."""
+    try:
+        run()
+    except Stopped as stopped:
+        return told_of(board, stopped)
+    return ""
+
+
 def told_of(board: Board, stopped: Stopped) -> str:
     """Why no further frame was sent, and what the part noted of a job that ended badly."""
     return str(stopped) + ("" if stopped.part is None else noted(board.parts[stopped.part], stopped.output))
@@ -143,6 +158,17 @@ def state_of(board: Board, it: Setting, is_dry: bool) -> str:
     if is_dry and state == "differs":
         return "now outside the limits; would be ordered" if board.is_outside(it) else "would be ordered"
     return f"{state}, OUTSIDE the limits" if board.is_outside(it) else state
+
+
+def end_of(board: Board, rail: Rail, is_dry: bool) -> tuple[str, str]:
+    """How a rail ended: a mark, and in words what it commands and which settings aren't as wanted."""
+    if rail.name not in board.surveys:
+        return "none", "it wasn't surveyed"
+    words = rail_words(board.state(rail))
+    if is_dry:
+        return "none", f"now: {words}"
+    wrong = [f"{it.register} {state_of(board, it, False)}" for it in board.of(rail) if it.state not in AS_WANTED]
+    return "fault" if wrong or board.why_not_well(rail) else "good", "; ".join([words, *wrong])
 
 
 def table(board: Board, is_dry: bool) -> list[str]:

@@ -4,11 +4,10 @@ from __future__ import annotations
 
 from collections.abc import Sequence
 from dataclasses import dataclass
-from html import escape
 
 from ..errors import Refused
 from ..packets import Packet, read_request, read_write
-from .drawing import FAULT, GOOD, INK, LINE, MONO, PALE, PANEL, box, line, symbol, text, wrapped
+from .drawing import FAULT, GOOD, INK, LINE, MONO, PALE, box, line, page, symbol, text, wrapped
 from .told import in_volts
 
 EDGE, GAP, ROW, HEAD, WIDE = 18, 28, 40, 92, 470
@@ -118,7 +117,4 @@ class DeskPicture:
             self.story(EDGE + (self.wide + GAP) * place, story, rows)
         wide = 2 * EDGE + self.wide * len(self.stories) + GAP * (len(self.stories) - 1)
         high = HEAD + ROW * rows + 100
-        head = (f'<svg xmlns="http://www.w3.org/2000/svg" role="img" viewBox="0 0 {wide:.0f} {high:.0f}" width="{wide:.0f}"'
-                f' height="{high:.0f}">\n<title>{escape(self.title)}</title>\n'
-                f'<rect width="{wide:.0f}" height="{high:.0f}" rx="8" fill="{PANEL}"/>')
-        return "\n".join([head, *self.parts, "</svg>", ""])
+        return page(self.title, wide, high, self.parts)

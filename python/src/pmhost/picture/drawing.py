@@ -41,6 +41,35 @@ def named(shape: str, title: str) -> str:
     return f"<g><title>{escape(title)}</title>{shape}</g>"
 
 
+def hatched(name: str, ground: str, stripe: str) -> str:
+    """A pattern of stripes, which a shape is filled with by its name."""
+    return (f'<pattern id="{name}" width="10" height="10" patternUnits="userSpaceOnUse" patternTransform="rotate(45)">'
+            f'<rect width="10" height="10" fill="{ground}"/><rect width="4" height="10" fill="{stripe}"/></pattern>')
+
+
+def legend(entries: Sequence[tuple[str | None, str, str]], left: float, y: float, wide: float, gap: float) -> tuple[list[str], float]:
+    """What colours mean, as many to a line as fit: each with its fill, its edge and its words; and where the last line stands."""
+    x, found = left, list[str]()
+    for fill, edge, words in entries:
+        room = (34 if fill else 0) + width_of(words, 12) + gap
+        if x + room > wide and x > left:
+            x, y = left, y + 24
+        if fill:
+            found.append(box(x, y - 12, 24, 16, fill, f' rx="4"{edge}'))
+        found.append(text(x + 34 if fill else x, y, words, fill=PALE))
+        x += room
+    return found, y
+
+
+def page(title: str, wide: float, high: float, parts: Sequence[str], patterns: Sequence[str] = ()) -> str:
+    """The text of a whole picture."""
+    defined = f"<defs>{''.join(patterns)}</defs>\n" if patterns else ""
+    head = (f'<svg xmlns="http://www.w3.org/2000/svg" role="img" viewBox="0 0 {wide:.0f} {high:.0f}" width="{wide:.0f}"'
+            f' height="{high:.0f}">\n<title>{escape(title)}</title>\n{defined}'
+            f'<rect width="{wide:.0f}" height="{high:.0f}" rx="8" fill="{PANEL}"/>')
+    return "\n".join([head, *filter(None, parts), "</svg>", ""])
+
+
 def wrapped(words: str, room: float, size: float) -> list[str]:
     """Words in lines that fit; a unit stays with its number, and `or` with what comes after it."""
     lines: list[str] = []

@@ -2,7 +2,7 @@
 little room, and farther where what is commanded or a limit of the rail lies outside."""
 from __future__ import annotations
 
-from collections.abc import Callable, Iterator, Sequence
+from collections.abc import Callable, Iterator, Mapping, Sequence
 from math import floor, log10
 from typing import Protocol, TypeVar
 
@@ -15,9 +15,12 @@ OUTSIDE, INSIDE = "#e4e2dc", "#eef3ee"
 # What lies over the ground where the host knows the voltage to be.
 SHADE = ' fill-opacity="0.18"'
 
-# What is shown of an output in a row: whether it is on, the microvolts, the limit that cuts it or None, and the limits'
-# microvolts by their names.
-Told = tuple[bool, int, str | None, dict[str, int]]
+# The microvolts of limits by their names; of one that isn't known None.
+Limits = Mapping[str, int | None]
+# What is shown of an output in a row: whether it is on, the microvolts or None where they aren't one value, the limit that cuts
+# it or None, and its limits.
+Told = tuple[bool, int | None, str | None, Limits]
+Band = tuple[int, int]
 Key = TypeVar("Key")
 
 
@@ -41,31 +44,49 @@ def ends_of(values: set[int]) -> tuple[int, int]:
 
 
 class Lane:
-    """Of one output. `told` has, row by row, what is shown. `bands` has the microvolts between which the host knows it, or
-    None, and `rail` those that the rail's limits allow, or None."""
+    """Of one output, with a name above it. `told` has, row by row, what is shown. `bands` has the microvolts between which the
+    host knows it, or None, and `rail` those that the rail's limits allow, or None."""
 
-    def __init__(self, output: int, seen: Seen, rail: tuple[int, int] | None = None) -> None:
-        self.output, self.rail = output, rail
-        self.bands = [row.state.bands[output] for row in seen.rows]
-        self.told: list[Told] = [(*row.state.outputs[output], row.state.cut.get(output), seen.limits(row, output))
-                                 for row in seen.rows]
-        values = {micro for _, micro, _, _ in self.told}
-        for *_, limits in self.told:
-            values |= {*limits.values()}
-        values |= {*(rail or ())}
-        self.low, self.high = ends_of(values)
+    def __init__(self, name: str, told: Sequence[Told], bands: Sequence[Band | None], rail: Band | None = None) -> None:
+        self.name, self.told, self.bands, self.rail = name, told, bands, rail
+        self.low, self.high = ends_of(self.values())
         self.width = self.wide_enough()
+
+    @classmethod
+    def of(cls, output: int, seen: Seen, rail: Band | None = None) -> Lane:
+        """Of an output of a scenario's run."""
+        told = [(*row.state.outputs[output], row.state.cut.get(output), seen.limits(row, output)) for row in seen.rows]
+        return cls(f"output {output}", told, [row.state.bands[output] for row in seen.rows], rail)
+
+    def values(self) -> set[int]:
+        """The microvolts for which the scale has room."""
+        told = [micro for _, micro, _, limits in self.told for micro in (micro, *limits.values())]
+        return {*(self.rail or ()), *(micro for micro in told if micro is not None)}
 
     def wide_enough(self) -> int:
         """Wide enough for each value beside its line, for the limits, and for the ends of the scale."""
         ends = sum(width_of(in_volts(it), 11) for it in (self.low, self.high)) + 16
-        wide = max(ends, width_of(f"output {self.output}", 13) + 8, LEAST_WIDTH, width_of(self.commands(), 12) + 4,
+        wide = max(ends, width_of(self.name, 13) + 8, LEAST_WIDTH, width_of(self.commands(), 12) + 4,
                    *(width_of(it, 11) + 4 for it in {limits_in_words(told[3]) for told in self.told}))
-        for told in set((on, micro, cut) for on, micro, cut, _ in self.told):
-            share = self.share(told[1])
-            room = width_of(value_in_words(*told), 12) + BESIDE + 2
+        for micro, words in {(self.shown(place), self.words(place)) for place in range(len(self.told))}:
+            share = self.share(micro)
+            room = width_of(words, 12) + BESIDE + 2
             wide = max(wide, 2 * PAD + (room - PAD) / max(share, 1 - share))
         return round(wide)
+
+    def within(self, micro: int) -> int:
+        """A voltage, or the end of the scale that it lies beyond."""
+        return min(max(micro, self.low), self.high)
+
+    def shown(self, place: int) -> int:
+        """Beside what a row's labels stand: its voltage, or the least that the host knows it to be, as far as the scale goes."""
+        micro, (least, _) = self.told[place][1], self.bands[place] or (self.low, self.high)
+        return self.within(least) if micro is None else micro
+
+    def words(self, place: int) -> str:
+        """What is told of a row's voltage."""
+        is_on, micro, cut, _ = self.told[place]
+        return "" if micro is None else value_in_words(is_on, micro, cut)
 
     def share(self, micro: int) -> float:
         return (micro - self.low) / (self.high - self.low)
@@ -76,7 +97,7 @@ class Lane:
 
     def heads(self, x: float, y: float, first: int) -> Iterator[str]:
         """Above a page that begins with a row: the output, its limits then, and the ends of the scale."""
-        yield text(x, y - 60, f"output {self.output}", 13, extra=' font-weight="bold"')
+        yield text(x, y - 60, self.name, 13, extra=' font-weight="bold"')
         yield text(x, y - 42, self.commands(), 12, RAIL if self.rail else PALE)
         yield text(x, y - 25, limits_in_words(self.told[first][3]), 11, LIMIT)
         yield text(x, y - 8, in_volts(self.low), 11, PALE)
@@ -84,7 +105,7 @@ class Lane:
 
     def commands(self) -> str:
         """What the lane shows, and the limits of its rail."""
-        return f"commands, limits {in_volts(self.rail[0])} to {in_volts(self.rail[1])}" if self.rail else "commands"
+        return f"commands, {rail_in_words(self.rail)}" if self.rail else "commands"
 
     def runs(self, first: int, end: int, key: Callable[[Told], Key]) -> Iterator[tuple[int, int, Key]]:
         """The runs of rows of a page that have the same key: the first, the one after the last, and the key."""
@@ -95,19 +116,25 @@ class Lane:
         for start, stop, limits in self.runs(first, end, lambda told: told[3]):
             top, high = top_of(start), top_of(stop - 1) - top_of(start) + top_of.row
             yield box(x, top, self.width, high, OUTSIDE)
-            left = self.x_of(min(limits.get("min", self.low), limits["max"]))
-            right = self.x_of(max(limits.get("min", self.low), limits["max"]))
-            if "min" not in limits:
-                left = 0
+            left, right = self.ground(limits)
             yield box(x + left, top, right - left, high, INSIDE)
             for micro in limits.values():
-                yield line(x + self.x_of(micro), top, x + self.x_of(micro), top + high, LIMIT, 1.2)
+                if micro is not None and self.within(micro) == micro:
+                    yield line(x + self.x_of(micro), top, x + self.x_of(micro), top + high, LIMIT, 1.2)
+
+    def ground(self, limits: Limits) -> tuple[float, float]:
+        """Where the ground between the limits begins and ends: at the lane's edge where there is none, or it lies beyond the scale."""
+        least, most = limits.get("min"), limits.get("max")
+        if least is not None and most is not None and most < least:
+            least, most = most, least
+        return (0 if least is None or least < self.low else self.x_of(self.within(least)),
+                self.width if most is None or most > self.high else self.x_of(self.within(most)))
 
     def known(self, x: float, top_of: Tops, first: int, end: int) -> Iterator[str]:
         """Where the host knows the voltage to be, as far as the scale goes, and the limits of the rail."""
         for start, stop, band in runs_of(self.bands[first:end], first):
             if band:
-                left, right = (self.x_of(min(max(it, self.low), self.high)) for it in band)
+                left, right = (self.x_of(self.within(it)) for it in band)
                 top, high = top_of(start), top_of(stop - 1) - top_of(start) + top_of.row
                 shade = box(x + left - 1, top, right - left + 2, high, LINE, SHADE)
                 yield named(shade, f"the host knows {band[0]} to {band[1]} uV")
@@ -119,24 +146,28 @@ class Lane:
         """The commanded voltage from row to row."""
         before: float | None = None
         for start, stop, (is_on, micro) in self.runs(first, end, lambda told: told[:2]):
-            at, top = x + self.x_of(micro), top_of(start)
-            if before is not None and before != at:
+            at, top = None if micro is None else x + self.x_of(micro), top_of(start)
+            if before is not None and at is not None and before != at:
                 yield line(before, top, at, top, LINE, 3, ' stroke-linecap="square"')
-            yield line(at, top, at, top_of(stop - 1) + top_of.row, LINE, 3, "" if is_on else ' stroke-dasharray="4 4"')
+            if at is not None:
+                yield line(at, top, at, top_of(stop - 1) + top_of.row, LINE, 3, "" if is_on else ' stroke-dasharray="4 4"')
             before = at
 
     def labels(self, x: float, top_of: Tops, first: int, end: int) -> Iterator[str]:
         """Its value where it changes and where a page begins; and the limits below it, where they change."""
-        for start, _, told in self.runs(first, end, lambda told: told[:3]):
-            at, is_left = self.x_of(told[1]), self.share(told[1]) < 0.5
-            yield halo(x + at + (BESIDE if is_left else -BESIDE), top_of(start) + 13, value_in_words(*told), 12, LINE,
-                       "start" if is_left else "end")
+        shown = [(told[:3], band if told[1] is None else None) for told, band in zip(self.told[first:end], self.bands[first:end])]
+        for start, _, _ in runs_of(shown, first):
+            at, anchor = self.beside(start)
+            yield halo(x + at, top_of(start) + 13, self.words(start), 12, LINE, anchor)
         for start, _, limits in self.runs(first, end, lambda told: told[3]):
             if start != first:
-                is_left = self.share(self.told[start][1]) < 0.5
-                at = self.x_of(self.told[start][1]) + (BESIDE if is_left else -BESIDE)
-                yield halo(x + at, top_of(start) + 25, "; ".join(changed(self.told[start - 1][3], limits)), 11, LIMIT,
-                           "start" if is_left else "end")
+                at, anchor = self.beside(start)
+                yield halo(x + at, top_of(start) + 25, "; ".join(changed(self.told[start - 1][3], limits)), 11, LIMIT, anchor)
+
+    def beside(self, place: int) -> tuple[float, str]:
+        """Where the labels of a row stand, and how they are anchored there."""
+        micro = self.shown(place)
+        return (self.x_of(micro) + BESIDE, "start") if self.share(micro) < 0.5 else (self.x_of(micro) - BESIDE, "end")
 
 
 def runs_of(values: Sequence[Key], first: int) -> Iterator[tuple[int, int, Key]]:
@@ -161,9 +192,17 @@ def value_in_words(is_on: bool, micro: int, limit: str | None) -> str:
     return f"{limit} {in_volts(micro)}" if limit else in_volts(micro)
 
 
-def limits_in_words(limits: dict[str, int]) -> str:
-    return ", ".join(f"{name} {in_volts(micro)}" for name, micro in limits.items())
+def rail_in_words(rail: Band) -> str:
+    return f"limits {in_volts(rail[0])} to {in_volts(rail[1])}"
 
 
-def changed(before: dict[str, int], after: dict[str, int]) -> list[str]:
-    return [f"{name} {in_volts(after[name])}" for name in after if after[name] != before[name]]
+def limit_in_words(name: str, micro: int | None) -> str:
+    return f"{name} {'not known' if micro is None else in_volts(micro)}"
+
+
+def limits_in_words(limits: Limits) -> str:
+    return ", ".join(limit_in_words(name, micro) for name, micro in limits.items())
+
+
+def changed(before: Limits, after: Limits) -> list[str]:
+    return [limit_in_words(name, after[name]) for name in after if after[name] != before[name]]

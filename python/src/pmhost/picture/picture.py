@@ -4,12 +4,10 @@ the bus. A shade shows between which voltages the host knows an output to be, on
 """
 from __future__ import annotations
 
-from html import escape
-
 from ..scenario import Cell
 from ..status import BITS, names_of
-from .drawing import (EDGES, FAULT, GOOD, INK, LIMIT, LINE, MARKS, MONO, PALE, PANEL, RAIL, RESTART, box, first_that_fits, line,
-                      path, symbol, text, width_of, wrapped)
+from .drawing import (EDGES, FAULT, GOOD, INK, LIMIT, LINE, MARKS, MONO, PALE, RAIL, RESTART, box, first_that_fits, hatched, legend,
+                      line, page, path, symbol, text, width_of, wrapped)
 from .lane import INSIDE, OUTSIDE, SHADE, Lane, value_in_words
 from .life import Belief, State
 from .seen import Job, Row, Seen
@@ -88,7 +86,7 @@ class Picture:
         for output in (None, *(it for it in self.seen.outputs if it not in self.folded)):
             start = x
             if output is not None:
-                self.lanes[output] = x, Lane(output, self.seen, self.rails.get(output))
+                self.lanes[output] = x, Lane.of(output, self.seen, self.rails.get(output))
                 x += self.lanes[output][1].width + 8
             for register in (it for it in self.seen.registers if it.output == output):
                 self.beliefs_at[register] = x
@@ -271,16 +269,9 @@ class Picture:
 
     def draw_legend(self, y: float) -> float:
         """The legend, as many to a line as fit; where it ends."""
-        x: float = EDGE
         self.entries = self.entries or self.legend()
-        for fill, edge, words in self.entries:
-            wide = (34 if fill else 0) + width_of(words, 12) + GAP
-            if x + wide > self.width and x > EDGE:
-                x, y = EDGE, y + 24
-            if fill:
-                self.parts.append(box(x, y - 12, 24, 16, fill, f' rx="4"{edge}'))
-            self.parts.append(text(x + 34 if fill else x, y, words, fill=PALE))
-            x += wide
+        drawn, y = legend(self.entries, EDGE, y, self.width, GAP)
+        self.parts += drawn
         for said in self.not_drawn():
             y += 24
             self.parts.append(text(EDGE, y, said, fill=PALE))
@@ -297,20 +288,9 @@ class Picture:
         if self.seen.run.left:
             self.parts.append(text(self.labels_at, bottom + 18, f"events after it: {self.seen.run.left}", fill=PALE))
             bottom += ROW
-        wide, high = f"{self.width:.0f}", f"{self.draw_legend(bottom + 30):.0f}"
-        head = (f'<svg xmlns="http://www.w3.org/2000/svg" role="img" viewBox="0 0 {wide} {high}"'
-                f' width="{wide}" height="{high}">\n<title>{escape(self.name)}, event by event</title>\n{hatch()}\n'
-                f'<rect width="{wide}" height="{high}" rx="8" fill="{PANEL}"/>')
-        return "\n".join([head, *filter(None, self.parts), "</svg>"]) + "\n"
-
-
-def hatch() -> str:
-    """The two patterns of stripes: of a word in doubt, and of a false one."""
-    patterns = [f'<pattern id="{name}" width="10" height="10" patternUnits="userSpaceOnUse"'
-                f' patternTransform="rotate(45)"><rect width="10" height="10" fill="{ground}"/>'
-                f'<rect width="4" height="10" fill="{stripe}"/></pattern>'
-                for name, (ground, stripe) in (("doubt", STRIPES), ("false", FALSE_STRIPES))]
-    return f"<defs>{''.join(patterns)}</defs>"
+        high = self.draw_legend(bottom + 30)
+        return page(f"{self.name}, event by event", self.width, high, self.parts,
+                    [hatched("doubt", *STRIPES), hatched("false", *FALSE_STRIPES)])
 
 
 def hexadecimal(register: Cell, words: tuple[int, ...]) -> list[str]:

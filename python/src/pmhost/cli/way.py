@@ -1,0 +1,110 @@
+"""The picture of a way, in the file that `apply --picture` names."""
+from __future__ import annotations
+
+import argparse
+import contextlib
+import os
+from typing import Any, Callable, Iterator
+
+from ..apply import Board
+from ..picture.drawing import FAULT, INK, PALE
+from ..picture.way import COMMANDED, RailWay, WayPicture
+from ..rails import Rail
+from ..way import Way
+from . import streams
+from .call import Call, Interrupted
+from .completion import FILES, completed_by
+from .parser import BadCall, file_of, shown
+
+HELP = ("draws into this file (SVG) the way of each rail, order by order: what its output commands, by what the host knows; with "
+        "--dry-run what the plan would order")
+MEASURED = f"Nothing is measured: it is {COMMANDED}."
+UNWRITTEN = "Nothing was written: these are the plan's orders, where each is confirmed."
+
+# How a rail ended: a mark, and words.
+End = tuple[str, str]
+
+
+def add(parser: argparse.ArgumentParser) -> None:
+    """Adds the option."""
+    added: Any = parser.add_argument("--picture", type=file_of, metavar="SVG", help=HELP)
+    completed_by(added, FILES)
+
+
+def judge(arguments: argparse.Namespace) -> None:
+    """The file can be written: it is opened once, before anything is sent, and stays as it was. BadCall."""
+    path = arguments.picture
+    if path is None:
+        return
+    was_there = os.path.lexists(path)
+    try:
+        if os.path.exists(path) and os.path.samefile(path, arguments.file):
+            raise BadCall(f"--picture {shown(path)}: the rails stand in this file")
+        with open(path, "a", encoding="utf-8"):
+            pass
+        if not was_there:
+            os.remove(path)
+    except OSError as fault:
+        raise BadCall(f"--picture {shown(path)}: {fault.strerror}") from None
+
+
+class WayFile:
+    """What a command draws, if it draws: begun before its board is read, and written behind what it says, whatever came. `end_of` says
+    how a rail ended. A fault of the file ends the picture and not the job: `raise_fault` tells of it."""
+
+    def __init__(self, arguments: argparse.Namespace, board: Board, end_of: Callable[[Rail], End]) -> None:
+        self.arguments, self.board, self.end_of = arguments, board, end_of
+        self.fault = ""
+        self.way = None if arguments.picture is None else Way(board, arguments.rails.parts)
+
+    @contextlib.contextmanager
+    def written(self, end: str, why: str) -> Iterator[None]:
+        """Draws behind what is said in it. NoStream where the file fails."""
+        try:
+            yield
+        finally:
+            self.write(end, why)
+        self.raise_fault()
+
+    def write(self, end: str, why: str) -> None:
+        """Draws what is known by now. Of a dry run that came to its end, what the plan would order."""
+        if self.way is None:
+            return
+        for rail in self.board.rails:
+            self.way.look(rail, "at the end")
+            if self.arguments.dry_run and not why:
+                self.way.rehearse(rail)
+        said = [(MEASURED, PALE), *([(UNWRITTEN, INK)] if self.arguments.dry_run else []), *([(why, FAULT)] if why else [])]
+        title = f"{self.arguments.command} {shown(os.path.basename(self.arguments.file))}: {end}"
+        svg = WayPicture(title, said, [self.drawn(self.way, rail) for rail in self.board.rails]).svg()
+        try:
+            with open(self.arguments.picture, "w", encoding="utf-8") as file:
+                file.write(svg)
+        except OSError as fault:
+            self.fault = f"--picture {shown(self.arguments.picture)}: {fault.strerror}"
+
+    def drawn(self, way: Way, rail: Rail) -> RailWay:
+        """A rail, with its wanted voltage as the format has it, where that is known."""
+        wanted = next((it.wanted for it in self.board.of(rail) if it.key == "volts"), None)
+        micro = rail.settings["volts"] if wanted is None else self.board.format(rail).microvolts(wanted)
+        mark, words = self.end_of(rail)
+        return RailWay(rail.name, output_of(rail), rail.limits, micro, way.rows[rail.name], words, mark)
+
+    def broken_off(self, fault: BaseException) -> None:
+        """Draws how far it came where a signal or a fault ended the call."""
+        call: Call = self.arguments.call
+        is_interrupted = isinstance(fault, Interrupted)
+        # Whatever becomes of the picture, the call ends by its own fault, which says what is unknown now.
+        with contextlib.suppress(Exception):
+            self.board.take()
+            self.write("interrupted" if is_interrupted else "broken off", call.unsure() if is_interrupted else str(fault))
+
+    def raise_fault(self) -> None:
+        """A NoStream where the file has failed."""
+        if self.fault:
+            raise streams.NoStream(self.fault)
+
+
+def output_of(rail: Rail) -> str:
+    """An output, and the part that has it."""
+    return f"output {rail.output}{f' of {rail.part}' * bool(rail.part)}"

@@ -1,0 +1,126 @@
+"""The way of rails under `apply`: what the host knows of each at its start, and behind each order. Nothing is sent for it."""
+from __future__ import annotations
+
+import contextlib
+from dataclasses import dataclass
+from typing import Mapping
+
+from . import voltages
+from .apply import Board, Setting
+from .errors import NumberRefused
+from .host import Step
+from .packets import pec, read_write
+from .parts import BoardPart
+from .pmbus import Pmbus
+from .rails import SETTINGS, Rail
+from .survey import only_word
+
+# The settings that bound what an output commands.
+BOUNDS = ("min", "max")
+PLANNED = "would be ordered"
+
+
+@dataclass(frozen=True)
+class Knowledge:
+    """What is known of an output: whether it is on; the microvolts between which it is commanded, None where nothing is known of
+    them; and those of its bounds, of one that isn't known None."""
+
+    is_on: bool | None
+    band: tuple[int, int] | None
+    bounds: Mapping[str, int | None]
+
+    @property
+    def value(self) -> int | None:
+        """The one value that it commands, rounded down; None where several are possible."""
+        return self.band[0] if self.band is not None and self.band[1] - self.band[0] <= 1 else None
+
+
+@dataclass(frozen=True)
+class WayRow:
+    """The start of a rail, an order or a survey: its words, how an order ended (a kind, and in words), and what was known then."""
+
+    words: str
+    kind: str
+    end: str
+    known: Knowledge
+
+
+def known_of(part: Pmbus, output: int, without: tuple[str, ...] = ()) -> Knowledge:
+    """What is known of an output of a part that lacks these registers."""
+    state, form, bounds = part.host.rail(output), part.host.format(output), dict[str, int | None]()
+    for key in (it for it in BOUNDS if SETTINGS[it] not in without):
+        bounds[key], word = None, only_word(part, output, SETTINGS[key])
+        if word is not None and form is not None:
+            # What the library can't tell in microvolts is beyond every scale.
+            with contextlib.suppress(NumberRefused):
+                bounds[key] = form.microvolts(word)
+    return Knowledge(state.is_on, None if state.band is None else (state.band.least, state.band.greatest), bounds)
+
+
+class Taking:
+    """A bus that reaches nobody: each write is acknowledged, and each request is answered by the word that was written last."""
+
+    def __init__(self, address: int) -> None:
+        self.address, self.word = address, 0
+
+    def write(self, frame: bytes) -> bool:
+        self.word = read_write(self.address, frame).word
+        return True
+
+    def read(self, request: bytes, count: int) -> bytes:
+        word = self.word.to_bytes(count - 2, "little")
+        answer = bytes([len(word)]) + word
+        return answer + bytes([pec(request + bytes([request[0] | 1]) + answer)])
+
+
+class Way:
+    """Of the rails of a board, by their names. `parts` has what the file says of their parts."""
+
+    def __init__(self, board: Board, parts: Mapping[str, BoardPart]) -> None:
+        self.board, self.parts = board, parts
+        self.rows: dict[str, list[WayRow]] = {rail.name: [] for rail in board.rails}
+        board.seen = self.see
+
+    def see(self, rail: Rail, it: Setting | None, step: Step | None) -> None:
+        """Behind an order and how it ended, or behind a survey."""
+        if it is None or step is None:
+            self.look(rail, "surveyed")
+        else:
+            self.ordered(rail, it, step)
+
+    def look(self, rail: Rail, words: str) -> None:
+        """What is known now of a rail, where it is another than before. The first row is its start."""
+        rows, known = self.rows[rail.name], self.known(rail, self.board.on(rail))
+        if not rows or rows[-1].known != known:
+            rows.append(WayRow(words if rows else "start", "", "", known))
+
+    def ordered(self, rail: Rail, it: Setting, step: Step) -> None:
+        """An order of a setting, and how it ended."""
+        words, part = self.order_words(it), self.board.on(rail)
+        end = {"done": "done", "differs": f"differs: {self.word_words(it, step.word)}"}.get(step.kind, "no good answer")
+        is_again = any(row.words == words for row in self.rows[rail.name])
+        self.rows[rail.name].append(WayRow(words, step.kind, f"given again: {end}" if is_again else end, self.known(rail, part)))
+
+    def rehearse(self, rail: Rail) -> None:
+        """What the plan of a rail orders where each order is confirmed: a copy of the host is told so, and nothing is sent."""
+        host, wanted = self.board.on(rail).host.copy(), self.board.wanted(rail)
+        part = Pmbus(Taking(host.address), host.address, host.outputs)
+        part.host = host
+        while (order := host.next(rail.output, wanted)) is not None:
+            it = next(each for each in self.board.of(rail) if each.register == order.register)
+            part.carried_out()
+            self.rows[rail.name].append(WayRow(self.order_words(it), "", PLANNED, self.known(rail, part)))
+
+    def known(self, rail: Rail, part: Pmbus) -> Knowledge:
+        return known_of(part, rail.output, self.parts[rail.part].without)
+
+    def order_words(self, it: Setting) -> str:
+        """An order in words: the register, and the volts of its word."""
+        return f"{it.register} {voltages.shown(self.board.format(it.rail).microvolts(it.wanted))}"
+
+    def word_words(self, it: Setting, word: int | None) -> str:
+        """A word that was read back, with its volts where the library tells them."""
+        try:
+            return self.board.shown(it, word)
+        except NumberRefused:
+            return f"{word:04X}"

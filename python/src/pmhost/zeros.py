@@ -1,0 +1,33 @@
+"""Zeros, which a data line that is held low gives, where they are a good answer: to a read of WRITE_PROTECT at 48h, by its packet
+error code.
+
+So OPERATION of output 0 is checked before each such read and behind it. Zeros are no good answer of it at any address, since their
+count is wrong.
+"""
+from __future__ import annotations
+
+from typing import Callable, TypeVar
+
+ADDRESS, REGISTER = 0x48, "WRITE_PROTECT"
+T = TypeVar("T")
+
+
+class NotBelieved(Exception):
+    """Why an answer of WRITE_PROTECT isn't taken for its word."""
+
+    def __init__(self, why: str) -> None:
+        super().__init__("OPERATION of output 0 gave no good answer beside it, and zeros from a line held low would be a good answer of "
+                         f"{REGISTER} at {ADDRESS:02X}: {why}")
+
+
+def guarded(address: int, register: str, unanswered: Callable[[], str], read: Callable[[], T]) -> T:
+    """What a read of a register gives, or a job that ends by one. NotBelieved where zeros would be a good answer of it and a check of
+    OPERATION before or behind isn't good: `unanswered` carries one out, and says why it gave no good answer, nothing where it gave one.
+    Where the one before isn't good nothing is read."""
+    is_guarded = (address, register) == (ADDRESS, REGISTER)
+    if is_guarded and (why := unanswered()):
+        raise NotBelieved(why)
+    found = read()
+    if is_guarded and (why := unanswered()):
+        raise NotBelieved(why)
+    return found
