@@ -31,7 +31,7 @@ MOST_LINES = {"README.md": 95}
 # The tables of docs/texts.md with lines of a trace, and the options of `decode` that tell them so.
 TRACES = [("what is told",), ("what is told with values", "--values"), ("what is told with readings", "--values", "--readings=8C:direct:1:0:1"),
           ("what is told of all codes", "--all"), ("what all codes say", "--all", "--values"),
-          ("what is told with times", "--times")]
+          ("what is told with times", "--times"), ("what is told with pages", "--pages", "--values")]
 FILE = re.compile(r"(?:\.\./)?(?:crates|tools|trials|packaging|python|rust|mutants|docs|examples|bench)/[\w./-]*\w")
 
 

@@ -120,11 +120,13 @@ class Traces(unittest.TestCase):
                 self.assertEqual(decoded(capture(name))[-1:], [wanted])
 
     @needs("pmb")
-    def test_the_driver_s_word_for_the_other_page_is_told(self):
-        told = decoded(capture("sharpest.trace"), "--all", "--values", "--vout=ulinear16:-12")
-        self.assertIn("20 58 VOUT_COMMAND write 1CCD 1.800048 V", told)
-        self.assertEqual([line for line in told if line.split()[0] in ("37", "39", "46")],
-                         ["37 58 PAGE write 01", "39 58 code 00 PAGE read, no PEC", "46 58 VOUT_COMMAND write 3000 3 V"])
+    def test_the_driver_s_word_for_the_other_page_is_marked(self):
+        told = decoded(capture("sharpest.trace"), "--all", "--values", "--pages", "--vout=ulinear16:-12")
+        self.assertIn("20 58 page 0? VOUT_COMMAND write 1CCD 1.800048 V", told)
+        self.assertEqual([line for line in told if "VOUT_COMMAND write 3000" in line],
+                         ["46 58 VOUT_COMMAND write 3000 3 V WRONG PAGE? lines 39 and 46"])
+        marked = [line for line in told if "WRONG PAGE?" in line]
+        self.assertEqual([line.split()[0] for line in marked], ["43", "44", "45", "46"])
         example = stored(EXAMPLES, "captures", "ltc2972.trace").splitlines(keepends=True)
         self.assertEqual("".join(example[2:]), capture("sharpest.trace"))
 

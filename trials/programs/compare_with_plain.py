@@ -3,7 +3,7 @@
 `decode` and `told`, which is `decode` with random options, over TEXTS texts each, and `number` over a
 twentieth as many. What differs is printed, the shortest text of each kind of difference at the end, and the
 status is then 1. The counts at the end show that each kind of line came. The command `sets`, which has to be named, is
-`decode` of each text with every set of its options, 80 of them. Some texts of the others are cut short, and some short
+`decode` of each text with every set of its options, 200 of them. Some texts of the others are cut short, and some short
 ones at every place.
 
     trials/programs/compare_with_plain.py [--beside PROGRAM] [SEED [TEXTS [COMMAND ..]]]
@@ -37,7 +37,7 @@ LEFT_OUT = []
 # A program that has to say the same, where one is given.
 OTHER = []
 # What is left out of a line of an answer, so that lines of one kind count together: numbers, bytes, words.
-SMALL = r"-?\d+(\.\d+)?|[0-9A-F]{2}|[0-9A-F]{4}|.*/.*|--|\".*|.*\""
+SMALL = r"-?\d+(\.\d+)?|\d+\?|[0-9A-F]{2}|[0-9A-F]{4}|.*/.*|--|\".*|.*\""
 
 
 def kinds_of_events(text):
@@ -150,7 +150,7 @@ def compare_numbers(dice, count, seen):
     for _ in range(count):
         form, word, micro = draw_lines.question(dice)
         option = f"--word={word:04X}" if micro is None else f"--micro={micro}"
-        words = ["number", f"--format={':'.join(map(str, form))}", option]
+        words = ["number", f"--format={dice.choice(':/').join(map(str, form))}", option]
         found, wanted = ran(words), commands.number(form, word, micro)
         kind = "number: " + (wanted[2].split()[1] if wanted[2] else "word" if micro is None else "micro")
         seen[kind] = seen.get(kind, 0) + 1

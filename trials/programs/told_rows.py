@@ -261,6 +261,12 @@ B0 05 04 00 21 E4 0C *                    58 page 0 VOUT_COMMAND write 0CE4
 B0 06 02 00 20 / B1 01 14 *               58 page 0 VOUT_MODE read 14 ULINEAR16 -12
 B0 05 04 00 24 CD 34 *                    58 page 0 VOUT_MAX write 34CD 3.300048 V
 """),
+    ("--values --vout=ulinear16/-12", """
+B0 8B / B1 CD 34 *                        58 READ_VOUT read 34CD 3.300048 V
+"""),
+    ("--values --vout=direct/1/0/3", """
+B0 8B / B1 E4 0C *                        58 READ_VOUT read 0CE4 3.3 V
+"""),
     ("--vout linear11 --values", """
 B0 8B / B1 00 D3 *                        58 READ_VOUT read D300 12 V
 """),
@@ -796,13 +802,447 @@ B0 8C / B1 FB FF *                        58 READ_IOUT read FFFB -2.5 A
 B2 8C / B3 FB FF *                        59 READ_IOUT read FFFB -0.5 A
 B0 8D / B1 FB FF *                        58 READ_TEMPERATURE_1 read FFFB -0.5 C
 """),
-    ("--values --readings 8C:direct:1:0:1,linear11", """
+    ("--values --readings 8C/direct/1/0/1,linear11", """
 B0 8C / B1 FB FF *                        58 READ_IOUT read FFFB -0.5 A
 B0 8D / B1 19 00 *                        58 READ_TEMPERATURE_1 read 0019 25 C
 """),
     ("--json --values --readings=direct:3:0:1", """
 B0 88 / B1 B0 04 *         {"line":1,"address":"58","code":"88","name":"READ_VIN","direction":"read","payload":"B0 04","numerator":1200,"denominator":30,"volts":40}
 B0 8C / B1 01 00 *         {"line":2,"address":"58","code":"8C","name":"READ_IOUT","direction":"read","payload":"01 00","numerator":1,"denominator":30,"amperes":0.033333}
+"""),
+]
+
+# `--pages`: what a page is followed from and to, and what it ends at.
+PAGES = [
+    ("--pages --values", """
+B0 21 CD 34 *                             58 VOUT_COMMAND write 34CD
+B0 00 01 *                                58 PAGE write 01
+B0 21 CD 34 *                             58 page 1? VOUT_COMMAND write 34CD
+B0 20 / B1 14 *                           58 page 1? VOUT_MODE read 14 ULINEAR16 -12
+B0 21 CD 34 *                             58 page 1? VOUT_COMMAND write 34CD 3.300048 V
+B0 06 02 01 21 / B1 02 CD 34 *            58 page 1 VOUT_COMMAND read 34CD 3.300048 V
+B0 01 80 *                                58 page 1? OPERATION write 80 on
+B0 03 *                                   58 page 1? CLEAR_FAULTS send
+B0 24 CD 34 *                             58 page 1? VOUT_MAX write 34CD 3.300048 V
+B0 25 CD 34 *                             58 page 1? VOUT_MARGIN_HIGH write 34CD 3.300048 V
+B0 26 CD 34 *                             58 page 1? VOUT_MARGIN_LOW write 34CD 3.300048 V
+B0 2B / B1 CD 34 *                        58 page 1? VOUT_MIN read 34CD 3.300048 V
+B0 78 / B1 00 *                           58 page 1? STATUS_BYTE read 00 none
+B0 79 / B1 00 00 *                        58 page 1? STATUS_WORD read 0000 none
+B0 7A / B1 00 *                           58 page 1? STATUS_VOUT read 00 none
+B0 8B / B1 CD 34 *                        58 page 1? READ_VOUT read 34CD 3.300048 V
+B0 8C / B1 00 D3 *                        58 page 1? READ_IOUT read D300 12 A
+B0 88 / B1 00 D3 *                        58 READ_VIN read D300 12 V
+B0 8D / B1 00 D3 *                        58 READ_TEMPERATURE_1 read D300 12 C
+B0 7E / B1 00 *                           58 STATUS_CML read 00 none
+B0 10 / B1 00 *                           58 WRITE_PROTECT read 00 all writes
+B0 15 *                                   58 STORE_USER_ALL send
+B0 19 / B1 B0 *                           58 CAPABILITY read B0 PEC, 400 kHz, SMBALERT#
+B0 98 / B1 33 *                           58 PMBUS_REVISION read 33
+B0 30 02 21 00 / B1 05 01 00 00 00 03 *   58 COEFFICIENTS of 21 side 0 read m 1 b 0 r 3
+B0 06 02 00 21 / B1 02 CD 34 *            58 page 0 VOUT_COMMAND read 34CD
+B2 21 CD 34 *                             59 VOUT_COMMAND write 34CD
+B2 00 02 *                                59 PAGE write 02
+B2 21 CD 34 *                             59 page 2? VOUT_COMMAND write 34CD
+B0 21 CD 34 *                             58 page 1? VOUT_COMMAND write 34CD 3.300048 V
+B0 00 / B1 01 *                           58 PAGE read 01
+B0 21 CD 34 *                             58 page 1? VOUT_COMMAND write 34CD 3.300048 V
+B0 00 FF *                                58 PAGE write FF
+B0 21 CD 34 *                             58 page 255? VOUT_COMMAND write 34CD
+= count VOUT_COMMAND 10
+= count PAGE 4
+= count VOUT_MODE 1
+= count OPERATION 1
+= count CLEAR_FAULTS 1
+= count VOUT_MAX 1
+= count VOUT_MARGIN_HIGH 1
+= count VOUT_MARGIN_LOW 1
+= count VOUT_MIN 1
+= count STATUS_BYTE 1
+= count STATUS_WORD 1
+= count STATUS_VOUT 1
+= count READ_VOUT 1
+= count READ_IOUT 1
+= count READ_VIN 1
+= count READ_TEMPERATURE_1 1
+= count STATUS_CML 1
+= count WRITE_PROTECT 1
+= count STORE_USER_ALL 1
+= count CAPABILITY 1
+= count PMBUS_REVISION 1
+= count COEFFICIENTS 1
+= lines 34 accepted 34 faults 0 bad 0
+"""),
+    ("--pages", """
+B0 00 / B1 03 *                           58 PAGE read 03
+B0 21 CD 34 *                             58 page 3? VOUT_COMMAND write 34CD
+B0 88 / B1 00                             58 read F2 Short 2
+B0 21 CD 34 *                             58 VOUT_COMMAND write 34CD
+B0 00 03 *                                58 PAGE write 03
+B2 03 47                                  59 write F5 WrongPec 2
+0E 03                                     -- write F1 NotOurs
+B0 21 CD 34 *                             58 page 3? VOUT_COMMAND write 34CD
+# another device: A0 00 01
+B0 21 CD 34 *                             58 page 3? VOUT_COMMAND write 34CD
+"""),
+    ("--pages", """
+B0 00 03 *                                58 PAGE write 03
+B2 00 04 *                                59 PAGE write 04
+# no stop: B0 05 04
+B0 21 CD 34 *                             58 VOUT_COMMAND write 34CD
+B2 21 CD 34 *                             59 VOUT_COMMAND write 34CD
+B0 00 03 *                                58 PAGE write 03
+B2 00 04 *                                59 PAGE write 04
+B0 9                                      X2 BadHex
+B0 21 CD 34 *                             58 VOUT_COMMAND write 34CD
+B2 21 CD 34 *                             59 VOUT_COMMAND write 34CD
+B0 00 03 *                                58 PAGE write 03
+#
+B0 21 CD 34 *                             58 VOUT_COMMAND write 34CD
+B0 00 03 *                                58 PAGE write 03
+# another devic
+B0 21 CD 34 *                             58 VOUT_COMMAND write 34CD
+"""),
+    # What ends every page, in every address: a bad line of either kind, and a comment but for one.
+    ("--pages", """
+B0 00 03 *                                58 PAGE write 03
+B2 00 04 *                                59 PAGE write 04
+B0 / B1 / B2                              X1 Syntax
+B0 21 CD 34 *                             58 VOUT_COMMAND write 34CD
+B2 21 CD 34 *                             59 VOUT_COMMAND write 34CD
+B0 00 03 *                                58 PAGE write 03
+#another device: A0 00 01
+B0 21 CD 34 *                             58 VOUT_COMMAND write 34CD
+B0 00 03 *                                58 PAGE write 03
+ # another device: A0 00 01               X2 BadHex
+B0 21 CD 34 *                             58 VOUT_COMMAND write 34CD
+B0 00 03 *                                58 PAGE write 03
+# no device acknowledged the address: B2
+B0 00 / B1 00 *                           58 PAGE read 00
+B0 21 CD 34 *                             58 page 0? VOUT_COMMAND write 34CD
+"""),
+    # What ends none: packets of the device, those that name their page, those of no device and of another; RESTORE isn't followed.
+    ("--pages", """
+B0 00 01 *                                58 PAGE write 01
+B0 16 *                                   58 RESTORE_USER_ALL send
+B0 21 CD 34 *                             58 page 1? VOUT_COMMAND write 34CD
+B0 15 *                                   58 STORE_USER_ALL send
+B0 10 80 34                               58 WRITE_PROTECT write 80
+B0 05 04 02 21 CD 34 *                    58 page 2 VOUT_COMMAND write 34CD
+B0 06 02 03 20 / B1 01 14 *               58 page 3 VOUT_MODE read 14
+B0 30 02 8B 01 / B1 05 01 00 00 00 03 *   58 COEFFICIENTS of 8B side 1 read m 1 b 0 r 3
+B1                                        -- write F1 NotOurs
+/                                         -- write F1 NotOurs
+F0 00 02                                  -- write F1 NotOurs
+B2 00 02                                  59 write F2 Short 3
+B0 21 CD 34 *                             58 page 1? VOUT_COMMAND write 34CD
+B0 00 / B1 01 *                           58 PAGE read 01
+# another device
+B0 00 / B1 00 *                           58 PAGE read 00 WRONG PAGE? lines 1 and 16
+B2 21 CD 34 *                             59 VOUT_COMMAND write 34CD WRONG PAGE? lines 12 and 17
+"""),
+    # Values by the output that is followed: by its VOUT_MODE, read so or by PAGE_PLUS_READ, and the COEFFICIENTS of the code.
+    ("--pages --values", """
+B0 20 / B1 14 *                           58 VOUT_MODE read 14 ULINEAR16 -12
+B0 00 01 *                                58 PAGE write 01
+B0 21 CD 34 *                             58 page 1? VOUT_COMMAND write 34CD
+B0 06 02 01 20 / B1 01 13 *               58 page 1 VOUT_MODE read 13 ULINEAR16 -13
+B0 21 CD 34 *                             58 page 1? VOUT_COMMAND write 34CD 1.650024 V
+B0 00 / B1 00 *                           58 PAGE read 00 WRONG PAGE? lines 2 and 6
+B0 20 / B1 40 *                           58 page 0? VOUT_MODE read 40 DIRECT
+B0 21 E4 0C *                             58 page 0? VOUT_COMMAND write 0CE4
+B0 30 02 21 00 / B1 05 01 00 00 00 03 *   58 COEFFICIENTS of 21 side 0 read m 1 b 0 r 3
+B0 21 E4 0C *                             58 page 0? VOUT_COMMAND write 0CE4 3.3 V
+B0 05 04 00 21 E4 0C *                    58 page 0 VOUT_COMMAND write 0CE4 3.3 V
+B0 00 FF *                                58 PAGE write FF
+B0 20 / B1 14 *                           58 page 255? VOUT_MODE read 14 ULINEAR16 -12
+B0 21 CD 34 *                             58 page 255? VOUT_COMMAND write 34CD 3.300048 V
+B0 05 04 FF 21 CD 34 *                    58 page 255 VOUT_COMMAND write 34CD 3.300048 V
+B0 05 04 02 21 CD 34 *                    58 page 2 VOUT_COMMAND write 34CD
+B0 00 02 !                                58 write F5 WrongPec 3 bytes B0 00 02 !
+B0 21 CD 34 *                             58 VOUT_COMMAND write 34CD WRONG PAGE? lines 17 and 18
+B2 00 01 *                                59 PAGE write 01
+B2 21 CD 34 *                             59 page 1? VOUT_COMMAND write 34CD
+"""),
+    ("--pages --values --vout=ulinear16:-12", """
+B0 21 CD 34 *                             58 VOUT_COMMAND write 34CD 3.300048 V
+B0 00 01 *                                58 PAGE write 01
+B0 21 CD 34 *                             58 page 1? VOUT_COMMAND write 34CD 3.300048 V
+B0 20 / B1 13 *                           58 page 1? VOUT_MODE read 13 ULINEAR16 -13
+B0 21 CD 34 *                             58 page 1? VOUT_COMMAND write 34CD 1.650024 V
+B0 20 / B1 21 *                           58 page 1? VOUT_MODE read 21
+B0 21 CD 34 *                             58 page 1? VOUT_COMMAND write 34CD
+# a loss
+B0 21 CD 34 *                             58 VOUT_COMMAND write 34CD 3.300048 V
+"""),
+    # What contradicts itself.
+    ("--pages", """
+B0 00 01 *                                58 PAGE write 01
+B0 21 CD 34 *                             58 page 1? VOUT_COMMAND write 34CD
+B0 00 / B1 00 *                           58 PAGE read 00 WRONG PAGE? lines 1 and 3
+B0 21 CD 34 *                             58 page 0? VOUT_COMMAND write 34CD
+B0 00 / B1 02 *                           58 PAGE read 02 WRONG PAGE? lines 1 and 5
+B0 00 / B1 01 *                           58 PAGE read 01
+B0 00 02 *                                58 PAGE write 02
+B2 00 / B3 01 *                           59 PAGE read 01
+B0 00 / B1 01 *                           58 PAGE read 01 WRONG PAGE? lines 7 and 9
+# a loss
+B0 00 / B1 00 *                           58 PAGE read 00
+B0 00 05 *                                58 PAGE write 05
+B0 03 47                                  58 write F5 WrongPec 2
+B0 00 / B1 00 *                           58 PAGE read 00
+"""),
+    # A page that was read contradicts no other read; of writes the last one counts.
+    ("--pages", """
+B0 00 / B1 03 *                           58 PAGE read 03
+B0 00 / B1 02 *                           58 PAGE read 02
+B0 8B / B1 00 D3 *                        58 page 2? READ_VOUT read D300
+B0 00 01 *                                58 PAGE write 01
+B0 00 00 *                                58 PAGE write 00
+B0 00 / B1 00 *                           58 PAGE read 00
+B0 00 / B1 01 *                           58 PAGE read 01 WRONG PAGE? lines 5 and 7
+B0 00 02 *                                58 PAGE write 02
+B0 00 / B1 02 *                           58 PAGE read 02
+"""),
+    # Two addresses side by side.
+    ("--pages", """
+B0 00 01 *                                58 PAGE write 01
+B2 00 02 *                                59 PAGE write 02
+B0 21 CD 34 *                             58 page 1? VOUT_COMMAND write 34CD
+B2 21 CD 34 *                             59 page 2? VOUT_COMMAND write 34CD
+B0 00 / B1 02 *                           58 PAGE read 02 WRONG PAGE? lines 1 and 5
+B2 00 / B3 02 *                           59 PAGE read 02
+B2 00 03 !                                59 write F5 WrongPec 3
+B0 03 *                                   58 page 2? CLEAR_FAULTS send
+B2 03 *                                   59 CLEAR_FAULTS send WRONG PAGE? lines 7 and 9
+B0 00 / B1 00 !                           58 read F5 WrongPec 2
+B2 00 / B3 00 *                           59 PAGE read 00
+B0 03 *                                   58 CLEAR_FAULTS send WRONG PAGE? lines 10 and 12
+B2 03 *                                   59 page 0? CLEAR_FAULTS send
+"""),
+    ("--pages", """
+B0 00 01 *                                58 PAGE write 01
+B0 00 02 !                                58 write F5 WrongPec 3
+B0 21 CD 34 *                             58 VOUT_COMMAND write 34CD WRONG PAGE? lines 2 and 3
+B2 21 CD 34 *                             59 VOUT_COMMAND write 34CD
+# a loss
+B0 88 / B1 00 D3 *                        58 READ_VIN read D300
+B0 8B / B1 00 D3 *                        58 READ_VOUT read D300 WRONG PAGE? lines 2 and 7
+B0 05 04 00 21 CD 34 *                    58 page 0 VOUT_COMMAND write 34CD
+B0 00                                     58 write F2 Short 2
+B0 03 *                                   58 CLEAR_FAULTS send WRONG PAGE? lines 9 and 10
+B0 00 / B1                                58 read F2 Short 1
+B0 03 *                                   58 CLEAR_FAULTS send WRONG PAGE? lines 11 and 12
+B0 00 / B1 00 *                           58 PAGE read 00
+B0 03 *                                   58 page 0? CLEAR_FAULTS send
+B0 00 / B3 00 *                           58 read F1 NotOurs
+B0 03 *                                   58 CLEAR_FAULTS send WRONG PAGE? lines 15 and 16
+B0 00 02 *                                58 PAGE write 02
+B0 03 *                                   58 page 2? CLEAR_FAULTS send
+"""),
+    ("--pages", """
+B0 00 01 *                                58 PAGE write 01
+# byte 2 wasn't acknowledged
+B0 00 02 *                                58 PAGE write 02
+B0 21 CD 34 *                             58 VOUT_COMMAND write 34CD WRONG PAGE? lines 3 and 4
+B0 00 02 *                                58 PAGE write 02
+# byte 2 wasn't acknowledged
+B0 21 CD 34 *                             58 VOUT_COMMAND write 34CD
+B0 00 02 *                                58 PAGE write 02
+B0 21 CD 34 *                             58 page 2? VOUT_COMMAND write 34CD
+"""),
+    # A byte that wasn't acknowledged is one of the next packet, whatever that is; a comment or a bad line may stand between.
+    ("--pages", """
+# byte 2 wasn't acknowledged
+# byte 0 of the answer wasn't acknowledged
+B0 00 02 *                                58 PAGE write 02
+B0 03 *                                   58 CLEAR_FAULTS send WRONG PAGE? lines 3 and 4
+# byte 2 wasn't acknowledged
+B2 03 *                                   59 CLEAR_FAULTS send
+B0 00 02 *                                58 PAGE write 02
+B0 03 *                                   58 page 2? CLEAR_FAULTS send
+# byte 1 wasn't acknowledged
+0E 03                                     -- write F1 NotOurs
+B0 00 01 *                                58 PAGE write 01
+B0 03 *                                   58 page 1? CLEAR_FAULTS send
+# byte 0 of the answer wasn't acknowledged
+B0 00 / B1 01 *                           58 PAGE read 01
+B0 03 *                                   58 CLEAR_FAULTS send WRONG PAGE? lines 14 and 15
+B0 00 / B1 00 *                           58 PAGE read 00
+B0 03 *                                   58 page 0? CLEAR_FAULTS send
+# byte 2 wasn't acknowledged
+# no stop: B0 00 01
+B0 00 01 *                                58 PAGE write 01
+B0 03 *                                   58 CLEAR_FAULTS send WRONG PAGE? lines 20 and 21
+#byte 2 wasn't acknowledged
+B0 00 01 *                                58 PAGE write 01
+B0 03 *                                   58 page 1? CLEAR_FAULTS send
+# byte 2 wasn't acknowledged
+B0 9                                      X2 BadHex
+B0 00 01 *                                58 PAGE write 01
+B0 03 *                                   58 CLEAR_FAULTS send WRONG PAGE? lines 27 and 28
+B0 00 / B1 01 *                           58 PAGE read 01
+B0 03 *                                   58 page 1? CLEAR_FAULTS send
+# byte 2 wasn't acknowledged
+B0 05 04 00 21 CD 34 *                    58 page 0 VOUT_COMMAND write 34CD
+B0 03 *                                   58 CLEAR_FAULTS send
+"""),
+    # With `--all`: what stays a fault, what nobody answered, what PAGE_PLUS carries, and a packet of PAGE of another length.
+    ("--pages --all", """
+B0 00 01                                  58 PAGE write 01, no PEC
+B0 05 03 00 00 02 *                       58 page 0 code 00 PAGE write 02, PEC right
+B0 06 02 00 EF / B1 01 60                 58 page 0 code EF read 60, no PEC
+B0 D4 07                                  58 code D4 write 07, no PEC
+B0 20 14                                  58 code 20 VOUT_MODE write 14, no PEC
+B0 21 00 02                               58 page 1? VOUT_COMMAND write 0200, no PEC
+B0 78 / B1 FF *                           58 page 1? STATUS_BYTE read FF
+B2 96 / B3 FF                             59 code 96 READ_POUT read FF, all ones: nobody answered
+B0 21 00 02                               58 page 1? VOUT_COMMAND write 0200, no PEC
+B0 03 47                                  58 write F5 WrongPec 2
+B0 21 00 02                               58 VOUT_COMMAND write 0200, no PEC
+B0 00 01 !                                58 write F5 WrongPec 3
+B0 21 00 02                               58 VOUT_COMMAND write 0200, no PEC WRONG PAGE? lines 12 and 13
+B0 00 01 *                                58 PAGE write 01
+B0 00 02 03 04                            58 code 00 PAGE write 02 03 04, no PEC
+B0 00 / B1 00                             58 PAGE read 00, no PEC WRONG PAGE? lines 14 and 16
+B0 8B / B1 00 02                          58 page 0? READ_VOUT read 0200, no PEC
+B0 00 / B1 FF *                           58 PAGE read FF WRONG PAGE? lines 14 and 18
+B0 8B / B1 00 02 *                        58 page 255? READ_VOUT read 0200
+B0 06 02 00 21 / B1 FF FF FF FF           58 code 06 PAGE_PLUS_READ write 02 00 21 read FF FF FF FF, all ones: nobody answered
+B0 8B / B1 00 02 *                        58 READ_VOUT read 0200
+B0 00 / B1 01 *                           58 PAGE read 01
+B0 00 / B1 00 *                           58 PAGE read 00
+"""),
+    ("--pages --all --values --vout=ulinear16:-12", """
+B0 00 01                                  58 PAGE write 01, no PEC
+B0 20 / B1 17                             58 page 1? VOUT_MODE read 17 ULINEAR16 -9, no PEC
+B0 21 00 02                               58 page 1? VOUT_COMMAND write 0200 1 V, no PEC
+B0 40 00 02                               58 code 40 VOUT_OV_FAULT_LIMIT write 00 02, no PEC
+B0 21 00                                  58 code 21 VOUT_COMMAND write 00, no PEC
+B0 21 00 02                               58 page 1? VOUT_COMMAND write 0200 1 V, no PEC
+B0 00 / B1 00                             58 PAGE read 00, no PEC WRONG PAGE? lines 1 and 7
+B0 21 00 10                               58 page 0? VOUT_COMMAND write 1000 1 V, no PEC
+B0 96 / B1 *                              58 code 96 READ_POUT read, PEC right
+B0 96 / B1 34 12                          58 code 96 READ_POUT read 34 12, no PEC
+B0 21 00 10                               58 page 0? VOUT_COMMAND write 1000 1 V, no PEC
+B0 96 / B1                                58 code 96 READ_POUT read, no PEC
+B0 21 00 10                               58 VOUT_COMMAND write 1000 1 V, no PEC
+B0 00 01                                  58 PAGE write 01, no PEC
+B0 8B / B1 FF FF                          58 code 8B READ_VOUT read FF FF, all ones: nobody answered
+B0 21 00 02                               58 VOUT_COMMAND write 0200 0.125 V, no PEC
+B0 00 01                                  58 PAGE write 01, no PEC
+B0 00 / B1 FF                             58 code 00 PAGE read FF, all ones: nobody answered
+B0 21 00 02                               58 VOUT_COMMAND write 0200 0.125 V, no PEC WRONG PAGE? lines 18 and 19
+B0 00 01                                  58 PAGE write 01, no PEC
+B0 00 / B1                                58 code 00 PAGE read, no PEC
+B0 21 00 02                               58 VOUT_COMMAND write 0200 0.125 V, no PEC WRONG PAGE? lines 21 and 22
+B0 00 01                                  58 PAGE write 01, no PEC
+B0 00 02 03 04                            58 code 00 PAGE write 02 03 04, no PEC
+B0 21 00 02                               58 page 1? VOUT_COMMAND write 0200 1 V, no PEC WRONG PAGE? lines 24 and 25
+B0 00                                     58 code 00 PAGE send, no PEC
+B0 8B / B1 00 02                          58 page 1? READ_VOUT read 0200 1 V, no PEC WRONG PAGE? lines 26 and 27
+"""),
+    ("--json --pages --all", """
+B0 00 01                   {"line":1,"address":"58","code":"00","name":"PAGE","direction":"write","payload":"01","pec":false}
+B0 21 00 02 *              {"line":2,"address":"58","page":1,"followed":true,"code":"21","name":"VOUT_COMMAND","direction":"write","payload":"00 02"}
+B0 21 00 02                {"line":3,"address":"58","page":1,"followed":true,"code":"21","name":"VOUT_COMMAND","direction":"write","payload":"00 02","pec":false}
+B0 00 / B1 00 *            {"line":4,"address":"58","code":"00","name":"PAGE","direction":"read","payload":"00","wrong":[1,4]}
+B0 00 / B1 FF              {"line":5,"address":"58","code":"00","name":"PAGE","direction":"read","payload":"FF","pec":false,"answered":false}
+B0 03                      {"line":6,"address":"58","code":"03","name":"CLEAR_FAULTS","direction":"send","pec":false,"wrong":[5,6]}
+B0 05 02 00 03 *           {"line":7,"address":"58","page":0,"code":"03","name":"CLEAR_FAULTS","direction":"send"}
+"""),
+    ("--json --pages --values", """
+B0 00 01 *                 {"line":1,"address":"58","code":"00","name":"PAGE","direction":"write","payload":"01"}
+B0 20 / B1 14 *            {"line":2,"address":"58","page":1,"followed":true,"code":"20","name":"VOUT_MODE","direction":"read","payload":"14","value":"ULINEAR16 -12"}
+B0 21 CD 34 *              {"line":3,"address":"58","page":1,"followed":true,"code":"21","name":"VOUT_COMMAND","direction":"write","payload":"CD 34","numerator":13517,"denominator":4096,"volts":3.300048}
+B0 79 / B1 40 08 *         {"line":4,"address":"58","page":1,"followed":true,"code":"79","name":"STATUS_WORD","direction":"read","payload":"40 08","flags":["POWER_GOOD#","OFF"]}
+B0 03 *                    {"line":5,"address":"58","page":1,"followed":true,"code":"03","name":"CLEAR_FAULTS","direction":"send"}
+B0 00 / B1 00 *            {"line":6,"address":"58","code":"00","name":"PAGE","direction":"read","payload":"00","wrong":[1,6]}
+B0 00 02 !                 {"line":7,"address":"58","direction":"write","packet":"B0 00 02 !","fault":"F5 WrongPec","place":3}
+B0 21 CD 34 *              {"line":8,"address":"58","code":"21","name":"VOUT_COMMAND","direction":"write","payload":"CD 34","wrong":[7,8]}
+B0 7A / B1 10 *            {"line":9,"address":"58","code":"7A","name":"STATUS_VOUT","direction":"read","payload":"10","flags":["VOUT_UV_FAULT"],"wrong":[7,9]}
+B0 88 / B1 00 D3 *         {"line":10,"address":"58","code":"88","name":"READ_VIN","direction":"read","payload":"00 D3","numerator":768,"denominator":64,"volts":12}
+B0 05 04 01 21 CD 34 *     {"line":11,"address":"58","page":1,"code":"21","name":"VOUT_COMMAND","direction":"write","payload":"CD 34","numerator":13517,"denominator":4096,"volts":3.300048}
+B0 9                       {"line":12,"fault":"X2 BadHex"}
+B0 00 FF *                 {"line":13,"address":"58","code":"00","name":"PAGE","direction":"write","payload":"FF"}
+B0 01 80 *                 {"line":14,"address":"58","page":255,"followed":true,"code":"01","name":"OPERATION","direction":"write","payload":"80","value":"on"}
+= {"count":"PAGE","lines":3}
+= {"count":"VOUT_MODE","lines":1}
+= {"count":"VOUT_COMMAND","lines":3}
+= {"count":"STATUS_WORD","lines":1}
+= {"count":"CLEAR_FAULTS","lines":1}
+= {"count":"STATUS_VOUT","lines":1}
+= {"count":"READ_VIN","lines":1}
+= {"count":"OPERATION","lines":1}
+= {"lines":14,"accepted":12,"faults":1,"bad":1}
+"""),
+    ("--json --pages --all --times --gap=1", """
+0 B0 00 01                 {"line":1,"time":0,"address":"58","code":"00","name":"PAGE","direction":"write","payload":"01","pec":false}
+1000 B0 00 02 03 04        {"line":2,"time":1000,"address":"58","code":"00","name":"PAGE","direction":"write","payload":"02 03 04","pec":false}
+2000 B0 8B / B1 00 02      {"line":3,"time":2000,"address":"58","page":1,"followed":true,"code":"8B","name":"READ_VOUT","direction":"read","payload":"00 02","pec":false,"wrong":[2,3]}
+3001 B0 03                 {"line":4,"time":3001,"address":"58","code":"03","name":"CLEAR_FAULTS","direction":"send","pec":false,"wrong":[2,4]}
+3001 B0 00 / B1 05 *       {"line":5,"time":3001,"address":"58","code":"00","name":"PAGE","direction":"read","payload":"05"}
+3002 B0 01 / B1 80 *       {"line":6,"time":3002,"address":"58","page":5,"followed":true,"code":"01","name":"OPERATION","direction":"read","payload":"80"}
+B0 03                      {"line":7,"fault":"X1 Syntax"}
+3003 B0 03                 {"line":8,"time":3003,"address":"58","code":"03","name":"CLEAR_FAULTS","direction":"send","pec":false}
+"""),
+    # A pause, whose length `--gap` gives in milliseconds.
+    ("--pages --times", """
+1000000 B0 00 01 *                        1000000 us 58 PAGE write 01
+2000000 B0 03 46                          2000000 us 58 page 1? CLEAR_FAULTS send
+2500000 B2 03 *                           2500000 us 59 CLEAR_FAULTS send
+3000001 B0 03 46                          3000001 us 58 CLEAR_FAULTS send
+3000002 B0 00 01 *                        3000002 us 58 PAGE write 01
+3500000 B0 88 / B1 00 D3 *                3500000 us 58 READ_VIN read D300
+4500000 B0 03 46                          4500000 us 58 page 1? CLEAR_FAULTS send
+4499999 B0 03 46                          4499999 us 58 CLEAR_FAULTS send
+4500000 B0 00 02 *                        4500000 us 58 PAGE write 02
+6000000 B0 00 / B1 01 *                   6000000 us 58 PAGE read 01
+6000000 B0 03 46                          6000000 us 58 page 1? CLEAR_FAULTS send
+6000000 x                                 X2 BadHex
+6000000 B0 03 46                          6000000 us 58 CLEAR_FAULTS send
+"""),
+    ("--pages --times --gap=0", """
+5 B0 00 01 *                              5 us 58 PAGE write 01
+5 B0 03 46                                5 us 58 page 1? CLEAR_FAULTS send
+6 B0 03 46                                6 us 58 CLEAR_FAULTS send
+"""),
+    ("--gap 2 --times --pages", """
+0 B0 00 01 *                              0 us 58 PAGE write 01
+2000 B0 03 46                             2000 us 58 page 1? CLEAR_FAULTS send
+4001 B0 03 46                             4001 us 58 CLEAR_FAULTS send
+4001 B0 00 01 *                           4001 us 58 PAGE write 01
+5000 B0 03 47                             5000 us 58 write F5 WrongPec 2
+5000 B0 00 01 *                           5000 us 58 PAGE write 01
+7000 B0 03 46                             7000 us 58 page 1? CLEAR_FAULTS send
+"""),
+    # A pause is one of an address, between its packets of all kinds; what is marked stays marked behind it.
+    ("--pages --times --gap=10", """
+0 B0 00 01 *                              0 us 58 PAGE write 01
+10000 B0 03 46                            10000 us 58 page 1? CLEAR_FAULTS send
+20000 B0 05 02 00 03 *                    20000 us 58 page 0 CLEAR_FAULTS send
+30000 B0 03 46                            30000 us 58 page 1? CLEAR_FAULTS send
+40000 B0 00 / B1 00 *                     40000 us 58 PAGE read 00 WRONG PAGE? lines 1 and 5
+50001 B0 00 / B1 01 *                     50001 us 58 PAGE read 01
+50001 B0 00 02 !                          50001 us 58 write F5 WrongPec 3
+70000 B0 03 46                            70000 us 58 CLEAR_FAULTS send WRONG PAGE? lines 7 and 8
+70000 B2 00 05 *                          70000 us 59 PAGE write 05
+80000                                     80000 us -- write F1 NotOurs
+80000 B2 03 *                             80000 us 59 page 5? CLEAR_FAULTS send
+79999 B2 00 / B3 04 *                     79999 us 59 PAGE read 04
+80000 B2 03 *                             80000 us 59 page 4? CLEAR_FAULTS send
+# another device: A0 00 01
+80000 B2 03 *                             80000 us 59 page 4? CLEAR_FAULTS send
+# no stop: A0
+80000 B2 03 *                             80000 us 59 CLEAR_FAULTS send
+80000 B2 00 05 *                          80000 us 59 PAGE write 05
+B2 03                                     X1 Syntax
+80000 B2 03 *                             80000 us 59 CLEAR_FAULTS send
+"""),
+    ("--pages --times --gap=1000000", """
+0 B0 00 01 *                              0 us 58 PAGE write 01
+1000000000 B0 03 46                       1000000000 us 58 page 1? CLEAR_FAULTS send
+2000000001 B0 03 46                       2000000001 us 58 CLEAR_FAULTS send
 """),
 ]
 
@@ -827,6 +1267,15 @@ B0 96 / B1 34 12                          58 code 96 READ_POUT read 34 12, no PE
 = count code 96 1
 = lines 4 accepted 2 other 1 faults 1 bad 0
 """),
+    ("--pages", """
+B0 06 02 00 20 / B1 01 14 *               58 page 0 VOUT_MODE read 14
+B0 05 04 00 21 CD 34 5A                   58 page 0 VOUT_COMMAND write 34CD
+B0 05 04 01 21 CD 34 5A                   58 write F5 WrongPec 7
+B0 96 / B1 34 12                          58 write F6 UnknownCode 1
+= count VOUT_MODE 1
+= count VOUT_COMMAND 1
+= lines 4 accepted 2 faults 2 bad 0
+"""),
     ("--long", """
 B0 06 02 00 20 / B1 01 14 *               58 page 0 VOUT_MODE read 14
 B0 05 04 00 21 CD 34 5A                   58 page 0 VOUT_COMMAND write 34CD
@@ -845,7 +1294,7 @@ B0 96 / B1 34 12                          58 write F6 UnknownCode 1
 = count VOUT_COMMAND 1
 = lines 4 accepted 2 faults 2 bad 0
 """),
-    ("--json --times --long --all --vout=linear11 --values --readings=linear11", """
+    ("--json --times --long --all --vout=linear11 --values --pages --gap=5 --readings=linear11", """
 1 B0 06 02 00 20 / B1 01 14 *   {"line":1,"time":1,"address":"58","page":0,"code":"20","name":"VOUT_MODE","direction":"read","payload":"14","value":"ULINEAR16 -12"}
 20 B0 05 04 00 21 CD 34 5A      {"line":2,"time":20,"address":"58","page":0,"code":"21","name":"VOUT_COMMAND","direction":"write","payload":"CD 34","numerator":13517,"denominator":4096,"volts":3.300048}
 300 B0 05 04 01 21 CD 34 5A     {"line":3,"time":300,"address":"58","direction":"write","packet":"B0 05 04 01 21 CD 34 5A","fault":"F5 WrongPec","place":7}
@@ -867,7 +1316,7 @@ B0 96 / B1 34 12                          58 write F6 UnknownCode 1
 ]
 
 GROUPS = [("--values", VALUES), ("--values", TAUGHT), *VOUT, *READINGS, ("--values", FAULTS), ("--all", ALL),
-          ("--all --values", WORDS), ("--times", TIMES), *JSON, *EACH]
+          ("--all --values", WORDS), ("--times", TIMES), *JSON, *PAGES, *EACH]
 
 # Texts as bytes, the options, and the whole answer: ends of lines, skipped lines, the longest parts.
 WHOLE = [
@@ -888,6 +1337,20 @@ WHOLE = [
      "lines 1 accepted 0 other 1 faults 0 bad 0\n"),
     ("--all", b"B096/B1" + b"05" * 299, 0, f"1 58 code 96 READ_POUT read {' '.join(['05'] * 299)}, no PEC\ncount code 96 1\n"
      "lines 1 accepted 0 other 1 faults 0 bad 0\n"),
+    # Lines that say nothing end no page; a comment does, of whatever length, also the last one.
+    ("--pages", b"B0 00 01 ED\r\n# another device\r\n\r\n  \r\nB0 03 46\r\n#\r\nB0 03 46\n# x", 0,
+     "1 58 PAGE write 01\n5 58 page 1? CLEAR_FAULTS send\n7 58 CLEAR_FAULTS send\ncount PAGE 1\ncount CLEAR_FAULTS 2\n"
+     "lines 3 accepted 3 faults 0 bad 0\n"),
+    ("--pages", b"B0 00 01 ED\n# another device:" + b" A0" * 9999 + b"\nB0 03 46\n# a part of more than 300 bytes:" + b" B0" * 9999
+     + b"\nB0 03 46\n", 0, "1 58 PAGE write 01\n3 58 page 1? CLEAR_FAULTS send\n5 58 CLEAR_FAULTS send\ncount PAGE 1\n"
+     "count CLEAR_FAULTS 2\nlines 3 accepted 3 faults 0 bad 0\n"),
+    ("--pages", b"B0 00 01 ED\n" + b"B0" * 301 + b"\nB0 03 46\n", 1, "1 58 PAGE write 01\n2 X1 Syntax\n3 58 CLEAR_FAULTS send\n"
+     "count PAGE 1\ncount CLEAR_FAULTS 1\nlines 3 accepted 2 faults 0 bad 1\n"),
+    # Without `--pages` no page is followed.
+    ("--json", b"B0 00 01 ED\n# x\nB0 03 46\n", 0,
+     '{"line":1,"address":"58","code":"00","name":"PAGE","direction":"write","payload":"01"}\n'
+     '{"line":3,"address":"58","code":"03","name":"CLEAR_FAULTS","direction":"send"}\n'
+     '{"count":"PAGE","lines":1}\n{"count":"CLEAR_FAULTS","lines":1}\n{"lines":2,"accepted":2,"faults":0,"bad":0}\n'),
     ("--values", b"B0" * 300, 0, f"1 58 write F5 WrongPec 299 bytes {' '.join(['B0'] * 300)}\nlines 1 accepted 0 faults 1 bad 0\n"),
 ]
 
@@ -898,19 +1361,29 @@ REFUSED = [
     *((f"--values --vout={form}", "bad vout") for form in (
         "", "linear", "linear11:0", "LINEAR11", "linear16:-12", "ulinear16", "ulinear16:16", "ulinear16:-17", "ulinear16:x",
         "ulinear16:1:2", "direct", "direct:1:0", "direct:1:0:0:0", "direct:0:0:0", "direct:1:0:13", "direct:1:0:-13",
-        "direct:32768:0:0", "direct:1:-32769:0", "direct:1:0:128", "direct::0:0", "ulinear16/-12", "direct/1/0/3", "8C:linear11")),
+        "direct:32768:0:0", "direct:1:-32769:0", "direct:1:0:128", "direct::0:0", "ulinear16/16", "ulinear16//1", "ulinear16/",
+        "direct/1:0/13", "/linear11", "/", "ulinear16\\-12", "8C:linear11")),
     ("--readings=linear11", "give --readings with --values"), ("--readings=", "give --readings with --values"),
     *((f"--values --readings={entries}", "bad readings") for entries in (
         "", "linear", "ulinear16:-12", "8C", "8C:", ":linear11", "8B:linear11", "58:linear11", "8C:58:linear11", "07:8C:linear11",
         "78:8C:linear11", "B0:8C:linear11", "58:8C:8D:linear11", "8:linear11", "08C:linear11", "0x8C:linear11", "linear11,", ",linear11",
-        "linear11,,linear11", "direct:0:0:0", "direct:1:0:13", "8C:direct:1:0:-13", "linear11:0", ",".join(["linear11"] * 9))),
+        "linear11,,linear11", "direct:0:0:0", "direct:1:0:13", "8C:direct:1:0:-13", "linear11:0", ",".join(["linear11"] * 9),
+        "8B/linear11", "8C//linear11", "58/8C/8D/linear11", "ulinear16/-12")),
+    ("--gap=5", "give --gap with --pages and --times"), ("--gap=x --pages", "give --gap with --pages and --times"),
+    ("--times --gap=5", "give --gap with --pages and --times"),
+    *((f"--pages --times --gap={gap}", "bad gap") for gap in (
+        "", "x", "+1", "-1", "-0", "1.5", "1,5", "0x5", "5ms", "1000001", "10000000", "00000005")),
     # The first in this order.
-    ("--readings=x --vout=x", "give --vout with --values"), ("--readings=x --vout=x --values", "bad vout"),
+    ("--gap=x --readings=x --vout=x", "give --vout with --values"), ("--gap=x --readings=x", "give --readings with --values"),
+    ("--gap=x --readings=x --vout=x --values", "bad vout"), ("--gap=x --readings=x --values", "bad readings"),
     ("--values --values", None), ("--all --all", None), ("--json --json", None), ("--long --long", None), ("--times --times", None),
-    ("--values --vout=linear11 --vout=linear11", None),
-    ("--values --readings=linear11 --readings=linear11", None), ("--values=1", None), ("--pages", None), ("--value", None), ("--all=yes", None), ("--values more", None), ("--values --vout", None),
-    ("--values --readings", None),
+    ("--pages --pages", None), ("--values --vout=linear11 --vout=linear11", None),
+    ("--values --readings=linear11 --readings=linear11", None), ("--pages --times --gap=1 --gap=1", None), ("--values=1", None),
+    ("--pages=1", None), ("--value", None), ("--all=yes", None), ("--values more", None), ("--values --vout", None),
+    ("--values --readings", None), ("--gap", None),
 ]
 # Forms that are taken.
 TAKEN = [f"--values --readings={','.join(['77:8d:linear11'] * 8)}", "--values --readings=08:8C:direct:-1:5:12",
-         "--values --readings=88:linear11,08:8D:direct:32767:-32768:-12"]
+         "--values --readings=88:linear11,08:8D:direct:32767:-32768:-12", "--values --readings=77/8D/linear11,58/88:direct:1/0/3",
+         "--values --vout=ulinear16/-16", "--values --vout=direct/1:0/-12",
+         "--pages", "--pages --times", "--pages --times --gap=0000005", "--pages --times --gap=1000000", "--gap=0 --times --pages"]

@@ -1,6 +1,6 @@
 #!/usr/bin/env python3
 """Tries `pmb decode` with options on the rows of trials/programs/told_rows.py, whose answers were written by hand: each status bit,
-each kind of value, formats that a trace teaches, faults, other codes, times, JSON, faulty command lines. Then a trace of
+each kind of value, formats that a trace teaches, faults, other codes, pages, times, JSON, faulty command lines. Then a trace of
 5 MiB goes through in memory that doesn't grow, and each line is told before the next one comes.
 
     trials/programs/try_told_captures.py [--plain]
@@ -24,11 +24,11 @@ import paths  # noqa: E402, F401
 import program  # noqa: E402
 from tally import Tally  # noqa: E402
 from told_rows import (  # noqa: E402
-    ALL, FAULTS, GROUPS, NAMES, OTHER_STATUS, REFUSED, STATUS, STATUS_CODES, TAKEN, WHOLE,
+    ALL, FAULTS, GROUPS, NAMES, OTHER_STATUS, PAGES, REFUSED, STATUS, STATUS_CODES, TAKEN, WHOLE,
 )
 
 JSON = "--json"
-EVERY = ["--values", "--all", "--long", "--times"]
+EVERY = ["--values", "--all", "--long", "--times", "--pages"]
 MIB, LONG = 1_048_576, 5_242_880
 # So much more memory may be in use behind 5 MiB than behind the first one.
 MOST_GROWTH = 128
@@ -195,7 +195,7 @@ def taken_faults(decode, words):
 
 def limit_faults(decode):
     """Of more than 1 MiB without `--long` the lines that end in it are told; with it, all of them."""
-    for words in (["--values"], ["--all", "--times"], ["--long"], ["--long", "--values"]):
+    for words in (["--values"], ["--all", "--times"], ["--pages"], ["--long"], ["--long", "--values"]):
         line = "0 " + LINE if "--times" in words else LINE
         text, count = line.encode() * 43_700, MIB // len(line)
         status, told, errors = decode(text, words)
@@ -266,9 +266,11 @@ def stream_faults(path):
 
 def piece_faults(decode, path):
     """A trace that comes byte by byte is told as a whole one."""
-    text = "".join(wanted_of(rows, [])[0] for rows in (*traces(ALL), *traces(FAULTS))).encode()
-    wanted = decode(text, EVERY[:3])[:2]
-    with subprocess.Popen([path, "decode", *EVERY[:3]], stdin=subprocess.PIPE, stdout=subprocess.PIPE, bufsize=0) as ran:
+    words = [word for word in EVERY if word != "--times"]
+    groups = [ALL, FAULTS, *(text for options, text in PAGES if "--times" not in options)]
+    text = "".join(wanted_of(rows, [])[0] for group in groups for rows in traces(group)).encode()
+    wanted = decode(text, words)[:2]
+    with subprocess.Popen([path, "decode", *words], stdin=subprocess.PIPE, stdout=subprocess.PIPE, bufsize=0) as ran:
         for byte in text:
             ran.stdin.write(bytes([byte]))
         told = ran.communicate()[0].decode()

@@ -130,8 +130,8 @@ def waveform_faults(decode, name):
 def drawn_faults():
     """Waveforms that are drawn of rows, which were written by hand."""
     for options, text in told_rows.GROUPS:
-        # The decoder tells values always.
-        if {*options.split()} & {"--json", "--times"} or "--values" not in options:
+        # The decoder tells values always, and follows no page.
+        if {*options.split()} & {"--json", "--times", "--pages"} or "--values" not in options:
             continue
         for rows in traces(text):
             yield from drawn_fault(options, rows)

@@ -2,16 +2,18 @@
 import re
 
 from . import trace
-from .lines import MOST_BYTES, TextFault, decimal, numbered
+from .following import Pages
+from .lines import MOST_BYTES, TextFault, decimal, is_skipped, lines_of
 from .numbers import coefficients_fault
 from .packets import name_of
 from .telling import fields_of, object_text, of_all, text_of
 from .trace import judged, parts_of
 from .values import READINGS, Formats, value_fields, words_of_value
 
-SWITCHES = ("--values", "--all", "--long", "--times", "--json")
+SWITCHES = ("--values", "--all", "--long", "--times", "--json", "--pages")
+VALUED = ("--vout", "--readings", "--gap")
 TIME = re.compile(rb" *([0-9]{1,18})(?= |$)")
-MOST_READINGS = 8
+MOST_READINGS, MOST_GAP, GAP = 8, 1_000_000, 1000
 
 
 class BadOptions(Exception):
@@ -19,8 +21,8 @@ class BadOptions(Exception):
 
 
 def format_named(text, refusal="bad vout"):
-    """The format that a text names."""
-    name, *numbers = text.split(":")
+    """The format that a text names; a slash stands for a colon."""
+    name, *numbers = text.replace("/", ":").split(":")
     bounds = {"linear11": [], "ulinear16": [(-16, 15)], "direct": [(-2**15, 2**15 - 1)] * 2 + [(-2**7, 2**7 - 1)]}.get(name)
     if bounds is None or len(bounds) != len(numbers):
         raise BadOptions(refusal)
@@ -37,7 +39,7 @@ def readings_named(text):
     """The entries of `--readings`: an address or None, a code or None, and a format each."""
     entries = []
     for entry in text.split(","):
-        words, places = entry.split(":"), []
+        words, places = entry.replace("/", ":").split(":"), []
         while len(places) < 2 and re.fullmatch("[0-9A-Fa-f]{2}", words[0]):
             places.append(int(words.pop(0), 16))
             words = words or [""]
@@ -51,8 +53,16 @@ def readings_named(text):
     return entries
 
 
-# The options that go with `--values`, in the order of their refusals, and what reads what stands behind them.
-VALUED = {"--vout": format_named, "--readings": readings_named}
+def gap_named(text):
+    """The milliseconds of `--gap`."""
+    if not re.fullmatch("[0-9]{1,7}", text) or int(text) > MOST_GAP:
+        raise BadOptions("bad gap")
+    return int(text)
+
+
+# The options that need others, in the order of their refusals, and what reads what stands behind them.
+NEEDS = [("--vout", ("--values",), format_named), ("--readings", ("--values",), readings_named),
+         ("--gap", ("--pages", "--times"), gap_named)]
 
 
 def options_of(words):
@@ -65,10 +75,10 @@ def options_of(words):
         if name in options or name not in (*SWITCHES, *VALUED) or bool(equals) != (name in VALUED):
             raise BadOptions(None)
         options[name] = value
-    for name, read in VALUED.items():
+    for name, needed, read in NEEDS:
         if name in options:
-            if "--values" not in options:
-                raise BadOptions(f"give {name} with --values")
+            if not {*needed} <= {*options}:
+                raise BadOptions(f"give {name} with {' and '.join(needed)}")
             options[name] = read(options[name])
     return options
 
@@ -79,10 +89,15 @@ class Telling:
     def __init__(self, options):
         self.options = options
         self.formats = Formats(options.get("--vout"), options.get("--readings", []))
+        self.pages = Pages(1000 * options.get("--gap", GAP)) if "--pages" in options else None
         self.said, self.counts, self.codes = [], {}, {}
         self.faults = self.bad = self.others = 0
 
     def line(self, number, line):
+        if is_skipped(line):
+            if self.pages and line.startswith(b"#"):
+                self.pages.comment(line)
+            return
         time = None
         if "--times" in self.options:
             found = TIME.match(line)
@@ -97,21 +112,33 @@ class Telling:
             self.packet(number, time, *parts)
 
     def packet(self, number, time, frame, read):
-        packet = judged(frame, read)
+        packet, wrong = judged(frame, read), None
         if "--all" in self.options:
             packet = of_all(packet, frame, read)
+        if self.pages:
+            self.pages.come(packet, time)
+            wrong = self.pages.contradiction(number, packet)
+            packet = self.pages.followed(packet)
         self.count(packet)
+        self.say(number, time, packet, (frame, read), wrong)
+        self.formats.learn(packet)
+        if self.pages:
+            self.pages.learn(number, packet, frame)
+
+    def say(self, number, time, packet, parts, wrong):
         value, has_values = self.value(packet), "--values" in self.options
         if "--json" in self.options:
-            told = fields_of(packet, frame, read, has_values, value)
-            self.said.append(object_text({"line": number, "time": time, **told}))
-        else:
-            where = f"{number}" if time is None else f"{number} {time} us"
-            self.said.append(f"{where} {text_of(packet, frame, read, has_values, words_of_value(value))}")
-        self.formats.learn(packet)
+            told = fields_of(packet, *parts, has_values, value)
+            self.said.append(object_text({"line": number, "time": time, **told, "wrong": wrong}))
+            return
+        where = f"{number}" if time is None else f"{number} {time} us"
+        mark = f" WRONG PAGE? lines {wrong[0]} and {wrong[1]}" if wrong else ""
+        self.said.append(f"{where} {text_of(packet, *parts, has_values, words_of_value(value))}{mark}")
 
     def bad_line(self, number, words):
         self.bad += 1
+        if self.pages:
+            self.pages.lose()
         self.said.append(object_text({"line": number, "fault": words}) if "--json" in self.options else f"{number} {words}")
 
     def count(self, packet):
@@ -158,7 +185,7 @@ def decode(text, words):
         text = text[:MOST_BYTES]
         text = text[:text.rfind(b"\n") + 1]
     told = Telling(options)
-    for number, line in numbered(text):
+    for number, line in enumerate(lines_of(text), 1):
         told.line(number, line)
     if is_whole:
         told.ends()

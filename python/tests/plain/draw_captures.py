@@ -11,16 +11,20 @@ from .values import READINGS, STATUS_BITS, UNITS
 
 PLACES = [(0x58, 0), (0x58, 0), (0x58, 1), (0x08, 0), (0x77, 255)]
 MODES = [0x14, 0x14, 0x17, 0x00, 0x0F, 0x10, 0x1F, 0x40, 0x40, 0x40, 0x21, 0x60, 0x41, 0x94, 0xFF]
-FORMATS = ["linear11", "ulinear16:-12", "ulinear16:-12", "ulinear16:15", "ulinear16:-16", "direct:1:0:3",
-           "direct:-7:-32768:-12", "direct:32767:5:12", "direct:1:-1:0"]
+FORMATS = ["linear11", "ulinear16:-12", "ulinear16:-12", "ulinear16/-12", "ulinear16:15", "ulinear16:-16", "direct:1:0:3",
+           "direct/-7:-32768:-12", "direct:32767:5:12", "direct:1:-1:0"]
 NO_FORMATS = ["", "linear16", "ulinear16", "ulinear16:16", "ulinear16:-17", "ulinear16:1:2", "direct:0:0:0", "direct:1:0:13",
               "direct:1:0:-13", "direct:1:0", "direct:32768:0:0", "linear11:0", "ulinear16:+1", "ulinear16: 1", "direct:1:0:128",
-              "ulinear16/-12"]
-READING_FORMATS = ["linear11", "linear11", "direct:1:0:2", "direct:-3:5:-1", "direct:7:0:12", "direct:32767:-32768:-12"]
-WHERE = ["", "", "88:", "8C:", "8d:", "58:88:", "58:8C:", "08:8D:", "77:8c:"]
+              "ulinear16//1", "/"]
+READING_FORMATS = ["linear11", "linear11", "direct:1:0:2", "direct:-3:5:-1", "direct/7/0/12", "direct:32767:-32768:-12"]
+WHERE = ["", "", "88:", "8C:", "8d:", "58:88:", "58:8C:", "08:8D:", "77/8c/"]
 NO_READINGS = ["", ",", "linear11,", "ulinear16:-12", "8B:linear11", "58:linear11", "07:88:linear11", "78:88:linear11", "88:58:linear11",
-               "88:", "8:linear11", "58:88:8C:linear11", "direct:0:0:0", "88:direct:1:0:13", ",".join(["linear11"] * 9)]
-SWITCHES = ["--all", "--long", "--times", "--json"]
+               "88:", "8:linear11", "58:88:8C:linear11", "direct:0:0:0", "88:direct:1:0:13", "88//linear11",
+               ",".join(["linear11"] * 9)]
+OF_OUTPUTS = [code for code, row in TABLE.items() if row[4] == "output"] + [CODES["VOUT_COMMAND"], CODES["READ_VOUT"]] * 4
+GAPS = ["0", "1", "5", "1000", "1000000", "0000999"]
+NO_GAPS = ["", "x", "-1", "+1", "1000001", "00000001", "1.5"]
+SWITCHES = ["--all", "--long", "--times", "--json", "--pages"]
 COMMENTS = [b"#", b"# no stop: B0 05 04", b"# another device: A0 00 01", b"# another device", b"# another devic", b"#another device",
             b"# byte 2 wasn't acknowledged", b"# byte", b"#  byte 0", b"# byte 0 of the answer wasn't acknowledged",
             b"# failed (-5): B0 00 / B1", b" # x"]
@@ -35,11 +39,13 @@ def readings(dice):
 
 def valued(dice, words):
     """The options with something behind them that suit the words, mostly."""
-    has_values = "--values" in words
+    has_values, has_gap = "--values" in words, {"--pages", "--times"} <= {*words}
     if has_values and dice.random() < 0.5 or dice.random() < 0.02:
         yield "--vout=" + dice.choice(NO_FORMATS if dice.random() < 0.05 else FORMATS)
     if has_values and dice.random() < 0.3 or dice.random() < 0.01:
         yield "--readings=" + readings(dice)
+    if has_gap and dice.random() < 0.6 or dice.random() < 0.01:
+        yield "--gap=" + dice.choice(NO_GAPS if dice.random() < 0.05 else GAPS)
 
 
 def options(dice):
@@ -49,7 +55,7 @@ def options(dice):
         words.append("--values")
     words += valued(dice, words)
     if dice.random() < 0.01:
-        words.append(dice.choice([*words, "--value", "--all=", "--vout", "more", "--word=1", "--readings", "--pages"]))
+        words.append(dice.choice([*words, "--value", "--all=", "--vout", "more", "--word=1", "--gap", "--readings", "--pages="]))
     dice.shuffle(words)
     if dice.random() < 0.1:
         return [part for word in words for part in (word.split("=", 1) if "=" in word and word[-1] != "=" else [word])]
@@ -127,11 +133,25 @@ def page_line(dice):
 
 def plain_line(dice):
     """A plain packet of a code that acts on an output."""
-    address = dice.choice(PLACES)[0]
-    code = dice.choice([it for it, row in TABLE.items() if row[4] == "output"] + [CODES["VOUT_COMMAND"], CODES["READ_VOUT"]] * 4)
+    address, code = dice.choice(PLACES)[0], dice.choice(OF_OUTPUTS)
     if is_written(code) and (not is_read(code) or dice.random() < 0.5):
         return write_line(dice, address, ("write", None, code, payload_of(dice, code)))
     return read_line(dice, address, ("read", None, code), payload_of(dice, code))
+
+
+def followed_line(dice):
+    """A packet of a trace with few faults, in which pages are known for long: one of PAGE, of another length now and then, or a
+    plain one."""
+    if dice.random() < 0.1:
+        return dice.choice([page_line, plain_line, known_line, named_line])(dice)
+    address, code = dice.choice([0x58, 0x58, 0x58, 0x08]), dice.choice([CODES["PAGE"], dice.choice(OF_OUTPUTS)])
+    payload = [dice.choice([0, 1, 1, 2, 0xFF])] if code == CODES["PAGE"] else payload_of(dice, code)
+    if dice.random() < 0.1:
+        return spelled(dice, [2 * address, code, *payload * 3])
+    if is_written(code) and (not is_read(code) or dice.random() < 0.5):
+        return spelled(dice, write_part(address, ("write", None, code, payload)))
+    message = "read", None, code
+    return spelled(dice, write_part(address, message)) + b"/" + spelled(dice, answer_of(address, message, payload))
 
 
 def payload_of_other(dice, code):
@@ -228,9 +248,9 @@ def timed(dice, lines):
 
 def packets(dice):
     """The lines of a trace without times."""
-    lines, strange = skipped_lines(dice) if dice.random() < 0.4 else [], dice.choice([0, 0, 0.05, 0.3])
+    lines, strange, is_calm = skipped_lines(dice) if dice.random() < 0.4 else [], dice.choice([0, 0, 0.05, 0.3]), dice.random() < 0.2
     for _ in range(dice.choice([0, 1, 2, 5, 20, 60])):
-        lines.insert(dice.randrange(len(lines) + 1), packet_line(dice, strange))
+        lines.insert(dice.randrange(len(lines) + 1), followed_line(dice) if is_calm else packet_line(dice, strange))
         if dice.random() < 0.05:
             lines.insert(dice.randrange(len(lines) + 1), dice.choice(COMMENTS))
     return lines
@@ -247,13 +267,15 @@ def capture(dice):
 
 
 def sets_of_options(dice):
-    """Each set of options that decode takes, with a format and readings where they are given."""
-    for kept in itertools.product([False, True], repeat=len(SWITCHES) + 3):
-        has_values, has_vout, has_readings, *switches = kept
-        if has_values or not has_vout and not has_readings:
-            words = [word for word, is_kept in zip(SWITCHES, switches) if is_kept] + ["--values"] * has_values
-            words += ["--vout=" + dice.choice(FORMATS)] * has_vout
-            yield words + ["--readings=" + dice.choice(WHERE) + dice.choice(READING_FORMATS)] * has_readings
+    """Each set of options that decode takes, with a format, readings and a gap where they are given."""
+    for kept in itertools.product([False, True], repeat=len(SWITCHES) + 4):
+        has_values, has_vout, has_readings, has_gap, *switches = kept
+        words = [word for word, is_kept in zip(SWITCHES, switches) if is_kept]
+        if (has_vout or has_readings) and not has_values or has_gap and not {"--pages", "--times"} <= {*words}:
+            continue
+        words += ["--values"] * has_values + ["--vout=" + dice.choice(FORMATS)] * has_vout
+        words += ["--readings=" + dice.choice(WHERE) + dice.choice(READING_FORMATS)] * has_readings
+        yield words + ["--gap=" + dice.choice(GAPS)] * has_gap
 
 
 def captures_of_one_trace(dice):

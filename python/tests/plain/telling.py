@@ -90,7 +90,8 @@ def fields_of(packet, frame, read, has_values, value):
         of = {"of": f"{packet['of']:02X}", "side": packet["side"], "direction": "read"}
         return {**head, **code, **of, "payload": shown, **dict(zip("mbr", coefficients_of(packet["payload"]))), **last}
     direction = packet["kind"] if packet["payload"] else "send"
-    return {**head, "page": packet["page"], **code, "direction": direction, "payload": shown or None, **value, **last}
+    page = {"page": packet["page"], "followed": packet.get("followed")}
+    return {**head, **page, **code, "direction": direction, "payload": shown or None, **value, **last}
 
 
 def other_text(packet, value):

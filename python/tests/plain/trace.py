@@ -65,7 +65,8 @@ def packet_words(packet):
         said = f"of {packet['of']:02X} side {packet['side']} read {coefficients_words(payload)}"
         return f"{address:02X} {name_of(code)} {said}"
     said = f"{packet['kind']} {payload_word(payload)}" if payload else "send"
-    where = "" if packet["page"] is None else f"page {packet['page']} "
+    mark = "?" if packet.get("followed") else ""
+    where = "" if packet["page"] is None else f"page {packet['page']}{mark} "
     return f"{address:02X} {where}{name_of(code)} {said}"
 
 
