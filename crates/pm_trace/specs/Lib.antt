@@ -3,6 +3,7 @@ pub mod Counts
 pub mod Decoding
 pub mod Laws
 pub mod Outcome
+pub mod Pages
 pub mod Pieces
 pub mod ShownLines
 pub mod Trace

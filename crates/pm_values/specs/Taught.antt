@@ -3,13 +3,11 @@
 -- answer to COEFFICIENTS of it; and the addresses that answered a read of VOUT_MODE with ULINEAR16, since the readings of
 -- such a part are LINEAR11. That these decide is this project's own choice.
 use Rattle.std.specs.Prelude.{ℕ, ◌+◌, ◌*◌, Bool, true, ◌&&◌, ◌||◌, ◌==◌, nat_eq, nat_lt, if◌then◌else◌, List, [], ◌∷◌, slice_index, unwrap_or, option_map, Option, Some, None, Result, Ok, Err}
-use Rattle.std.specs.List.{fold}
 use Rattle.std.specs.Map.{lookup}
 use Rattle.std.specs.Option.{option_or}
 use Rattle.std.specs.Result.{result_ok}
 use Rattle.indexmap.specs.IndexMap.{insert_entry}
 use Rattle.pm_num.specs.AnyFormat.{Shape, InLinear11, InUlinear16, InDirect, shape_of}
-use Rattle.pm_num.specs.declared.any_format.AnyFormat.{AnyFormat}
 use Rattle.pm_table.specs.Cell.{is_voltage_code}
 use Rattle.pm_table.specs.Codes as command
 use Rattle.pm_table.specs.Coefficients.{coefficients_of}
@@ -62,27 +60,29 @@ coefficients_taught taught addr code answer = if is_voltage code
     then record taught { coefficients = insert_entry nat_eq taught.coefficients (key_of addr code) (coefficients_of answer) }
     else taught
 
--- a good answer to a request
-abbrev pub answer_taught : Taught → ℕ → Message → List ℕ → Taught
-answer_taught taught addr (PagePlusRead page code) answer =
+-- the mode of the output that a plain packet reaches, where it is known
+abbrev pub reached_taught : Taught → ℕ → Option ℕ → ℕ → ℕ → Taught
+reached_taught taught addr None code byte = taught
+reached_taught taught addr (Some page) code byte = mode_taught taught addr page code byte
+
+-- a good answer to a request; `reached` is the output that a plain packet reaches, where it is known
+abbrev pub answer_taught : Taught → ℕ → Option ℕ → Message → List ℕ → Taught
+answer_taught taught addr reached (PagePlusRead page code) answer =
     mode_taught (linear_taught taught addr code (slice_index answer 0)) addr page code (slice_index answer 0)
-answer_taught taught addr (ReadCoefficients code side) answer = coefficients_taught taught addr code answer
-answer_taught taught addr (ReadCommand code) answer = linear_taught taught addr code (slice_index answer 0)
-answer_taught taught addr (SendByte code) answer = taught
-answer_taught taught addr (WriteByte code byte) answer = taught
-answer_taught taught addr (WriteWord code word) answer = taught
-answer_taught taught addr (PagePlusWrite page code payload) answer = taught
+answer_taught taught addr reached (ReadCoefficients code side) answer = coefficients_taught taught addr code answer
+answer_taught taught addr reached (ReadCommand code) answer =
+    reached_taught (linear_taught taught addr code (slice_index answer 0)) addr reached code (slice_index answer 0)
+answer_taught taught addr reached (SendByte code) answer = taught
+answer_taught taught addr reached (WriteByte code byte) answer = taught
+answer_taught taught addr reached (WriteWord code word) answer = taught
+answer_taught taught addr reached (PagePlusWrite page code payload) answer = taught
 
 -- what is known behind a line
-abbrev pub taught_by : Taught → Judged → Taught
-taught_by taught (Accepted addr message answer) = answer_taught taught addr message (unwrap_or answer [])
-taught_by taught (Faulty addr read fault) = taught
-taught_by taught BadSyntax = taught
-taught_by taught BadHex = taught
-
--- what is known behind several lines
-abbrev pub taught_from : Taught → List Judged → Taught
-taught_from taught lines = fold taught_by taught lines
+abbrev pub taught_by : Option ℕ → Taught → Judged → Taught
+taught_by reached taught (Accepted addr message answer) = answer_taught taught addr reached message (unwrap_or answer [])
+taught_by reached taught (Faulty addr read fault) = taught
+taught_by reached taught BadSyntax = taught
+taught_by reached taught BadHex = taught
 
 -- ---- the format of a voltage
 

@@ -1,5 +1,6 @@
 -- What a code's payload means (PMBus 1.3 Part II): which codes are told with a value is this project's own choice.
 use Rattle.std.specs.Prelude.{ℕ, ℤ, pos, ◌+◌, ◌*◌, ◌*ℤ◌, Bool, ◌||◌, ◌==◌, if◌then◌else◌, List, [], ◌∷◌, slice_index, unwrap_or, option_map, Option, Some, None}
+use Rattle.std.specs.Option.{option_or}
 use Rattle.std.specs.Result.{result_ok}
 use Rattle.std.specs.Int.{int_div_euclid}
 use Rattle.pm_frame.specs.View.{message_code, message_page, message_payload}
@@ -65,10 +66,14 @@ code_value shape code bytes =
 abbrev pub carried : Message → Option (List ℕ) → List ℕ
 carried message answer = unwrap_or answer (message_payload message)
 
--- the value of a packet at an address
-abbrev pub packet_value : GivenFormats → Taught → ℕ → Message → Option (List ℕ) → Option Value
-packet_value given taught addr message answer =
-    code_value (packet_shape given taught addr (message_page message) (message_code message))
+-- the output of a packet: the one that it names, or that a plain one reaches, where it is known
+abbrev pub output_of : Option ℕ → Message → Option ℕ
+output_of reached message = option_or (message_page message) reached
+
+-- the value of a packet at an address; `reached` is the output that a plain packet reaches, where it is known
+abbrev pub packet_value : GivenFormats → Taught → ℕ → Option ℕ → Message → Option (List ℕ) → Option Value
+packet_value given taught addr reached message answer =
+    code_value (packet_shape given taught addr (output_of reached message) (message_code message))
     (message_code message) (carried message answer)
 
 -- ---- codes that the command table doesn't have

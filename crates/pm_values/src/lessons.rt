@@ -34,7 +34,7 @@ impl Lessons {
     ghost use Rattle.pm_table.specs.VoutMode.{IsMode};
     ghost use Rattle.pm_num.specs.AnyFormat.{shape_of};
     ghost use Rattle.pm_trace.specs.ShownLines.{judged_in};
-    ghost use Rattle.pm_values.specs.Taught.{answer_taught, coefficients_taught, linear_taught, mode_taught, packet_shape, reading_shape, shape_known, taught_by, untaught, voltage_shape};
+    ghost use Rattle.pm_values.specs.Taught.{answer_taught, coefficients_taught, linear_taught, mode_taught, packet_shape, reached_taught, reading_shape, shape_known, taught_by, untaught, voltage_shape};
 
     /// Nothing yet. Takes no memory.
     pub fn new(alloc: Global) -> Lessons
@@ -48,21 +48,28 @@ impl Lessons {
     }
 
     /// Learns what a packet says: a good answer to a read of VOUT_MODE, or to COEFFICIENTS of a code that has a voltage; every
-    /// other packet teaches nothing. Takes memory for an output, a code and an address that is new.
-    pub fn learn(&mut self, shown: &Shown<'_>) -> Result<(), AllocError>
-        ensures { OnOk result (self.new ≡ taught_by self.old (judged_in shown.now)) }
+    /// other packet teaches nothing. `reached` is the output that a packet reaches which names none, where that is known.
+    /// Takes memory for an output, a code and an address that is new.
+    pub fn learn(&mut self, reached: Option<u8>, shown: &Shown<'_>) -> Result<(), AllocError>
+        ensures { OnOk result (self.new ≡ taught_by reached self.old (judged_in shown.now)) }
     {
         match shown {
             Shown::Accepted { addr, view, answer } => {
-                self.learn_answer(*addr, &view.message(), answered(*answer))
+                self.learn_answer(*addr, reached, &view.message(), answered(*answer))
             }
             _ => Ok(()),
         }
     }
 
     // Learns from a good answer.
-    fn learn_answer(&mut self, addr: u8, message: &Message, answer: &[u8]) -> Result<(), AllocError>
-        ensures { OnOk result (self.new ≡ answer_taught self.old addr message.now answer.now) }
+    fn learn_answer(
+        &mut self,
+        addr: u8,
+        reached: Option<u8>,
+        message: &Message,
+        answer: &[u8],
+    ) -> Result<(), AllocError>
+        ensures { OnOk result (self.new ≡ answer_taught self.old addr reached message.now answer.now) }
     {
         match *message {
             Message::PagePlusRead { page, code } => {
@@ -73,7 +80,11 @@ impl Lessons {
             Message::ReadCoefficients { code, side: _ } => {
                 self.learn_coefficients(addr, code, answer)
             }
-            Message::ReadCommand { code } => self.learn_linear(addr, code, byte_in(answer)),
+            Message::ReadCommand { code } => {
+                let byte = byte_in(answer);
+                self.learn_linear(addr, code, byte)?;
+                self.learn_reached(addr, reached, code, byte)
+            }
             _ => Ok(()),
         }
     }
@@ -86,6 +97,22 @@ impl Lessons {
             self.linear.insert(addr, true)?;
         }
         Ok(())
+    }
+
+    // Learns the mode of the output that a plain packet reaches, where that is known.
+    fn learn_reached(
+        &mut self,
+        addr: u8,
+        reached: Option<u8>,
+        code: u8,
+        byte: u8,
+    ) -> Result<(), AllocError>
+        ensures { OnOk result (self.new ≡ reached_taught self.old addr reached code byte) }
+    {
+        match reached {
+            Some(page) => self.learn_mode(addr, page, code, byte),
+            None => Ok(()),
+        }
     }
 
     // Learns the mode of an output.

@@ -12,17 +12,23 @@ use pm_num::{AnyFormat, NumFormat};
 use pm_table::{Code, Operation, VoutMode};
 
 /// What a packet at an address means, by its payload, or by what was answered; `None` where its code is told without a
-/// value, or where no format of its number is known.
+/// value, or where no format of its number is known. `reached` is the output that a packet reaches which names none, where
+/// that is known.
 pub fn packet_value(
     given: &GivenFormats,
     lessons: &Lessons,
     addr: u8,
+    reached: Option<u8>,
     view: &FrameView<'_>,
     answer: Option<&[u8]>,
 ) -> Option<Value>
-    ensures { result ≡ spec_packet_value given.now lessons.now addr view.now (option_map (λ bytes. bytes.now) answer.entry) }
+    ensures { result ≡ spec_packet_value given.now lessons.now addr reached view.now (option_map (λ bytes. bytes.now) answer.entry) }
 {
-    let format = lessons.format(given, addr, view.page(), view.code());
+    let output = match view.page() {
+        Some(page) => Some(page),
+        None => reached,
+    };
+    let format = lessons.format(given, addr, output, view.code());
     match answer {
         Some(answer) => code_value(format, view.code(), answer),
         None => code_value(format, view.code(), view.payload()),

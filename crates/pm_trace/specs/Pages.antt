@@ -1,0 +1,161 @@
+-- PAGE as a trace shows it, address by address: the output that plain packets reach, and which lines contradict each other
+-- (PMBus 1.3 Part II, PAGE). A trace doesn't show a restart, so a page is what the trace says of it. What ends a page and
+-- what counts as a contradiction are this project's own choice.
+use Rattle.std.specs.Prelude.{ℕ, ◌-◌, Bool, true, false, ◌&&◌, ◌||◌, ◌==◌, nat_eq, nat_lt, nat_le, if◌then◌else◌, List, [], length, slice_index, unwrap_or, option_map, Option, Some, None}
+use Rattle.std.specs.Map.{lookup}
+use Rattle.indexmap.specs.IndexMap.{insert_entry}
+use Rattle.pm_frame.specs.declared.message.Message.{Message}
+use Rattle.pm_frame.specs.declared.message.Message.TheVariants.{SendByte, WriteByte, WriteWord, PagePlusWrite, ReadCommand, PagePlusRead, ReadCoefficients}
+use Rattle.pm_table.specs.Codes as command
+use Rattle.pm_table.specs.Commands.{Known, known_of}
+use Rattle.pm_trace.specs.Trace.{Judged, Accepted, Faulty, BadSyntax, BadHex}
+use Rattle.pm_trace.specs.declared.pages.PageLine.{PageLine}
+use Rattle.pm_trace.specs.declared.pages.PageUse.{PageUse}
+use Rattle.pm_trace.specs.declared.pages.PageUse.TheVariants.{Written, ReadBack, Failed, Lost, OfOutput, Beside}
+use Rattle.pm_trace.specs.declared.pages.Place.{Place}
+
+-- ---- what a packet says of the page
+
+-- the command table says that the code acts on one output
+abbrev pub acts_by : Option Known → Bool
+acts_by None = false
+acts_by (Some known) = known.paged
+
+abbrev pub plain_use : ℕ → PageUse
+plain_use code = if acts_by (known_of code) then OfOutput else Beside
+
+-- a good packet: one that carries its own page says nothing of PAGE
+abbrev pub accepted_use : Message → List ℕ → PageUse
+accepted_use (WriteByte code byte) answer = if code == command.page then Written byte else plain_use code
+accepted_use (ReadCommand code) answer = if code == command.page then ReadBack (slice_index answer 0) else plain_use code
+accepted_use (SendByte code) answer = plain_use code
+accepted_use (WriteWord code word) answer = plain_use code
+accepted_use (PagePlusWrite page code payload) answer = Beside
+accepted_use (PagePlusRead page code) answer = Beside
+accepted_use (ReadCoefficients code side) answer = Beside
+
+-- the packet's code is PAGE
+abbrev pub is_of_page : List ℕ → Bool
+is_of_page write = nat_le 2 (length write) && slice_index write 1 == command.page
+
+-- any other packet; `lost` is whether nobody can say what it did
+abbrev pub other_use : List ℕ → Bool → PageUse
+other_use write lost = if is_of_page write then Failed lost else (if lost then Lost else Beside)
+
+abbrev pub use_of : List ℕ → Bool → Judged → PageUse
+use_of write lost (Accepted addr message answer) = accepted_use message (unwrap_or answer [])
+use_of write lost (Faulty addr read fault) = other_use write lost
+use_of write lost BadSyntax = Beside
+use_of write lost BadHex = Beside
+
+-- ---- an address
+
+abbrev pub nowhere : Place
+nowhere = record { page = None; written = None; failed = None; time = None }
+
+-- what a line said of a page, where nothing was lost behind it
+abbrev pub kept_since : ℕ → Option PageLine → Option PageLine
+kept_since lost None = None
+kept_since lost (Some said) = if nat_lt lost said.line then Some said else None
+
+-- the pause is longer than `gap`, or the time is before the last one
+abbrev pub is_apart : ℕ → Option ℕ → Option ℕ → Bool
+is_apart gap None time = false
+is_apart gap (Some last) None = false
+is_apart gap (Some last) (Some time) = nat_lt time last || nat_lt gap (time - last)
+
+-- the page isn't known any more
+abbrev pub ended : Place → Place
+ended place = record place { page = None; written = None }
+
+-- when a packet comes at a time, where something was lost in the line `lost`
+abbrev pub come : ℕ → ℕ → Option ℕ → Place → Place
+come lost gap time place = record {
+  page = if is_apart gap place.time time then None else kept_since lost place.page;
+  written = if is_apart gap place.time time then None else kept_since lost place.written;
+  failed = place.failed;
+  time = time;
+}
+
+-- ---- what the place says of a packet
+
+-- the output that the packet reaches, where it names none
+abbrev pub output_by : Option PageLine → PageUse → Option ℕ
+output_by page OfOutput = option_map (λ said. said.page) page
+output_by page (Written number) = None
+output_by page (ReadBack number) = None
+output_by page (Failed lost) = None
+output_by page Lost = None
+output_by page Beside = None
+
+abbrev pub output_of : Place → PageUse → Option ℕ
+output_of place used = output_by place.page used
+
+-- the line that wrote another page than this one
+abbrev pub written_else : ℕ → Option PageLine → Option ℕ
+written_else number None = None
+written_else number (Some said) = if said.page == number then None else Some said.line
+
+-- The line that the packet contradicts: a page is read that isn't the one written last, or a packet acts on an output and
+-- names none where the last packet of PAGE wasn't good.
+abbrev pub contradicted : Place → PageUse → Option ℕ
+contradicted place (ReadBack number) = written_else number place.written
+contradicted place OfOutput = place.failed
+contradicted place (Written number) = None
+contradicted place (Failed lost) = None
+contradicted place Lost = None
+contradicted place Beside = None
+
+-- ---- what is known behind a packet
+
+-- what a line says of the page
+abbrev pub said_in : ℕ → ℕ → PageLine
+said_in line number = record { page = number; line = line }
+
+-- behind the packet in this line; `doubted` is whether a byte of it wasn't acknowledged
+abbrev pub behind : ℕ → Bool → Place → PageUse → Place
+behind line doubted place (Written number) = if doubted then record place { failed = Some line } else record place {
+  page = Some (said_in line number);
+  written = Some (said_in line number);
+  failed = None;
+}
+behind line doubted place (ReadBack number) = if doubted then record place { failed = Some line } else record place {
+  page = Some (said_in line number);
+  failed = None;
+}
+behind line doubted place (Failed lost) = record (if lost then ended place else place) { failed = Some line }
+behind line doubted place Lost = ended place
+behind line doubted place OfOutput = place
+behind line doubted place Beside = place
+
+-- ---- all addresses
+
+-- what is known of each address, the last line in which something was lost, of nobody knows which address, or 0, and
+-- whether a byte of the next packet wasn't acknowledged
+pub record Pages : Type 0 where
+  pub places : List (ℕ × Place)
+  pub lost : ℕ
+  pub doubted : Bool
+
+abbrev pub no_pages : Pages
+no_pages = record { places = []; lost = 0; doubted = false }
+
+-- something was lost in this line
+abbrev pub lost_in : ℕ → Pages → Pages
+lost_in line pages = record pages { lost = line }
+
+-- a byte of the next packet wasn't acknowledged
+abbrev pub doubting : Pages → Pages
+doubting pages = record pages { doubted = true }
+
+-- an address when a packet comes at a time
+abbrev pub place_in : ℕ → Option ℕ → Pages → ℕ → Place
+place_in gap time pages addr = come pages.lost gap time (unwrap_or (lookup (nat_eq addr) pages.places) nowhere)
+
+-- behind the packet of this line, at an address if it has one, where that was such a place
+abbrev pub pages_by : ℕ → Option ℕ → Place → PageUse → Pages → Pages
+pages_by line None place used pages = record pages { doubted = false }
+pages_by line (Some addr) place used pages = record pages {
+  places = insert_entry nat_eq pages.places addr (behind line pages.doubted place used);
+  doubted = false;
+}
