@@ -85,7 +85,8 @@ none-more : (n : ℕ) → 0 + n ≡ n
 none-more n = omega arith
 
 -- begun jobs lead on
-pub jobs-lead : LawsOfLives → {B : Type 0} → (gives : B → Call → B → Type 0) → (held : B → Held) → (restarts : B → ℕ) → JobsLead gives held restarts
+pub jobs-lead : LawsOfLives → {B : Type 0} → (gives : B → Call → B → Type 0) → (held : B → Held) → (restarts : B → ℕ)
+    → JobsLead gives held restarts
 jobs-lead laws gives held restarts summary bus job free = record {
   acts = Began job ∷ [];
   events = job_event job ∷ [];
@@ -100,7 +101,8 @@ jobs-lead laws gives held restarts summary bus job free = record {
 }
 
 -- a restart of the host leads on
-pub renewals-lead : LawsOfLives → {B : Type 0} → (gives : B → Call → B → Type 0) → (held : B → Held) → (restarts : B → ℕ) → RenewalsLead gives held restarts
+pub renewals-lead : LawsOfLives → {B : Type 0} → (gives : B → Call → B → Type 0) → (held : B → Held) → (restarts : B → ℕ)
+    → RenewalsLead gives held restarts
 renewals-lead laws gives held restarts summary bus = record {
   acts = Renewed ∷ [];
   events = RestartHost ∷ [];
@@ -230,7 +232,8 @@ true-of laws summary held has =
     }
 
 -- where a driver leads there is a life
-pub leads-lived : {B : Type 0} (gives : B → Call → B → Type 0) (held : B → Held) (restarts : B → ℕ) (asked : List Act) (end : Option JobEnd) (old new : Driven B) →
+pub leads-lived : {B : Type 0} (gives : B → Call → B → Type 0) (held : B → Held) (restarts : B → ℕ) (asked : List Act)
+    (end : Option JobEnd) (old new : Driven B) →
     HasLife old.host (held old.bus) → Leads gives held restarts asked end old new → HasLife new.host (held new.bus)
 leads-lived gives held restarts asked end old new has leads = record {
   config = has.config;
@@ -262,8 +265,10 @@ says-same (host.Learn output) Learned summary held faults is = is
 says-same job end summary held faults is = is
 
 -- the end of the job that a driver carried out says what it is worth
-pub leads-say : EndsAreTrue → {B : Type 0} (gives : B → Call → B → Type 0) (held : B → Held) (restarts : B → ℕ) (job : host.Job) (end : JobEnd) (old new : Driven B) →
-    HasLife old.host (held old.bus) → Leads gives held restarts (Began job ∷ []) (Some end) old new → EndSays job new.host (held new.bus) end
+pub leads-say : EndsAreTrue → {B : Type 0} (gives : B → Call → B → Type 0) (held : B → Held) (restarts : B → ℕ) (job : host.Job)
+    (end : JobEnd) (old new : Driven B) →
+    HasLife old.host (held old.bus) → Leads gives held restarts (Began job ∷ []) (Some end) old new
+    → EndSays job new.host (held new.bus) end
 leads-say law gives held restarts job end old new has leads =
     let goes = leads.lives has.config has.passes has.events has.life in
     let is = goes.is_life in
@@ -282,7 +287,8 @@ pub record IsBegun (old : Summary) (asked : Job) (middle : Summary) : Type 0 whe
   pub ok : IsSomeAnd (accepted_job old asked) (λ begun. middle ≡ host_next old (host.Accepted begun))
 
 -- where a driver leads that carries a job out which its host began
-pub job-leads : {B : Type 0} (gives : B → Call → B → Type 0) (held : B → Held) (restarts : B → ℕ) → JobsLead gives held restarts → LeadsCompose gives held restarts →
+pub job-leads : {B : Type 0} (gives : B → Call → B → Type 0) (held : B → Held) (restarts : B → ℕ) → JobsLead gives held restarts
+    → LeadsCompose gives held restarts →
     (asked : Job) (end : JobEnd) (old new : Driven B) (middle : Summary) → IsBegun old.host asked middle →
     Leads gives held restarts [] (Some end) (record { host = middle; bus = old.bus }) new →
     IsSomeAnd (accepted_job old.host asked) (λ begun. Leads gives held restarts (Began begun ∷ []) (Some end) old new)
@@ -298,7 +304,8 @@ job-leads gives held restarts jobs compose asked end old new middle begins leads
       first second
 
 -- a job that was carried out has a life
-pub job-lived : {B : Type 0} (gives : B → Call → B → Type 0) (held : B → Held) (restarts : B → ℕ) → JobsLead gives held restarts → LeadsCompose gives held restarts →
+pub job-lived : {B : Type 0} (gives : B → Call → B → Type 0) (held : B → Held) (restarts : B → ℕ) → JobsLead gives held restarts
+    → LeadsCompose gives held restarts →
     (asked : Job) (end : JobEnd) (old new : Driven B) (middle : Summary) → HasLife old.host (held old.bus) →
     IsBegun old.host asked middle →
     Leads gives held restarts [] (Some end) (record { host = middle; bus = old.bus }) new → HasLife new.host (held new.bus)

@@ -1,5 +1,6 @@
 -- A plan of which no order is left.
-use Rattle.std.specs.Prelude.{◌≡◌, ◌<◌, ◌+◌, ◌*◌, ◌&&◌, not, cond, if◌then◌else◌, ℕ, Bool, true, false, refl, Option, Some, None, is_none, Ok}
+use Rattle.std.specs.Prelude.{◌≡◌, ◌<◌, ◌+◌, ◌*◌, ◌&&◌, not, cond, if◌then◌else◌, ℕ, Bool, true, false, refl, Option, Some, None, is_none}
+use Rattle.std.specs.Prelude.{Ok}
 use Rattle.std.proofs.Common.{arith, ap}
 use Rattle.pm_device.specs.Held.{Held}
 use Rattle.pm_host.specs.declared.job.Job.{Job}
@@ -25,7 +26,8 @@ module _ {B : Type 0} (gives : B → Call → B → Type 0) (held : B → Held) 
     go false e = (refl, refl, (once, e, surveyed, none))
 
 -- the survey is for the same
-pub done-own : (output : ℕ) (wanted : Wanted) (course : Course) → course.survey.output ≡ output → (read_again output wanted course).survey.output ≡ output
+pub done-own : (output : ℕ) (wanted : Wanted) (course : Course) → course.survey.output ≡ output
+    → (read_again output wanted course).survey.output ≡ output
 done-own output wanted course own = go course.ordered where
   go : (b : Bool) → (if b then once_more output wanted course else course).survey.output ≡ output
   go true = refl
@@ -39,7 +41,8 @@ done-plan output wanted course plan = go course.ordered where
   go false = plan
 
 -- a new survey comes behind an order
-pub done-less : (output : ℕ) (wanted : Wanted) (course : Course) → reached_if course ≡ None → measure (read_again output wanted course) < measure course
+pub done-less : (output : ℕ) (wanted : Wanted) (course : Course) → reached_if course ≡ None
+    → measure (read_again output wanted course) < measure course
 done-less output wanted course none = go course.ordered none where
   go : (b : Bool) → (if b then None else Some Reached) ≡ None →
       measure (if b then once_more output wanted course else course) < 2 * course.survey.left + cond b 1 0

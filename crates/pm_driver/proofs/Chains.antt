@@ -36,18 +36,25 @@ last-longer config passes output (event ∷ older) evs before order h =
     newest-some output (asked (now config passes ((older ++ evs) ++ before)) event)
     (last_order config passes output older (evs ++ before)) (last_order config passes output (older ++ evs) before) order
     (last-longer config passes output older evs before order)
-    (ap (λ (es : List Event). newest_order output (asked (now config passes es) event) (last_order config passes output older (evs ++ before)))
+    (ap (λ (es : List Event). newest_order output (asked (now config passes es) event)
+    (last_order config passes output older (evs ++ before)))
     (append_assoc older evs before) ∙ h)
 
-order-longer : (config : Config) (passes : ℕ) (part : PartRegisters) (output : ℕ) (wants : Wants) (older evs before : List Event) (order : PlanOrder) →
+order-longer : (config : Config) (passes : ℕ) (part : PartRegisters) (output : ℕ) (wants : Wants) (older evs before : List Event)
+    (order : PlanOrder) →
     IsPlansOrder config passes part output wants older (evs ++ before) order →
     IsPlansOrder config passes part output wants (older ++ evs) before order
 order-longer config passes part output wants older evs before order (inl planned) =
-    inl (planned.0, ap (λ (es : List Event). plan_of part (now config passes es).host planned.0 output wants) (append_assoc older evs before) ∙ planned.1)
+    inl (
+      planned.0,
+      ap (λ (es : List Event). plan_of part (now config passes es).host planned.0 output wants)
+          (append_assoc older evs before) ∙ planned.1,
+    )
 order-longer config passes part output wants older evs before order (inr again) =
     inr (last-longer config passes output older evs before order again)
 
-ask-longer : (config : Config) (passes : ℕ) (part : PartRegisters) (output : ℕ) (wants : Wants) (older evs before : List Event) (job : Option Job) →
+ask-longer : (config : Config) (passes : ℕ) (part : PartRegisters) (output : ℕ) (wants : Wants) (older evs before : List Event)
+    (job : Option Job) →
     MayAsk config passes part output wants older (evs ++ before) job → MayAsk config passes part output wants (older ++ evs) before job
 ask-longer config passes part output wants older evs before (Some (Order (Out other register) word)) m =
     λ same. order-longer config passes part output wants older evs before (record { register = register; word = word }) (m same)
@@ -71,12 +78,14 @@ follow-on config passes part output wants (event ∷ older) evs before new old =
     ap-may : (older ++ evs) ++ before ≡ older ++ (evs ++ before) →
         MayAsk config passes part output wants (older ++ evs) before (asked (now config passes (older ++ (evs ++ before))) event) →
         MayAsk config passes part output wants (older ++ evs) before (asked (now config passes ((older ++ evs) ++ before)) event)
-    ap-may e m = subst (λ (es : List Event). MayAsk config passes part output wants (older ++ evs) before (asked (now config passes es) event)) (sym e) m
+    ap-may e m = subst (λ (es : List Event). MayAsk config passes part output wants (older ++ evs) before
+        (asked (now config passes es) event)) (sym e) m
 
 pub follows-drop : (config : Config) (passes : ℕ) (part : PartRegisters) (output : ℕ) (wants : Wants) (rest events before : List Event) →
     Follows config passes part output wants (rest ++ events) before → Follows config passes part output wants events before
 follows-drop config passes part output wants [] events before follows = follows
-follows-drop config passes part output wants (event ∷ rest) events before follows = follows-drop config passes part output wants rest events before follows.2
+follows-drop config passes part output wants (event ∷ rest) events before follows = follows-drop config passes part output wants rest
+    events before follows.2
 
 -- ---- Restarts ----
 
@@ -90,16 +99,18 @@ none-there (event ∷ before) none = go (restarts_converter event) (restarts_in 
   go false n e f = f (omega arith)
 
 -- a count that didn't rise counted nothing
-pub none-counted : (events : List Event) (was is : ℕ) → restarts_in events + was ≡ is → is ≡ was → list_any restarts_converter events ≡ false
+pub none-counted : (events : List Event) (was is : ℕ) → restarts_in events + was ≡ is → is ≡ was → list_any restarts_converter events
+    ≡ false
 none-counted events was is rose same = none-there events (omega arith)
 
 -- none in two lists is none in either
 pub none-first : (a b : List Event) → list_any restarts_converter (a ++ b) ≡ false → list_any restarts_converter a ≡ false
 none-first [] b h = refl
-none-first (x ∷ a) b h = go (restarts_converter x) (list_any restarts_converter (a ++ b)) (list_any restarts_converter a) h (λ e. none-first a b e) where
-  go : (one all part : Bool) → (one || all) ≡ false → (all ≡ false → part ≡ false) → (one || part) ≡ false
-  go true all part h' f = cc
-  go false all part h' f = f h'
+none-first (x ∷ a) b h = go (restarts_converter x) (list_any restarts_converter (a ++ b)) (list_any restarts_converter a) h
+    (λ e. none-first a b e) where
+      go : (one all part : Bool) → (one || all) ≡ false → (all ≡ false → part ≡ false) → (one || part) ≡ false
+      go true all part h' f = cc
+      go false all part h' f = f h'
 
 pub none-second : (a b : List Event) → list_any restarts_converter (a ++ b) ≡ false → list_any restarts_converter b ≡ false
 none-second [] b h = h

@@ -98,7 +98,8 @@ leads-compose gives held restarts first second middle end a b c one two = record
 }
 
 -- nothing done leads nowhere
-pub leads-nothing : {B : Type 0} (gives : B → Call → B → Type 0) (held : B → Held) (restarts : B → ℕ) (d : Driven B) → Leads gives held restarts [] None d d
+pub leads-nothing : {B : Type 0} (gives : B → Call → B → Type 0) (held : B → Held) (restarts : B → ℕ) (d : Driven B)
+    → Leads gives held restarts [] None d d
 leads-nothing gives held restarts d = record {
   acts = [];
   events = [];
@@ -114,7 +115,8 @@ leads-nothing gives held restarts d = record {
 
 -- by the events of both, and by none
 pub composed-events : {B : Type 0} (gives : B → Call → B → Type 0) (held : B → Held) (restarts : B → ℕ) (first second : List Act)
-    (middle end : Option JobEnd) (a b c : Driven B) (one : Leads gives held restarts first middle a b) (two : Leads gives held restarts second end b c) →
+    (middle end : Option JobEnd) (a b c : Driven B) (one : Leads gives held restarts first middle a b)
+    (two : Leads gives held restarts second end b c) →
     (leads-compose gives held restarts first second middle end a b c one two).events ≡ two.events ++ one.events
 unfolding leads-compose
 composed-events gives held restarts first second middle end a b c one two = refl

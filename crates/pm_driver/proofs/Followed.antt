@@ -1,5 +1,6 @@
 -- The events of one job of a driver ask for that job alone, and find the host as it was.
-use Rattle.std.specs.Prelude.{◌≡◌, ◌⊎◌, ℕ, Bool, true, false, ◌||◌, cond, refl, Option, Some, None, is_some, is_none, option_map, option_and_then, option_to_list, IsSomeAnd, List, [], ◌∷◌, ◌++◌}
+use Rattle.std.specs.Prelude.{◌≡◌, ◌⊎◌, ℕ, Bool, true, false, ◌||◌, cond, refl, Option, Some, None, is_some, is_none, option_map}
+use Rattle.std.specs.Prelude.{option_and_then, option_to_list, IsSomeAnd, List, [], ◌∷◌, ◌++◌}
 use Rattle.std.specs.List.{list_any}
 use Rattle.std.specs.Option.{option_map_or}
 use Rattle.std.proofs.Common.{inl, inr, sym, ◌∙◌, ap, subst, append_assoc}
@@ -17,7 +18,8 @@ use Rattle.pm_host.specs.Laws.{EndsAreTold}
 use Rattle.pm_host.specs.Now.{now as host_now}
 use Rattle.pm_host.specs.Refusals.{is_busy}
 use Rattle.pm_host.specs.Summary.{Summary, sending_in, stage_message}
-use Rattle.pm_host.specs.Transcript.{Job, Order, Check, Learn, Send, Entry, Accepted, Finished, Got, Restarted, Setup, end_of, last_job, open_job, told_since}
+use Rattle.pm_host.specs.Transcript.{Job, Order, Check, Learn, Send, Entry, Accepted, Finished, Got, Restarted, Setup, end_of, last_job}
+use Rattle.pm_host.specs.Transcript.{open_job, told_since}
 use Rattle.pm_host.specs.Answers.{good_word}
 use Rattle.pm_host.specs.Marks.{Good, goods, read_by}
 use Rattle.pm_rail.specs.Orders.{plan_of}
@@ -115,7 +117,8 @@ last-is [] (Restarted ∷ frames) (x ∷ part) rest job f h = absurd f
 last-is [] (Finished acked ∷ frames) (x ∷ part) rest job f h =
     let same : x ≡ Finished acked = cc in
     let below : part ≡ frames ++ Accepted job ∷ [] = cc in
-    inr (ap (λ (e : Entry). last_job ((e ∷ part) ++ rest)) same ∙ (ap (λ (es : List Entry). last_job (es ++ rest)) below ∙ last-of frames f)) where
+    inr (ap (λ (e : Entry). last_job ((e ∷ part) ++ rest)) same
+    ∙ (ap (λ (es : List Entry). last_job (es ++ rest)) below ∙ last-of frames f)) where
       last-of : (fs : List Entry) → Frames fs → last_job ((fs ++ Accepted job ∷ []) ++ rest) ≡ Some job
       last-of [] g = refl
       last-of (Finished a ∷ fs) g = last-of fs g
@@ -125,7 +128,8 @@ last-is [] (Finished acked ∷ frames) (x ∷ part) rest job f h =
 last-is [] (Got bytes ∷ frames) (x ∷ part) rest job f h =
     let same : x ≡ Got bytes = cc in
     let below : part ≡ frames ++ Accepted job ∷ [] = cc in
-    inr (ap (λ (e : Entry). last_job ((e ∷ part) ++ rest)) same ∙ (ap (λ (es : List Entry). last_job (es ++ rest)) below ∙ last-of frames f)) where
+    inr (ap (λ (e : Entry). last_job ((e ∷ part) ++ rest)) same
+    ∙ (ap (λ (es : List Entry). last_job (es ++ rest)) below ∙ last-of frames f)) where
       last-of : (fs : List Entry) → Frames fs → last_job ((fs ++ Accepted job ∷ []) ++ rest) ≡ Some job
       last-of [] g = refl
       last-of (Finished a ∷ fs) g = last-of fs g
@@ -159,7 +163,8 @@ pub record ToldOne (acts : List Act) (job : Job) : Type 0 where
   pub are : Frames frames
   pub told : told_all acts ≡ frames ++ Accepted job ∷ []
 
-pub told-one : (s : Summary) (acts : List Act) (job : Job) → is_busy s ≡ false → AreDone s acts → asked_in acts ≡ Began job ∷ [] → ToldOne acts job
+pub told-one : (s : Summary) (acts : List Act) (job : Job) → is_busy s ≡ false → AreDone s acts → asked_in acts ≡ Began job ∷ []
+    → ToldOne acts job
 told-one s [] job idle done one = cc
 told-one s (Called (Wrote frame acked) ∷ rest) job idle done one =
     let t = told-one s rest job idle done.1 one in
@@ -204,7 +209,7 @@ host-same : (config : Config) (passes : ℕ) (one other : List Event) →
 unfolding now state_of
 host-same config passes one other e = ap (λ (es : List Entry). host_now (setup_of config passes) es) e
 
-host-is : (config : Config) (passes : ℕ) (events : List Event) →
+pub host-is : (config : Config) (passes : ℕ) (events : List Event) →
     (now config passes events).host ≡ host_now (setup_of config passes) (life config passes events).entries
 unfolding now state_of
 host-is config passes events = refl
@@ -278,7 +283,8 @@ module _ (config : Config) (passes : ℕ) (before : List Event) (host : Summary)
       left (restarts_converter event) _ steady,
       asks (asked (now config passes (older ++ before)) event) refl,
       follows older (front ++ option_to_list (share_of (now config passes (older ++ before)) event).told)
-          (append_assoc front (option_to_list (share_of (now config passes (older ++ before)) event).told) (told_in config passes before older) ∙ h)
+          (append_assoc front (option_to_list (share_of (now config passes (older ++ before)) event).told)
+          (told_in config passes before older) ∙ h)
           (right (restarts_converter event) _ steady),
     )
       where
@@ -290,18 +296,20 @@ module _ (config : Config) (passes : ℕ) (before : List Event) (host : Summary)
             subst (λ (x : Job). MayAsk config passes part output wants older before (Some x)) (sym is.0)
             (may-ask job older may (host-there older is.1))
 
-  module _ (ends : EndsAreTold) (moves : SettingsMoveByTheOpenJob) (cell : Cell) (there : IsCell config.count cell) (alone : LeavesAlone job cell) where
+  module _ (ends : EndsAreTold) (moves : SettingsMoveByTheOpenJob) (cell : Cell) (there : IsCell config.count cell)
+      (alone : LeavesAlone job cell) where
     -- no order of the cell is open
     never : (older : List Event) (front : List Entry) (p : PendingJob) →
         front ++ told_in config passes before older ≡ frames ++ Accepted job ∷ [] →
         open_pending config passes (older ++ before) ≡ Some p → pending_of job ≡ Some p
     unfolding open_pending
-    never older front p h open' = elim (last-is front frames (told_in config passes before older) (life config passes before).entries job are h) [
-      | inl none ↦ absurd (let bad = sym (idle-none ends config passes (older ++ before)
-          (ap (λ (s : Summary). is_busy s) (host-there older none) ∙ idle)) ∙ open' in cc)
-      | inr last ↦ pending-last (setup_of config passes) (life config passes (older ++ before)).entries job p
-          (ap (λ (es : List Entry). last_job es) (entries-are config passes before older) ∙ last) open'
-    ]
+    never older front p h open' = elim (last-is front frames (told_in config passes before older)
+        (life config passes before).entries job are h) [
+          | inl none ↦ absurd (let bad = sym (idle-none ends config passes (older ++ before)
+              (ap (λ (s : Summary). is_busy s) (host-there older none) ∙ idle)) ∙ open' in cc)
+          | inr last ↦ pending-last (setup_of config passes) (life config passes (older ++ before)).entries job p
+              (ap (λ (es : List Entry). last_job es) (entries-are config passes before older) ∙ last) open'
+        ]
 
     unmoved : (older : List Event) (front : List Entry) (event : Event) (word : ℕ) →
         front ++ told_in config passes before older ≡ frames ++ Accepted job ∷ [] → restarts_converter event ≡ false →
@@ -317,13 +325,15 @@ module _ (config : Config) (passes : ℕ) (before : List Event) (host : Summary)
         word_at (now config passes (events ++ before)).device.words cell ≡ word_at (now config passes before).device.words cell
     stays [] front h steady lived = refl
     stays (event ∷ older) front h steady lived =
-        let below = append_assoc front (option_to_list (share_of (now config passes (older ++ before)) event).told) (told_in config passes before older) ∙ h in
+        let below = append_assoc front (option_to_list (share_of (now config passes (older ++ before)) event).told)
+        (told_in config passes before older) ∙ h in
         let first = left (restarts_converter event) _ steady in
         elim ((moves config passes (event ∷ older ++ before) lived).moves [] (older ++ before) event cell refl there) [
           | inl e ↦ e ∙ stays older (front ++ option_to_list (share_of (now config passes (older ++ before)) event).told) below
               (right (restarts_converter event) _ steady)
               (record { sound = lived.sound; made = lived.made; legal = lived.legal.1 })
-          | inr m ↦ absurd (unmoved older (front ++ option_to_list (share_of (now config passes (older ++ before)) event).told) event _ below first m)
+          | inr m ↦ absurd (unmoved older (front ++ option_to_list (share_of (now config passes (older ++ before)) event).told) event _
+              below first m)
         ]
 
     -- at each moment of them
@@ -367,16 +377,19 @@ module _ (config : Config) (passes : ℕ) (before : List Event) (host : Summary)
 
     open-is : (older : List Event) (front : List Entry) →
         front ++ told_in config passes before older ≡ frames ++ Accepted job ∷ [] →
-        (o : Option Job) → open_job (setup_of config passes) (life config passes (older ++ before)).entries ≡ o → (o ≡ None) ⊎ (o ≡ Some job)
+        (o : Option Job) → open_job (setup_of config passes) (life config passes (older ++ before)).entries ≡ o
+        → (o ≡ None) ⊎ (o ≡ Some job)
     unfolding open_job
-    open-is older front h o is = elim (last-is front frames (told_in config passes before older) (life config passes before).entries job are h) [
-      | inl none ↦ inl (sym is ∙ (sym (ends.job (setup_of config passes) (life config passes (older ++ before)).entries)
-          ∙ (ap job_in (sym (host-is config passes (older ++ before)))
-          ∙ no-stage (now config passes (older ++ before)).host.stage (ap (λ (s : Summary). is_busy s) (host-there older none) ∙ idle))))
-      | inr last ↦ last-by (is_none (end_of (setup_of config passes) (life config passes (older ++ before)).entries))
-          (sym (ap (λ (j : Option Job). cond (is_none (end_of (setup_of config passes) (life config passes (older ++ before)).entries)) j None)
-          (ap (λ (es : List Entry). last_job es) (entries-are config passes before older) ∙ last)) ∙ is)
-    ]
+    open-is older front h o is = elim (last-is front frames (told_in config passes before older)
+        (life config passes before).entries job are h) [
+          | inl none ↦ inl (sym is ∙ (sym (ends.job (setup_of config passes) (life config passes (older ++ before)).entries)
+              ∙ (ap job_in (sym (host-is config passes (older ++ before)))
+              ∙ no-stage (now config passes (older ++ before)).host.stage (ap (λ (s : Summary). is_busy s) (host-there older none) ∙ idle))))
+          | inr last ↦ last-by (is_none (end_of (setup_of config passes) (life config passes (older ++ before)).entries))
+              (sym (ap (λ (j : Option Job). cond (is_none (end_of (setup_of config passes) (life config passes (older ++ before)).entries)) j
+              None)
+              (ap (λ (es : List Entry). last_job es) (entries-are config passes before older) ∙ last)) ∙ is)
+        ]
       where
         no-stage : (stage : Option Stage) → is_some stage ≡ false → option_map stage_job stage ≡ None
         no-stage None i = refl
@@ -396,7 +409,8 @@ module _ (config : Config) (passes : ℕ) (before : List Event) (host : Summary)
         let told = option_to_list (share_of (now config passes (older ++ before)) event).told in
         let below = append_assoc front told (told_in config passes before older) ∙ h in
         go (restarts_host event) (reads_cell config passes cell (older ++ before) event) (has_read config passes cell (older ++ before))
-        (reads-none (setup_of config passes) (life config passes (older ++ before)).entries _ refl (open-is older (front ++ told) below _ refl)
+        (reads-none (setup_of config passes) (life config passes (older ++ before)).entries _ refl
+        (open-is older (front ++ told) below _ refl)
         (share_of (now config passes (older ++ before)) event).told)
         (stays-unread older (front ++ told) below was) where
           go : (host' one rest : Bool) → one ≡ false → rest ≡ false → cond host' false (one || rest) ≡ false

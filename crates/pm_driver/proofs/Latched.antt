@@ -124,7 +124,8 @@ no-sent sent h = cc
 
 -- the read of a cell, whose word is no status
 cell-alike : (held : Held) (faults : CmlFaults) (cell : Cell) →
-    reply_to (record held { faults = faults }) (read_verdict held.config (cell_read cell)) ≡ reply_to held (read_verdict held.config (cell_read cell))
+    reply_to (record held { faults = faults }) (read_verdict held.config (cell_read cell))
+    ≡ reply_to held (read_verdict held.config (cell_read cell))
 cell-alike held faults (Out output Operation) =
     either-alike (reply_to (record held { faults = faults })) (reply_to held) (nat_lt output held.config.count) _ _ refl refl
 cell-alike held faults (Out output register) =
@@ -209,7 +210,8 @@ pub comes-same : (request : List ℕ) (needed : ℕ) (one other : Held) (way : A
     ComesBack request needed one way so came → ComesBack request needed other way (back_of way so came) came
 comes-same request needed one other way so came alike comes = go way refl comes where
   bytes-back : (w : Arrival) → ComesBack request needed one w so came →
-      is_legal_return request needed (is_heard_whole request (heard_bytes request w) (ending_of Restart w)) (answer_of other request w) came ≡ true
+      is_legal_return request needed (is_heard_whole request (heard_bytes request w) (ending_of Restart w))
+      (answer_of other request w) came ≡ true
   bytes-back w back =
       return-same request needed (is_heard_whole request (heard_bytes request w) (ending_of Restart w)) (answer_of one request w)
       (answer_of other request w) came

@@ -26,3 +26,6 @@ mod Patience
 mod Plan
 mod NeverRestarts
 mod PlanEnds
+mod Surprises
+mod ReadJobs
+mod FewChecks

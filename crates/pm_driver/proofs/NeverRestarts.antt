@@ -3,7 +3,8 @@ use Rattle.std.proofs.Common.{◌≡◌, arith, eqb, true, Bool, ℕ, zero, suc,
 use Rattle.std.proofs.lemmas.Bool.{eq-eqb}
 use Rattle.pm_driver.specs.Acts.{Read, Wrote}
 use Rattle.pm_driver.specs.Undisturbed.{AreWithoutRestart, JobsRestartNothing, ReadsRestartNothing}
-use Rattle.pm_driver.specs.NeverRestarts.{NeverRestartsStays, PatientNeverRestartsStays, ReadsKeepNeverRestarts, patient_device, patient_gives, patient_restarts}
+use Rattle.pm_driver.specs.NeverRestarts.{NeverRestartsStays, PatientNeverRestartsStays, ReadsKeepNeverRestarts, patient_device}
+use Rattle.pm_driver.specs.NeverRestarts.{patient_gives, patient_restarts}
 use Rattle.pm_driver.specs.Patience.{asks_patiently, sends_patiently}
 use Rattle.pm_driver.specs.Plan.{TurnsTo, device_in, gives_so, restarts_of, restarts_so, tries_so}
 use Rattle.pm_driver.specs.declared.buses.fault.Fault.{Fault}

@@ -22,7 +22,8 @@ none-left : (left tried tries : ℕ) → left + tried ≡ tries → tries ≤ tr
 none-left left tried tries count over = omega arith
 
 -- after this many unheard tries of a call: what the tries that are left lead to, all of them do
-pub record Waits {A : Type 0} (held : A → Held) (restarts : A → ℕ) (goes_on : ℕ → A → Type 0) (tries : ℕ) (old : A) (tried : ℕ) (now : A) : Type 0 where
+pub record Waits {A : Type 0} (held : A → Held) (restarts : A → ℕ) (goes_on : ℕ → A → Type 0) (tries : ℕ) (old : A) (tried : ℕ)
+    (now : A) : Type 0 where
   pub unheard : IsUnheard (held old) (restarts old) (held now) (restarts now)
   pub left : ℕ
   pub count : left + tried ≡ tries
@@ -56,7 +57,8 @@ waits-more parts held restarts goes_on tries old tried now new waits more unhear
 
 -- the last one
 pub waits-last : {A : Type 0} (held : A → Held) (restarts : A → ℕ) (goes_on : ℕ → A → Type 0) (tries : ℕ) (old : A) (tried : ℕ)
-    (now : A) → Waits held restarts goes_on tries old tried now → tried < tries → ((fewer : ℕ) → goes_on (suc fewer) now) → goes_on tries old
+    (now : A) → Waits held restarts goes_on tries old tried now → tried < tries → ((fewer : ℕ) → goes_on (suc fewer) now)
+    → goes_on tries old
 waits-last held restarts goes_on tries old tried now waits more last =
     let one = one-left waits.left tried tries waits.count more in
     waits.goes (subst (λ n. goes_on n now) (sym one.1) (last one.0))

@@ -1,5 +1,6 @@
 -- Calls of a simulated bus whose plan is at its end.
-use Rattle.std.proofs.Common.{◌≡◌, ◌≤◌, ◌+◌, ◌||◌, ◌&&◌, arith, cond, not, ℕ, zero, suc, Bool, true, false, List, [], Option, Some, None, Ok, Err, is_none, is_some, length, inl, inr, refl, sym, ◌∙◌, ap, ap₂, subst}
+use Rattle.std.proofs.Common.{◌≡◌, ◌≤◌, ◌+◌, ◌||◌, ◌&&◌, arith, cond, not, ℕ, zero, suc, Bool, true, false, List, [], Option, Some, None}
+use Rattle.std.proofs.Common.{Ok, Err, is_none, is_some, length, inl, inr, refl, sym, ◌∙◌, ap, ap₂, subst}
 use Rattle.std.specs.Prelude.{bytes_eq, nat_lt, replicate, slice_get}
 use Rattle.std.proofs.lemmas.List.{length-replicate}
 use Rattle.pm_device.specs.declared.ending.Ending.TheVariants.{Stop, Restart}
@@ -12,11 +13,13 @@ use Rattle.pm_driver.specs.declared.adapter.ReadEnd.TheVariants as read
 use Rattle.pm_driver.specs.Acts.{Call, Read, Wrote}
 use Rattle.pm_driver.specs.Adapter.{Asks, Sends}
 use Rattle.pm_driver.specs.Bus.{answer_of}
-use Rattle.pm_driver.specs.Undisturbed.{AreUndisturbed, IsUndisturbed, UndisturbedOrdersAreDone, WholeFramesAreLegal, asked_whole, wrote_whole}
+use Rattle.pm_driver.specs.Undisturbed.{AreUndisturbed, IsUndisturbed, UndisturbedOrdersAreDone, WholeFramesAreLegal, asked_whole}
+use Rattle.pm_driver.specs.Undisturbed.{wrote_whole}
 use Rattle.pm_device.specs.Held.{Held}
 use Rattle.pm_driver.specs.NeverRestarts.{patient_device, patient_gives, patient_restarts}
 use Rattle.pm_driver.specs.Patience.{asks_patiently, sends_patiently}
-use Rattle.pm_driver.specs.Plan.{TurnsTo, asked, came_by, delivered, device_in, fault_next, gives_by, gives_so, restarts_so, tries_by, tries_so}
+use Rattle.pm_driver.specs.Plan.{TurnsTo, asked, came_by, delivered, device_in, fault_next, gives_by, gives_so, restarts_so, tries_by}
+use Rattle.pm_driver.specs.Plan.{tries_so}
 use Rattle.pm_driver.specs.Driven.{Driving}
 use Rattle.pm_driver.specs.PlanEnds.{OrdersGoThrough, PatientOrdersGoThrough, is_at_end, is_ready}
 use Rattle.pm_driver.specs.declared.buses.fault.Fault.{Fault}
@@ -147,7 +150,8 @@ go-through legal law cell word (Ok end) old new has at_end allowed runs =
     let all = law is_at_end (simulated-so legal) cell word end old new has at_end allowed runs in
     record { done = all.0; held = all.1; at_end = all.2 }
 
-pub patient-go-through : WholeFramesAreLegal → UndisturbedOrdersAreDone patient_gives patient_device patient_restarts → PatientOrdersGoThrough
+pub patient-go-through : WholeFramesAreLegal → UndisturbedOrdersAreDone patient_gives patient_device patient_restarts
+    → PatientOrdersGoThrough
 patient-go-through legal law cell word (Err fault) old new has ready allowed runs = record {
   done = tt;
   held = tt;

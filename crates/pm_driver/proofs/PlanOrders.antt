@@ -13,7 +13,8 @@ use Rattle.pm_driver.proofs.BegunJobs.{IsBegun}
 use Rattle.pm_driver.proofs.WithinLimits.{guard-free}
 
 -- a plan's next order, which its guard began
-pub plan-begun : PlansAreAccepted → (output : ℕ) (wanted : Wanted) (g middle : Guarded) (order : PlanOrder) → output < g.host.setup.outputs →
+pub plan-begun : PlansAreAccepted → (output : ℕ) (wanted : Wanted) (g middle : Guarded) (order : PlanOrder) → output < g.host.setup.outputs
+    →
     plan_in output wanted g ≡ Ok (Some order) → Begun g output (Some order) middle →
     (guard_fault g (job.Order (Out output order.register) order.word) ≡ None)
     × IsBegun g.host (job.Order (Out output order.register) order.word) middle.host

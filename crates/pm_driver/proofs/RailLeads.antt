@@ -35,7 +35,8 @@ led-on gives held restarts asked earlier events job end a b c before leads = rec
 
 -- the same of a job as it was accepted
 led-some : {B : Type 0} (gives : B → Call → B → Type 0) (held : B → Held) (restarts : B → ℕ) (asked : List Act) (earlier : Option JobEnd)
-    (events : List Event) (end : JobEnd) (old middle new : Driving B) → IsLed gives held restarts asked earlier events (driven old) (driven middle) →
+    (events : List Event) (end : JobEnd) (old middle new : Driving B)
+    → IsLed gives held restarts asked earlier events (driven old) (driven middle) →
     (job : Option Job) →
     (leads : IsSomeAnd job (λ begun. Leads gives held restarts (Began begun ∷ []) (Some end) (driven middle) (driven new))) →
     IsLed gives held restarts (begun_by job ++ asked) (Some end) (events_in gives held restarts end middle new job leads ++ events)
@@ -44,7 +45,8 @@ led-some gives held restarts asked earlier events end old middle new before None
 led-some gives held restarts asked earlier events end old middle new before (Some job) leads =
     led-on gives held restarts asked earlier events job end (driven old) (driven middle) (driven new) before leads
 
-surveys-lead : {B : Type 0} (gives : B → Call → B → Type 0) (held : B → Held) (restarts : B → ℕ) (begun : Survey) (old : Driving B) {v : Survey}
+surveys-lead : {B : Type 0} (gives : B → Call → B → Type 0) (held : B → Held) (restarts : B → ℕ) (begun : Survey)
+    (old : Driving B) {v : Survey}
     {new : Driving B} (runs : Surveys gives held restarts begun old v new) →
     IsLed gives held restarts (jobs_read runs) (end_read runs) (events_read runs) (driven old) (driven new)
 surveys-lead gives held restarts begun old nothing = led-nothing gives held restarts (driven old)
@@ -52,14 +54,16 @@ surveys-lead gives held restarts begun old (more v job end middle last before as
     led-some gives held restarts (jobs_read before) (end_read before) (events_read before) end old middle last
     (surveys-lead gives held restarts begun old before) (accepted_job middle.guard.host job) runs.leads
 
-plans-lead : {B : Type 0} (gives : B → Call → B → Type 0) (held : B → Held) (restarts : B → ℕ) (output : ℕ) (wanted : Wanted) (begun : Course)
+plans-lead : {B : Type 0} (gives : B → Call → B → Type 0) (held : B → Held) (restarts : B → ℕ) (output : ℕ) (wanted : Wanted)
+    (begun : Course)
     (old : Driving B) {course : Course} {new : Driving B} (runs : Applied gives held restarts output wanted begun old course new) →
     IsLed gives held restarts (jobs_of runs) (end_of runs) (events_of runs) (driven old) (driven new)
 plans-lead gives held restarts output wanted begun old nothing = led-nothing gives held restarts (driven old)
 plans-lead gives held restarts output wanted begun old (more course after middle last before (read job end new once asks runs)) =
     led-some gives held restarts (jobs_of before) (end_of before) (events_of before) end old middle last
     (plans-lead gives held restarts output wanted begun old before) (accepted_job middle.guard.host job) runs.leads
-plans-lead gives held restarts output wanted begun old (more course after middle last before (wrote order end new once surveyed left plan runs)) =
+plans-lead gives held restarts output wanted begun old (more course after middle last before
+    (wrote order end new once surveyed left plan runs)) =
     led-some gives held restarts (jobs_of before) (end_of before) (events_of before) end old middle last
     (plans-lead gives held restarts output wanted begun old before) (Some _) runs.leads
 plans-lead gives held restarts output wanted begun old (more course after middle last before (again once surveyed ordered plan)) =

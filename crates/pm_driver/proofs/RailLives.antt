@@ -1,5 +1,7 @@
 -- What a plan that a driver carries out comes to over a life.
-use Rattle.std.specs.Prelude.{◌≡◌, ◌⊎◌, ◌<◌, ◌+◌, ◌==◌, ◌&&◌, ◌||◌, ℕ, Bool, true, false, not, cond, if◌then◌else◌, refl, find, Option, Some, None, is_some, is_none, option_map, option_and_then, nat_lt, IsSomeAnd, Result, Ok, Err, List, [], ◌∷◌, ◌++◌}
+use Rattle.std.specs.Prelude.{◌≡◌, ◌⊎◌, ◌<◌, ◌+◌, ◌==◌, ◌&&◌, ◌||◌, ℕ, Bool, true, false, not, cond, if◌then◌else◌, refl, find, Option}
+use Rattle.std.specs.Prelude.{Some, None, is_some, is_none, option_map, option_and_then, nat_lt, IsSomeAnd, Result, Ok, Err, List, []}
+use Rattle.std.specs.Prelude.{◌∷◌, ◌++◌}
 use Rattle.std.specs.List.{list_any}
 use Rattle.std.specs.Option.{option_or}
 use Rattle.std.proofs.Common.{inl, inr, sym, ◌∙◌, ap, subst, append_assoc}
@@ -50,7 +52,8 @@ use Rattle.pm_table.specs.Laws.{CellsAreToldApart}
 use Rattle.pm_table.specs.Rules.{first, rule}
 use Rattle.pm_limits.specs.Guard.{missing_cell, of_host}
 use Rattle.pm_driver.proofs.Surveyed.{asked-output, asked-plan, asks-so, busy-plan, ordered-output}
-use Rattle.pm_driver.specs.Rails.{Applied, Steps, again, asks_in, is_surveyed_in, course_of, events_by_step, events_in, events_of, more, nothing, ordered_by, plan_in, read, surveyed_by, wrote}
+use Rattle.pm_driver.specs.Rails.{Applied, Steps, again, asks_in, is_surveyed_in, course_of, events_by_step, events_in, events_of, more}
+use Rattle.pm_driver.specs.Rails.{nothing, ordered_by, plan_in, read, surveyed_by, wrote}
 use Rattle.pm_driver.proofs.Chains.{Beyond, follow-on, follows-drop, none-counted, none-first, none-second, split-at}
 use Rattle.pm_driver.specs.Bus.{restarts_in}
 use Rattle.pm_driver.specs.Lemmas.Restarts.{restarts-on}
@@ -67,12 +70,14 @@ use Rattle.pm_rail.specs.Plan.{commands_by, goal_of}
 use Rattle.pm_rail.specs.Registers.{Held}
 use Rattle.pm_world.specs.Limited.{commands}
 use Rattle.std.proofs.Common.{append-nil, zero-add}
-use Rattle.pm_driver.proofs.Followed.{Frames, LeavesAlone, LeavesUnread, MayRun, entries-are, follows, found, host-there, one-asked, one-begun, quiet, stays-part, stays-unread, told-drop, told-one, told_in}
+use Rattle.pm_driver.proofs.Followed.{Frames, LeavesAlone, LeavesUnread, MayRun, entries-are, follows, found, host-there, one-asked}
+use Rattle.pm_driver.proofs.Followed.{one-begun, quiet, stays-part, stays-unread, told-drop, told-one, told_in}
 
 -- ---- One job in a life ----
 
 -- a job was carried out by these further events
-pub record Ran (config : Config) (passes : ℕ) (before events : List Event) (job : Job) (end : JobEnd) (old new : Summary) (held : Converter) : Type 0 where
+pub record Ran (config : Config) (passes : ℕ) (before events : List Event) (job : Job) (end : JobEnd) (old new : Summary)
+    (held : Converter) : Type 0 where
   pub frames : List Entry
   pub are : Frames frames
   pub told : told_in config passes before events ≡ frames ++ Accepted job ∷ []
@@ -108,7 +113,8 @@ Stays config passes output before later = (rest part : List Event) (register : R
     held_at config passes (part ++ before) output register ≡ held_at config passes before output register
 
 -- a job that leaves them alone goes on with that
-pub stays-on : LawsOfRails → (config : Config) (passes output : ℕ) (before es evs : List Event) (job : Job) (end : JobEnd) (old new : Summary)
+pub stays-on : LawsOfRails → (config : Config) (passes output : ℕ) (before es evs : List Event) (job : Job) (end : JobEnd)
+    (old new : Summary)
     (held : Converter) → output < config.count → ((register : Reg) → LeavesAlone job (Out output register)) →
     Ran config passes (es ++ before) evs job end old new held → list_any restarts_converter evs ≡ false →
     Stays config passes output before es → Stays config passes output before (evs ++ es)
@@ -126,7 +132,8 @@ stays-on laws config passes output before es evs job end old new held here alone
     ]
 
 -- what a survey counts as read once it was told of the end of a job that it asked for
-pub read-told : LawsOfRails → (config : Config) (passes : ℕ) (part : PartRegisters) (v : Survey) (before es evs : List Event) (asked' : Asked) (j : Job) (end : JobEnd)
+pub read-told : LawsOfRails → (config : Config) (passes : ℕ) (part : PartRegisters) (v : Survey) (before es evs : List Event)
+    (asked' : Asked) (j : Job) (end : JobEnd)
     (old new : Summary) (held : Converter) → AreRead config passes v es before → v.output < config.count →
     next_job part v old ≡ Some asked' → ((s : Summary) → accepted_job s asked' ≡ Some j) → asked_by (job_event j) ≡ Some asked' →
     Ran config passes (es ++ before) evs j end old new held →
@@ -155,20 +162,24 @@ read-told laws config passes part v before es evs asked' j end old new held are 
     ∙ sym (append_assoc one.newer (one.event ∷ []) ((one.older ++ es) ++ before))) all) in
     let longer = (laws.surveys.follows config passes ((one.older ++ es) ++ before) below).more v one.older es before refl are in
     let there : next_job part v (now config passes ((one.older ++ es) ++ before)).host ≡ Some asked' =
-    ap (λ (s : Summary). next_job part v s) (ap (λ (x : List Event). (now config passes x).host) (append_assoc one.older es before) ∙ same) ∙ next in
+    ap (λ (s : Summary). next_job part v s) (ap (λ (x : List Event). (now config passes x).host) (append_assoc one.older es before) ∙ same)
+    ∙ next in
     let over : (now config passes ((one.newer ++ one.event ∷ (one.older ++ es)) ++ before)).end ≡ Some end =
     ap (λ (x : List Event). (now config passes (x ++ before)).end) (sym grouped)
     ∙ (ap (λ (x : List Event). (now config passes x).end) (append_assoc evs es before) ∙ went.ended) in
     subst (λ (x : List Event). AreRead config passes (surveyed_by v asked' end) x before) (sym grouped)
-    ((laws.surveys.follows config passes ((one.newer ++ one.event ∷ (one.older ++ es)) ++ before) all).told part v one.newer (one.older ++ es)
+    ((laws.surveys.follows config passes ((one.newer ++ one.event ∷ (one.older ++ es)) ++ before) all).told part v one.newer
+    (one.older ++ es)
     before one.event asked' end refl here longer there one.asks
-    (quiet config passes (es ++ before) old j went.is_host went.idle went.frames went.are one.newer (one.event ∷ one.older) [] told one.none) over)
+    (quiet config passes (es ++ before) old j went.is_host went.idle went.frames went.are one.newer
+    (one.event ∷ one.older) [] told one.none) over)
 
 -- ---- Steps in a life ----
 
 -- How far a plan has come after these events: its survey is still reading, and the output's words stayed; or from a moment
 -- on, at which all that the plan needs was read, the events follow it.
-pub data Phase (config : Config) (passes : ℕ) (part : PartRegisters) (output : ℕ) (wanted : Wanted) (before : List Event) (course : Course) (es : List Event) : Type 0 where
+pub data Phase (config : Config) (passes : ℕ) (part : PartRegisters) (output : ℕ) (wanted : Wanted) (before : List Event) (course : Course)
+    (es : List Event) : Type 0 where
   reading : course.ordered ≡ false → course.survey.plan ≡ Some wanted → Stays config passes output before es →
       AreRead config passes course.survey es before → MissingUnread config passes part output (es ++ before) →
       Phase config passes part output wanted before course es
@@ -185,7 +196,8 @@ on : {config : Config} {passes : ℕ} {part : PartRegisters} {output : ℕ} {wan
     Follows config passes part output (wants_of wanted) newer (later ++ before) →
     Follows config passes part output (wants_of wanted) evs (es ++ before) →
     Phase config passes part output wanted before after (evs ++ es)
-on {config = config} {passes = passes} {part = part} {output = output} {wanted = wanted} {before = before} {es = es} after evs newer later is stays since idle was more' =
+on {config = config} {passes = passes} {part = part} {output = output} {wanted = wanted} {before = before} {es = es} after evs newer later
+    is stays since idle was more' =
     ordering (evs ++ newer) later (ap (λ (x : List Event). evs ++ x) is ∙ sym (append_assoc evs newer later)) stays since idle
     (follow-on config passes part output (wants_of wanted) evs newer (later ++ before)
     (subst (λ (x : List Event). Follows config passes part output (wants_of wanted) evs x)
@@ -205,7 +217,8 @@ idle-learn g output free = go (is_busy g.host) free where
   go true e = cc
   go false e = refl
 
-idle-plan : (output : ℕ) (wanted : Wanted) (g : Guarded) (order : Option PlanOrder) → plan_in output wanted g ≡ Ok order → is_busy g.host ≡ false
+idle-plan : (output : ℕ) (wanted : Wanted) (g : Guarded) (order : Option PlanOrder) → plan_in output wanted g ≡ Ok order → is_busy g.host
+    ≡ false
 idle-plan output wanted g order is = go (is_busy g.host) refl where
   go : (b : Bool) → is_busy g.host ≡ b → b ≡ false
   go true e = let no = busy-plan output wanted g e in cc
@@ -214,7 +227,8 @@ idle-plan output wanted g order is = go (is_busy g.host) refl where
 -- ---- Steps ----
 
 -- what a plan has come to, at a moment of a life
-pub record Way (config : Config) (passes : ℕ) (part : PartRegisters) (output : ℕ) (wanted : Wanted) (before : List Event) (course : Course) (guard : Guarded) (held : Converter) (es : List Event) : Type 0 where
+pub record Way (config : Config) (passes : ℕ) (part : PartRegisters) (output : ℕ) (wanted : Wanted) (before : List Event) (course : Course)
+    (guard : Guarded) (held : Converter) (es : List Event) : Type 0 where
   pub lived : IsLife config passes (es ++ before) guard.host held
   pub part_is : guard.registers ≡ part
   pub own : course.survey.output ≡ output
@@ -262,7 +276,8 @@ module _ (laws : LawsOfRails) (config : Config) (passes : ℕ) (part : PartRegis
       asked_by (job_event j) ≡ Some asked' → ((register : Reg) → LeavesAlone j (Out output register)) →
       ((m : Reg) → has_register part m ≡ false → LeavesUnread j (Out output m)) →
       MayRun part old.guard.host output (wants_of wanted) j → is_busy old.guard.host ≡ false → new.guard.registers ≡ old.guard.registers →
-      (leads : Leads gives held restarts (Began j ∷ []) (Some end) (driven old) (driven new)) → list_any restarts_converter leads.events ≡ false →
+      (leads : Leads gives held restarts (Began j ∷ []) (Some end) (driven old) (driven new)) → list_any restarts_converter leads.events
+      ≡ false →
       Way config passes part output wanted before course old.guard (held old.bus) es →
       Way config passes part output wanted before (record course { survey = surveyed_by course.survey asked' end }) new.guard (held new.bus)
       (leads.events ++ es)
@@ -272,13 +287,15 @@ module _ (laws : LawsOfRails) (config : Config) (passes : ℕ) (part : PartRegis
       let asks' : next_job part course.survey old.guard.host ≡ Some asked' =
       ap (λ (p : PartRegisters). next_job p course.survey old.guard.host) (sym way.part_is) ∙ asks in
       record {
-        lived = subst (λ (x : List Event). IsLife config passes x new.guard.host (held new.bus)) (sym (append_assoc evs es before)) went.life;
+        lived = subst (λ (x : List Event). IsLife config passes x new.guard.host (held new.bus))
+            (sym (append_assoc evs es before)) went.life;
         part_is = same ∙ way.part_is;
         own = asked-output course.survey asked' end ∙ way.own;
         steady = none-both evs es steady way.steady;
         phase = elim way.phase [
           | reading unordered plan stays are none ↦ reading unordered (asked-plan course.survey asked' end ∙ plan)
-              (stays-on laws config passes output before es evs j end old.guard.host new.guard.host (held new.bus) here alone went steady stays)
+              (stays-on laws config passes output before es evs j end old.guard.host new.guard.host
+              (held new.bus) here alone went steady stays)
               (read-told laws config passes part course.survey before es evs asked' j end old.guard.host new.guard.host (held new.bus) are
               (subst (λ (o : ℕ). o < config.count) (sym way.own) here) asks' accepts names went)
               (λ m lacks. ap (λ (x : List Event). has_read config passes (Out output m) x) (append_assoc evs es before)
@@ -286,7 +303,8 @@ module _ (laws : LawsOfRails) (config : Config) (passes : ℕ) (part : PartRegis
               (Out output m) (unread m lacks) evs [] went.told (none m lacks))
           | ordering newer later is stays since free was ↦
               on (record course { survey = surveyed_by course.survey asked' end }) evs newer later is stays since free was
-              (follows config passes (es ++ before) old.guard.host j went.is_host went.idle went.frames went.are part output (wants_of wanted) may
+              (follows config passes (es ++ before) old.guard.host j went.is_host went.idle went.frames went.are part output
+              (wants_of wanted) may
               evs [] went.told steady)
         ];
       }
@@ -339,21 +357,26 @@ module _ (laws : LawsOfRails) (config : Config) (passes : ℕ) (part : PartRegis
       list_any restarts_converter (events_by_step step) ≡ false →
       Way config passes part output wanted before course old.guard (held old.bus) es →
       Way config passes part output wanted before after new.guard (held new.bus) (events_by_step step ++ es)
-  step-on {gives = gives} {held = held} {restarts = restarts} {course = course} {old = old} es (read asked' end new once asks runs) steady way =
+  step-on {gives = gives} {held = held} {restarts = restarts} {course = course} {old = old} es
+      (read asked' end new once asks runs) steady way =
       read-kind gives held restarts course es asked' end old new
       (asks-so (λ (j : Asked). Kind part course.survey j) part course.survey old.guard.host learns (λ r has. checks r has) protects asked'
       (ap (λ (p : PartRegisters). next_job p course.survey old.guard.host) (sym way.part_is) ∙ asks))
       asks runs steady way
-  step-on {gives = gives} {held = held} {restarts = restarts} {course = course} {old = old} es (wrote order end new once surveyed left' plan runs) steady way =
+  step-on {gives = gives} {held = held} {restarts = restarts} {course = course} {old = old} es
+      (wrote order end new once surveyed left' plan runs) steady way =
       let evs = runs.leads.events in
       let idle = idle-plan output wanted old.guard (Some order) plan in
-      let went = ran gives held restarts config passes (es ++ before) (Order (Out output order.register) order.word) end (driven old) (driven new)
+      let went = ran gives held restarts config passes (es ++ before) (Order (Out output order.register) order.word) end (driven old)
+      (driven new)
       runs.leads way.lived idle in
-      let plan' = ap (λ (p : PartRegisters). plan_of p old.guard.host (limits_at old.guard output) output (wants_of wanted)) (sym way.part_is) ∙ plan in
+      let plan' = ap (λ (p : PartRegisters). plan_of p old.guard.host (limits_at old.guard output) output (wants_of wanted))
+      (sym way.part_is) ∙ plan in
       let may = follows config passes (es ++ before) old.guard.host (Order (Out output order.register) order.word) went.is_host went.idle
       went.frames went.are part output (wants_of wanted) (limits_at old.guard output, plan') evs [] went.told steady in
       record {
-        lived = subst (λ (x : List Event). IsLife config passes x new.guard.host (held new.bus)) (sym (append_assoc evs es before)) went.life;
+        lived = subst (λ (x : List Event). IsLife config passes x new.guard.host (held new.bus))
+            (sym (append_assoc evs es before)) went.life;
         part_is = runs.registers ∙ way.part_is;
         own = ordered-output course order.register end ∙ way.own;
         steady = none-both evs es steady way.steady;
@@ -396,7 +419,8 @@ module _ (laws : LawsOfRails) (config : Config) (passes : ℕ) (part : PartRegis
 
   -- after all of them
   pub all-on : {B : Type 0} {gives : B → Call → B → Type 0} {held : B → Converter} {restarts : B → ℕ} (tries : ℕ) {old : Driving B}
-      {course : Course} {new : Driving B} (runs : Applied gives held restarts output wanted (course_of output wanted tries) old course new) →
+      {course : Course} {new : Driving B} (runs : Applied gives held restarts output wanted (course_of output wanted tries) old course new)
+      →
       list_any restarts_converter (events_of runs) ≡ false → old.guard.registers ≡ part →
       IsLife config passes before old.guard.host (held old.bus) → MissingUnread config passes part output before →
       Way config passes part output wanted before course new.guard (held new.bus) (events_of runs)
@@ -408,14 +432,16 @@ module _ (laws : LawsOfRails) (config : Config) (passes : ℕ) (part : PartRegis
 -- ---- What it is worth ----
 
 -- the restarts that the bus counted are those of the events
-pub some-counted : {B : Type 0} (gives : B → Call → B → Type 0) (held : B → Converter) (restarts : B → ℕ) (end : JobEnd) (old new : Driving B)
+pub some-counted : {B : Type 0} (gives : B → Call → B → Type 0) (held : B → Converter) (restarts : B → ℕ) (end : JobEnd)
+    (old new : Driving B)
     (o : Option Job) (leads : IsSomeAnd o (λ begun. Leads gives held restarts (Began begun ∷ []) (Some end) (driven old) (driven new))) →
     restarts_in (events_in gives held restarts end old new o leads) + restarts old.bus ≡ restarts new.bus
 some-counted gives held restarts end old new None leads = absurd leads
 some-counted gives held restarts end old new (Some begun) leads = leads.count
 
 step-counted : {B : Type 0} {gives : B → Call → B → Type 0} {held : B → Converter} (restarts : B → ℕ) {output : ℕ} {wanted : Wanted}
-    {course : Course} {old : Driving B} {after : Course} {new : Driving B} → (step : Steps gives held restarts output wanted course old after new) →
+    {course : Course} {old : Driving B} {after : Course} {new : Driving B}
+    → (step : Steps gives held restarts output wanted course old after new) →
     restarts_in (events_by_step step) + restarts old.bus ≡ restarts new.bus
 step-counted {gives = gives} {held = held} restarts {old = old} (read asked' end new once asks runs) =
     some-counted gives held restarts end old new (accepted_job old.guard.host asked') runs.leads
@@ -423,7 +449,8 @@ step-counted restarts (wrote order end new once surveyed left' plan runs) = runs
 step-counted restarts {old = old} (again once surveyed ordered plan) = zero-add (restarts old.bus)
 
 counted : {B : Type 0} {gives : B → Call → B → Type 0} {held : B → Converter} (restarts : B → ℕ) {output : ℕ} {wanted : Wanted}
-    {begun : Course} {old : Driving B} {course : Course} {new : Driving B} → (runs : Applied gives held restarts output wanted begun old course new) →
+    {begun : Course} {old : Driving B} {course : Course} {new : Driving B}
+    → (runs : Applied gives held restarts output wanted begun old course new) →
     restarts_in (events_of runs) + restarts old.bus ≡ restarts new.bus
 counted restarts {old = old} nothing = zero-add (restarts old.bus)
 counted restarts {old = old} {new = new} (more course after middle last runs step) =
@@ -431,7 +458,8 @@ counted restarts {old = old} {new = new} (more course after middle last runs ste
     (counted restarts runs) (step-counted restarts step)
 
 pub none-restarted : {B : Type 0} {gives : B → Call → B → Type 0} {held : B → Converter} (restarts : B → ℕ) {output : ℕ} {wanted : Wanted}
-    {begun : Course} {old : Driving B} {course : Course} {new : Driving B} → (runs : Applied gives held restarts output wanted begun old course new) →
+    {begun : Course} {old : Driving B} {course : Course} {new : Driving B}
+    → (runs : Applied gives held restarts output wanted begun old course new) →
     restarts new.bus ≡ restarts old.bus → list_any restarts_converter (events_of runs) ≡ false
 none-restarted restarts {old = old} {new = new} runs same =
     none-counted (events_of runs) (restarts old.bus) (restarts new.bus) (counted restarts runs) same
@@ -478,7 +506,8 @@ module _ (laws : LawsOfRails) (config : Config) (passes : ℕ) (part : PartRegis
       subst (λ (h : Held). IsStep (commands_by (value_for config output) (goal_of h (wants_of wanted)))
       (commands config passes (y ++ (later ++ before)) output) (commands config passes ((x ++ y) ++ (later ++ before)) output))
       (fun_ext (λ (r : Reg). stays [] later r refl))
-      ((laws.plans.keeps config passes ((x ++ y) ++ (later ++ before)) spelled lived).held part output (wants_of wanted) x y (later ++ before)
+      ((laws.plans.keeps config passes ((x ++ y) ++ (later ++ before)) spelled lived).held part output (wants_of wanted) x y
+      (later ++ before)
       refl here refl idle since (held-missing later stays) follows')
 
   beyond-step : (newer later rest newer' later' : List Event) → Stays config passes output before later →
@@ -500,7 +529,8 @@ module _ (laws : LawsOfRails) (config : Config) (passes : ℕ) (part : PartRegis
             let empty : x ≡ x ++ [] = sym (append-nil x) in
             let ends : commands config passes (later ++ before) output ≡ commands config passes (later' ++ before) output =
             stay-commands later stays [] later refl ∙ sym (stay-commands later stays earlier.0 later' earlier.1) in
-            subst (λ (r : Ratio). IsStep (goal_at config passes output wanted before) r (commands config passes ((newer' ++ later') ++ before) output)) ends
+            subst (λ (r : Ratio). IsStep (goal_at config passes output wanted before) r
+            (commands config passes ((newer' ++ later') ++ before) output)) ends
             (subst (λ (l : List Event). Step (later ++ before) l) (ap (λ (l : List Event). l ++ (later ++ before)) (sym empty) ∙ sym moment)
             (from-ready later stays since idle x []
             (subst (λ (l : List Event). Follows config passes part output (wants_of wanted) l (later ++ before)) empty piece)
@@ -545,17 +575,20 @@ module _ (laws : LawsOfRails) (config : Config) (passes : ℕ) (part : PartRegis
             ready laws config passes part output wanted before spelled here missing course guard held es way.lived way.part_is way.own
             way.steady plan stays are none ends.2
         | ordering newer later is stays since idle follows' ↦
-            (laws.plans.keeps config passes (es ++ before) spelled way.lived.lived).read part output (wants_of wanted) newer (later ++ before)
+            (laws.plans.keeps config passes (es ++ before) spelled way.lived.lived).read part output (wants_of wanted) newer
+            (later ++ before)
             (moment newer later is) here refl idle since (held-missing later stays) follows'
       ] in
       let holds : HoldsMissing part config (now config passes (es ++ before)).device.words output = elim way.phase [
         | reading unordered plan stays are none ↦ held-missing es stays
         | ordering newer later is stays since idle follows' ↦
-            (laws.plans.keeps config passes (es ++ before) spelled way.lived.lived).missing part output (wants_of wanted) newer (later ++ before)
+            (laws.plans.keeps config passes (es ++ before) spelled way.lived.lived).missing part output (wants_of wanted) newer
+            (later ++ before)
             (moment newer later is) here refl idle since (held-missing later stays) follows'
       ] in
       let true' = (laws.plans.keeps config passes (es ++ before) spelled way.lived.lived).come_true part output (limits_at guard output)
       (wants_of wanted) register word here refl since holds
       (ap (λ (s : Summary). plan_of part s (limits_at guard output) output (wants_of wanted)) way.lived.host_is
-      ∙ (ap (λ (p : PartRegisters). plan_of p guard.host (limits_at guard output) output (wants_of wanted)) (sym way.part_is) ∙ ends.3)) wants in
+      ∙ (ap (λ (p : PartRegisters). plan_of p guard.host (limits_at guard output) output (wants_of wanted)) (sym way.part_is) ∙ ends.3))
+      wants in
       ap (λ (h : Converter). word_at h.words (Out output register)) (sym way.lived.held_is) ∙ true'.1

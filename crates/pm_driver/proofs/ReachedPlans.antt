@@ -37,7 +37,8 @@ module _ (laws : LawsOfRails) (config : Config) (passes : ℕ) (part : PartRegis
   goal-stays register = elim way.phase [
     | reading unordered plan stays are none ↦ ap (λ (w : ℕ). unwrap_or (wants_of wanted register) w) (stays [] es register refl)
     | ordering newer later is stays since idle follows' ↦
-        (laws.plans.keeps config passes (es ++ before) spelled way.lived.lived).goal part output (wants_of wanted) register newer (later ++ before)
+        (laws.plans.keeps config passes (es ++ before) spelled way.lived.lived).goal part output (wants_of wanted) register newer
+        (later ++ before)
         (ap (λ (l : List Event). l ++ before) is ∙ append_assoc newer later before) here refl idle since
         (held-missing laws config passes part output wanted before spelled here missing later stays) follows'
         ∙ ap (λ (w : ℕ). unwrap_or (wants_of wanted register) w) (stays [] later register refl)
@@ -57,6 +58,7 @@ module _ (laws : LawsOfRails) (config : Config) (passes : ℕ) (part : PartRegis
         ∙ sym (ap (λ (o : Option ℕ). unwrap_or o (held_at config passes (es ++ before) output register)) is)
         ∙ goal-stays register
 
-  pub commands-goal : EndsAs output wanted course guard Reached → commanded_in config held output ≡ goal_at config passes output wanted before
+  pub commands-goal : EndsAs output wanted course guard Reached → commanded_in config held output
+      ≡ goal_at config passes output wanted before
   unfolding commanded selected
   commands-goal ends = ap (λ (h : Held). commands_by (value_for config output) h) (fun_ext (goal-held ends))

@@ -1,5 +1,6 @@
 -- A call of the bus, as the events of a life.
-use Rattle.std.proofs.Common.{◌≡◌, ◌+◌, arith, ℕ, Bool, true, not, cond, List, [], ◌∷◌, Option, Some, None, length, refl, sym, ◌∙◌, ap, ap₂, subst}
+use Rattle.std.proofs.Common.{◌≡◌, ◌+◌, arith, ℕ, Bool, true, not, cond, List, [], ◌∷◌, Option, Some, None, length, refl, sym, ◌∙◌, ap}
+use Rattle.std.proofs.Common.{ap₂, subst}
 use Rattle.std.specs.Prelude.{IsSomeAnd, replicate}
 use Rattle.std.proofs.lemmas.List.{length-replicate}
 use Rattle.std.specs.Option.{option_or}
@@ -280,7 +281,8 @@ calls-go laws (Read request room came) host old was new is may called =
     (call-events laws (Read request room came) host old was new is may called).goes
 
 -- frames lead on
-pub frames-lead : LawsOfLives → {B : Type 0} → (gives : B → Call → B → Type 0) → (held : B → Held) → (restarts : B → ℕ) → FramesLead gives held restarts
+pub frames-lead : LawsOfLives → {B : Type 0} → (gives : B → Call → B → Type 0) → (held : B → Held) → (restarts : B → ℕ)
+    → FramesLead gives held restarts
 frames-lead laws gives held restarts call host old new may is so =
     let e = call-events laws call host (held old) (restarts old) (held new) (restarts new) may is in
     record {
@@ -298,11 +300,13 @@ frames-lead laws gives held restarts call host old new may is so =
 
 -- what `told` leaves and answers after a call leads on
 pub told-leads : {B : Type 0} (gives : B → Call → B → Type 0) (held : B → Held) (restarts : B → ℕ) → FramesLead gives held restarts →
-    (call : Call) (host after : Summary) (step : Step) (old new : B) → MayDo host (Called call) → IsCalled call (held old) (restarts old) (held new) (restarts new) →
+    (call : Call) (host after : Summary) (step : Step) (old new : B) → MayDo host (Called call)
+    → IsCalled call (held old) (restarts old) (held new) (restarts new) →
     gives old call new → after ≡ host_next host (told_of call) → step ≡ step_of host (told_of call) →
     Leads gives held restarts [] (end_by step) (record { host = host; bus = old }) (record { host = after; bus = new })
 told-leads gives held restarts lead call host after step old new may is so next_is step_is =
-    subst (λ s. Leads gives held restarts [] (end_by s) (record { host = host; bus = old }) (record { host = after; bus = new })) (sym step_is)
+    subst (λ s. Leads gives held restarts [] (end_by s) (record { host = host; bus = old }) (record { host = after; bus = new }))
+    (sym step_is)
     (subst (λ h. Leads gives held restarts [] (end_by (step_of host (told_of call))) (record { host = host; bus = old })
     (record { host = h; bus = new })) (sym next_is) (lead call host old new may is so))
 

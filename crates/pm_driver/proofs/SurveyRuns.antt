@@ -1,5 +1,6 @@
 -- What a survey that a driver carries out comes to over a life.
-use Rattle.std.specs.Prelude.{◌≡◌, ◌≢◌, ◌<◌, ◌+◌, ◌||◌, ℕ, Bool, true, false, cond, refl, Option, Some, None, is_none, IsSomeAnd, Ok, List, [], ◌∷◌, ◌++◌}
+use Rattle.std.specs.Prelude.{◌≡◌, ◌≢◌, ◌<◌, ◌+◌, ◌||◌, ℕ, Bool, true, false, cond, refl, Option, Some, None, is_none, IsSomeAnd, Ok}
+use Rattle.std.specs.Prelude.{List, [], ◌∷◌, ◌++◌}
 use Rattle.std.specs.List.{list_any}
 use Rattle.std.proofs.Common.{sym, ◌∙◌, ap, subst, append_assoc, zero-add}
 use Rattle.std.proofs.Math.Path.{fun_ext}
@@ -51,15 +52,18 @@ use Rattle.pm_driver.specs.RailLaws.{LawsOfRails}
 use Rattle.pm_driver.specs.SurveyLaws.{IsOne, IsWorth, commanded_in, events_read}
 use Rattle.pm_driver.proofs.Chains.{none-counted, none-first, none-second}
 use Rattle.pm_driver.proofs.Followed.{LeavesAlone, LeavesUnread, stays-unread}
-use Rattle.pm_driver.proofs.RailLives.{Kind, Ran, Stays, checks, idle-check, idle-learn, learns, none-both, protects, ran, read-told, same-commands, some-counted, stays-on, two-cells}
+use Rattle.pm_driver.proofs.RailLives.{Kind, Ran, Stays, checks, idle-check, idle-learn, learns, none-both, protects, ran, read-told}
+use Rattle.pm_driver.proofs.RailLives.{same-commands, some-counted, stays-on, two-cells}
 use Rattle.pm_driver.proofs.Surveyed.{asked-output, asks-so}
 
 -- the words of a life's converter are those of the one that it led to
-pub words-now : (config : Config) (passes : ℕ) (events : List Event) (host : Summary) (held : Converter) → IsLife config passes events host held →
+pub words-now : (config : Config) (passes : ℕ) (events : List Event) (host : Summary) (held : Converter)
+    → IsLife config passes events host held →
     (now config passes events).device.words ≡ held.words
 words-now config passes events host held lived = ap (λ (h : Converter). h.words) lived.held_is
 
-module _ (laws : LawsOfRails) (config : Config) (passes : ℕ) (part : PartRegisters) (output : ℕ) (later before : List Event) (here : output < config.count) where
+module _ (laws : LawsOfRails) (config : Config) (passes : ℕ) (part : PartRegisters) (output : ℕ) (later before : List Event)
+    (here : output < config.count) where
   -- what a survey has come to at a moment of a life, after these events of its own
   pub record Reading (v : Survey) (guard : Guarded) (held : Converter) (es : List Event) : Type 0 where
     pub lived : IsLife config passes (es ++ (later ++ before)) guard.host held
@@ -77,7 +81,8 @@ module _ (laws : LawsOfRails) (config : Config) (passes : ℕ) (part : PartRegis
       asked_by (job_event j) ≡ Some asked' → ((register : Reg) → LeavesAlone j (Out output register)) →
       ((m : Reg) → has_register part m ≡ false → LeavesUnread j (Out output m)) →
       is_busy old.guard.host ≡ false → new.guard.registers ≡ old.guard.registers →
-      (leads : Leads gives held restarts (Began j ∷ []) (Some end) (driven old) (driven new)) → list_any restarts_converter leads.events ≡ false →
+      (leads : Leads gives held restarts (Began j ∷ []) (Some end) (driven old) (driven new)) → list_any restarts_converter leads.events
+      ≡ false →
       Reading v old.guard (held old.bus) es → Reading (surveyed_by v asked' end) new.guard (held new.bus) (leads.events ++ es)
   read-on gives held restarts v es asked' j end old new asks accepts names alone unread idle same leads steady way =
       let evs = leads.events in
@@ -86,13 +91,15 @@ module _ (laws : LawsOfRails) (config : Config) (passes : ℕ) (part : PartRegis
       let asks' : next_job part v old.guard.host ≡ Some asked' =
       ap (λ (p : PartRegisters). next_job p v old.guard.host) (sym way.part_is) ∙ asks in
       let moved : Ran config passes ((es ++ later) ++ before) evs j end old.guard.host new.guard.host (held new.bus) =
-      subst (λ (x : List Event). Ran config passes x evs j end old.guard.host new.guard.host (held new.bus)) (sym (append_assoc es later before)) went in
+      subst (λ (x : List Event). Ran config passes x evs j end old.guard.host new.guard.host (held new.bus))
+      (sym (append_assoc es later before)) went in
       record {
         lived = subst (λ (x : List Event). IsLife config passes x new.guard.host (held new.bus)) (sym (append_assoc evs es all)) went.life;
         part_is = same ∙ way.part_is;
         own = asked-output v asked' end ∙ way.own;
         steady = none-both evs es steady way.steady;
-        stays = stays-on laws config passes output all es evs j end old.guard.host new.guard.host (held new.bus) here alone went steady way.stays;
+        stays = stays-on laws config passes output all es evs j end old.guard.host new.guard.host
+            (held new.bus) here alone went steady way.stays;
         are = subst (λ (x : List Event). AreRead config passes (surveyed_by v asked' end) x before) (sym (append_assoc evs es later))
             (read-told laws config passes part v before (es ++ later) evs asked' j end old.guard.host new.guard.host (held new.bus) way.are
             (subst (λ (o : ℕ). o < config.count) (sym way.own) here) asks' accepts names moved);
@@ -145,7 +152,8 @@ module _ (laws : LawsOfRails) (config : Config) (passes : ℕ) (part : PartRegis
     are = are;
     none = none;
   }
-  all-read {gives = gives} {held = held} {restarts = restarts} (more v asked' end middle last runs asks does) steady part_is own lived are none =
+  all-read {gives = gives} {held = held} {restarts = restarts}
+      (more v asked' end middle last runs asks does) steady part_is own lived are none =
       let evs = events_in gives held restarts end middle last (accepted_job middle.guard.host asked') does.leads in
       let way = all-read runs (none-second evs (events_read runs) steady) part_is own lived are none in
       read-kind gives held restarts v (events_read runs) asked' end middle last
@@ -163,7 +171,8 @@ counted {gives = gives} {held = held} restarts {old = old} (more v asked' end mi
     (restarts old.bus) (restarts middle.bus) (restarts last.bus) (counted restarts runs)
     (some-counted gives held restarts end middle last (accepted_job middle.guard.host asked') does.leads)
 
-pub none-restarted : {B : Type 0} {gives : B → Call → B → Type 0} {held : B → Converter} (restarts : B → ℕ) {begun : Survey} {old : Driving B}
+pub none-restarted : {B : Type 0} {gives : B → Call → B → Type 0} {held : B → Converter}
+    (restarts : B → ℕ) {begun : Survey} {old : Driving B}
     {v : Survey} {new : Driving B} → (runs : Surveys gives held restarts begun old v new) →
     restarts new.bus ≡ restarts old.bus → list_any restarts_converter (events_read runs) ≡ false
 none-restarted restarts {old = old} {new = new} runs same =
@@ -230,22 +239,26 @@ module _ (laws : LawsOfRails) (config : Config) (passes : ℕ) (part : PartRegis
       Reading laws config passes part output later before here v guard held es → IsWorth config passes output v guard held es later before
   is-worth v guard held es way = record {
     own = way.own;
-    same = λ newer older is. subst (λ (o : ℕ). commands config passes (older ++ (later ++ before)) o ≡ commanded_in config held o) (sym way.own)
-        (same-commands config passes output (older ++ (later ++ before)) (es ++ (later ++ before)) (fun_ext (λ (r : Reg). way.stays newer older r is
+    same = λ newer older is. subst (λ (o : ℕ). commands config passes (older ++ (later ++ before)) o ≡ commanded_in config held o)
+        (sym way.own)
+        (same-commands config passes output (older ++ (later ++ before)) (es ++ (later ++ before))
+        (fun_ext (λ (r : Reg). way.stays newer older r is
         ∙ sym (way.stays [] es r refl))) ∙ ends output);
     read = way.are;
     one = λ surveyed. at-each (λ (b : Band). IsOne b (commanded_in config held v.output)) (band_at guard.registers guard.host v.output)
         (laws.known.band guard.registers v guard.host surveyed) (λ b is. one surveyed b is);
     within = λ b short stands is. subst (λ (r : Ratio). InBand b r) (ends v.output)
         ((keeps-at way).band part v (es ++ later) before b (sym (append_assoc es later before)) (there way)
-        (subst (λ (w : Words). AreShort w v.output) (sym (words-now config passes (es ++ (later ++ before)) guard.host held way.lived)) short)
+        (subst (λ (w : Words). AreShort w v.output) (sym (words-now config passes (es ++ (later ++ before)) guard.host held way.lived))
+        short)
         (missing-now way) way.are (none-both es later way.steady calm)
         (λ register decides' listed unread. since-on config passes (Out v.output register) es (later ++ before) way.steady
         (stands-now way stands register decides' listed unread)) (band-now way b is));
   }
     where
       ends : (o : ℕ) → commands config passes (es ++ (later ++ before)) o ≡ commanded_in config held o
-      ends o = ap (λ (w : Words). commanded (value_for config o) w o) (words-now config passes (es ++ (later ++ before)) guard.host held way.lived)
+      ends o = ap (λ (w : Words). commanded (value_for config o) w o)
+          (words-now config passes (es ++ (later ++ before)) guard.host held way.lived)
 
       one : is_surveyed_in v guard ≡ true → (b : Band) → band_at guard.registers guard.host v.output ≡ Some b →
           IsOne b (commanded_in config held v.output)

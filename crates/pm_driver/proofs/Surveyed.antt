@@ -1,5 +1,6 @@
 -- What a survey asks for is refused by nothing where no job is open.
-use Rattle.std.specs.Prelude.{◌≡◌, ◌<◌, ◌==◌, ◌&&◌, ◌||◌, ℕ, Bool, true, false, not, nat_lt, if◌then◌else◌, refl, find, Option, Some, None, is_none, is_some, option_map, unwrap_or, Ok, Err, List, [], ◌∷◌}
+use Rattle.std.specs.Prelude.{◌≡◌, ◌<◌, ◌==◌, ◌&&◌, ◌||◌, ℕ, Bool, true, false, not, nat_lt, if◌then◌else◌, refl, find, Option, Some}
+use Rattle.std.specs.Prelude.{None, is_none, is_some, option_map, unwrap_or, Ok, Err, List, [], ◌∷◌}
 use Rattle.std.specs.Option.{option_or}
 use Rattle.std.proofs.Common.{arith, sym, ◌∙◌, ap, subst}
 use Rattle.std.proofs.lemmas.Bool.Decides.{nat_tests}
@@ -31,7 +32,8 @@ use Rattle.pm_limits.specs.declared.fault.LimitFault.TheVariants.{MissingRegiste
 use Rattle.pm_limits.specs.Part.{has_register}
 use Rattle.std.specs.List.{list_any}
 use Rattle.pm_rail.specs.Registers.{Held, Wants, wants_of}
-use Rattle.pm_rail.specs.Survey.{asking, due_by, due_in, due_job, ended, is_stuck, is_stuck_by, is_stuck_in, is_unread, is_unsure, next_job, wanted_in}
+use Rattle.pm_rail.specs.Survey.{asking, due_by, due_in, due_job, ended, is_stuck, is_stuck_by, is_stuck_in, is_unread, is_unsure}
+use Rattle.pm_rail.specs.Survey.{next_job, wanted_in}
 use Rattle.pm_driver.specs.Rails.{asks_in, ordered_by, plan_in, surveyed_by}
 use Rattle.pm_driver.specs.declared.rails.Course.{Course}
 
@@ -172,7 +174,8 @@ same-shape : (a b : Shape) → ◌≡◌ {A = Option Shape} (Some a) (Some b) �
 same-shape a b e = ap (λ (o : Option Shape). unwrap_or o a) e
 
 -- A plan is refused where a survey for it is stuck at a register that the part doesn't have.
-pub stuck-plan : (v : Survey) (output : ℕ) (wanted : Wanted) (g : Guarded) (order : Option PlanOrder) → v.output ≡ output → v.plan ≡ Some wanted →
+pub stuck-plan : (v : Survey) (output : ℕ) (wanted : Wanted) (g : Guarded) (order : Option PlanOrder) → v.output ≡ output → v.plan
+    ≡ Some wanted →
     is_stuck g.registers v g.host ≡ true → plan_in output wanted g ≡ Ok order → ⊥
 stuck-plan v output wanted g order own plan stuck is = by (format_at g.host v.output) refl stuck where
   planned : IsPlanned g.registers g.host (limits_at g output) output (wants_of wanted) order
@@ -181,7 +184,8 @@ stuck-plan v output wanted g order own plan stuck is = by (format_at g.host v.ou
   never : (test other : Reg → Bool) (list : List Reg) → ((r : Reg) → test r ≡ false) → list_any (λ r. other r && test r) list ≡ false
   never test other [] free = refl
   never test other (r ∷ list) free = go (other r) (test r) (free r) (never test other list free) where
-    go : (a b : Bool) → b ≡ false → list_any (λ x. other x && test x) list ≡ false → ((a && b) || list_any (λ x. other x && test x) list) ≡ false
+    go : (a b : Bool) → b ≡ false → list_any (λ x. other x && test x) list ≡ false → ((a && b) || list_any (λ x. other x && test x) list)
+        ≡ false
     go true true e m = cc
     go true false e m = m
     go false b e m = m
@@ -190,19 +194,24 @@ stuck-plan v output wanted g order own plan stuck is = by (format_at g.host v.ou
   by None e s = cc
   by (Some shape) e s =
       let cells = cells_of g.registers shape g.host in
-      let free = all-off (is_unknown cells output (known_of cells output) (wants_of wanted)) (map-none _ _ (known-of shape (ap (λ (o : ℕ). format_at g.host o) (sym own) ∙ e))) in
-      let none = never (is_unknown cells output (known_of cells output) (wants_of wanted)) (λ r. not (has_register g.registers r)) registers free in
+      let free = all-off (is_unknown cells output (known_of cells output) (wants_of wanted))
+      (map-none _ _ (known-of shape (ap (λ (o : ℕ). format_at g.host o) (sym own) ∙ e))) in
+      let none = never (is_unknown cells output (known_of cells output) (wants_of wanted))
+      (λ r. not (has_register g.registers r)) registers free in
       let same = ap (λ (o : ℕ). is_stuck_in g.registers o cells (known_of cells o) (wants_of (wanted_in v.plan))) own
       ∙ ap (λ (p : Option Wanted). is_stuck_in g.registers output cells (known_of cells output) (wants_of (wanted_in p))) plan in
       let no = sym s ∙ same ∙ none in cc
     where
       known-of : (shape : Shape) → format_at g.host output ≡ Some shape →
-          unknown_fault (cells_of g.registers shape g.host) output (known_of (cells_of g.registers shape g.host) output) (wants_of wanted) ≡ None
+          unknown_fault (cells_of g.registers shape g.host) output (known_of (cells_of g.registers shape g.host) output) (wants_of wanted)
+          ≡ None
       known-of shape e' = let one = same-shape planned.shape shape (sym planned.format ∙ e') in
-          subst (λ (x : Shape). unknown_fault (cells_of g.registers x g.host) output (known_of (cells_of g.registers x g.host) output) (wants_of wanted) ≡ None) one planned.known
+          subst (λ (x : Shape). unknown_fault (cells_of g.registers x g.host) output (known_of (cells_of g.registers x g.host) output)
+          (wants_of wanted) ≡ None) one planned.known
 
 -- an order leaves the survey's output
-pub ordered-output : (course : Course) (register : Reg) (end : JobEnd) → (ordered_by course register end).survey.output ≡ course.survey.output
+pub ordered-output : (course : Course) (register : Reg) (end : JobEnd) → (ordered_by course register end).survey.output
+    ≡ course.survey.output
 ordered-output course register Done = refl
 ordered-output course register Learned = refl
 ordered-output course register (Differs word) = refl

@@ -37,13 +37,15 @@ use Rattle.pm_world.specs.Lemmas.{whole-hearing, write-heard}
 use Rattle.pm_world.specs.Life.{life}
 use Rattle.pm_world.specs.Setup.{setup_of}
 use Rattle.pm_world.specs.WholeFrames.{WholeFramesAreUndisturbed}
-use Rattle.pm_driver.specs.Acts.{Act, AreCalls, AreDone, Began, Call, Called, Looked, MayDo, Read, Renewed, Wrote, asked_in, host_by, told_all}
+use Rattle.pm_driver.specs.Acts.{Act, AreCalls, AreDone, Began, Call, Called, Looked, MayDo, Read, Renewed, Wrote, asked_in, host_by}
+use Rattle.pm_driver.specs.Acts.{told_all}
 use Rattle.pm_driver.specs.Bus.{IsAsked, IsSent, answer_of}
 use Rattle.pm_driver.specs.Driven.{HasLife, driven}
 use Rattle.pm_driver.specs.Lives.{Leads}
 use Rattle.pm_driver.specs.Laws.{LawsOfLives}
 use Rattle.pm_driver.specs.Steps.{CallsGo}
-use Rattle.pm_driver.specs.Undisturbed.{AreUndisturbed, IsUndisturbed, UndisturbedOrdersAreDone, WholeFramesAreLegal, asked_whole, wrote_whole}
+use Rattle.pm_driver.specs.Undisturbed.{AreUndisturbed, IsUndisturbed, UndisturbedOrdersAreDone, WholeFramesAreLegal, asked_whole}
+use Rattle.pm_driver.specs.Undisturbed.{wrote_whole}
 use Rattle.pm_driver.proofs.BegunJobs.{job-goes, life-setup}
 use Rattle.pm_driver.proofs.EndedJobs.{now-end}
 use Rattle.pm_driver.proofs.OpenJobs.{busy-host}
@@ -103,7 +105,8 @@ good-long addr cell word bytes good = go (answer_fault addr (cell_read cell) byt
 -- ---- the two frames of an order
 
 -- what comes of the order's write and the read behind it, which nothing disturbs
-record Through (host : Summary) (held : Held) (cell : Cell) (word : ℕ) (entries : List Entry) (setup : Setup) (answer : List ℕ) (new : Held) : Type 0 where
+record Through (host : Summary) (held : Held) (cell : Cell) (word : ℕ) (entries : List Entry) (setup : Setup) (answer : List ℕ)
+    (new : Held) : Type 0 where
   fits : length answer ≡ whole_answer (cell_read cell)
   over : is_busy (host_next (host_next (host_next host (Accepted (Order cell word))) (Finished true)) (Got answer)) ≡ false
   held_is : word_at new.words cell ≡ word
@@ -116,9 +119,12 @@ unfolding host_next
 over-so host cell word answer good =
     ap (λ (read : Option ℕ). is_some (read_back (idle (host_next (host_next host (Accepted (Order cell word))) (Finished true)))
     cell word 0 read).after.stage) good
-    ∙ ap (λ b. is_some (cond b (ends (marked (idle (host_next (host_next host (Accepted (Order cell word))) (Finished true))) (Good cell word)) Done)
-    (cond (eqb 1 host.setup.passes) (ends (marked (idle (host_next (host_next host (Accepted (Order cell word))) (Finished true))) (Good cell word)) (Differs word))
-    (writes_again (marked (idle (host_next (host_next host (Accepted (Order cell word))) (Finished true))) (Good cell word)) cell word 1))).after.stage)
+    ∙ ap (λ b. is_some (cond b (ends (marked (idle (host_next (host_next host (Accepted (Order cell word))) (Finished true)))
+    (Good cell word)) Done)
+    (cond (eqb 1 host.setup.passes) (ends (marked (idle (host_next (host_next host (Accepted (Order cell word))) (Finished true)))
+    (Good cell word)) (Differs word))
+    (writes_again (marked (idle (host_next (host_next host (Accepted (Order cell word))) (Finished true))) (Good cell word)) cell word
+    1))).after.stage)
     (eq-eqb word word refl)
 
 -- the laws that say so
@@ -164,7 +170,8 @@ through laws host held cell word has free allowed frame request room writes read
     let good : good_word config.addr cell answer ≡ Some word = subst (λ b. good_word config.addr cell b ≡ Some word) same went.good in
     record {
       fits = good-long config.addr cell word answer good;
-      over = over-so host cell word answer (subst (λ (s : Setup). good_word s.addr cell answer ≡ Some word) (sym (life-setup has.life)) good);
+      over = over-so host cell word answer (subst (λ (s : Setup). good_word s.addr cell answer ≡ Some word)
+          (sym (life-setup has.life)) good);
       held_is = subst (λ (d : Held). word_at d.words cell ≡ word) is.held_is went.held;
       done = ap (end_of (setup_of config passes)) (sym told) ∙ (sym (now-end config passes after) ∙ went.done);
     }
@@ -271,7 +278,8 @@ pub undisturbed-orders : LawsOfLives → GoodFramesEndJobs → WholeFramesAreUnd
     (gives : B → Call → B → Type 0) → (held : B → Held) → (restarts : B → ℕ) → UndisturbedOrdersAreDone gives held restarts
 unfolding end_of GoesThrough
 undisturbed-orders lives good whole calls gives held restarts is_so all cell word end old new has so allowed runs =
-    go (came-so host cell word entries setup gives held is_so all old.bus so (idle-so host cell word free) goes leads.acts new.bus leads.asks leads.may
+    go (came-so host cell word entries setup gives held is_so all old.bus so
+    (idle-so host cell word free) goes leads.acts new.bus leads.asks leads.may
     leads.calls)
   where
     host : Summary

@@ -25,7 +25,8 @@ use Rattle.pm_host.specs.Summary.{Summary, format_at, next as host_next, start a
 use Rattle.pm_host.specs.Transcript as host
 use Rattle.pm_limits.specs.declared.part_registers.PartRegisters.{PartRegisters}
 use Rattle.pm_limits.specs.Bounds.{Bounds, IsWithin, is_wider}
-use Rattle.pm_limits.specs.Guard.{Guarded, LetsBegin, guard_fault, guarded_order, judged, limits_at, missing_cell, missing_ordered, of_host, word_fault}
+use Rattle.pm_limits.specs.Guard.{Guarded, LetsBegin, guard_fault, guarded_order, judged, limits_at, missing_cell, missing_ordered}
+use Rattle.pm_limits.specs.Guard.{of_host, word_fault}
 use Rattle.pm_limits.specs.Lemmas.Guarded.{guarded-voltage}
 use Rattle.pm_num.specs.Lemmas.Over.{at_most-trans}
 use Rattle.pm_world.specs.Lemmas.{in-format}
@@ -93,7 +94,8 @@ guard-free g (job.OrderMicro cell x) begun free is =
         subst (λ j. job_fault g.host j ≡ None) same (order-free g.registers (limits_at g (output_of cell)) g.host cell w none)
 guard-free g (job.Check cell) begun free is =
     let same : host.Check cell ≡ begun = cc in
-    subst (λ j. job_fault g.host j ≡ None) same (host-none (job_fault g.host (host.Check cell)) (first-none (of_host (cell_fault g.host cell)) _ free))
+    subst (λ j. job_fault g.host j ≡ None) same (host-none (job_fault g.host (host.Check cell))
+    (first-none (of_host (cell_fault g.host cell)) _ free))
 guard-free g (job.Learn output) begun free is =
     let same : host.Learn output ≡ begun = cc in
     subst (λ j. job_fault g.host j ≡ None) same (host-none (job_fault g.host (host.Learn output)) free)
@@ -120,8 +122,10 @@ narrower own bounds value narrow within =
     go true high l h none = cc
     go false true l h none = cc
     go false false l h none = record {
-      from_least = at_most-trans (micros bounds.least) (micros own.least) value (omega arith) (grind (arith, ints, nat_tests)) within.from_least;
-      to_greatest = at_most-trans value (micros own.most) (micros bounds.most) (omega arith) within.to_greatest (grind (arith, ints, nat_tests));
+      from_least = at_most-trans (micros bounds.least) (micros own.least) value (omega arith)
+          (grind (arith, ints, nat_tests)) within.from_least;
+      to_greatest = at_most-trans value (micros own.most) (micros bounds.most) (omega arith) within.to_greatest
+          (grind (arith, ints, nat_tests));
     }
 
 -- a word within an output's own limits in a known format lies within any limits that those are as narrow as
@@ -234,7 +238,8 @@ job-within laws gives held restarts g asked begun end bus new free is leads outp
 
 -- a job that is carried out, which nothing refused and which its guard began
 pub runs-by : LawsOfLives → EndsAreTrue → {B : Type 0} (gives : B → Call → B → Type 0) (held : B → Held) (restarts : B → ℕ) →
-    JobsLead gives held restarts → LeadsCompose gives held restarts → (asked : Job) (end : JobEnd) (old new : Driving B) (middle : Guarded) →
+    JobsLead gives held restarts → LeadsCompose gives held restarts → (asked : Job) (end : JobEnd) (old new : Driving B) (middle : Guarded)
+    →
     HasLife old.guard.host (held old.bus) → guard_fault old.guard asked ≡ None → IsBegun old.guard.host asked middle.host →
     Leads gives held restarts [] (Some end) (record { host = middle.host; bus = old.bus }) (driven new) → frames_left new.guard.host ≡ 0 →
     new.guard.limits ≡ old.guard.limits → new.guard.registers ≡ old.guard.registers → new.guard.host.setup ≡ old.guard.host.setup →
@@ -337,7 +342,8 @@ new-within laws config passes output bounds sound spelled made starts = record {
 
 -- one that its guard let begin
 pub runs-so : LawsOfLives → EndsAreTrue → {B : Type 0} (gives : B → Call → B → Type 0) (held : B → Held) (restarts : B → ℕ) →
-    JobsLead gives held restarts → LeadsCompose gives held restarts → (asked : Job) (end : JobEnd) (old new : Driving B) (middle : Guarded) →
+    JobsLead gives held restarts → LeadsCompose gives held restarts → (asked : Job) (end : JobEnd) (old new : Driving B) (middle : Guarded)
+    →
     HasLife old.guard.host (held old.bus) → LetsBegin old.guard asked (Ok tt) middle →
     Leads gives held restarts [] (Some end) (record { host = middle.host; bus = old.bus }) (driven new) → frames_left new.guard.host ≡ 0 →
     new.guard.limits ≡ middle.limits → new.guard.registers ≡ middle.registers → new.guard.host.setup ≡ middle.host.setup →

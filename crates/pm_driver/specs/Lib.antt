@@ -7,6 +7,7 @@ pub mod Ends
 pub mod Driven
 pub mod Looks
 pub mod Laws
+pub mod Surprises
 pub mod Undisturbed
 -- How it is kept.
 pub mod Steps
@@ -23,5 +24,6 @@ pub mod PlanEnds
 pub mod Rails
 pub mod RailLaws
 pub mod SurveyLaws
+pub mod FewChecks
 pub mod Reached
 pub mod RailLeads

@@ -3,16 +3,17 @@
 ghost use Rattle.pm_driver.specs.Laws.{EndsAreTrue, LeadsCompose, NewConvertersAreWithin, NewConvertersHaveNoRestart, NewConvertersMayBegin};
 ghost use Rattle.pm_driver.specs.Laws.{LawsOfLives, RestartsAreCounted};
 ghost use Rattle.pm_driver.specs.Looks.{RequestsAreNoWrites};
+ghost use Rattle.pm_driver.specs.Surprises.{OneSurpriseAtMost};
 ghost use Rattle.pm_driver.specs.Steps.{CallsGo, FramesLead, JobsLead, LooksLead, RenewalsLead};
 ghost use Rattle.pm_driver.specs.Undisturbed.{JobsRestartNothing, ReadsRestartNothing, UndisturbedOrdersAreDone, WholeFramesAreLegal};
 
 use crate::bus::Bus;
 use pm_device::requests_latch_at_most;
 use pm_frame::{betrayal_is_refused, damage_is_refused, requests_are_exact};
-use pm_host::transcripts_are_followed;
+use pm_host::{possible_words_are_followed, transcripts_are_followed};
 use pm_table::cells_are_told_apart;
 use pm_world::{
-    confirmed_settings_are_held, good_frames_end_jobs, learned_formats_are_true,
+    confirmed_settings_are_held, events_are_lived, good_frames_end_jobs, learned_formats_are_true,
     lives_are_followed, lives_are_orders, lives_stay_limited, possible_words_are_held,
     whole_frames_are_undisturbed,
 };
@@ -51,6 +52,17 @@ pub fn ends_are_true()
     cells_are_told_apart();
     transcripts_are_followed();
     laws_of_lives();
+}
+
+/// Between two answers of a life that surprise the host, the converter restarted. So without a restart of it since the first
+/// good answer behind a moment, one answer at most surprises behind that moment, whatever else happened.
+pub fn one_surprise_at_most()
+    ensures { OneSurpriseAtMost }
+{
+    cells_are_told_apart();
+    possible_words_are_followed();
+    possible_words_are_held();
+    events_are_lived();
 }
 
 /// No beginning of a request is a write: of up to two bytes, as a plain read or a block read of any code sends, of bytes whose

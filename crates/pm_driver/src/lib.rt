@@ -18,7 +18,8 @@
 //! counts no restart, the output commands at each moment what it commanded before or what is wanted
 //! ([`applied_plans_keep_rails`]), and what is wanted once all is reached ([`applied_plans_come_true`],
 //! [`reached_plans_are_commanded`]); what it commands is in the band that a survey ends with, which has one value then
-//! ([`surveys_are_true`]).
+//! ([`surveys_are_true`]). A survey whose checks are all answered takes at most one check less than two for each cell that it
+//! reads ([`surveys_take_few_checks`]), since two answers that surprise show a restart between them ([`one_surprise_at_most`]).
 //!
 //! It has no clock and no memory: a bus decides how long it waits, and whether it tries a write again. There is one host
 //! and one converter; a second master on the bus is no part of it. Of its own buses a
@@ -76,11 +77,11 @@ pub use driver::Driver;
 pub use frames::carry_out;
 pub use laws::{
     ends_are_true, jobs_restart_nothing, leads_compose, new_converters_are_within,
-    new_converters_have_no_restart, new_converters_may_begin, reads_restart_nothing,
-    requests_are_no_writes, restarts_are_counted, undisturbed_orders_are_done,
-    whole_frames_are_legal,
+    new_converters_have_no_restart, new_converters_may_begin, one_surprise_at_most,
+    reads_restart_nothing, requests_are_no_writes, restarts_are_counted,
+    undisturbed_orders_are_done, whole_frames_are_legal,
 };
 pub use rail_laws::{
     applied_plans_come_true, applied_plans_keep_rails, rails_lead, reached_plans_are_commanded,
-    surveys_are_true,
+    surveys_are_true, surveys_take_few_checks,
 };

@@ -1,17 +1,21 @@
 //! What a survey and a plan are worth that a driver carries out: each law is the contract of a function that does nothing
 //! when it runs.
 
+ghost use Rattle.pm_driver.specs.FewChecks.{SurveysTakeFewChecks};
 ghost use Rattle.pm_driver.specs.RailLaws.{AppliedPlansComeTrue, AppliedPlansKeepRails, LawsOfRails};
 ghost use Rattle.pm_driver.specs.RailLeads.{RailsLead};
 ghost use Rattle.pm_driver.specs.Reached.{ReachedPlansAreCommanded};
 ghost use Rattle.pm_driver.specs.SurveyLaws.{SurveysAreTrue};
 
 use crate::bus::Bus;
-use pm_host::ends_are_told;
-use pm_rail::surveys_end_known;
+use crate::laws::one_surprise_at_most;
+use pm_device::words_have_an_origin;
+use pm_host::{ends_are_told, transcripts_are_followed};
+use pm_rail::{surveys_are_short, surveys_end_known};
 use pm_table::cells_are_told_apart;
 use pm_world::{
-    events_are_lived, plans_hold_in_lives, settings_move_by_the_open_job, surveys_hold_in_lives,
+    events_are_lived, lives_are_followed, plans_hold_in_lives, settings_move_by_the_open_job,
+    surveys_hold_in_lives,
 };
 
 // What the crates below say, which the laws here are had from.
@@ -58,6 +62,19 @@ pub fn surveys_are_true<B: Bus>()
     ensures { SurveysAreTrue B.gives B.held B.restarts }
 {
     laws_of_rails();
+}
+
+/// A survey that began with nothing read, and each of whose checks is done, takes at most one check less than two for each cell
+/// that it reads, where the converter didn't restart since the first of its reads: an answer that surprises shows a restart.
+pub fn surveys_take_few_checks<B: Bus>()
+    ensures { SurveysTakeFewChecks B.gives B.held B.restarts }
+{
+    transcripts_are_followed();
+    ends_are_told();
+    lives_are_followed();
+    words_have_an_origin();
+    surveys_are_short();
+    one_surprise_at_most();
 }
 
 /// A survey is one way from first to last, asked for its jobs and nothing else, and so is a plan that is carried out: by the

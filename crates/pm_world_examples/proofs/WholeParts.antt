@@ -21,7 +21,8 @@ lacks-none law register lacks =
     let bad = sym has ∙ ap not lacks in cc
 
 -- The host of a part with every register was told nothing of a missing one, and no missing one has a word of its own.
-pub whole-unread : WholePartsMissNothing → (part : PartRegisters) → part ≡ all_registers → (config : Config) (passes output : ℕ) (events : List Event) →
+pub whole-unread : WholePartsMissNothing → (part : PartRegisters) → part ≡ all_registers
+    → (config : Config) (passes output : ℕ) (events : List Event) →
     MissingUnread config passes part output events
 whole-unread law part whole config passes output events register lacks =
     absurd (lacks-none law register (subst (λ (p : PartRegisters). has_register p register ≡ false) whole lacks))

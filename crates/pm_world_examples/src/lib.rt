@@ -20,6 +20,7 @@
 //! - `whole`: a job that is open after a run ends by frames that come whole.
 //! - `moves`: what moves a setting or the store.
 //! - `plans`: what plans and surveys of rails are worth.
+//! - `surprises`: between two answers that surprise the converter restarted.
 //! - `neighbours`: hosts and converters in pairs on one bus, each as if it were alone.
 //! - `own_loop`: events that a caller's own loop lets happen.
 //! - `rails`: what a survey and a plan over any bus are worth.
@@ -42,6 +43,7 @@ pub mod orders;
 pub mod own_loop;
 pub mod plans;
 pub mod rails;
+pub mod surprises;
 pub mod whole;
 
 pub use laws::{laws_by_name, ones_are_no_answer, reads_that_share_their_code};

@@ -10,11 +10,13 @@ use Rattle.pm_driver.proofs.SentFrames.{room-empty, told-leads, told-open}
 use Rattle.pm_driver.proofs.frames.send.Goals as goal
 
 pub returns-in-Idle-clause-leads : goal.returns-in-Idle-clause-leads
-returns-in-Idle-clause-leads g c = leads-nothing g.B.Bus.gives g.B.Bus.held g.B.Bus.restarts (record { host = c.args.guard.now.host; bus = c.args.bus.now })
+returns-in-Idle-clause-leads g c = leads-nothing g.B.Bus.gives g.B.Bus.held g.B.Bus.restarts
+    (record { host = c.args.guard.now.host; bus = c.args.bus.now })
 
 pub returns-in-Write-clause-leads : goal.returns-in-Write-clause-leads
 returns-in-Write-clause-leads g c =
-    told-leads g.B.Bus.gives g.B.Bus.held g.B.Bus.restarts c.frames_lead.ensures (Wrote c.as_slice.result.now c.write-acked.result) c.args.guard.now.host
+    told-leads g.B.Bus.gives g.B.Bus.held g.B.Bus.restarts c.frames_lead.ensures
+    (Wrote c.as_slice.result.now c.write-acked.result) c.args.guard.now.host
     c.told-step.new.self.host c.told-step.result c.args.bus.now c.write-acked.new.self
     (subst (λ f. IsSomeAnd (sending_in c.args.guard.now.host) (λ message. IsWrite c.args.guard.now.host.setup.addr message f))
     (sym c.as_slice.ensures.value) c.in-Write.ensures.1)

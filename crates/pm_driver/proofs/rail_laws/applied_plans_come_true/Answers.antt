@@ -14,5 +14,6 @@ returns g c = λ output wanted tries old new course runs ends same config passes
     let missing : HoldsMissing part config (now config passes before).device.words output =
     subst (λ (h : Held). HoldsMissing part config h.words output) (sym lived.held_is) holds in
     comes-true laws config passes part output wanted before spelled here missing course new.guard (g.B.Bus.held new.bus) (events_of runs)
-    (all-on laws config passes part output wanted before spelled here missing tries runs (none-restarted g.B.Bus.restarts runs same) refl lived none)
+    (all-on laws config passes part output wanted before spelled here missing tries runs
+    (none-restarted g.B.Bus.restarts runs same) refl lived none)
     ends register word wants

@@ -17,5 +17,6 @@ returns g c = λ output wanted tries old new course runs ends same config passes
     subst (λ (w : Words). HoldsMissing part config w output)
     (sym (words-now config passes before old.guard.host (g.B.Bus.held old.bus) lived)) holds in
     commands-goal laws config passes part output wanted before spelled here missing course new.guard (g.B.Bus.held new.bus) (events_of runs)
-    (all-on laws config passes part output wanted before spelled here missing tries runs (none-restarted g.B.Bus.restarts runs same) refl lived none)
+    (all-on laws config passes part output wanted before spelled here missing tries runs
+    (none-restarted g.B.Bus.restarts runs same) refl lived none)
     ends

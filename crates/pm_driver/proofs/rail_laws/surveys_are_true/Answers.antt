@@ -14,5 +14,7 @@ returns g c = λ begun v old new runs same config passes later before spelled he
     let missing : HoldsMissing part config (now config passes (later ++ before)).device.words begun.output =
     subst (λ (w : Words). HoldsMissing part config w begun.output)
     (sym (words-now config passes (later ++ before) old.guard.host (g.B.Bus.held old.bus) lived)) holds in
-    is-worth laws config passes part begun.output later before spelled here missing calm v new.guard (g.B.Bus.held new.bus) (events_read runs)
-    (all-read laws config passes part begun.output later before here runs (none-restarted g.B.Bus.restarts runs same) refl refl lived are none)
+    is-worth laws config passes part begun.output later before spelled here missing calm v new.guard (g.B.Bus.held new.bus)
+    (events_read runs)
+    (all-read laws config passes part begun.output later before here runs
+    (none-restarted g.B.Bus.restarts runs same) refl refl lived are none)

@@ -8,8 +8,10 @@ pub returns : goal.returns
 returns g c = λ reached same led here.
     let applies = c.apply.ensures.applies in
     c.reached_plans_are_commanded.ensures c.args.output c.args.wanted.now c.args.tries c.args.driver.now c.apply.new.self applies.course
-    applies.runs (subst (λ (end : ApplyEnd). EndsAs c.args.output c.args.wanted.now applies.course c.apply.new.self.guard end) reached applies.says)
+    applies.runs (subst (λ (end : ApplyEnd). EndsAs c.args.output c.args.wanted.now applies.course c.apply.new.self.guard end) reached
+    applies.says)
     same led.config led.passes led.events led.spelled here led.life
     (whole-holds c.plans_hold_in_lives.ensures c.args.driver.now.guard.registers c.requires.whole led.config
     (g.B.Bus.held c.args.driver.now.bus).words c.args.output)
-    (whole-unread c.whole_parts_miss_nothing.ensures c.args.driver.now.guard.registers c.requires.whole led.config led.passes c.args.output led.events)
+    (whole-unread c.whole_parts_miss_nothing.ensures c.args.driver.now.guard.registers c.requires.whole led.config led.passes c.args.output
+    led.events)

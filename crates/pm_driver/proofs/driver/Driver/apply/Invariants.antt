@@ -5,7 +5,8 @@ use Rattle.pm_driver.proofs.driver.Driver.apply.Given as goal
 
 abbrev pub invariant-steps : goal.invariant-steps
 invariant-steps g l = record {
-  runs : Applied g.B.Bus.gives g.B.Bus.held g.B.Bus.restarts l.fn.output l.fn.wanted (course_of l.fn.output l.fn.wanted l.fn.tries) l.fn.self l.course l.self;
+  runs : Applied g.B.Bus.gives g.B.Bus.held g.B.Bus.restarts l.fn.output l.fn.wanted
+      (course_of l.fn.output l.fn.wanted l.fn.tries) l.fn.self l.course l.self;
   own : l.course.survey.output ≡ l.fn.output;
   plan : l.course.survey.plan ≡ Some l.fn.wanted;
   idle : is_busy l.self.guard.host ≡ false;

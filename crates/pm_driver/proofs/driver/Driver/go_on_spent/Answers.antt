@@ -17,4 +17,5 @@ returns-in-Ok-None-clause-goes g c =
     c.carried_out.new.self now) (sym c.carried_out.ensures.end)
     (subst (λ (after : Course). GoesOn g.B.Bus.gives g.B.Bus.held g.B.Bus.restarts c.args.output c.args.wanted.now course now
     (reached_if course) after now) (sym c.carried_out.ensures.after)
-    (goes-done g.B.Bus.gives g.B.Bus.held g.B.Bus.restarts c.args.output c.args.wanted.now course now c.requires.once c.requires.surveyed none))
+    (goes-done g.B.Bus.gives g.B.Bus.held g.B.Bus.restarts c.args.output c.args.wanted.now course now c.requires.once c.requires.surveyed
+    none))

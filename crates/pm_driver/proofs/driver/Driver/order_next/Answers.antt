@@ -18,7 +18,8 @@ unreachable-requires g c =
     let begun : Begun c.self.inside.guard c.args.output (Some order) c.begin_next.new.guard =
     subst (λ (o : Option PlanOrder). Begun c.self.inside.guard c.args.output o c.begin_next.new.guard) c.in-Ok-Some.field-0-is
     c.in-Ok-Some.ensures.begun in
-    let busy = begun-busy c.self.inside.guard.host c.begin_next.new.guard.host (Order (Out c.args.output order.register) order.word) begun.0 in
+    let busy = begun-busy c.self.inside.guard.host c.begin_next.new.guard.host
+    (Order (Out c.args.output order.register) order.word) begun.0 in
     let none = c.in-None.ensures.some ∙ busy in cc
 
 pub invariant_of-self-in-Ok-Some : goal.invariant_of-self-in-Ok-Some
@@ -31,7 +32,8 @@ invariant_of-self-in-Ok-Some g c =
     sym c.in-Ok-Some.ensures.plan ∙ ap (λ (o : Option PlanOrder). Ok o) c.in-Ok-Some.field-0-is in
     let here : c.args.output < c.self.inside.guard.host.setup.outputs =
     subst (λ (d : Driving g.row.B.Denot). c.args.output < d.guard.host.setup.outputs) (sym c.self.view_is) c.requires in
-    let both = plan-begun c.plans_are_accepted.ensures c.args.output c.args.wanted.now c.self.inside.guard c.begin_next.new.guard order here plan
+    let both = plan-begun c.plans_are_accepted.ensures c.args.output c.args.wanted.now c.self.inside.guard c.begin_next.new.guard order
+    here plan
     begun in
     job-lived g.B.Bus.gives g.B.Bus.held g.B.Bus.restarts c.jobs_lead.ensures c.leads_compose.ensures
     (Order (Out c.args.output order.register) order.word) c.in-Some.end
@@ -51,7 +53,8 @@ returns-in-Some g c =
     sym c.in-Ok-Some.ensures.plan ∙ ap (λ (o : Option PlanOrder). Ok o) c.in-Ok-Some.field-0-is in
     let here : c.args.output < c.self.inside.guard.host.setup.outputs =
     subst (λ (d : Driving g.row.B.Denot). c.args.output < d.guard.host.setup.outputs) (sym c.self.view_is) c.requires in
-    let both = plan-begun c.plans_are_accepted.ensures c.args.output c.args.wanted.now c.self.inside.guard c.begin_next.new.guard order here plan
+    let both = plan-begun c.plans_are_accepted.ensures c.args.output c.args.wanted.now c.self.inside.guard c.begin_next.new.guard order
+    here plan
     begun in
     subst (λ (d : Driving g.row.B.Denot). OrdersNext g.B.Bus.gives g.B.Bus.held g.B.Bus.restarts c.args.output c.args.wanted.now d
     (Ok (Some (order, c.in-Some.end))) after) c.self.view_is (

@@ -19,9 +19,11 @@ returns-clause-within g c =
     let bus = c.self.inside.bus in
     let old : Driven g.row.B.Denot = record { host = c.self.inside.guard.host; bus = bus } in
     let after : Driven g.row.B.Denot = record { host = c.restart.new.self.host; bus = bus } in
-    let leads = subst (λ (h : Summary). Leads g.B.Bus.gives g.B.Bus.held g.B.Bus.restarts (Renewed ∷ []) None old (record { host = h; bus = bus }))
+    let leads = subst (λ (h : Summary). Leads g.B.Bus.gives g.B.Bus.held g.B.Bus.restarts (Renewed ∷ []) None old
+    (record { host = h; bus = bus }))
     (sym c.restart.ensures.after) (c.renewals_lead.ensures c.self.inside.guard.host bus) in
-    λ output bounds lived. jobless-within c.laws_of_lives.ensures g.B.Bus.gives g.B.Bus.held g.B.Bus.restarts (Renewed ∷ []) old after refl leads output bounds
+    λ output bounds lived. jobless-within c.laws_of_lives.ensures g.B.Bus.gives g.B.Bus.held g.B.Bus.restarts
+    (Renewed ∷ []) old after refl leads output bounds
     (subst (λ d. HasLifeWithin output bounds d.guard.host (g.B.Bus.held d.bus)) (sym c.self.view_is) lived)
 
 pub returns-clause-since : goal.returns-clause-since

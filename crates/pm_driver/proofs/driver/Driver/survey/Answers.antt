@@ -24,7 +24,8 @@ jobs-preserved g c =
     record {
       runs = subst (λ (x : Survey). Surveys g.B.Bus.gives g.B.Bus.held g.B.Bus.restarts c.args.survey.now c.args.self.now x
           c.run_read-end.new.self) (sym so)
-          (more v c.in-Some.job c.run_read-end.result c.jobs.self c.run_read-end.new.self c.jobs.invariant.runs asks c.run_read-end.ensures.runs);
+          (more v c.in-Some.job c.run_read-end.result c.jobs.self c.run_read-end.new.self c.jobs.invariant.runs asks
+          c.run_read-end.ensures.runs);
       own = ap (λ (x : Survey). x.output) so ∙ (asked-output v c.in-Some.job c.run_read-end.result ∙ c.jobs.invariant.own);
       idle = c.run_read-end.ensures.idle;
       was = c.jobs.invariant.was;

@@ -31,7 +31,8 @@ returns-in-Failed-clause-gives g c =
     let gave = subst (λ r. g.A.Adapter.gives c.reads.self.adapter (Asks c.args.request.now r read.Failed []) c.ask.new.self) room
     c.in-Failed.ensures.gives in (
       sym c.reads.invariant.tries,
-      waits-last g.A.Adapter.held g.A.Adapter.restarts (λ left now. asks_patiently g.A.Adapter.gives left c.args.request.now (replicate (length c.args.answer.now) 0) now
+      waits-last g.A.Adapter.held g.A.Adapter.restarts (λ left now. asks_patiently g.A.Adapter.gives left c.args.request.now
+          (replicate (length c.args.answer.now) 0) now
           [] c.ask.new.self)
           c.args.self.now.tries c.args.self.now.adapter c.reads.tried c.reads.self.adapter
           (c.reads.invariant.waits [] c.ask.new.self) c.reads-test.true (λ fewer. inr (inl (gave, refl))),
@@ -39,7 +40,8 @@ returns-in-Failed-clause-gives g c =
 
 pub returns-in-Came-clause-asked : goal.returns-in-Came-clause-asked
 returns-in-Came-clause-asked g c =
-    c.parts_compose.ensures.before_read c.args.request.now (length c.args.answer.now) (take c.in-Came.count c.ask.new.answer) (g.A.Adapter.held c.args.self.now.adapter)
+    c.parts_compose.ensures.before_read c.args.request.now (length c.args.answer.now) (take c.in-Came.count c.ask.new.answer)
+    (g.A.Adapter.held c.args.self.now.adapter)
     (g.A.Adapter.restarts c.args.self.now.adapter) (g.A.Adapter.held c.reads.self.adapter) (g.A.Adapter.restarts c.reads.self.adapter)
     (g.A.Adapter.held c.ask.new.self) (g.A.Adapter.restarts c.ask.new.self)
     (c.reads.invariant.waits (take c.in-Came.count c.ask.new.answer) c.ask.new.self).unheard
@@ -50,13 +52,16 @@ returns-in-Came-clause-asked g c =
 pub returns-in-Came-clause-gives : goal.returns-in-Came-clause-gives
 returns-in-Came-clause-gives g c =
     let room = room-so c.fill.new.self c.reads.answer c.args.answer.now (c.fill.ensures.after (λ y is. is)) c.reads.invariant.long in
-    let gave = subst (λ r. g.A.Adapter.gives c.reads.self.adapter (Asks c.args.request.now r (read.Came c.in-Came.count) (take c.in-Came.count c.ask.new.answer)) c.ask.new.self) room
+    let gave = subst (λ r. g.A.Adapter.gives c.reads.self.adapter
+    (Asks c.args.request.now r (read.Came c.in-Came.count) (take c.in-Came.count c.ask.new.answer)) c.ask.new.self) room
     c.in-Came.ensures.gives in (
       sym c.reads.invariant.tries,
-      waits-last g.A.Adapter.held g.A.Adapter.restarts (λ left now. asks_patiently g.A.Adapter.gives left c.args.request.now (replicate (length c.args.answer.now) 0) now
+      waits-last g.A.Adapter.held g.A.Adapter.restarts (λ left now. asks_patiently g.A.Adapter.gives left c.args.request.now
+          (replicate (length c.args.answer.now) 0) now
           (take c.in-Came.count c.ask.new.answer) c.ask.new.self)
           c.args.self.now.tries c.args.self.now.adapter c.reads.tried c.reads.self.adapter
-          (c.reads.invariant.waits (take c.in-Came.count c.ask.new.answer) c.ask.new.self) c.reads-test.true (λ fewer. inr (inr (c.in-Came.count, gave))),
+          (c.reads.invariant.waits (take c.in-Came.count c.ask.new.answer) c.ask.new.self) c.reads-test.true
+          (λ fewer. inr (inr (c.in-Came.count, gave))),
     )
 
 pub reads-preserved : goal.reads-preserved
@@ -77,13 +82,15 @@ reads-preserved g c =
 pub returns-clause-asked : goal.returns-clause-asked
 returns-clause-asked g c =
     c.parts_compose.ensures.lost_read c.args.request.now (length c.args.answer.now) (g.A.Adapter.held c.args.self.now.adapter)
-    (g.A.Adapter.restarts c.args.self.now.adapter) (g.A.Adapter.held c.reads.self.adapter) (g.A.Adapter.restarts c.reads.self.adapter) c.requires
+    (g.A.Adapter.restarts c.args.self.now.adapter) (g.A.Adapter.held c.reads.self.adapter)
+    (g.A.Adapter.restarts c.reads.self.adapter) c.requires
     (c.reads.invariant.waits [] c.reads.self.adapter).unheard
 
 pub returns-clause-gives : goal.returns-clause-gives
 returns-clause-gives g c = (
   sym c.reads.invariant.tries,
-  waits-over g.A.Adapter.held g.A.Adapter.restarts (λ left now. asks_patiently g.A.Adapter.gives left c.args.request.now (replicate (length c.args.answer.now) 0) now
+  waits-over g.A.Adapter.held g.A.Adapter.restarts (λ left now. asks_patiently g.A.Adapter.gives left c.args.request.now
+      (replicate (length c.args.answer.now) 0) now
       [] c.reads.self.adapter)
       c.args.self.now.tries c.args.self.now.adapter c.reads.tried c.reads.self.adapter
       (c.reads.invariant.waits [] c.reads.self.adapter) c.reads-test.false (refl, refl),

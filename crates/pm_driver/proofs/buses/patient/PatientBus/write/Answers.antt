@@ -20,7 +20,8 @@ returns-in-Failed-clause-sent g c =
 pub returns-in-Failed-clause-gives : goal.returns-in-Failed-clause-gives
 returns-in-Failed-clause-gives g c = (
   sym c.writes.invariant.tries,
-  waits-last g.A.Adapter.held g.A.Adapter.restarts (λ left now. sends_patiently g.A.Adapter.gives left c.args.packet.now now false c.send.new.self)
+  waits-last g.A.Adapter.held g.A.Adapter.restarts (λ left now. sends_patiently g.A.Adapter.gives left c.args.packet.now now false
+      c.send.new.self)
       c.args.self.now.tries c.args.self.now.adapter c.writes.tried c.writes.self.adapter
       (c.writes.invariant.waits false c.send.new.self) c.writes-test.true (λ fewer. inr (inl (c.in-Failed.ensures.gives, refl))),
 )
@@ -35,7 +36,8 @@ returns-in-Acknowledged-clause-sent g c =
 pub returns-in-Acknowledged-clause-gives : goal.returns-in-Acknowledged-clause-gives
 returns-in-Acknowledged-clause-gives g c = (
   sym c.writes.invariant.tries,
-  waits-last g.A.Adapter.held g.A.Adapter.restarts (λ left now. sends_patiently g.A.Adapter.gives left c.args.packet.now now true c.send.new.self)
+  waits-last g.A.Adapter.held g.A.Adapter.restarts (λ left now. sends_patiently g.A.Adapter.gives left c.args.packet.now now true
+      c.send.new.self)
       c.args.self.now.tries c.args.self.now.adapter c.writes.tried c.writes.self.adapter
       (c.writes.invariant.waits true c.send.new.self) c.writes-test.true (λ fewer. inr (inr (c.in-Acknowledged.ensures.gives, refl))),
 )
@@ -58,7 +60,8 @@ returns-clause-sent g c =
 pub returns-clause-gives : goal.returns-clause-gives
 returns-clause-gives g c = (
   sym c.writes.invariant.tries,
-  waits-over g.A.Adapter.held g.A.Adapter.restarts (λ left now. sends_patiently g.A.Adapter.gives left c.args.packet.now now false c.writes.self.adapter)
+  waits-over g.A.Adapter.held g.A.Adapter.restarts (λ left now. sends_patiently g.A.Adapter.gives left c.args.packet.now now false
+      c.writes.self.adapter)
       c.args.self.now.tries c.args.self.now.adapter c.writes.tried c.writes.self.adapter
       (c.writes.invariant.waits false c.writes.self.adapter) c.writes-test.false (refl, refl),
 )
