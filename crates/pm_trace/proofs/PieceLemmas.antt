@@ -153,7 +153,8 @@ pub record EndsAll (bytes : List ℕ) (pieces : List (List ℕ)) (lines : List T
   pub counts : new.kept.counts ≡ counts_of (trace_of (bytes ++ concat pieces))
 
 -- what all pieces and the end leave
-ends_all : (bytes : List ℕ) (old new : Holding) (pieces : List (List ℕ)) (lines : List ToldLine) → Took bytes old → Decodes old pieces lines new
+ends_all : (bytes : List ℕ) (old new : Holding) (pieces : List (List ℕ)) (lines : List ToldLine) → Took bytes old
+    → Decodes old pieces lines new
     → EndsAll bytes pieces lines new
 ends_all bytes old new [] lines took (ended, finishes, shown) =
     let end = ends bytes old new ended took finishes in
@@ -264,7 +265,8 @@ stopped_lines old new pieces lines is run =
 -- ---- the total
 
 -- one line more among those of a kind
-count-cons : (p : ToldLine → Bool) (line : ToldLine) (lines : List ToldLine) → count_by p (line ∷ lines) ≡ cond (p line) 1 0 + count_by p lines
+count-cons : (p : ToldLine → Bool) (line : ToldLine) (lines : List ToldLine) → count_by p (line ∷ lines)
+    ≡ cond (p line) 1 0 + count_by p lines
 count-cons p line lines = sum_by-cons (λ x. cond (p x) 1 0) line lines
 
 -- a line is of one kind

@@ -49,5 +49,6 @@ next_ended kept front plain =
 pub told_ended : (kept : Kept) (front : List ℕ) → list_any is_line_feed front ≡ false
     → told kept (front ++ 10 ∷ []) ≡ some_told (line_told (kept_with kept front))
 told_ended kept front plain =
-    told-append is_line_feed kept_takes (λ kept. some_told (line_told kept)) kept front (10 ∷ []) ∙ rw (told_plain kept front plain, next_plain kept front plain)
+    told-append is_line_feed kept_takes (λ kept. some_told (line_told kept)) kept front (10 ∷ [])
+    ∙ rw (told_plain kept front plain, next_plain kept front plain)
     (append-nil (some_told (line_told (kept_with kept front))))
