@@ -1,75 +1,115 @@
 -- The parts of a text between its colons, and the formats that they name.
-use Rattle.std.proofs.Common.{◌≡◌, ◌≢◌, ◌∙◌, ◌<◌, ◌&&◌, ◌||◌, ◌⊎◌, ℕ, ℤ, pos, neg_ℤ, Bool, true, false, cond, suc, refl, sym, ap, arith}
+use Rattle.std.proofs.Common.{◌≡◌, ◌∙◌, ◌<◌, ◌&&◌, ◌||◌, ◌⊎◌, ℕ, ℤ, pos, neg_ℤ, Bool, true, false, cond, suc, refl, subst, sym, ap, arith}
 use Rattle.std.proofs.Common.{inl, inr, List, [], ◌∷◌, ◌++◌, length, get_or, codes, Option, Some, None, option_map, MatchOption, eqb}
-use Rattle.std.proofs.Common.{nat_lt, ne_eqb, eqb-true, true≢false}
+use Rattle.std.proofs.Common.{nat_lt, ne_eqb, eqb-true, drop, take-append-drop, true≢false}
+use Rattle.std.specs.Char.{char_set_contains}
 use Rattle.std.specs.List.{list_any}
 use Rattle.std.specs.Option.{option_and_then}
 use Rattle.std.specs.Borrow.{Bor}
-use Rattle.std.specs.Str.{bytes_eq}
-use Rattle.std.proofs.lemmas.Str.Pattern.{IsSplitOnceResult, split_parts}
+use Rattle.std.specs.Str.{NoCharPasses, bytes_eq}
+use Rattle.std.specs.Str.Pattern.{FindsBy, SplitsAroundMatch}
+use Rattle.std.proofs.lemmas.Bool.Decides.{nat_tests}
+use Rattle.std.proofs.lemmas.Str.{NoCharPasses-byte}
+use Rattle.std.proofs.lemmas.Str.Pattern.{IsSplitOnceResult, drop_at_char, split_parts}
 use Rattle.pm_lines.specs.Digits.{are_digits, decimal_of, digit, fits, natural_of, place_sum, signed_of}
-use Rattle.pm_tool.specs.Question.{before_parts, direct_format, exponent_format, format_by, items, parts, parts_by}
+use Rattle.pm_tool.specs.Question.{before_parts, direct_format, exponent_format, format_by, is_colon, is_comma, items, parts, parts_by}
 
 -- a text by its bytes
 abbrev Text : Type 0
 Text = List ℕ
 
 -- no mark stands in the text
-abbrev NoMark : ℕ → Text → Type 0
-NoMark mark text = (i : ℕ) → i < length text → get_or text i 0 ≢ mark
+abbrev NoMark : (ℕ → Bool) → Text → Type 0
+NoMark is_mark text = (i : ℕ) → i < length text → is_mark (get_or text i 0) ≡ false
 
 -- no mark stands in what follows the first character of a text without one
-later : (mark c : ℕ) (cs : Text) → NoMark mark (c ∷ cs) → NoMark mark cs
-later mark c cs none i lt = none (suc i) (omega arith)
+later : (is_mark : ℕ → Bool) (c : ℕ) (cs : Text) → NoMark is_mark (c ∷ cs) → NoMark is_mark cs
+later is_mark c cs none i lt = none (suc i) (omega arith)
 
 -- a text with no mark is its own one part
-parts_plain : (mark : ℕ) (text : Text) → NoMark mark text → parts_by mark text ≡ text ∷ []
-parts_plain mark [] none = refl
-parts_plain mark (c ∷ cs) none =
-    let here : eqb c mark ≡ false = ne_eqb c mark (none 0 (omega arith)) in
-    rw (here, parts_plain mark cs (later mark c cs none)) refl
+parts_plain : (is_mark : ℕ → Bool) (text : Text) → NoMark is_mark text → parts_by is_mark text ≡ text ∷ []
+parts_plain is_mark [] none = refl
+parts_plain is_mark (c ∷ cs) none =
+    let here : is_mark c ≡ false = none 0 (omega arith) in
+    rw (here, parts_plain is_mark cs (later is_mark c cs none)) refl
 
 -- what stands before the first mark is the first part
-parts_split : (mark : ℕ) (front rest : Text) → eqb mark mark ≡ true → NoMark mark front
-    → parts_by mark (front ++ mark ∷ rest) ≡ front ∷ parts_by mark rest
-parts_split mark [] rest same none = rw same refl
-parts_split mark (c ∷ cs) rest same none =
-    let here : eqb c mark ≡ false = ne_eqb c mark (none 0 (omega arith)) in
-    rw (here, parts_split mark cs rest same (later mark c cs none)) refl
+parts_split : (is_mark : ℕ → Bool) (mark : ℕ) (front rest : Text) → is_mark mark ≡ true → NoMark is_mark front
+    → parts_by is_mark (front ++ mark ∷ rest) ≡ front ∷ parts_by is_mark rest
+parts_split is_mark mark [] rest is none = rw is refl
+parts_split is_mark mark (c ∷ cs) rest is none =
+    let here : is_mark c ≡ false = none 0 (omega arith) in
+    rw (here, parts_split is_mark mark cs rest is (later is_mark c cs none)) refl
 
--- what `split_once` says, in these words
-pub cut_at_colon : (text : Text) (r : Option (Bor Text × Bor Text)) → IsSplitOnceResult 58 text r
-    → MatchOption r (parts text ≡ text ∷ []) (λ found. parts text ≡ found.0.now ∷ parts found.1.now)
-cut_at_colon text None h = parts_plain 58 text (split_parts 58 text None h (omega arith))
-cut_at_colon text (Some found) h =
-    let p = split_parts 58 text (Some found) h (omega arith) in
-    ap parts p.0 ∙ parts_split 58 found.0.now found.1.now refl p.1
-
+-- what `split_once` says at a comma, in these words
 pub cut_at_comma : (text : Text) (r : Option (Bor Text × Bor Text)) → IsSplitOnceResult 44 text r
     → MatchOption r (items text ≡ text ∷ []) (λ found. items text ≡ found.0.now ∷ items found.1.now)
-cut_at_comma text None h = parts_plain 44 text (split_parts 44 text None h (omega arith))
+cut_at_comma text None h =
+    let none = split_parts 44 text None h (omega arith) in
+    parts_plain is_comma text (λ i lt. ne_eqb (get_or text i 0) 44 (none i lt))
 cut_at_comma text (Some found) h =
     let p = split_parts 44 text (Some found) h (omega arith) in
-    ap items p.0 ∙ parts_split 44 found.0.now found.1.now refl p.1
+    ap items p.0 ∙ parts_split is_comma 44 found.0.now found.1.now refl (λ i lt. ne_eqb (get_or found.0.now i 0) 44 (p.1 i lt))
+
+-- a colon, or a slash in its place, is one byte
+small : (c : ℕ) → is_colon c ≡ true → c < 128
+small c is = grind (arith, nat_tests)
+
+-- where no character is a mark no byte is
+no_colon : (text : Text) → NoCharPasses is_colon text → NoMark is_colon text
+no_colon text none i lt = go (is_colon (get_or text i 0)) refl
+  where
+    go : (b : Bool) → is_colon (get_or text i 0) ≡ b → is_colon (get_or text i 0) ≡ false
+    go false is = is
+    go true is = NoCharPasses-byte is_colon text i none lt (small (get_or text i 0) is)
+
+-- what the search for one of the two finds
+abbrev FindsColon : Text → Option (ℕ × ℕ) → Type 0
+FindsColon text r = (k : ℕ → Bool) → ((c : ℕ) → char_set_contains (58 ∷ 47 ∷ []) c ≡ k c) → FindsBy k text r
+
+as_colon : (c : ℕ) → char_set_contains (58 ∷ 47 ∷ []) c ≡ is_colon c
+as_colon c = grind (arith, nat_tests)
+
+-- what `split_once` says at one of the two, in these words
+pub cut_at_colon : (text : Text) (r : Option (Bor Text × Bor Text))
+    → MatchOption r (FindsColon text None) (λ x. SplitsAroundMatch FindsColon text x.0.now x.1.now)
+    → MatchOption r (parts text ≡ text ∷ []) (λ found. parts text ≡ found.0.now ∷ parts found.1.now)
+cut_at_colon text None h = parts_plain is_colon text (no_colon text (h is_colon as_colon))
+cut_at_colon text (Some found) h =
+    let at = h.2 is_colon as_colon in
+    let mark = at.1.0 in
+    let behind : drop h.0 text ≡ mark ∷ drop h.1 text = drop_at_char mark text h.0 h.1 at.1.2 (small mark at.1.1) in
+    let whole : text ≡ found.0.now ++ (mark ∷ found.1.now) = sym (take-append-drop h.0 text)
+    ∙ (λ i. sym h.3 i ++ (behind ∙ ap (λ (l : Text). mark ∷ l) (sym h.4)) i) in
+    ap parts whole
+    ∙ parts_split is_colon mark found.0.now found.1.now at.1.1 (no_colon found.0.now (subst (NoCharPasses is_colon) (sym h.3) at.0))
 
 -- ---- a text with a colon writes no number
 
 -- a colon stands in the text
 abbrev has_colon : Text → Bool
-has_colon = list_any (λ c. eqb c 58)
+has_colon = list_any is_colon
+
+-- neither of the two is a digit
+no_digit : (c : ℕ) → is_colon c ≡ true → nat_lt (digit c) 10 ≡ false
+no_digit c is = go (eqb c 58) refl is
+  where
+    go : (b : Bool) → eqb c 58 ≡ b → (b || eqb c 47) ≡ true → nat_lt (digit c) 10 ≡ false
+    go true at is = let e : c ≡ 58 = eqb-true c 58 at in rw e refl
+    go false at is = let e : c ≡ 47 = eqb-true c 47 is in rw e refl
 
 -- a text with a colon isn't digits alone
 no_digits : (text : Text) → has_colon text ≡ true → are_digits 10 text ≡ false
 no_digits [] e = absurd (true≢false (sym e))
-no_digits (c ∷ cs) e = go (eqb c 58) refl e (no_digits cs)
+no_digits (c ∷ cs) e = go (is_colon c) refl e (no_digits cs)
   where
     stop : (b : Bool) → (b && false) ≡ false
     stop true = refl
     stop false = refl
 
-    go : (b : Bool) → eqb c 58 ≡ b → (b || has_colon cs) ≡ true → (has_colon cs ≡ true → are_digits 10 cs ≡ false)
+    go : (b : Bool) → is_colon c ≡ b → (b || has_colon cs) ≡ true → (has_colon cs ≡ true → are_digits 10 cs ≡ false)
         → (nat_lt (digit c) 10 && are_digits 10 cs) ≡ false
-    go true is some rest = let at : c ≡ 58 = eqb-true c 58 is in rw at refl
+    go true is some rest = let at : nat_lt (digit c) 10 ≡ false = no_digit c is in rw at refl
     go false is some rest = rw (rest some) (stop (nat_lt (digit c) 10))
 
 -- it writes no natural number
@@ -108,22 +148,22 @@ pub record Several (text : Text) : Type 0 where
   pub colon : has_colon text ≡ true
 
 -- each text has a first part
-pub some_parts : (mark : ℕ) (text : Text) → (first : Text) × (more : List Text) × (parts_by mark text ≡ first ∷ more)
-some_parts mark [] = ([], [], refl)
-some_parts mark (c ∷ cs) = go (eqb c mark) (some_parts mark cs)
+pub some_parts : (is_mark : ℕ → Bool) (text : Text) → (first : Text) × (more : List Text) × (parts_by is_mark text ≡ first ∷ more)
+some_parts is_mark [] = ([], [], refl)
+some_parts is_mark (c ∷ cs) = go (is_mark c) (some_parts is_mark cs)
   where
-    go : (b : Bool) → (first : Text) × (more : List Text) × (parts_by mark cs ≡ first ∷ more)
-        → (first : Text) × (more : List Text) × (cond b ([] ∷ parts_by mark cs) (before_parts c (parts_by mark cs)) ≡ first ∷ more)
-    go true p = ([], parts_by mark cs, refl)
+    go : (b : Bool) → (first : Text) × (more : List Text) × (parts_by is_mark cs ≡ first ∷ more)
+        → (first : Text) × (more : List Text) × (cond b ([] ∷ parts_by is_mark cs) (before_parts c (parts_by is_mark cs)) ≡ first ∷ more)
+    go true p = ([], parts_by is_mark cs, refl)
     go false p = (c ∷ p.0, p.1, ap (before_parts c) p.2)
 
 -- a text is its own one part, or has several
 shape : (text : Text) → (parts text ≡ text ∷ []) ⊎ Several text
 shape [] = inl refl
-shape (c ∷ cs) = go (eqb c 58) refl (shape cs)
+shape (c ∷ cs) = go (is_colon c) refl (shape cs)
   where
-    go : (b : Bool) → eqb c 58 ≡ b → (parts cs ≡ cs ∷ []) ⊎ Several cs → (parts (c ∷ cs) ≡ (c ∷ cs) ∷ []) ⊎ Several (c ∷ cs)
-    go true is rest = let p = some_parts 58 cs in inr (record {
+    go : (b : Bool) → is_colon c ≡ b → (parts cs ≡ cs ∷ []) ⊎ Several cs → (parts (c ∷ cs) ≡ (c ∷ cs) ∷ []) ⊎ Several (c ∷ cs)
+    go true is rest = let p = some_parts is_colon cs in inr (record {
       first = [];
       second = p.0;
       more = p.1;
@@ -174,7 +214,7 @@ direct_parts m b r = go (shape r)
 -- no other name has numbers after it
 pub other_parts : (name text : Text) → bytes_eq name (codes "ulinear16") ≡ false → bytes_eq name (codes "direct") ≡ false
     → format_by (name ∷ parts text) ≡ None
-other_parts name text apart differs = let p = some_parts 58 text in ap (λ (ps : List Text). format_by (name ∷ ps)) p.2 ∙ go p.0 p.1
+other_parts name text apart differs = let p = some_parts is_colon text in ap (λ (ps : List Text). format_by (name ∷ ps)) p.2 ∙ go p.0 p.1
   where
     go : (first : Text) (more : List Text) → format_by (name ∷ first ∷ more) ≡ None
     go first [] = rw apart refl

@@ -1,5 +1,5 @@
 -- What `number` is asked, as its texts give it. This project's own choice.
-use Rattle.std.specs.Prelude.{ℕ, ℤ, pos, negsuc, ◌==◌, ◌&&◌, if◌then◌else◌, int_le, ⊤}
+use Rattle.std.specs.Prelude.{ℕ, ℤ, pos, negsuc, Bool, ◌==◌, ◌&&◌, ◌||◌, if◌then◌else◌, int_le, ⊤}
 use Rattle.std.specs.Prelude.{List, [], ◌∷◌, Option, Some, None, Result, Ok, Err, codes, option_map}
 use Rattle.std.specs.Prelude.{option_and_then}
 use Rattle.std.specs.Borrow.{Bor}
@@ -26,16 +26,23 @@ before_parts c [] = (c ∷ []) ∷ []
 before_parts c (part ∷ others) = (c ∷ part) ∷ others
 
 -- the parts of a text between marks, of which there is one more than there are marks
-abbrev pub parts_by : ℕ → Text → List Text
-parts_by mark [] = [] ∷ []
-parts_by mark (c ∷ cs) = if c == mark then [] ∷ parts_by mark cs else before_parts c (parts_by mark cs)
+abbrev pub parts_by : (ℕ → Bool) → Text → List Text
+parts_by is_mark [] = [] ∷ []
+parts_by is_mark (c ∷ cs) = if is_mark c then [] ∷ parts_by is_mark cs else before_parts c (parts_by is_mark cs)
 
--- the parts of a text between its colons (58), and between its commas (44)
+-- a colon (58), or a slash (47) in its place
+abbrev pub is_colon : ℕ → Bool
+is_colon c = c == 58 || c == 47
+
+-- the parts of a text between its colons, and between its commas (44)
 abbrev pub parts : Text → List Text
-parts = parts_by 58
+parts = parts_by is_colon
+
+abbrev pub is_comma : ℕ → Bool
+is_comma c = c == 44
 
 abbrev pub items : Text → List Text
-items = parts_by 44
+items = parts_by is_comma
 
 -- ULINEAR16, where the exponent is -16 to 15
 abbrev pub exponent_format : ℤ → Option FormatText
@@ -46,7 +53,7 @@ abbrev pub direct_format : Option ℤ → Option ℤ → Option ℤ → Option F
 direct_format (Some m) (Some b) (Some r) = Some (Direct m b r)
 direct_format _ _ _ = None
 
--- `linear11`, `ulinear16:N` with N in 8 bits, `direct:M:B:R` with M and B in 16 bits and R in 8
+-- `linear11`, `ulinear16:N` with N in 8 bits, `direct:M:B:R` with M and B in 16 bits and R in 8; `/` may stand for each `:`
 abbrev pub format_by : List Text → Option FormatText
 format_by (name ∷ []) = if bytes_eq name (codes "linear11") then Some Linear11 else None
 format_by (name ∷ n ∷ []) = if bytes_eq name (codes "ulinear16")

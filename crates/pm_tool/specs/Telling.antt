@@ -1,6 +1,6 @@
 -- `decode` with options: the words that are read for them, the command as the parser reads it, and the telling that
 -- they ask for. This project's own choice.
-use Rattle.std.specs.Prelude.{◌≡◌, ◌∷◌, [], ℕ, Bool, true, false, if◌then◌else◌, List, codes, flat_map}
+use Rattle.std.specs.Prelude.{◌≡◌, ◌∷◌, [], ℕ, ◌*◌, Bool, true, false, nat_lt, if◌then◌else◌, List, length, codes, flat_map}
 use Rattle.std.specs.Prelude.{Option, Some, None, option_and_then, option_map, Result, Ok, Err}
 use Rattle.std.specs.Result.{result_map_both, result_ok}
 use Rattle.std.specs.Str.{bytes_eq}
@@ -12,11 +12,12 @@ use Rattle.pm_table.specs.Format.{shape_in}
 use Rattle.pm_table.specs.declared.vout_mode.VoutMode.TheVariants as mode
 use Rattle.pm_decode.specs.declared.options.TellOptions.{TellOptions}
 use Rattle.pm_console.specs.Options.{option_rule}
+use Rattle.pm_lines.specs.Digits.{natural_of}
 use Rattle.pm_tool.specs.Question.{format_of, text_at}
 use Rattle.pm_tool.specs.ReadingList.{Entry, entries_of, if_any}
 use Rattle.pm_tool.specs.declared.commandline.telling.TellTexts.{TellTexts}
 use Rattle.pm_tool.specs.declared.commandline.tell_fault.TellFault.{TellFault}
-use Rattle.pm_tool.specs.declared.commandline.tell_fault.TellFault.TheVariants.{VoutAlone, Vout, ReadingsAlone, Readings}
+use Rattle.pm_tool.specs.declared.commandline.tell_fault.TellFault.TheVariants.{VoutAlone, Vout, ReadingsAlone, Readings, GapAlone, Gap}
 use Rattle.pm_tool.specs.declared.numbers.question.FormatText.{FormatText}
 use Rattle.pm_tool.specs.declared.numbers.question.FormatText.TheVariants.{Linear11, Ulinear16, Direct}
 
@@ -36,9 +37,10 @@ abbrev pub flag_rule : Text → Rule
 flag_rule name = record (new_rule name) { long = Some name; action = Some SetTrue }
 
 abbrev pub tell_app : App
-tell_app = with_rule (with_rule (with_rule (with_rule (with_rule (with_rule (with_rule (new_app (codes "pmb decode"))
+tell_app = with_rule (with_rule (with_rule (with_rule (with_rule (with_rule (with_rule (with_rule (with_rule (new_app (codes "pmb decode"))
     (flag_rule (codes "values"))) (option_rule (codes "vout"))) (option_rule (codes "readings"))) (flag_rule (codes "all")))
-    (flag_rule (codes "long"))) (flag_rule (codes "times"))) (flag_rule (codes "json"))
+    (flag_rule (codes "pages"))) (option_rule (codes "gap"))) (flag_rule (codes "long"))) (flag_rule (codes "times")))
+    (flag_rule (codes "json"))
 
 -- Whether a flag is given, by the text that the parser has for it: `true` where it is among the words, and otherwise
 -- `false`.
@@ -52,6 +54,8 @@ pub record HasTexts (given : TellTexts) (rows : List Row) : Type 0 where
   pub vout : text_at given.vout ≡ first_of (codes "vout") rows
   pub readings : text_at given.readings ≡ first_of (codes "readings") rows
   pub all : IsFlag (one_of (codes "all") rows) given.all
+  pub pages : IsFlag (one_of (codes "pages") rows) given.pages
+  pub gap : text_at given.gap ≡ first_of (codes "gap") rows
   pub long : IsFlag (one_of (codes "long") rows) given.long
   pub times : IsFlag (one_of (codes "times") rows) given.times
   pub json : IsFlag (one_of (codes "json") rows) given.json
@@ -96,6 +100,29 @@ readings_of true (Some text) = listed_or_fault (entries_of text)
 abbrev pub readings_asked : TellTexts → Result (List Entry) TellFault
 readings_asked given = readings_of given.values (text_at given.readings)
 
+-- ---- the pause of `--gap`
+
+-- the milliseconds that a text writes: 0 to 1000000, in one to seven digits
+abbrev pub pause_if_short : ℕ → Option ℕ
+pause_if_short pause = if nat_lt 1000000 pause then None else Some pause
+
+abbrev pub pause_of : List ℕ → Option ℕ
+pause_of text = if nat_lt 7 (length text) then None else option_and_then pause_if_short (natural_of 10 text)
+
+abbrev pub micros_or_fault : Option ℕ → Result ℕ TellFault
+micros_or_fault (Some pause) = Ok (pause * 1000)
+micros_or_fault None = Err Gap
+
+-- the microseconds of the pause that the three options ask for, 1000 ms where none is given, or the first fault
+abbrev pub gap_of : Bool → Bool → Option Text → Result ℕ TellFault
+gap_of pages times None = Ok 1000000
+gap_of false times (Some text) = Err GapAlone
+gap_of true false (Some text) = Err GapAlone
+gap_of true true (Some text) = micros_or_fault (pause_of text)
+
+abbrev pub gap_asked : TellTexts → Result ℕ TellFault
+gap_asked given = gap_of given.pages given.times (text_at given.gap)
+
 -- ---- the telling that the options ask for
 
 pub record IsTelling (given : TellTexts) (options : TellOptions) : Type 0 where
@@ -106,17 +133,20 @@ pub record IsTelling (given : TellTexts) (options : TellOptions) : Type 0 where
   pub long : options.long ≡ given.long
   pub times : options.times ≡ given.times
   pub json : options.json ≡ given.json
+  pub pages : options.pages ≡ given.pages
+  pub gap : gap_asked given ≡ Ok options.gap
 
--- the first fault of two options, one behind the other
-abbrev pub first_fault : {A B : Type 0} → Result A TellFault → Result B TellFault → Option TellFault
-first_fault (Err fault) second = Some fault
-first_fault (Ok first) (Err fault) = Some fault
-first_fault (Ok first) (Ok second) = None
+-- the first fault of three options, one behind the other
+abbrev pub first_fault : {A B C : Type 0} → Result A TellFault → Result B TellFault → Result C TellFault → Option TellFault
+first_fault (Err fault) second third = Some fault
+first_fault (Ok first) (Err fault) third = Some fault
+first_fault (Ok first) (Ok second) (Err fault) = Some fault
+first_fault (Ok first) (Ok second) (Ok third) = None
 
 -- the telling, or the first fault of the options
 abbrev pub IsAsked : TellTexts → Result TellOptions TellFault → Type 0
 IsAsked given (Ok options) = IsTelling given options
-IsAsked given (Err fault) = first_fault (vout_asked given) (readings_asked given) ≡ Some fault
+IsAsked given (Err fault) = first_fault (vout_asked given) (readings_asked given) (gap_asked given) ≡ Some fault
 
 -- what is said of a fault of the options, and the status that goes with it
 abbrev pub tell_fault_words : TellFault → List ℕ
@@ -124,9 +154,13 @@ tell_fault_words VoutAlone = codes "give --vout with --values"
 tell_fault_words Vout = codes "bad vout"
 tell_fault_words ReadingsAlone = codes "give --readings with --values"
 tell_fault_words Readings = codes "bad readings"
+tell_fault_words GapAlone = codes "give --gap with --pages and --times"
+tell_fault_words Gap = codes "bad gap"
 
 abbrev pub tell_fault_status : TellFault → ℕ
 tell_fault_status VoutAlone = 2
 tell_fault_status Vout = 2
 tell_fault_status ReadingsAlone = 2
 tell_fault_status Readings = 2
+tell_fault_status GapAlone = 2
+tell_fault_status Gap = 2

@@ -7,7 +7,7 @@ use pm_tool::{Source, TellTexts};
 use std::test::Fail;
 
 /// The words, what is read, the status, what is printed and what is said.
-static TOLD: [(&[&str], &str, u8, &str, &str); 20] = [
+static TOLD: [(&[&str], &str, u8, &str, &str); 39] = [
     // An output's mode teaches its format, and no other's.
     (
         &["pmb", "decode", "--values"],
@@ -173,6 +173,146 @@ static TOLD: [(&[&str], &str, u8, &str, &str); 20] = [
         "",
         "pmb: bad vout\n",
     ),
+    // A `/` stands for a `:`.
+    (
+        &["pmb", "decode", "--vout=direct/1/0:3", "--values"],
+        "B0 05 04 00 21 CD 34 5A\n",
+        0,
+        "1 58 page 0 VOUT_COMMAND write 34CD 13.517 V\ncount VOUT_COMMAND 1\nlines 1 accepted 1 faults 0 bad 0\n",
+        "",
+    ),
+    (
+        &[
+            "pmb",
+            "decode",
+            "--values",
+            "--readings=8C/direct/1/0/1,58/8d:linear11",
+        ],
+        "B0 8C / B1 FB FF E9\nB0 8D / B1 19 00 65\n",
+        0,
+        "1 58 READ_IOUT read FFFB -0.5 A\n2 58 READ_TEMPERATURE_1 read 0019 25 C\ncount READ_IOUT 1\ncount READ_TEMPERATURE_1 1\nlines 2 accepted 2 faults 0 bad 0\n",
+        "",
+    ),
+    (
+        &["pmb", "decode", "--values", "--vout=ulinear16//1"],
+        "B0 05 04 00 21 CD 34 5A\n",
+        2,
+        "",
+        "pmb: bad vout\n",
+    ),
+    // `--gap`: with both of the others, in one to seven digits.
+    (
+        &["pmb", "decode", "--times", "--gap=0000005", "--pages"],
+        "5 B0 88 / B1 00 D3 F6\n",
+        0,
+        "1 5 us 58 READ_VIN read D300\ncount READ_VIN 1\nlines 1 accepted 1 faults 0 bad 0\n",
+        "",
+    ),
+    (
+        &["pmb", "decode", "--pages", "--times", "--gap", "1000000"],
+        "5 B0 88 / B1 00 D3 F6\n",
+        0,
+        "1 5 us 58 READ_VIN read D300\ncount READ_VIN 1\nlines 1 accepted 1 faults 0 bad 0\n",
+        "",
+    ),
+    (
+        &["pmb", "decode", "--gap=5"],
+        "B0 05 04 00 21 CD 34 5A\n",
+        2,
+        "",
+        "pmb: give --gap with --pages and --times\n",
+    ),
+    (
+        &["pmb", "decode", "--gap=x", "--pages"],
+        "B0 05 04 00 21 CD 34 5A\n",
+        2,
+        "",
+        "pmb: give --gap with --pages and --times\n",
+    ),
+    (
+        &["pmb", "decode", "--times", "--gap=5"],
+        "B0 05 04 00 21 CD 34 5A\n",
+        2,
+        "",
+        "pmb: give --gap with --pages and --times\n",
+    ),
+    (
+        &["pmb", "decode", "--pages", "--times", "--gap="],
+        "B0 05 04 00 21 CD 34 5A\n",
+        2,
+        "",
+        "pmb: bad gap\n",
+    ),
+    (
+        &["pmb", "decode", "--pages", "--times", "--gap=x"],
+        "B0 05 04 00 21 CD 34 5A\n",
+        2,
+        "",
+        "pmb: bad gap\n",
+    ),
+    (
+        &["pmb", "decode", "--pages", "--times", "--gap=-0"],
+        "B0 05 04 00 21 CD 34 5A\n",
+        2,
+        "",
+        "pmb: bad gap\n",
+    ),
+    (
+        &["pmb", "decode", "--pages", "--times", "--gap=+1"],
+        "B0 05 04 00 21 CD 34 5A\n",
+        2,
+        "",
+        "pmb: bad gap\n",
+    ),
+    (
+        &["pmb", "decode", "--pages", "--times", "--gap=1.5"],
+        "B0 05 04 00 21 CD 34 5A\n",
+        2,
+        "",
+        "pmb: bad gap\n",
+    ),
+    (
+        &["pmb", "decode", "--pages", "--times", "--gap=1000001"],
+        "B0 05 04 00 21 CD 34 5A\n",
+        2,
+        "",
+        "pmb: bad gap\n",
+    ),
+    (
+        &["pmb", "decode", "--pages", "--times", "--gap=10000000"],
+        "B0 05 04 00 21 CD 34 5A\n",
+        2,
+        "",
+        "pmb: bad gap\n",
+    ),
+    (
+        &["pmb", "decode", "--pages", "--times", "--gap=00000005"],
+        "B0 05 04 00 21 CD 34 5A\n",
+        2,
+        "",
+        "pmb: bad gap\n",
+    ),
+    (
+        &["pmb", "decode", "--gap=x", "--readings=x", "--values"],
+        "B0 05 04 00 21 CD 34 5A\n",
+        2,
+        "",
+        "pmb: bad readings\n",
+    ),
+    (
+        &["pmb", "decode", "--gap=x", "--readings=x"],
+        "B0 05 04 00 21 CD 34 5A\n",
+        2,
+        "",
+        "pmb: give --readings with --values\n",
+    ),
+    (
+        &["pmb", "decode", "--gap=x", "--values", "--vout=x"],
+        "B0 05 04 00 21 CD 34 5A\n",
+        2,
+        "",
+        "pmb: bad vout\n",
+    ),
 ];
 
 #[test]
@@ -242,13 +382,22 @@ fn lines_that_are_there_at_once_are_told_together(rt: HostRuntime) -> Result<(),
 fn options_are_read_as_they_are_written(rt: HostRuntime) -> Result<(), Fail> {
     let given = TellTexts::read(
         rt.alloc(),
-        &["decode", "--json", "--vout=linear11", "--times"],
+        &[
+            "decode",
+            "--json",
+            "--vout=linear11",
+            "--times",
+            "--gap=0020",
+            "--pages",
+        ],
     )?;
     let wanted = TellTexts {
         values: false,
         vout: Some("linear11"),
         readings: None,
         all: false,
+        pages: true,
+        gap: Some("0020"),
         long: false,
         times: true,
         json: true,
@@ -263,5 +412,9 @@ fn options_are_read_as_they_are_written(rt: HostRuntime) -> Result<(), Fail> {
     is_true(&rt, options.values && options.formats.vout.is_some(), &more);
     is_true(&rt, options.times && options.json, &more);
     is_true(&rt, !options.all && !options.long, &more);
+    is_true(&rt, options.pages, &more);
+    equal(&rt, &options.gap, &20_000, &more);
+    let without = TellTexts { gap: None, ..more };
+    equal(&rt, &without.options()?.gap, &1_000_000, &without);
     Ok(())
 }

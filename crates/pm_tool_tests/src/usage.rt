@@ -164,6 +164,8 @@ Options:
       --vout <F>      The format of voltages that the trace teaches none of; with --values
       --readings <L>  The formats of READ_VIN, READ_IOUT and READ_TEMPERATURE_1; with --values
       --all           Tell packets without PEC, and those that the command table doesn't have
+      --pages         Follow PAGE: tell plain packets with the output that they reach
+      --gap <MS>      The pause that ends a page, in milliseconds; with --pages and --times
       --long          Take a trace of more than 1 MiB
       --times         Each line begins with its time in microseconds
       --json          Print each line as an object of JSON
@@ -197,6 +199,11 @@ With --all a packet without PEC is told as one that has it, and one that the com
 have by its bytes: 1 58 code FD send, no PEC. With --times a line is 1234 B0 03 46, and told so:
 1 1234 us 58 CLEAR_FAULTS send.
 
+With --pages a plain packet is told with the output that it reaches, and a question mark, since a
+trace shows no restart: 2 58 page 1? VOUT_COMMAND write 34CD. Where the trace contradicts itself the
+line ends in WRONG PAGE? lines 1 and 4. With --times a page ends at a pause of its address of more
+than --gap, 0 to 1000000 ms, or 1000.
+
 A packet may be faulty; N counts bytes from 0, the address is byte 0:
 
   F1 NotOurs          no byte, or byte 0 isn't the address with its direction
@@ -210,7 +217,7 @@ A packet may be faulty; N counts bytes from 0, the address is byte 0:
 
 Status 1 where a line is bad, X1 Syntax or X2 BadHex, or with a line on standard error: X3 TooLong,
 X4 Read, X5 Write, X6 Memory. Status 2: give --vout with --values, bad vout, and the same of
---readings.
+--readings; give --gap with --pages and --times, bad gap.
 ";
 
 static NUMBER_HELP: &str =
@@ -225,7 +232,8 @@ Options:
   -h, --help         Print help
 
 A word is 34CD, without 0x or h. K is in millionths: 3.3 V is 3300000; a negative one is written
---micro=-3300000. LINEAR16 of older papers is ulinear16:N, with N of VOUT_MODE.
+--micro=-3300000. LINEAR16 of older papers is ulinear16:N, with N of VOUT_MODE. A / may stand for
+each : of a format.
 
   $ pmb number --format=ulinear16:-12 --micro=3300000
   word 34CD value 13517/4096 micro 3300048

@@ -1,7 +1,8 @@
 //! PAGE as a trace shows it, address by address.
-ghost use Rattle.std.specs.Prelude.{◌≡◌, option_map, unwrap_or, []};
-ghost use Rattle.pm_table.specs.Commands.{known_of};
-ghost use Rattle.pm_trace.specs.Pages.{accepted_use as spec_accepted_use, acts_by, behind, come, contradicted, is_apart as spec_is_apart, is_of_page as spec_is_of_page, kept_since as spec_kept_since, nowhere, other_use as spec_other_use, output_of, plain_use as spec_plain_use, use_of, written_else as spec_written_else};
+ghost use Rattle.std.specs.Prelude.{◌≡◌};
+ghost use Rattle.pm_trace.specs.Pages.{behind, contradicted, output_of, use_of};
+ghost use Rattle.pm_trace.specs.Pages.{accepted_use as spec_accepted_use, is_of_page as spec_is_of_page, other_use as spec_other_use, plain_use as spec_plain_use};
+ghost use Rattle.pm_trace.specs.Pages.{is_apart as spec_is_apart, kept_since as spec_kept_since, written_else as spec_written_else};
 ghost use Rattle.pm_trace.specs.ShownLines.{judged_in};
 
 use crate::shown::Shown;

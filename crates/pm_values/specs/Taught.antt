@@ -3,13 +3,11 @@
 -- answer to COEFFICIENTS of it; and the addresses that answered a read of VOUT_MODE with ULINEAR16, since the readings of
 -- such a part are LINEAR11. That these decide is this project's own choice.
 use Rattle.std.specs.Prelude.{ℕ, ◌+◌, ◌*◌, Bool, true, ◌&&◌, ◌||◌, ◌==◌, nat_eq, nat_lt, if◌then◌else◌, List, [], ◌∷◌, slice_index, unwrap_or, option_map, Option, Some, None, Result, Ok, Err}
-use Rattle.std.specs.List.{fold}
 use Rattle.std.specs.Map.{lookup}
 use Rattle.std.specs.Option.{option_or}
 use Rattle.std.specs.Result.{result_ok}
 use Rattle.indexmap.specs.IndexMap.{insert_entry}
 use Rattle.pm_num.specs.AnyFormat.{Shape, InLinear11, InUlinear16, InDirect, shape_of}
-use Rattle.pm_num.specs.declared.any_format.AnyFormat.{AnyFormat}
 use Rattle.pm_table.specs.Cell.{is_voltage_code}
 use Rattle.pm_table.specs.Codes as command
 use Rattle.pm_table.specs.Coefficients.{coefficients_of}

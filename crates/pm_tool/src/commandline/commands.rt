@@ -2,6 +2,7 @@
 ghost use Rattle.std.specs.Prelude.{◌≡◌, IfOk, codes};
 ghost use Rattle.clap.specs.Words.{app_of, new_app, with_rule};
 ghost use Rattle.pm_tool.specs.Commandline.{number_app, pmb, with_required_subcommand};
+ghost use Rattle.pm_console.specs.Options.{option_rule};
 ghost use Rattle.pm_tool.specs.Telling.{flag_rule, tell_app};
 
 use super::helps;
@@ -141,7 +142,8 @@ pub(super) fn tell_command<'a>(alloc: Global) -> Result<Command<'a>, AllocError>
         "all",
         "Tell packets without PEC, and those that the command table doesn't have",
     )?;
-    let long = with_flag(full, alloc, "long", "Take a trace of more than 1 MiB")?;
+    let paged = with_pages(full, alloc)?;
+    let long = with_flag(paged, alloc, "long", "Take a trace of more than 1 MiB")?;
     let timed = with_flag(
         long,
         alloc,
@@ -149,6 +151,25 @@ pub(super) fn tell_command<'a>(alloc: Global) -> Result<Command<'a>, AllocError>
         "Each line begins with its time in microseconds",
     )?;
     with_flag(timed, alloc, "json", "Print each line as an object of JSON")
+}
+
+// The command with `--pages` and `--gap`.
+fn with_pages<'a>(command: Command<'a>, alloc: Global) -> Result<Command<'a>, AllocError>
+    ensures { IfOk result (λ with_them.
+        app_of with_them ≡ with_rule (with_rule (app_of command.entry) (flag_rule (codes "pages"))) (option_rule (codes "gap"))) }
+{
+    let paged = with_flag(
+        command,
+        alloc,
+        "pages",
+        "Follow PAGE: tell plain packets with the output that they reach",
+    )?;
+    with_option(
+        paged,
+        alloc,
+        ("gap", "MS"),
+        "The pause that ends a page, in milliseconds; with --pages and --times",
+    )
 }
 
 // The command with one more option `--NAME`, which has no value. Takes memory for the option.

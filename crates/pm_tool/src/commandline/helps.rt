@@ -114,6 +114,11 @@ With --all a packet without PEC is told as one that has it, and one that the com
 have by its bytes: 1 58 code FD send, no PEC. With --times a line is 1234 B0 03 46, and told so:
 1 1234 us 58 CLEAR_FAULTS send.
 
+With --pages a plain packet is told with the output that it reaches, and a question mark, since a
+trace shows no restart: 2 58 page 1? VOUT_COMMAND write 34CD. Where the trace contradicts itself the
+line ends in WRONG PAGE? lines 1 and 4. With --times a page ends at a pause of its address of more
+than --gap, 0 to 1000000 ms, or 1000.
+
 A packet may be faulty; N counts bytes from 0, the address is byte 0:
 
   F1 NotOurs          no byte, or byte 0 isn't the address with its direction
@@ -127,12 +132,13 @@ A packet may be faulty; N counts bytes from 0, the address is byte 0:
 
 Status 1 where a line is bad, X1 Syntax or X2 BadHex, or with a line on standard error: X3 TooLong,
 X4 Read, X5 Write, X6 Memory. Status 2: give --vout with --values, bad vout, and the same of
---readings.";
+--readings; give --gap with --pages and --times, bad gap.";
 
 /// What the help of `number` shows at its end.
 pub(super) const NUMBER: &str = "\
 A word is 34CD, without 0x or h. K is in millionths: 3.3 V is 3300000; a negative one is written
---micro=-3300000. LINEAR16 of older papers is ulinear16:N, with N of VOUT_MODE.
+--micro=-3300000. LINEAR16 of older papers is ulinear16:N, with N of VOUT_MODE. A / may stand for
+each : of a format.
 
   $ pmb number --format=ulinear16:-12 --micro=3300000
   word 34CD value 13517/4096 micro 3300048

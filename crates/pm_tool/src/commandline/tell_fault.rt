@@ -13,6 +13,10 @@ pub enum TellFault {
     ReadingsAlone,
     /// The text of `--readings` isn't one to eight entries, or an entry can't be.
     Readings,
+    /// `--gap` is given, and `--pages` or `--times` isn't.
+    GapAlone,
+    /// The text of `--gap` isn't 0 to 1000000 in at most seven digits.
+    Gap,
 }
 
 impl TellFault {
@@ -28,6 +32,8 @@ impl TellFault {
             TellFault::Vout => "bad vout",
             TellFault::ReadingsAlone => "give --readings with --values",
             TellFault::Readings => "bad readings",
+            TellFault::GapAlone => "give --gap with --pages and --times",
+            TellFault::Gap => "bad gap",
         }
     }
 
@@ -39,7 +45,9 @@ impl TellFault {
             TellFault::VoutAlone
             | TellFault::Vout
             | TellFault::ReadingsAlone
-            | TellFault::Readings => 2,
+            | TellFault::Readings
+            | TellFault::GapAlone
+            | TellFault::Gap => 2,
         }
     }
 }

@@ -1,5 +1,5 @@
 //! `decode` with options: which words are read for them, and what their texts ask of a telling.
-ghost use Rattle.std.specs.Prelude.{◌≡◌, IfErr, IfOk, flat_map, option_and_then, option_map, true};
+ghost use Rattle.std.specs.Prelude.{◌≡◌, ◌≤◌, IfErr, IfOk, IfSome, flat_map, option_and_then, option_map, true};
 ghost use Rattle.std.specs.Result.{result_map_both};
 ghost use Rattle.clap.specs.Walk.{texts};
 ghost use Rattle.clap.specs.Words.{FailsBy, fault_of, found_of, kind_of, matches_of, one_of, rows_of};
@@ -9,7 +9,7 @@ ghost use Rattle.pm_num.specs.AnyFormat.{shape_of};
 ghost use Rattle.pm_tool.specs.Question.{HasExponent, format_of as format_named};
 ghost use Rattle.pm_tool.specs.Telling.{HasTexts, IsAsked, IsFlag, shape_named, tell_app, tell_words};
 ghost use Rattle.pm_tool.specs.ReadingList.{if_any};
-ghost use Rattle.pm_tool.specs.Telling.{readings_asked, vout_asked, vout_seen};
+ghost use Rattle.pm_tool.specs.Telling.{gap_asked, pause_of, readings_asked, vout_asked, vout_seen};
 
 use super::commands::tell_command;
 use super::readings::read_readings;
@@ -18,6 +18,7 @@ use crate::numbers::{FormatText, read_format};
 use clap::{ArgMatches, Error};
 use pm_console::given_text;
 use pm_decode::TellOptions;
+use pm_lines::read_i64;
 use pm_num::{AnyFormat, Ulinear16};
 use pm_table::{Coefficients, VoutMode, format_of};
 use pm_values::{GivenFormats, ReadingFormat};
@@ -34,6 +35,10 @@ pub struct TellTexts<'a> {
     pub readings: Option<&'a str>,
     /// `--all`: packets without PEC, and of codes that the command table doesn't have, are told too.
     pub all: bool,
+    /// `--pages`: PAGE is followed.
+    pub pages: bool,
+    /// The text of `--gap`: the milliseconds of a pause behind which a page isn't known any more.
+    pub gap: Option<&'a str>,
     /// `--long`: the trace may have more than 1 MiB.
     pub long: bool,
     /// `--times`: each line begins with the time of its packet.
@@ -49,7 +54,7 @@ impl<'a> TellTexts<'a> {
     /// # Errors
     ///
     /// Whatever `clap` refuses, with its text for the user: help that was asked for, a word that is no
-    /// option, `--vout` or `--readings` with no text, an option that is given twice; and want of memory.
+    /// option, `--vout`, `--readings` or `--gap` with no text, an option that is given twice; and want of memory.
     pub fn read(alloc: Global, words: &'a [&'a str]) -> Result<TellTexts<'a>, Error>
         ensures given { IfOk result (λ given. HasTexts given (matches_of tell_app (texts words.entry.now))) }
         ensures kinds { FailsBy (fault_of tell_app (texts words.entry.now)) result }
@@ -62,6 +67,8 @@ impl<'a> TellTexts<'a> {
             vout: given_text(&matches, "vout"),
             readings: given_text(&matches, "readings"),
             all: is_given(&matches, "all"),
+            pages: is_given(&matches, "pages"),
+            gap: given_text(&matches, "gap"),
             long: is_given(&matches, "long"),
             times: is_given(&matches, "times"),
             json: is_given(&matches, "json"),
@@ -69,12 +76,14 @@ impl<'a> TellTexts<'a> {
     }
 
     /// The telling that the options ask for, or the first fault of them: `--vout` without `--values`, and then
-    /// a text of it that is no format or one that can't be; then the same of `--readings`. The formats are those of `number`.
+    /// a text of it that is no format or one that can't be; then the same of `--readings`; then `--gap` without `--pages`
+    /// or `--times`, and a text of it that isn't 0 to 1000000 in at most seven digits. The formats are those of `number`.
     pub fn options(&self) -> Result<TellOptions, TellFault>
         ensures { IsAsked self.now result }
     {
         let vout = self.vout_format()?;
         let readings = self.reading_formats()?;
+        let gap = self.pause()?;
         Ok(TellOptions {
             values: self.values,
             formats: GivenFormats { vout, readings },
@@ -82,8 +91,8 @@ impl<'a> TellTexts<'a> {
             long: self.long,
             times: self.times,
             json: self.json,
-            pages: false,
-            gap: 0,
+            pages: self.pages,
+            gap,
         })
     }
 
@@ -118,6 +127,22 @@ impl<'a> TellTexts<'a> {
             None => Err(TellFault::Readings),
         }
     }
+
+    // The microseconds of the pause that is asked for.
+    fn pause(&self) -> Result<u64, TellFault>
+        ensures { result ≡ gap_asked self.now }
+    {
+        let Some(text) = self.gap else {
+            return Ok(1_000_000);
+        };
+        if !self.pages || !self.times {
+            return Err(TellFault::GapAlone);
+        }
+        match read_pause(text) {
+            Some(pause) => Ok(pause * 1000),
+            None => Err(TellFault::Gap),
+        }
+    }
 }
 
 /// The words that are read for the options of `decode`, from `decode` on; None where it isn't what the words
@@ -137,6 +162,22 @@ fn is_given(matches: &ArgMatches<'_>, name: &str) -> bool
     ensures { IsFlag (one_of name.now (rows_of (found_of matches.now))) result }
 {
     matches.get_flag(name)
+}
+
+// The milliseconds of a pause, 0 to 1000000 in at most seven digits.
+fn read_pause(text: &str) -> Option<u64>
+    ensures written { result ≡ pause_of text.now }
+    ensures short { IfSome result (λ pause. pause ≤ 1000000) }
+{
+    let digits = text.as_bytes();
+    if digits.len() > 7 || digits.starts_with(b"-") {
+        return None;
+    }
+    let pause = read_i64(digits)?;
+    if pause < 0 || 1_000_000 < pause {
+        return None;
+    }
+    Some(pause as u64)
 }
 
 // The format that a text names, where it can be.

@@ -8,8 +8,8 @@ ghost use Rattle.pm_tool.specs.Question.{asked_by, format_of, items, parts};
 use crate::numbers::fault::NumberFault;
 use pm_lines::{read_i8, read_i16, read_i64, read_word};
 
-/// A number format, as its text names it: `linear11`, `ulinear16:N` or `direct:M:B:R`. Whether
-/// DIRECT can have these parameters is judged when the format is made.
+/// A number format, as its text names it: `linear11`, `ulinear16:N` or `direct:M:B:R`, where `/` may
+/// stand for each `:`. Whether DIRECT can have these parameters is judged when the format is made.
 #[derive(Clone, Copy, Debug)]
 pub(crate) enum FormatText {
     Linear11,
@@ -89,7 +89,7 @@ fn read_ulinear16(text: &str) -> Option<FormatText>
     Some(FormatText::Ulinear16(n))
 }
 
-/// DIRECT with the three numbers that a text writes, parted by colons.
+/// DIRECT with the three numbers that a text writes, with colons between them.
 fn read_direct(text: &str) -> Option<FormatText>
     ensures named { result ≡ format_by (codes "direct" ∷ parts text.now) }
     ensures exponent { IfSome result HasExponent }
@@ -112,12 +112,12 @@ fn direct_of(m: &str, b: &str, r: &str) -> Option<FormatText>
     ))
 }
 
-/// What stands before a text's first colon and after it, or None where it has no colon.
+/// What stands before a text's first colon and after it, or None where it has no colon; `/` counts as one.
 pub(crate) fn first_part(text: &str) -> Option<(&str, &str)>
     ensures { MatchOption result (parts text.now ≡ text.now ∷ [])
         (λ found. parts text.now ≡ found.0.now ∷ parts found.1.now) }
 {
-    text.split_once(':')
+    text.split_once([':', '/'])
 }
 
 /// What stands before a text's first comma and after it, or None where it has no comma.

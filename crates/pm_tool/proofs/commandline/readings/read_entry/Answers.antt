@@ -1,13 +1,13 @@
 use Rattle.std.proofs.Common.{◌≡◌, ◌∙◌, ◌∷◌, ℕ, List, Option, Some, ap, arith, sym}
 use Rattle.pm_lines.specs.Digits.{hex_of}
-use Rattle.pm_tool.specs.Question.{Text}
+use Rattle.pm_tool.specs.Question.{Text, is_colon}
 use Rattle.pm_tool.specs.ReadingList.{entry_by, entry_from}
 use Rattle.pm_tool.proofs.PartLemmas.{some_parts}
 use Rattle.pm_tool.proofs.commandline.readings.read_entry.Goals as goal
 
 pub returns-in-Some-read_byte : goal.returns-in-Some-read_byte
 returns-in-Some-read_byte c =
-    let p = some_parts 58 c.in-Some.after.now in
+    let p = some_parts is_colon c.in-Some.after.now in
     let first = c.in-Some.first.now in
     let number : hex_of 2 first ≡ Some c.in-Some-read_byte.number = grind arith in
     c.read_behind.ensures p.0 p.1 p.2

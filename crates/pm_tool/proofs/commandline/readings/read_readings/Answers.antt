@@ -1,7 +1,7 @@
 use Rattle.std.proofs.Common.{◌≡◌, ◌∙◌, ◌++◌, List, Option, Some, None, ap, flat_map, option_map, sym}
 use Rattle.std.specs.Borrow.{Bor}
 use Rattle.pm_values.specs.declared.formats.ReadingFormat.{ReadingFormat}
-use Rattle.pm_tool.specs.Question.{Text, items, text_at}
+use Rattle.pm_tool.specs.Question.{Text, is_comma, items, text_at}
 use Rattle.pm_tool.specs.ReadingList.{Entry, entries_in, entries_left, if_any}
 use Rattle.pm_tool.proofs.PartLemmas.{some_parts}
 use Rattle.pm_tool.proofs.commandline.readings.read_readings.Goals as goal
@@ -12,7 +12,7 @@ four a b c d es = if_any a ++ (if_any b ++ (if_any c ++ (if_any d ++ es)))
 
 -- there is no room for what is left of a text
 no_room : (text : Text) → entries_in 0 (items text) ≡ None
-no_room text = let p = some_parts 44 text in ap (entries_in 0) p.2
+no_room text = let p = some_parts is_comma text in ap (entries_in 0) p.2
 
 pub returns-in_err-front : goal.returns-in_err-front
 returns-in_err-front c =

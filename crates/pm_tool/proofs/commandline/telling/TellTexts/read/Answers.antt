@@ -22,9 +22,11 @@ returns-clause-given c =
       vout = c.given_text.ensures ∙ ap (λ (r : List Row). first_of (codes "vout") r) found;
       readings = c.given_text-2.ensures ∙ ap (λ (r : List Row). first_of (codes "readings") r) found;
       all = flag_at (codes "all") c.is_given-2.result c.is_given-2.ensures found;
-      long = flag_at (codes "long") c.is_given-3.result c.is_given-3.ensures found;
-      times = flag_at (codes "times") c.is_given-4.result c.is_given-4.ensures found;
-      json = flag_at (codes "json") c.is_given-5.result c.is_given-5.ensures found;
+      pages = flag_at (codes "pages") c.is_given-3.result c.is_given-3.ensures found;
+      gap = c.given_text-3.ensures ∙ ap (λ (r : List Row). first_of (codes "gap") r) found;
+      long = flag_at (codes "long") c.is_given-4.result c.is_given-4.ensures found;
+      times = flag_at (codes "times") c.is_given-5.result c.is_given-5.ensures found;
+      json = flag_at (codes "json") c.is_given-6.result c.is_given-6.ensures found;
     }
 
 pub returns-clause-kinds : goal.returns-clause-kinds
