@@ -1,12 +1,12 @@
 -- What is kept and written of a capture with further bytes, and at its end.
-use Rattle.std.proofs.Common.{◌≡◌, ℕ, ◌+◌, ◌-◌, ◌<◌, ◌≤◌, Bool, true, false, cond, not, eqb, List, [], ◌∷◌, ◌++◌, length, map, filter, take}
+use Rattle.std.proofs.Common.{◌≡◌, ℕ, ◌+◌, ◌-◌, ◌<◌, ◌≤◌, Bool, true, false, cond, not, List, [], ◌∷◌, ◌++◌, length, map, filter, take}
 use Rattle.std.proofs.Common.{drop}
 use Rattle.std.proofs.Common.{refl, sym, ap, ◌∙◌, arith, append_assoc, append-nil, length-append}
-use Rattle.std.specs.List.{enumerate_from, fold, list_any}
+use Rattle.std.specs.List.{enumerate_from, fold}
 use Rattle.std.proofs.lemmas.List.{map-append, nil_from_length, take_all}
 use Rattle.std.proofs.lemmas.List.Elements.{filter-append}
 use Rattle.std.proofs.lemmas.List.Sums.{fold-append}
-use Rattle.pm_lines.specs.Lines.{Numbered, has_bytes, is_line_feed, lines_of, without_empty_last}
+use Rattle.pm_lines.specs.Lines.{Numbered, has_bytes, is_line_feed, lines_of}
 use Rattle.pm_lines.specs.Lines.{without_return}
 use Rattle.pm_trace.specs.Marks.{ended, since}
 use Rattle.pm_trace.specs.OpenLines.{IsAtLineFeed}

@@ -1,5 +1,5 @@
 -- What was written, in other words.
-use Rattle.std.proofs.Common.{◌≡◌, ◌↔◌, ℕ, Bool, true, false, not, List, [], ◌∷◌, ◌++◌, length, Option, Result, Ok, Err, IsFalse, IsTrue, refl, sym, ap, subst}
+use Rattle.std.proofs.Common.{◌≡◌, ◌↔◌, ℕ, Bool, true, false, not, List, [], ◌++◌, Option, Result, Ok, Err, IsFalse, IsTrue, refl, sym, ap, subst}
 use Rattle.std.proofs.Common.{◌∙◌, arith, append_assoc, length-append}
 use Rattle.std.specs.Prelude.{MatchResult}
 use Rattle.std.specs.Io.KnownBytes.{Appends}
@@ -7,7 +7,7 @@ use Rattle.std.proofs.KnownBytes.{Appends-trans}
 use Rattle.pm_lines.specs.Streams.{AppendsFront}
 use Rattle.pm_trace.specs.Written.{Puts}
 use Rattle.pm_lines.specs.declared.fault.TextFault.{TextFault}
-use Rattle.pm_lines.specs.declared.fault.TextFault.TheVariants.{TooLong, Read, Memory}
+use Rattle.pm_lines.specs.declared.fault.TextFault.TheVariants.{Read}
 
 module _ (a b c : Option (List ℕ)) where
   pub AppendsFront-behind : (before part later all : List ℕ) → Appends a b before → AppendsFront b c part

@@ -1,7 +1,7 @@
 -- What is kept of the bytes of a capture that were taken, and what was said of the lines that ended: `kept_of` and
 -- `said_text`, a look back over all bytes, and `next` and `told`, what further bytes make of it. This project's own
 -- choice.
-use Rattle.std.specs.Prelude.{ℕ, ◌+◌, ◌-◌, ◌^◌, ◌≤◌, Bool, if◌then◌else◌, List, [], ◌∷◌, ◌++◌, length, map, filter}
+use Rattle.std.specs.Prelude.{ℕ, ◌+◌, ◌-◌, ◌^◌, ◌≤◌, Bool, if◌then◌else◌, List, [], length, map, filter}
 use Rattle.std.specs.List.{enumerate_from, fold}
 use Rattle.pm_lines.specs.Lines.{is_line_feed, without_return}
 use Rattle.pm_lines.specs.Streams.{max_text}

@@ -10,7 +10,7 @@ use Rattle.pm_trace.specs.declared.trace_line.TraceLine.{TraceLine}
 use Rattle.pm_values.specs.Otherwise.{content_of}
 use Rattle.pm_values.specs.Taught.{Taught, taught_by, untaught}
 use Rattle.pm_decode.specs.PageSteps.{marks_in, pages_noted, pages_read}
-use Rattle.pm_decode.specs.Readings.{Entry, Reading, Said, Told, Noted, judged_as, other_address}
+use Rattle.pm_decode.specs.Readings.{Entry, Said, Told, Noted, judged_as, other_address}
 use Rattle.pm_decode.specs.declared.options.TellOptions.{TellOptions}
 
 -- ---- what is known

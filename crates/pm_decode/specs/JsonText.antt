@@ -1,6 +1,6 @@
 -- What is written of a capture as objects of JSON, one a line, without spaces, and with keys in one order. Every text in
 -- them is made of letters, digits, spaces and a few signs of which none has to be escaped. This project's own choice.
-use Rattle.std.specs.Prelude.{ℕ, ℤ, pos, Bool, true, if◌then◌else◌, zero, suc, nat_eq, List, [], ◌∷◌, ◌++◌, slice_index, decimal, codes, unwrap_or, Option, Some, None}
+use Rattle.std.specs.Prelude.{ℕ, ℤ, pos, Bool, true, if◌then◌else◌, zero, suc, nat_eq, List, [], ◌∷◌, ◌++◌, decimal, codes, unwrap_or, Option, Some, None}
 use Rattle.std.specs.Fmt.{signed_decimal}
 use Rattle.std.specs.Map.{lookup}
 use Rattle.pm_frame.specs.FaultWords.{frame_fault_place, frame_fault_words}

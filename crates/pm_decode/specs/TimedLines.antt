@@ -1,6 +1,6 @@
 -- What is kept of a line of a capture while its bytes come one after another, as a look back over its bytes so far
 -- (`timed_of`), and what one more byte makes of it (`timed_takes`). This project's own choice.
-use Rattle.std.specs.Prelude.{◌≡◌, ℕ, Bool, true, false, not, ◌&&◌, ◌||◌, ◌==◌, nat_eq, nat_lt, if◌then◌else◌, List, [], ◌∷◌, ◌++◌, codes, length, take, None}
+use Rattle.std.specs.Prelude.{◌≡◌, ℕ, Bool, true, false, not, ◌&&◌, ◌||◌, ◌==◌, nat_lt, if◌then◌else◌, List, [], ◌∷◌, ◌++◌, length, take, None}
 use Rattle.std.specs.List.{fold, list_any}
 use Rattle.pm_lines.specs.Lines.{has_bytes, is_line_feed, is_space, without_return}
 use Rattle.pm_trace.specs.OpenLines.{is_skipped_kind, line_of, line_takes, open_read}

@@ -1,7 +1,6 @@
 //! What PAGE, as a capture shows it, says of a packet.
 ghost use Rattle.std.specs.Prelude.{◌≡◌, OnOk};
 ghost use Rattle.pm_trace.specs.ShownLines.{judged_in};
-ghost use Rattle.pm_values.specs.Otherwise.{ContentBytes};
 ghost use Rattle.pm_decode.specs.PageSteps.{is_lost as spec_is_lost, is_unanswered as spec_is_unanswered, judged_address, marks_by, pages_at, place_by, step_by};
 ghost use Rattle.pm_decode.specs.ShownReadings.{packet_in};
 
