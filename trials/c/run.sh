@@ -152,9 +152,9 @@ END
 command_rows() {
     cat << 'END'
 ok short1 ok short0 short0 ok ok|-b 1 -a 58 --outputs 1 --no-limit --patience 0 set 0 3.3V|0|set 0: VOUT_COMMAND 34CD 3.300048V confirmed; the output commands 3.300048V, without limits|
-ok short0 short0 short0|-b 1 -a 58 --outputs 1 --patience 0 clear 0|1|clear 0: unknown|clear 0: 3 transfers failed, the last: 0 of 1 message went
-deaf deaf deaf|-b 1 -a 58 learn 0|1|learn 0: unknown|learn 0: 3 transfers failed, the last: No such device or address
-damaged empty damaged|-b 1 -a 58 learn 0|1|learn 0: unknown|learn 0: 3 answers weren't good: F4 WrongCount
+ok short0 short0 short0|-b 1 -a 58 --outputs 1 --patience 0 clear 0|1|clear 0: unknown|clear 0: 3 transfers failed, the last: 0 of 1 message went; STATUS_CML 00, STATUS_VOUT 00
+deaf deaf deaf|-b 1 -a 58 learn 0|1|learn 0: unknown|learn 0: 3 transfers failed, the last: No such device or address; STATUS_CML 00, STATUS_VOUT 00
+damaged empty damaged|-b 1 -a 58 learn 0|1|learn 0: unknown|learn 0: 3 answers weren't good: F4 WrongCount; STATUS_CML 00, STATUS_VOUT 00
 ok deaf deaf ok deaf ok|-b 1 -a 58 --outputs 1 --passes 1 clear 0|0|clear 0: acknowledged|
 |-b 1 -a 58 probe|0|probe: PEC yes, PAGE_PLUS yes, 1 output: 0 ULINEAR16 -12\nprobe: the part looks at the page: page 1F doesn't answer\nprobe: PMBUS_REVISION 33, Part II 1.3, no good MFR_ID (Remote I/O error), no good MFR_MODEL (Remote I/O error), no good MFR_REVISION (Remote I/O error)\nprobe: WRITE_PROTECT 00\nprobe: output 0: OPERATION 80, VOUT_COMMAND 1000, VOUT_MAX 4000, VOUT_MARGIN_HIGH 1100, VOUT_MARGIN_LOW 0F00, VOUT_MIN 0000\nprobe: output 0: no good ON_OFF_CONFIG (Remote I/O error): whether OPERATION is listened to isn't known\nprobe: whether the part refuses a write without a PEC, or with a wrong one, wasn't tried: probe --writes tries it\npmhost -b 1 -a 58 --outputs 1 --limit 0:LEAST:MOST|probe: the part may note in STATUS_CML that it was asked for what it lacks, and pull SMBALERT#
 |-b 2 -a 58 probe|2||2-0058 is held by a driver of the kernel: unbind it, echo 2-0058 > /sys/bus/i2c/devices/2-0058/driver/unbind, or give --force
