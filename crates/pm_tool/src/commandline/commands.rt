@@ -118,8 +118,25 @@ pub(super) fn tell_command<'a>(alloc: Global) -> Result<Command<'a>, AllocError>
         "pmb decode [OPTIONS] < TRACE",
         helps::DECODE,
     );
+    let formatted = with_formats(decode, alloc)?;
+    let full = with_flag(
+        formatted,
+        alloc,
+        "all",
+        "Tell packets without PEC, and those that the command table doesn't have",
+    )?;
+    let paged = with_pages(full, alloc)?;
+    with_lines(paged, alloc)
+}
+
+// The command with `--values`, `--vout` and `--readings`.
+fn with_formats<'a>(command: Command<'a>, alloc: Global) -> Result<Command<'a>, AllocError>
+    ensures { IfOk result (λ with_them. app_of with_them
+        ≡ with_rule (with_rule (with_rule (app_of command.entry) (flag_rule (codes "values"))) (option_rule (codes "vout")))
+        (option_rule (codes "readings"))) }
+{
     let valued = with_flag(
-        decode,
+        command,
         alloc,
         "values",
         "Tell what payloads mean, and the bytes of faulty packets",
@@ -130,20 +147,21 @@ pub(super) fn tell_command<'a>(alloc: Global) -> Result<Command<'a>, AllocError>
         ("vout", "F"),
         "The format of voltages that the trace teaches none of; with --values",
     )?;
-    let read = with_option(
+    with_option(
         formatted,
         alloc,
         ("readings", "L"),
         "The formats of READ_VIN, READ_IOUT and READ_TEMPERATURE_1; with --values",
-    )?;
-    let full = with_flag(
-        read,
-        alloc,
-        "all",
-        "Tell packets without PEC, and those that the command table doesn't have",
-    )?;
-    let paged = with_pages(full, alloc)?;
-    let long = with_flag(paged, alloc, "long", "Take a trace of more than 1 MiB")?;
+    )
+}
+
+// The command with `--long`, `--times` and `--json`.
+fn with_lines<'a>(command: Command<'a>, alloc: Global) -> Result<Command<'a>, AllocError>
+    ensures { IfOk result (λ with_them. app_of with_them
+        ≡ with_rule (with_rule (with_rule (app_of command.entry) (flag_rule (codes "long"))) (flag_rule (codes "times")))
+        (flag_rule (codes "json"))) }
+{
+    let long = with_flag(command, alloc, "long", "Take a trace of more than 1 MiB")?;
     let timed = with_flag(
         long,
         alloc,
