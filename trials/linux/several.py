@@ -2,8 +2,8 @@
 several BUS [SEED [short]].
 
 The parts have the addresses 58, 59 and, behind channel 3 of a PCA9548 at 70, 5A. Each pmhost is a process of its own. Each kind
-of fault strikes each transfer of one of them once (over the slow bus 5, and where the trial is short, three of them), with 1 and
-with 3 passes in turn, while the others' meet none. Every word is ordered for one register of one part alone, so that one that any
+of fault strikes each transfer of one of them once (over the slow bus 5, and where the trial is short, three of them, which SEED draws), with 1
+and with 3 passes in turn, while the others' meet none. Every word is ordered for one register of one part alone, so that one that any
 other ever held is seen. The multiplexer is left as it was selected, and put apart behind each transfer.
 
 Last the transfers of the multiplexer itself are struck, with a second part at 5A behind channel 5. That the kernel drives the
@@ -192,7 +192,7 @@ def by_selects(bench, kinds, rests, drawn):
     for kind in kinds:
         for place in places(bench, length, FEW, **drawn):
             _, _, wrong = trial.run(MUX, ["ok"] * place + [kind], 3)
-            counts[kind].update({"runs": 1, "a word at the other part": bool(wrong)})
+            counts[kind].update({"runs": 1, "a word at the other part": int(bool(wrong))})
     trial.close()
     for kind, found in counts.items():
         print(f"bus {bench.number}, a select struck, the multiplexer {rests}, {kinds[kind]}: "
