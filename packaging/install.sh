@@ -63,7 +63,7 @@ archive() { echo "${archives:-$root/crates/$1/out}/lib$1.a"; }
 program() { [ -z "$1" ] || [ -x "$1" ] || die "no program at $1: build it $2, or give --library"; }
 
 for each in pm_host_c pm_device_c; do
-    [ -f "$(archive $each)" ] || die "no archive at $(archive $each): build it by (cd crates/$each && rt lib --backend rattle), or give --archives FOLDER"
+    [ -f "$(archive $each)" ] || die "no archive at $(archive $each): build it by (cd crates/$each && rt lib), or give --archives FOLDER"
 done
 if [ -z "$library" ]; then
     program "$pmb" "by (cd crates/pmb && rt run -- replay < stdin), set PMB"

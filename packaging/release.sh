@@ -37,7 +37,7 @@ if [ -z "$archives" ]; then
     archives=$folder/archives
     mkdir "$archives"
     for each in pm_host_c pm_device_c; do
-        [ -f "$root/crates/$each/out/lib$each.a" ] || die "no lib$each.a in crates/$each/out: build it by (cd crates/$each && rt lib --backend rattle), or give --archives FOLDER"
+        [ -f "$root/crates/$each/out/lib$each.a" ] || die "no lib$each.a in crates/$each/out: build it by (cd crates/$each && rt lib), or give --archives FOLDER"
         cp "$root/crates/$each/out/lib$each.a" "$archives/"
     done
 fi

@@ -4,11 +4,11 @@
 #   packaging/try_release.sh RELEASE ROOT
 #
 # RELEASE is the folder of the release. ROOT is a Debian 12 that holds no work, which is made by hand, as root:
-#   debootstrap --variant=minbase --include=gcc,libc6-dev,pkg-config,python3,python3-venv bookworm ROOT
+#   debootstrap --variant=minbase --include=gcc,libc6-dev,pkg-config,python3,python3-venv,man-db bookworm ROOT
 # The .deb is installed there, and the tarball unpacked, with no checkout beside them; as an ordinary user pmhost sets a rail of
 # a model part, C programs are compiled by pkg-config over both and run, the wheel is installed without a network, pmb decodes,
-# and README's examples run. Last the .deb is removed, which leaves nothing, and install.sh --uninstall is tried on a folder of the
-# tree that made the release. The last line says how many passed and failed.
+# and README's examples run. Manual pages are shown by man-db. Last the .deb is removed, which leaves nothing; and on this machine
+# install.sh --uninstall is tried with what the tarball has (packaging/try_uninstall.sh). The last line says how many passed and failed.
 set -u
 case " $* " in *" --help "* | *" -h "*) sed -n '2,/^[^#]/s/^# \{0,1\}//p' "$0"; exit 0 ;; esac
 [ $# = 2 ] || { echo "try_release.sh: give RELEASE ROOT; --help says more" >&2; exit 2; }
@@ -54,7 +54,7 @@ asked "the wheel" 'python3 -m venv v && v/bin/pip install --no-index /usr/share/
 asked "pmb decodes a capture" "pmb decode --values --vout=ulinear16:-12 < $doc/examples/bus.trace | grep -q '3.300048 V'"
 asked "README's example" "pmb replay < $doc/examples/answer-lost.scenario | cmp - $doc/examples/answer-lost.report"
 asked "a capture of sigrok" "printf 'i2c-1: Start\ni2c-1: Address write: 58\n' | pmhost capture sigrok > trace"
-asked "manual pages and completions" 'for each in pmb pmbhost pmbpart pmhost; do test -x /usr/bin/$each && man -P cat $each 2> /dev/null | grep -qi NAME && bash -c ". /usr/share/bash-completion/completions/$each && complete -p $each"; done'
+asked "manual pages and completions" 'for each in pmb pmbhost pmbpart pmhost; do test -x /usr/bin/$each && man -P cat $each 2> /dev/null | grep -qi NAME && bash -c ". /usr/share/bash-completion/completions/$each && complete -p $each" || exit 1; done'
 asked "a part over pmbpart" 'printf "B0 15 24\nquit\n" | pmbpart | grep -qx taken'
 asked "an order over pmbhost" "printf 'order 0 VOUT_COMMAND 34CD\n' | PYTHONPATH=/usr/lib/pm-host PMBHOST=/usr/bin/pmbhost python3 -B $doc/examples/pmbhost/drive.py desk 58 2 | grep 'ended done'"
 asked "tarball, anywhere" "mkdir t && tar -C t --strip-components=1 -xf *.tar.gz && export PKG_CONFIG_PATH=$work/t/lib/pkgconfig LD_LIBRARY_PATH=$work/t/lib && gcc t/share/doc/pm-host/examples/c/order.c \$(pkg-config --cflags --libs pm_host) -o order && ./order | cmp - t/share/doc/pm-host/examples/c/order.expected && readlink -f \$(ldd order | sed -n 's/.*libpm_host.so.* => \\(.*\\) (.*/\\1/p') | grep -q ^$work/t/ && t/bin/pmhost -b desk --outputs 2 --limit 0:3.135V:3.465V set 0 3.3V"
@@ -65,4 +65,12 @@ status=$?
 tell $status
 [ $status = 0 ] && echo "nothing is left: ok" || { echo "nothing is left: FAILED"; diff "$before" "$after" | head -5; }
 rm -rf "${root:?}$work"
+unpacked=$(mktemp -d)
+trap 'rm -rf "$before" "$after" "$unpacked"' EXIT
+tar -C "$unpacked" --strip-components=1 -xf "$release"/*x86_64.tar.gz
+if packaging/try_uninstall.sh "$unpacked" > "$after"; then
+    tell 0; echo "uninstalled: ok"
+else
+    tell 1; echo "uninstalled: FAILED"; grep -v ': ok$' "$after"
+fi
 end_tally

@@ -13,7 +13,16 @@ fn refuse(why: String) -> ! {
 
 fn named(name: &str) -> Option<PathBuf> {
     println!("cargo:rerun-if-env-changed={name}");
-    env::var_os(name).map(PathBuf::from)
+    env::var_os(name).map(PathBuf::from).map(of_caller)
+}
+
+/// A folder as the caller named it: cargo runs this in the crate's folder, and leaves PWD as it was.
+fn of_caller(folder: PathBuf) -> PathBuf {
+    if folder.is_relative() {
+        println!("cargo:rerun-if-env-changed=PWD");
+    }
+    let from = env::var_os("PWD").map(|at| Path::new(&at).join(&folder));
+    from.filter(|it| it.is_dir()).unwrap_or(folder)
 }
 
 fn archive(target: &str, library: &str) -> PathBuf {

@@ -17,9 +17,10 @@ It prints a line for each finding, and has status 1 if there is one. With --plac
     middle     a comment of a proof begins in the middle of a sentence: with and, so, or, nor
     page       a refusal of a type isn't in docs/refusals.md, or one of the page or of a help is in no type
     example    an example of a comment stands in no test, word for word
-    claims     a law doesn't stand on its crate's page of docs/claims/, or on another one's too
+    claims     a law carries no row of its crate's page of docs/claims/, or one of another page; of its own it may carry several,
+               a clause each
     path       a path that a page, a script or a source names isn't there
-    tally      a script prints `N passed, M failed` by itself: tools/tally.py and tools/tally.sh count and print
+    tally      a script of Python or bash prints `N passed, M failed` by itself: tools/tally.py and tools/tally.sh count and print
     edit       a text that a planted bug replaces doesn't stand once in its file
 
 Tests are left out.
@@ -37,6 +38,7 @@ from crate_copy import crates_below, read
 from program import answer_help
 
 REGISTERS = ("Operation", "VoutCommand", "VoutMax", "MarginHigh", "MarginLow", "VoutMin")
+REGISTER = re.compile(r"\b(?:%s)\b" % "|".join(REGISTERS))
 NEAR = 5
 LETTER = re.compile(r'"([FHKNSTVX][1-9][0-9]?)(?: [A-Z][A-Za-z]+)?[" ]')
 HEX = re.compile(r"0x[0-9A-F]{2}(?![0-9A-Fa-f_])")
@@ -191,11 +193,12 @@ def registers(path, lines):
     """Four registers near one another, where no line imports them, or has the field of a start for one."""
     seen, told = [], -NEAR
     for number, line in enumerate(lines if not path.startswith(EACH_REGISTER) else (), 1):
+        names = REGISTER.findall(line)
         is_field = path.startswith("crates/pm_device/") and FIELD.search(line)
-        if is_field or line.lstrip().startswith(("use ", "ghost use ")):
+        if not names or is_field or line.lstrip().startswith(("use ", "ghost use ")):
             continue
         seen = [(at, name) for at, name in seen if number - at < NEAR]
-        seen += [(number, name) for name in REGISTERS if re.search(r"\b%s\b" % name, line)]
+        seen += [(number, name) for name in names]
         if len({name for _, name in seen}) >= 4 and number - told >= NEAR:
             told = number
             yield path, number, "registers", line.strip()
@@ -249,10 +252,11 @@ def hanging(crates):
         yield path, number, "middle", text
 
 
-# What may name a path of the repository, and the form of one; a word in capitals stands for many.
+# What may name a path of the repository, and the form of one, in folders that there were before too; a word in capitals stands for
+# many.
 NAMING = re.compile(r"(tools|trials|packaging|python|bench|examples|rust|\.ci|docs|README|CHANGELOG|crates/\w+/(src|include))")
 UNNAMING = re.compile(r"results/|\.svg$|captures/|timelines/|Cargo.lock")
-PLACE = re.compile(r"(?<![\w./$}~-])((?:crates|tools|trials|packaging|python|rust|mutants|docs|examples|bench)/[\w./-]*\w)(?![\w{%*$<])")
+PLACE = re.compile(r"(?<![\w./$}~-])((?:crates|tools|trials|packaging|python|rust|mutants|docs|examples|bench|scripts|attacks)/[\w./-]*\w)(?![\w{%*$<])")
 
 
 def lost_paths():
@@ -274,10 +278,20 @@ def lost_paths():
 TALLY = re.compile(r"\b(?:print|echo|printf)\b\W+f?[\"'](?:%d|\$\w+|\$?\{[^}]*\}) passed, ")
 
 
+def scripts():
+    """The scripts of Python and bash: by their names' ends, or by the first line of a file without one."""
+    for name in subprocess.run(["git", "ls-files"], capture_output=True, text=True).stdout.split("\n"):
+        if name.endswith((".py", ".sh")):
+            yield name
+        elif "." not in os.path.basename(name) and os.path.isfile(name):
+            with open(name, "rb") as file:
+                if file.read(2) == b"#!":
+                    yield name
+
+
 def hand_tallies():
     """Scripts that print a tally by themselves: tools/tally.py and tools/tally.sh count and print."""
-    names = subprocess.run(["git", "ls-files", "*.py", "*.sh"], capture_output=True, text=True).stdout.split("\n")
-    for name in names:
+    for name in scripts():
         if os.path.isfile(name) and name not in ("tools/tally.py", "tools/tally.sh"):
             with open(name, encoding="utf-8", errors="replace") as file:
                 yield from ((name, number, "tally", line.strip()) for number, line in enumerate(file, 1) if TALLY.search(line))
@@ -302,12 +316,12 @@ def carriers():
 
 
 def unclaimed(crates):
-    """Laws that don't stand on the page of their crate, or stand on another one's too."""
+    """Laws that carry no row of their crate's page, or one of another page."""
     told = dict(carriers())
     for crate, name in law_names(crates):
         pages = [page for page, text in told.items() if re.search(r"`(?:\w+::)?%s`" % name, text)]
         if pages != [crate]:
-            yield "docs/claims/%s.md" % crate, 1, "claims", "the law %s stands on %s" % (name, ", ".join(pages) or "no page")
+            yield "docs/claims/%s.md" % crate, 1, "claims", "the law %s carries rows of %s" % (name, ", ".join(pages) or "no page")
 
 
 def stripped(text):

@@ -1,4 +1,4 @@
-"""How many runs of a trial passed: what each trial of this folder that is run by hand counts by, and its last line."""
+"""How many runs of a trial passed: what each script in Python that is run by hand counts by, and its last line."""
 
 
 class Tally:
@@ -13,6 +13,13 @@ class Tally:
         self.failed += bool(faults)
         for fault in faults:
             print(f"{name}: {fault}", flush=True)
+
+    def add(self, name, passed, failed, said=""):
+        """Those of a part that counts for itself are told, and what it said where some failed."""
+        self.passed, self.failed = self.passed + passed, self.failed + failed
+        print(f"{name}: {passed} passed, {failed} failed", flush=True)
+        if failed:
+            print(said, flush=True)
 
     def end(self):
         """The last line, and the status."""

@@ -44,15 +44,21 @@ def tag():
     return "py3-none-" + re.sub(r"[^0-9A-Za-z]", "_", sysconfig.get_platform())
 
 
+def of_caller(folder):
+    """A folder as the caller named it: pip runs this in a folder of its own, and leaves PWD as it was."""
+    path = os.path.join(os.environ.get("PWD", ""), folder or "")
+    return path if folder and os.path.isdir(path) else folder
+
+
 def archives():
     """Where the archives are."""
-    given, found = os.environ.get("PMHOST_ARCHIVES"), []
+    given, found = of_caller(os.environ.get("PMHOST_ARCHIVES")), []
     for crate in CRATES:
         path = os.path.join(given or os.path.join(os.path.dirname(HOME), "crates", crate, "out"), f"lib{crate}.a")
         installed = path.replace("_c.a", ".a")
         path = installed if given and os.path.isfile(installed) else path
         if not os.path.isfile(path):
-            raise SystemExit(f"pmhost: no archive at {path}: build it by (cd crates/{crate} && rt lib --backend rattle), "
+            raise SystemExit(f"pmhost: no archive at {path}: build it by (cd crates/{crate} && rt lib), "
                              "or give PMHOST_ARCHIVES, a folder with libpm_host_c.a and libpm_device_c.a")
         found.append(path)
     return found

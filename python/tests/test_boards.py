@@ -26,6 +26,7 @@ DRAWN = {0x14: range(0x0800, 0x3800), 0x40: range(1500, 4500)}
 OPERATIONS = (0x80,) * 12 + (0xA8, 0x94, 0x00, 0x40)
 ROW = re.compile(r"r([01])\s+(\w+)\s+[0-9A-F]{4} \S+\s+(?:([0-9A-F]{4}) \S+|-)\s+(\w+)")
 LINE = re.compile(r"r([01]): (?:.*: )?(?:the output commands|.*would command) ([0-9.]+)V[,;]")
+CUT = re.compile(r"r([01]): (VOUT_MARGIN_\w+) ([0-9.]+)V (will be|is) cut to ([0-9.]+)V")
 # The last surveys have fewer frames than these: a restart among them may pass unseen.
 LAST = 20
 
@@ -93,6 +94,15 @@ class Rail:
     def goal(self):
         return {**self.old, **self.new}
 
+    def cuts(self, words):
+        """The margins that aren't selected and that these words cut, each with its voltage and what is left of it."""
+        value, found = {key: self.value(word) for key, word in words.items()}, {}
+        for key in ("margin_low", "margin_high"):
+            to = min(max(value[key], value["min"]), value["max"])
+            if key != self.selected() and to != value[key]:
+                found[SETTINGS[key]] = (value[key], to)
+        return found
+
     def is_possible(self):
         """Whether each word that is wanted or selected lies within VOUT_MIN and VOUT_MAX as they are to be."""
         goal = {key: self.value(word) for key, word in self.goal().items()}
@@ -153,8 +163,20 @@ class Boards(unittest.TestCase):
         for output, volts in LINE.findall(out):
             self.assertLess(abs(Fraction(volts) - board.part.commands(int(output))), Fraction(1, 1000000), out)
 
+    def compare_cuts(self, board, out, is_possible):
+        """The margins that a bound cuts are told, each with its voltage, and no others: by what is wanted, or where nothing was
+        ordered by what was held before."""
+        told = {(int(output), register): (value, to, words) for output, register, value, words, to in CUT.findall(out)}
+        wanted = {(output, register): pair for output, rail in enumerate(board.rails)
+                  for register, pair in rail.cuts(rail.goal() if is_possible else rail.old).items()}
+        self.assertEqual(told.keys(), wanted.keys(), out)
+        for place, (*pair, words) in told.items():
+            self.assertEqual([math.floor(each * 1000000) for each in wanted[place]], [int(Fraction(each) * 1000000) for each in pair])
+            self.assertIn(words, ("will be", "is") if is_possible else ("is",))
+        return len(told)
+
     def test_a_rail_goes_from_its_old_voltage_to_its_new_one(self):
-        draw, ends = random.Random(1), set()
+        draw, ends, cuts = random.Random(1), set(), 0
         for number in range(BOARDS):
             with self.subTest(number=number):
                 board, status, out, err = self.run_board(draw, [])
@@ -163,11 +185,13 @@ class Boards(unittest.TestCase):
                 self.assertEqual(status == 0, wanted, err)
                 written = [line for line in board.part.lines if line.startswith("B0 05")]
                 self.assertTrue(is_possible or not written, "something was written, and it can't be reached")
+                cuts += self.compare_cuts(board, out, is_possible)
                 ends.add((is_possible, wanted))
                 if is_possible:
                     for output, rail in enumerate(board.rails):
                         self.assertEqual(board.part.commands(output), rail.commands(rail.goal()))
         self.assertEqual(ends, {(True, True), (True, False), (False, False)}, "all boards ended alike")
+        self.assertGreater(cuts, BOARDS // 10)
 
     def test_whatever_befalls_a_transfer(self):
         draw, ends = random.Random(2), set()

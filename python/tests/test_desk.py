@@ -281,7 +281,11 @@ class Programs(unittest.TestCase):
                 os.environ.pop("PMB", None)
                 with self.assertRaises(programs.Missing) as missing:
                     programs.path_of("pmb")
-                self.assertIn("(cd crates/pmb && rt run)", str(missing.exception))
+                self.assertEqual(str(missing.exception), "no program pmb in PATH: install it, or name it by PMB")
+                os.makedirs(os.path.join(folder, "tree", "crates", "pmb"))
+                with self.assertRaises(programs.Missing) as missing:
+                    programs.path_of("pmb")
+                self.assertIn("build it by (cd crates/pmb && rt run), or name it by PMB", str(missing.exception))
                 built = os.path.join(folder, "tree", "crates", "pmb", "out")
                 os.makedirs(built)
                 os.rename(os.path.join(folder, "pmb"), os.path.join(built, "pmb"))

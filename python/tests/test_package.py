@@ -1,9 +1,12 @@
 """What the package imports: nothing but its own modules and the standard library, and never the plain model."""
 import ast
+import contextlib
 import os
 import sys
+import tempfile
 import tomllib
 import unittest
+from unittest import mock
 
 import pmhost
 
@@ -76,3 +79,27 @@ class Imports(unittest.TestCase):
     def test_one_parser(self):
         found = sorted(path for path in modules() if "argparse" in set(imported(path)))
         self.assertTrue(all(path.startswith("cli" + os.sep) for path in found), found)
+
+
+BACKEND = os.path.join(ROOT, "python", "backend")
+
+
+@unittest.skipUnless(os.path.isdir(BACKEND), "the package stands alone")
+class Backend(unittest.TestCase):
+    def test_a_relative_folder_of_archives_is_the_callers(self):
+        """pip builds in a folder of its own, and leaves PWD as it was."""
+        with mock.patch.object(sys, "path", [BACKEND, *sys.path]):
+            import backend
+        with tempfile.TemporaryDirectory() as folder, tempfile.TemporaryDirectory() as other:
+            built = os.path.join(folder, "built")
+            os.mkdir(built)
+            wanted = [os.path.join(built, f"lib{name}.a") for name in backend.CRATES]
+            for path in wanted:
+                with open(path, "wb"):
+                    pass
+            with contextlib.chdir(other):
+                for given in ("built", built):
+                    with mock.patch.dict(os.environ, {"PWD": folder, "PMHOST_ARCHIVES": given}):
+                        self.assertEqual(backend.archives(), wanted)
+            with contextlib.chdir(folder), mock.patch.dict(os.environ, {"PWD": other, "PMHOST_ARCHIVES": "built"}):
+                self.assertEqual([os.path.abspath(path) for path in backend.archives()], wanted)

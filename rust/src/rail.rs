@@ -49,6 +49,20 @@ pub struct Wanted {
 }
 
 impl Wanted {
+    /// This word of a register alone; `None` of OPERATION, which no plan orders.
+    fn one(register: Register, word: u16) -> Option<Wanted> {
+        let (mut wanted, word) = (Wanted::default(), Some(word));
+        match register {
+            Register::Operation => return None,
+            Register::VoutCommand => wanted.command = word,
+            Register::VoutMax => wanted.max = word,
+            Register::VoutMarginHigh => wanted.margin_high = word,
+            Register::VoutMarginLow => wanted.margin_low = word,
+            Register::VoutMin => wanted.min = word,
+        }
+        Some(wanted)
+    }
+
     fn image(&self) -> ffi::WantedImage {
         ffi::WantedImage {
             command: wish(self.command),
@@ -314,6 +328,50 @@ impl Host {
                 return Ok(());
             }
         }
+    }
+
+    /// Brings a voltage of an output to the word nearest to microvolts over a bus, by at most so many jobs, and says what the
+    /// output commands then: it learns the output's format where that isn't known, and goes on as `run_apply`.
+    ///
+    /// H5 of OPERATION, which is no voltage; N3, N4, N5 where the format has no such word; and what `run_apply` refuses, as P2
+    /// and P3 beyond the limits. Where it refuses, nothing was ordered. The answer may be outside what was wanted where another
+    /// register is selected: look at its band.
+    ///
+    /// ```
+    /// use pm_host::{Band, Host, Limits, NotPlanned, NotReached, Output, Part, Refusal, Register, Within};
+    ///
+    /// let mut bus = Part::new(0x58, &[Output::default()], (1, 0, 3))?;
+    /// let mut host = Host::new(0x58, 1, 3)?;
+    /// host.narrow(0, Limits { least: 3_200_000, most: 3_465_000 })?;
+    /// let rail = host.set_micro(0, Register::VoutCommand, 3_300_000, 64, &mut bus)?;
+    /// assert_eq!((rail.band, rail.within), (Ok(Band { least: 3_300_048, greatest: 3_300_049 }), Within::Yes));
+    /// let twelve_volts = host.set_micro(0, Register::VoutCommand, 12_000_000, 64, &mut bus);
+    /// assert!(matches!(twelve_volts, Err(NotReached::Refused(NotPlanned { refusal: Refusal::P3AboveLimit, .. }))));
+    /// # Ok::<(), Box<dyn core::error::Error>>(())
+    /// ```
+    pub fn set_micro<B: Bus>(
+        &mut self,
+        output: u8,
+        register: Register,
+        microvolts: i64,
+        tries: u16,
+        bus: &mut B,
+    ) -> Result<Rail, NotReached<B::Error>> {
+        let (mut left, mut error) = (tries, None);
+        let format = loop {
+            if let Some(format) = self.format(output)? {
+                break format;
+            }
+            if left == 0 {
+                return Err(NotReached::Spent { error });
+            }
+            left -= 1;
+            self.learn(output)?;
+            let _ = self.run_to_end(bus, &mut error)?; // (the format says whether it was learned)
+        };
+        let wanted = Wanted::one(register, format.nearest_word(microvolts)?).ok_or(Refusal::H5BadWord)?;
+        self.run_apply(output, &wanted, left, bus)?;
+        Ok(self.rail(output)?)
     }
 
     /// Gives the orders of a plan until none is left, and says whether there was one.

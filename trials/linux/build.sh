@@ -33,7 +33,7 @@ export ARCH=um
 mkdir -p "$kernel"
 if ! cmp -s "$here/kernel.config" "$kernel/asked" || [ ! -x "$kernel/linux" ]; then
     quiet make -C "$source" O="$kernel" tinyconfig
-    (cd "$source" && quiet scripts/kconfig/merge_config.sh -m -O "$kernel" "$kernel/.config" "$here/kernel.config")
+    (cd "$source" && quiet ./scripts/kconfig/merge_config.sh -m -O "$kernel" "$kernel/.config" "$here/kernel.config")
     quiet make -C "$source" O="$kernel" olddefconfig
     missing=$(grep -vxFf "$kernel/.config" "$here/kernel.config")
     [ -z "$missing" ] || refuse "the kernel's configuration doesn't take $missing"

@@ -1,7 +1,7 @@
 """Brings the parts of a board to the settings of a file of rails, and tells rail by rail what became of it.
 
 Everything is read and judged before the first write: each part of a board file has to answer and to be the model that the file says,
-each rail is surveyed, and its plan asked whether it goes. Then order after order is taken from the plan, rail by rail in the file's
+each rail is surveyed, its margins are read, and its plan is asked whether it goes. Then order after order is taken from the plan, rail by rail in the file's
 order, and each rail ends by a survey. What comes next, and what isn't ordered at all, is said by the library alone: no rail commands
 anything on its way but what it commanded and what is wanted.
 """
@@ -11,15 +11,16 @@ from dataclasses import dataclass, field
 from typing import Callable
 
 from . import probe, voltages
+from .cuts import Cut, cuts
 from .errors import PlanRefused, Refused
 from .host import Step
 from .parts import BoardPart
 from .plans import PlanOrder, Wanted
 from .pmbus import Pmbus
-from .rails import SETTINGS, WORDS, Rail
+from .rails import BOUNDS, MARGINS, SETTINGS, WORDS, Rail
 from .reads import Reads
 from .rounded import is_near
-from .survey import Commanded, commanded, only_word, survey
+from .survey import Commanded, commanded, only_word, read, survey
 from .values import Format
 
 PROTECT = "WRITE_PROTECT"
@@ -78,6 +79,8 @@ class Board:
     # The format of each rail, which stands here since a host may forget it.
     formats: dict[str, Format] = field(default_factory=dict)
     surveys: dict[str, Commanded] = field(default_factory=dict)
+    # By rail the words of the margins that its file doesn't have, as they were read before the first order.
+    margins: dict[str, dict[str, int]] = field(default_factory=dict)
     orders: int = 0
     # How many orders there had been when a rail was surveyed last.
     surveyed_at: dict[str, int] = field(default_factory=dict)
@@ -166,6 +169,18 @@ class Board:
         self.look(rail)
         for register, why in found.missing.items():
             raise Stopped(f"{self.name_of(rail, register)}: no good answer{': ' * bool(why)}{why}", rail.part, rail.output)
+
+    def read_margins(self, rail: Rail) -> None:
+        """Reads each margin of a rail that isn't in the file, nor selected, whatever comes: bounds may cut it. Stops where a restart
+        was seen."""
+        part, held = self.on(rail), self.margins.setdefault(rail.name, {})
+        for register in MARGINS:
+            if register not in self.wanted(rail) and register != self.surveys[rail.name].selected:
+                read(part, rail.output, register)
+                word = only_word(part, rail.output, register)
+                if word is not None:
+                    held[register] = word
+        self.look(rail)
 
     def has_restarted(self, rail: Rail) -> bool:
         """Whether a restart of a rail's part was seen meanwhile."""
@@ -256,6 +271,7 @@ class Board:
         self.learn()
         for rail in self.rails:
             self.survey(rail)
+            self.read_margins(rail)
 
     def prepare(self) -> None:
         """Reads and judges everything, and writes nothing."""
@@ -329,6 +345,16 @@ class Board:
         found, last = commanded(self.on(rail), rail.output), self.surveys.get(rail.name, Commanded())
         found.missing, found.unended = last.missing, last.unended
         return found
+
+    def cuts(self, rail: Rail, are_wanted: bool) -> list[Cut]:
+        """The margins that aren't selected and that VOUT_MIN and VOUT_MAX cut: as all of these are to be where `are_wanted`, or as they
+        are."""
+        if self.has_restarted(rail):
+            return []
+        wanted, selected, read_once = self.wanted(rail) if are_wanted else {}, self.state(rail).selected, self.margins.get(rail.name, {})
+        words = {each: wanted.get(each, read_once.get(each, only_word(self.on(rail), rail.output, each))) for each in (*MARGINS, *BOUNDS)}
+        margins = {each: words[each] for each in MARGINS if each != selected}
+        return cuts(self.format(rail), margins, *(words[each] for each in BOUNDS))
 
     def take(self) -> None:
         """What is known of each setting: the only word that is possible."""

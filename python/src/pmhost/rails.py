@@ -31,6 +31,8 @@ from .parts import MOST_OUTPUTS, NAME, BadRails, BoardPart, is_whole, part_of, w
 SETTINGS = {"volts": "VOUT_COMMAND", "margin_high": "VOUT_MARGIN_HIGH", "margin_low": "VOUT_MARGIN_LOW", "max": "VOUT_MAX",
             "min": "VOUT_MIN"}
 WORDS = ("volts", "margin_low", "margin_high")
+MARGINS = (SETTINGS["margin_high"], SETTINGS["margin_low"])
+BOUNDS = (SETTINGS["min"], SETTINGS["max"])
 KEYS = ("output", "limits", "on", *SETTINGS)
 MOST_BYTES = 1 << 20
 LIMITS_EXAMPLE = '["0.85V", "0.95V"]'

@@ -88,6 +88,58 @@ fn an_apply_writes_what_is_due_and_surveys() {
 }
 
 #[test]
+fn a_voltage_is_set_and_told() {
+    let (mut host, mut bus) = (Host::new(0x58, 1, 3).unwrap(), lossy(1));
+    host.narrow(0, Limits { least: 3_200_000, most: 3_600_000 }).unwrap();
+    // Nothing is known: the format is learned, the first write is lost, and the word is 3501h, 3.312744 V.
+    let band = |least| Ok(Rail { power: Power::On, band: Ok(Band { least, greatest: least + 1 }), within: Within::Yes });
+    assert_eq!(host.set_micro(0, Register::VoutCommand, 3_312_800, 20, &mut bus), band(3_312_744));
+    assert_eq!((bus.writes.as_slice(), bus.part.commanded(0)), (&[0x21, 0x21][..], Ok(3_312_744)));
+    // As it is wanted: nothing is written. A margin that isn't selected leaves what the output commands.
+    assert_eq!(host.set_micro(0, Register::VoutCommand, 3_312_800, 20, &mut bus), band(3_312_744));
+    assert_eq!(host.set_micro(0, Register::VoutMarginHigh, 3_400_000, 20, &mut bus), band(3_312_744));
+    assert_eq!(host.set_micro(0, Register::VoutMarginLow, 3_275_000, 20, &mut bus), band(3_312_744));
+    assert_eq!(host.set_micro(0, Register::VoutMax, 3_500_000, 20, &mut bus), band(3_312_744));
+    assert_eq!(host.set_micro(0, Register::VoutMin, 3_225_000, 20, &mut bus), band(3_312_744));
+    assert_eq!(bus.writes, [0x21, 0x21, 0x25, 0x26, 0x24, 0x2B]);
+    let held = [Register::VoutMarginHigh, Register::VoutMarginLow, Register::VoutMax, Register::VoutMin]
+        .map(|register| host.standing(Cell::Output(0, register)).unwrap());
+    assert_eq!(held, [Some(0x3666), Some(0x3466), Some(0x3800), Some(0x339A)]);
+}
+
+#[test]
+fn a_voltage_that_is_not_set_says_why() {
+    let (mut host, mut bus) = (Host::new(0x58, 1, 1).unwrap(), lossy(9));
+    host.narrow(0, Limits { least: 3_200_000, most: 3_600_000 }).unwrap();
+    let mut set = |register, microvolts, tries| host.set_micro(0, register, microvolts, tries, &mut bus);
+    let refused = |refusal, cell| Err(NotReached::Refused(NotPlanned { refusal, cell }));
+    assert_eq!(set(Register::VoutCommand, 3_300_000, 0), Err(NotReached::Spent { error: None }));
+    assert_eq!(set(Register::Operation, 3_300_000, 20), refused(Refusal::H5BadWord, None));
+    assert_eq!(set(Register::VoutCommand, 16_000_000, 20), refused(Refusal::N4AboveGreatest, None));
+    let cell = Some(Cell::Output(0, Register::VoutCommand));
+    assert_eq!(set(Register::VoutCommand, 3_700_000, 20), refused(Refusal::P3AboveLimit, cell));
+    let differs = Err(NotReached::Differs { register: Register::VoutCommand, word: 0x34CD });
+    assert_eq!(set(Register::VoutCommand, 3_312_800, 20), differs);
+    assert_eq!(bus.writes, [0x21, 0x21]);
+    assert_eq!(host.set_micro(1, Register::VoutCommand, 1, 20, &mut bus), refused(Refusal::H4UnknownOutput, None));
+}
+
+#[test]
+fn a_format_that_is_not_learned_ends_a_set() {
+    struct Dead(u16);
+    impl Bus for Dead {
+        type Error = NoAnswer;
+        fn transaction(&mut self, _: u8, _: &mut [Operation<'_>]) -> Result<(), NoAnswer> {
+            self.0 += 1;
+            Err(NoAnswer)
+        }
+    }
+    let (mut host, mut bus) = (Host::new(0x58, 1, 1).unwrap(), Dead(0));
+    let end = host.set_micro(0, Register::VoutCommand, 3_300_000, 4, &mut bus);
+    assert_eq!((end, bus.0), (Err(NotReached::Spent { error: Some(NoAnswer) }), 4));
+}
+
+#[test]
 fn a_lost_order_is_given_once_again() {
     let (mut host, mut bus) = (Host::new(0x58, 1, 1).unwrap(), lossy(1));
     assert_eq!((host.run_apply(0, &VOLTS, 40, &mut bus), bus.writes.len()), (Ok(()), 2));

@@ -153,15 +153,14 @@ class Call:
             self.outputs, self.limits, self.without = found.parts[ONLY].outputs, found.limits(ONLY), found.parts[ONLY].without
         self._rails = found
 
-    def judge_write(self, arguments: argparse.Namespace) -> None:
-        """What is written goes to a part of a known number of outputs."""
+    def judge_write(self, arguments: argparse.Namespace, more: str = "") -> None:
+        """What is written goes to a part of a known number of outputs. `more` is asked for beside it."""
         if self.outputs is None:
-            raise BadCall(f"{said(arguments)}: give --outputs N, the number that `probe` counts, and a --limit "
-                          "O:LEAST:MOST for the output, or --no-limit")
+            raise BadCall(f"{said(arguments)}: give --outputs N, the number that `probe` counts{more}")
 
     def judge_order(self, arguments: argparse.Namespace) -> None:
         """An order that may change a voltage has limits, or is meant to have none."""
-        self.judge_write(arguments)
+        self.judge_write(arguments, ", and a --limit O:LEAST:MOST for the output, or --no-limit")
         output = arguments.output
         if output is not None and output not in self.limits and not self.is_unlimited:
             raise BadCall(f"{said(arguments)}: give --limit {output}:LEAST:MOST, what the load tolerates, as "

@@ -55,7 +55,10 @@ def line_of(message: str, program: str) -> str:
     elif valued:
         message = f"{valued[1]}: its value is missing"
     elif message.startswith("unrecognized arguments: "):
-        message = f"{shown(message.partition(': ')[2].split()[0])}: a word too many"
+        word = message.partition(": ")[2].split()[0]
+        is_option = re.match("--?[A-Za-z]", word)
+        message = f"{shown(word.partition('=')[0])}: no such option here; --help tells which there are" if is_option else \
+            f"{shown(word)}: a word too many"
     else:
         message = re.sub(r"\Aargument [^:]*: ", "", message)
     return f"{command}: {message}" if command else message

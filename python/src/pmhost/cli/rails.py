@@ -4,7 +4,7 @@ from __future__ import annotations
 import argparse
 from typing import Any
 
-from .. import rails
+from .. import rails, voltages
 from ..apply import AS_WANTED, Board, Setting, Stopped
 from ..parts import BadRails
 from ..rails import Rail
@@ -90,19 +90,20 @@ def told(arguments: argparse.Namespace, board: Board, run: Any) -> int:
         raise
     call.maybe = ""
     board.take()
+    # Where no plan is carried on, what is held decides.
+    are_wanted = arguments.command == "apply" and not why
     if why and arguments.command == "apply" and not is_dry:
         why += after_a_stop(board)
     found = Answer(said(arguments), "stopped" if why else "would order" if is_dry else "done", status=1 if why else 0, why=why,
-                   rows=rows(board, is_dry))
+                   rows=rows(board, is_dry, are_wanted))
     with file.written(found.end, why):
-        return answered(call, board, found, is_dry)
+        return answered(call, board, found, is_dry, are_wanted)
 
 
-def answered(call: Call, board: Board, found: Answer, is_dry: bool) -> int:
+def answered(call: Call, board: Board, found: Answer, is_dry: bool, are_wanted: bool) -> int:
     """Says it, and has the parts store where that is wanted."""
     if not call.is_json and board.settings:
-        surveyed = [rail for rail in board.rails if rail.name in board.surveys]
-        call.say_lines([*table(board, is_dry), *(f"{rail.name}: {rail_words(board.state(rail))}" for rail in surveyed)])
+        call.say_lines([*table(board, is_dry), *(line for rail in board.rails for line in rail_lines(board, rail, are_wanted))])
     if board.wants_store and not found.status and not is_dry:
         store(call, board, found)
     found.restart_seen = any(part.restart_seen for part in board.parts.values())
@@ -181,12 +182,21 @@ def table(board: Board, is_dry: bool) -> list[str]:
     return ["  ".join([*(line[at].ljust(wide[at]) for at in columns), line[5]]).rstrip() for line in lines]
 
 
+def rail_lines(board: Board, rail: Rail, are_wanted: bool) -> list[str]:
+    """What a rail commands, and the margins that aren't selected and that its bounds cut: as these are wanted, or as they are."""
+    if rail.name not in board.surveys:
+        return []
+    return [f"{rail.name}: {rail_words(board.state(rail))}",
+            *(f"{rail.name}: {it.register} {voltages.shown(it.value)} {'will be' if are_wanted else 'is'} cut to {voltages.shown(it.to)}"
+              for it in board.cuts(rail, are_wanted))]
+
+
 def volts(board: Board, it: Setting, word: int | None) -> float | None:
     """A word's volts."""
     return None if word is None else number(board.format(it.rail).microvolts(word))
 
 
-def rows(board: Board, is_dry: bool) -> list[dict[str, object]]:
+def rows(board: Board, is_dry: bool, are_wanted: bool) -> list[dict[str, object]]:
     """The same by names and numbers."""
     found: list[dict[str, object]] = []
     for rail in board.rails:
@@ -196,6 +206,8 @@ def rows(board: Board, is_dry: bool) -> list[dict[str, object]]:
             "selected": known and known.selected, "on": None if known is None else known.is_on,
             "commands": None if known is None or known.least is None else [number(known.least), number(known.greatest)],
             "within": None if known is None else known.within,
+            "cut": [{"register": it.register, "word": in_digits(it.register, it.word), "volts": number(it.value), "to": number(it.to)}
+                    for it in (board.cuts(rail, are_wanted) if known else [])],
             "settings": [{
                 "register": it.register, "wanted": in_digits(it.register, it.asked), "wanted_volts": volts(board, it, it.asked),
                 "word": in_digits(it.register, it.last), "volts": volts(board, it, it.last),

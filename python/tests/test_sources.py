@@ -1,0 +1,50 @@
+"""tools/check_sources.py finds nothing in this tree; and its rules find what is planted."""
+import os
+import subprocess
+import sys
+import unittest
+from unittest import mock
+
+from .running import ROOT
+
+TOOLS = os.path.join(ROOT, "tools")
+CHECK = os.path.join(TOOLS, "check_sources.py")
+
+
+@unittest.skipUnless(os.path.exists(CHECK), "the package stands alone")
+class Sources(unittest.TestCase):
+    @classmethod
+    def setUpClass(cls):
+        with mock.patch.object(sys, "path", [TOOLS, *sys.path]):
+            import check_sources
+        cls.rules = check_sources
+        cls.addClassCleanup(os.chdir, os.getcwd())
+        os.chdir(ROOT)
+
+    def test_nothing_is_found(self):
+        ran = subprocess.run([sys.executable, "-B", CHECK], cwd=ROOT, capture_output=True, text=True, check=False)
+        self.assertEqual((ran.stdout, ran.stderr, ran.returncode), ("", "", 0))
+
+    def test_a_path_of_a_folder_that_is_gone_is_one(self):
+        for line in ("run `tools/x.py`", "run `scripts/x.py`", "run attacks/y.sh first", "(see docs/x.md)"):
+            self.assertEqual(len(self.rules.PLACE.findall(line)), 1, line)
+        for line in ("descriptions/x", "./scripts/x", "a/scripts/x"):
+            self.assertEqual(self.rules.PLACE.findall(line), [], line)
+
+    @unittest.skipUnless(os.path.exists(os.path.join(ROOT, ".git")), "no clone: git tells the scripts")
+    def test_tallies_are_looked_for_in_each_script(self):
+        found = set(self.rules.scripts())
+        self.assertTrue({"tools/test", "tools/mutants", "tools/tally.py", "packaging/pmhost", "trials/c/run.sh"} <= found, found)
+        for line in ('print(f"{count.passed} passed, {count.failed} failed")', 'echo "$passed passed, $failed failed"'):
+            self.assertTrue(self.rules.TALLY.search(line), line)
+
+    def test_a_law_carries_rows_of_its_own_page_alone(self):
+        pages = {"pm_a": "`one_is_true` `x`\n`one_is_true` `y`; `two_is_true`", "pm_b": "`two_is_true` `z`"}
+        laws = [("pm_a", "one_is_true"), ("pm_a", "two_is_true"), ("pm_b", "three_is_true")]
+        with mock.patch.object(self.rules, "carriers", pages.items), mock.patch.object(self.rules, "law_names", lambda crates: laws):
+            found = [line for *_, line in self.rules.unclaimed([])]
+        self.assertEqual(found, ["the law two_is_true carries rows of pm_a, pm_b", "the law three_is_true carries rows of no page"])
+
+
+if __name__ == "__main__":
+    unittest.main()
