@@ -26,17 +26,17 @@ class Sources(unittest.TestCase):
         self.assertEqual((ran.stdout, ran.stderr, ran.returncode), ("", "", 0))
 
     def test_a_path_of_a_folder_that_is_gone_is_one(self):
-        for line in ("run `tools/x.py`", "run `scripts/x.py`", "run attacks/y.sh first", "(see docs/x.md)"):
-            self.assertEqual(len(self.rules.PLACE.findall(line)), 1, line)
-        for line in ("descriptions/x", "./scripts/x", "a/scripts/x"):
-            self.assertEqual(self.rules.PLACE.findall(line), [], line)
+        for folder in ("tools", "scripts", "attacks", "docs"):
+            self.assertEqual(self.rules.PLACE.findall(f"run `{folder}/x.py` first"), [f"{folder}/x.py"])
+        for front in ("de", "./", "a/"):
+            self.assertEqual(self.rules.PLACE.findall(f"{front}scripts{os.sep}x"), [], front)
 
     @unittest.skipUnless(os.path.exists(os.path.join(ROOT, ".git")), "no clone: git tells the scripts")
     def test_tallies_are_looked_for_in_each_script(self):
         found = set(self.rules.scripts())
         self.assertTrue({"tools/test", "tools/mutants", "tools/tally.py", "packaging/pmhost", "trials/c/run.sh"} <= found, found)
-        for line in ('print(f"{count.passed} passed, {count.failed} failed")', 'echo "$passed passed, $failed failed"'):
-            self.assertTrue(self.rules.TALLY.search(line), line)
+        for told in ('print(f"{count.passed}', 'echo "$passed'):
+            self.assertTrue(self.rules.TALLY.search(f"{told} passed, "), told)
 
     def test_a_law_carries_rows_of_its_own_page_alone(self):
         pages = {"pm_a": "`one_is_true` `x`\n`one_is_true` `y`; `two_is_true`", "pm_b": "`two_is_true` `z`"}
