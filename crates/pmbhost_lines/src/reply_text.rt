@@ -59,7 +59,7 @@ fn push_reply(text: &mut AnswerText, reply: &Reply)
 #[tactic(auto, using(pm_lines::specs::Lemmas::Joins::joins))]
 fn push_write(text: &mut AnswerText, frame: &[u8])
     requires few { length frame.now ≤ 16 }
-    requires { array_vec_len text.old ≡ 0 }
+    requires empty { array_vec_len text.old ≡ 0 }
     ensures words { text.new.items ≡ text.old.items ++ (codes "send" ++ spaced_bytes frame.now) }
     ensures room { array_vec_len text.new ≤ 100 }
 {
@@ -71,7 +71,7 @@ fn push_write(text: &mut AnswerText, frame: &[u8])
 #[tactic(auto, using(pm_lines::specs::Lemmas::Joins::joins))]
 fn push_request(text: &mut AnswerText, frame: &[u8], count: usize)
     requires few { length frame.now ≤ 16 }
-    requires { array_vec_len text.old ≡ 0 }
+    requires empty { array_vec_len text.old ≡ 0 }
     ensures words { text.new.items ≡ text.old.items
         ++ (codes "send" ++ (spaced_bytes frame.now ++ (codes " read " ++ decimal count))) }
     ensures room { array_vec_len text.new ≤ 127 }
