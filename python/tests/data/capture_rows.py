@@ -93,7 +93,7 @@ RATE = "give the samples a second, as `sigrok-cli -i FILE --show` has them: 1000
 WRONG = [
     ("linux --bus=x", "capture linux: bus x: give the number of /dev/i2c-N, as 1, or desk"),
     ("linux --bus=desk", "capture linux: bus desk: give the number of /dev/i2c-N, as 1"),
-    ("sigrok --bus=1", "--bus=1: a word too many"),
+    ("sigrok --bus=1", "--bus: no such option here; --help tells which there are"),
     ("linux --bus=1 --bus=2", "capture linux: --bus: it stands twice"),
     ("linux --address=80", f"capture linux: address 80: {HEXADECIMAL}: on the wire 80 is 40h"),
     ("linux --address=0xB0", f"capture linux: address 0xB0: {HEXADECIMAL}: on the wire B0 is 58h"),
@@ -105,7 +105,7 @@ WRONG = [
     ("linux --adress=58", "--adress=58: no such option; --help tells which there are"),
     ("linux --time", "--time: no such option; --help tells which there are"),
     ("linux bus.linux", "bus.linux: a word too many"),
-    ("linux --times --samplerate=1000000", "--samplerate=1000000: a word too many"),
+    ("linux --times --samplerate=1000000", "--samplerate: no such option here; --help tells which there are"),
     ("sigrok --times", "capture sigrok: the times of sigrok are numbers of samples: give --samplerate=RATE, as "
                        "`sigrok-cli -i FILE --show` has it"),
     ("sigrok --times --samplerate=0", f"capture sigrok: samplerate 0: {RATE}"),

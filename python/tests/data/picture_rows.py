@@ -138,7 +138,7 @@ WRONG = [
     ("--limit=0:1V", "picture: limit 0:1V: give an output, the least and the most with their units, as 0:3.135V:3.465V"),
     ("--limit=0:1V:2V --limit=0:1V:2V", "picture: --limit 0: output 0 has limits already"),
     ("--limits=0:1V:2V", "--limits=0:1V:2V: no such option; --help tells which there are"),
-    ("--outputs=2", "--outputs=2: a word too many"),
+    ("--outputs=2", "--outputs: no such option here; --help tells which there are"),
     ("more.scenario", "more.scenario: a word too many"),
 ]
 # Eight rails, of 0.85 to 5 V, in 100 rows: a job, its output and word, and what comes of it on the bus, a line each.
