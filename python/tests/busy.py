@@ -195,6 +195,19 @@ class ZerosToProtectAt48(ProtectedAt48):
         self.low = self.low and asked != [0x10]
 
 
+class ZerosOnceAt48(ProtectedAt48):
+    """The line is low for the first read of WRITE_PROTECT alone."""
+
+    has_struck = False
+
+    def before(self, asked):
+        if asked == [0x10] and not self.has_struck:
+            self.low = self.has_struck = True
+
+    def behind(self, asked):
+        self.low = False
+
+
 class Nobody:
     """No part."""
 

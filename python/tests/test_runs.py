@@ -10,7 +10,8 @@ from .runs import blocks, ran
 
 # The parts of which answers aren't good ones.
 NOT_WHOLE = ("WithoutPec", "FloatingPagePlus", "busy.Ones30", "busy.Ones150", "busy.OnesAlone", "busy.Zeros0At48",
-             "busy.Zeros1At48", "busy.Zeros2At48", "busy.ProtectedAt48", "busy.ZerosFromProtectAt48", "busy.ZerosToProtectAt48")
+             "busy.Zeros1At48", "busy.Zeros2At48", "busy.ProtectedAt48", "busy.ZerosFromProtectAt48", "busy.ZerosToProtectAt48",
+             "busy.ZerosOnceAt48")
 
 
 class Blocks(unittest.TestCase):

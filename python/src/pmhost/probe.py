@@ -102,9 +102,10 @@ class Probe:
     def _protect(self) -> Read:
         """What WRITE_PROTECT answers."""
         try:
-            return guarded(self.address, "WRITE_PROTECT", lambda: self._word(0, "OPERATION")[1], lambda: self.reads.packet(PROTECT))
+            return guarded(self.address, "WRITE_PROTECT", lambda: self._word(0, "OPERATION")[1], lambda: self.reads.packet(PROTECT),
+                           lambda read: read.payload != b"\0" or self.reads.packet(PROTECT).payload == b"\0")
         except NotBelieved as doubt:
-            self.found.doubt = self.found.doubt or "OPERATION of output 0 gave no good answer beside WRITE_PROTECT: probe again"
+            self.found.doubt = self.found.doubt or "WRITE_PROTECT gave no answer that can be believed: probe again"
             return Read(None, why=str(doubt))
 
     def write(self) -> Found:

@@ -13,7 +13,7 @@ from .plans import Survey, Wanted
 from .pmbus import Pmbus
 from .transfers import Transfers
 from .values import NAMES
-from .zeros import NotBelieved, guarded
+from .zeros import REGISTER, NotBelieved, guarded
 
 # A model output whose three registers hold different words, by which word it commands.
 SELECTED = {3: "VOUT_COMMAND", 4: "VOUT_MARGIN_HIGH", 2: "VOUT_MARGIN_LOW"}
@@ -93,7 +93,7 @@ def survey(part: Pmbus, output: int, wanted: Wanted | None = None) -> Commanded:
         # A request ends with its code: that of a learn is VOUT_MODE, which is no cell.
         register = NAMES.get(sending.frame[-1], "VOUT_MODE")
         try:
-            step = guarded(part.host.address, register, lambda: unanswered(part), part.carried_out)
+            step = guarded(part.host.address, register, lambda: unanswered(part), part.carried_out, lambda _: holds_zeros(part))
         except NotBelieved as doubt:
             part.restart()
             missing[register] = str(doubt)
@@ -116,6 +116,14 @@ def unanswered(part: Pmbus) -> str:
     host, transfers = Host(part.host.address, 1, part.host.passes), Transfers()
     host.check(0, "OPERATION")
     return "" if host.run(part.bus, transfers).kind == "done" else transfers.why() or "no good answer"
+
+
+def holds_zeros(part: Pmbus) -> bool:
+    """No zeros are known of WRITE_PROTECT, or a second check gives them too."""
+    if only_word(part, 0, REGISTER) != 0:
+        return True
+    part.host.check(0, REGISTER)
+    return part.carried_out().kind == "done" and only_word(part, 0, REGISTER) == 0
 
 
 def read(part: Pmbus, output: int, register: str) -> None:

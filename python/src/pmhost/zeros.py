@@ -2,7 +2,8 @@
 error code.
 
 So OPERATION of output 0 is checked before each such read and behind it. Zeros are no good answer of it at any address, since their
-count is wrong.
+count is wrong. Where zeros came between two good answers they are read a second time, since the line may have been low for that one
+transfer alone.
 """
 from __future__ import annotations
 
@@ -15,19 +16,25 @@ T = TypeVar("T")
 class NotBelieved(Exception):
     """Why an answer of WRITE_PROTECT isn't taken for its word."""
 
-    def __init__(self, why: str) -> None:
-        super().__init__("OPERATION of output 0 gave no good answer beside it, and zeros from a line held low would be a good answer of "
-                         f"{REGISTER} at {ADDRESS:02X}: {why}")
 
-
-def guarded(address: int, register: str, unanswered: Callable[[], str], read: Callable[[], T]) -> T:
+def guarded(address: int, register: str, unanswered: Callable[[], str], read: Callable[[], T], is_held: Callable[[T], bool]) -> T:
     """What a read of a register gives, or a job that ends by one. NotBelieved where zeros would be a good answer of it and a check of
     OPERATION before or behind isn't good: `unanswered` carries one out, and says why it gave no good answer, nothing where it gave one.
-    Where the one before isn't good nothing is read."""
+    Where the one before isn't good nothing is read. `is_held` says that no zeros came, or that a second read gives them too;
+    NotBelieved where it doesn't."""
     is_guarded = (address, register) == (ADDRESS, REGISTER)
     if is_guarded and (why := unanswered()):
-        raise NotBelieved(why)
+        raise beside(why)
     found = read()
     if is_guarded and (why := unanswered()):
-        raise NotBelieved(why)
+        raise beside(why)
+    if is_guarded and not is_held(found):
+        raise NotBelieved(f"zeros came, which a line held low gives and which are a good answer of {REGISTER} at {ADDRESS:02X}, and a "
+                          "second read didn't give them")
     return found
+
+
+def beside(why: str) -> NotBelieved:
+    """OPERATION wasn't answered."""
+    return NotBelieved("OPERATION of output 0 gave no good answer beside it, and zeros from a line held low would be a good answer of "
+                       f"{REGISTER} at {ADDRESS:02X}: {why}")

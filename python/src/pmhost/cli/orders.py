@@ -12,7 +12,7 @@ from ..host import Step
 from ..pmbus import Pmbus
 from ..readings import KINDS
 from ..rounded import is_near
-from ..survey import read as read_register, survey
+from ..survey import holds_zeros, read as read_register, survey
 from ..zeros import NotBelieved, guarded
 from . import readings
 from .answer import Answer, in_digits
@@ -219,7 +219,7 @@ def read(arguments: argparse.Namespace) -> int:
         return part.carried_out()
 
     try:
-        step = guarded(part.host.address, register, call.only().unanswered, checked)
+        step = guarded(part.host.address, register, call.only().unanswered, checked, lambda _: holds_zeros(part))
     except Refused as fault:
         return call.say(refused(arguments, part, register, fault))
     except NotBelieved as doubt:
@@ -273,7 +273,7 @@ def carried_out(arguments: argparse.Namespace, register: str, begin: Callable[[]
         return part.carried_out()
 
     try:
-        step = guarded(part.host.address, register, call.only().unanswered, ordered)
+        step = guarded(part.host.address, register, call.only().unanswered, ordered, lambda _: holds_zeros(part))
     except Refused as fault:
         return call.say(refused(arguments, part, register, fault))
     except NotBelieved as doubt:
