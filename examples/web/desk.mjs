@@ -3,7 +3,17 @@
 // host is a demonstration that lives here, and in no library.
 import {CODE, Host, Part, pec} from "./pm.mjs";
 
-export const FAULTS = ["none", "lost", "cut", "damaged", "answer lost", "false acknowledgement", "restart before it"];
+// What may happen to a transfer, and what that is.
+export const MISHAPS = {
+    "none": "the transfer arrives, and so does what the part says",
+    "lost": "the part hears nothing, and nothing comes back",
+    "cut": "the part hears the first three bytes alone",
+    "damaged": "a bit of byte 3 is flipped on its way to the part (byte 0 is the address)",
+    "answer lost": "the part hears the transfer; its acknowledgement, or its answer, is lost",
+    "false acknowledgement": "a write is lost, and the host is told that it was acknowledged; a read arrives as it is",
+    "restart before it": "the part restarts before the transfer: PAGE is 0 again, and both outputs are at their stored 1 V",
+};
+export const FAULTS = Object.keys(MISHAPS);
 const ADDRESS = 0x58;
 const TRIES = 3;
 const OUTPUT = {mode: 0x14, operation: 0x80, command: 0x1000, max: 0x4000, high: 0x1100, low: 0x0F00, min: 0};
@@ -11,16 +21,17 @@ const OUTPUT = {mode: 0x14, operation: 0x80, command: 0x1000, max: 0x4000, high:
 const hex = (bytes) => bytes.map((byte) => byte.toString(16).toUpperCase().padStart(2, "0")).join(" ");
 export const volts = (microvolts) => (microvolts / 1e6).toFixed(3) + " V";
 
-const hexWord = (word) => word.toString(16).toUpperCase().padStart(4, "0") + "h";
+// A word of these outputs, whose format is ULINEAR16 with exponent -12.
+export const inVolts = (word) => `${volts(word * 1e6 / 4096)} (${word.toString(16).toUpperCase().padStart(4, "0")}h)`;
 const REGISTERS = Object.fromEntries(Object.entries(CODE).map(([name, code]) => [code, name]));
 
 // What a frame of either host asks for, in words.
 export function meaning(bytes, reads) {
     const [, code, ...rest] = bytes;
     if (code === 0x00) return `PAGE ${rest[0]}`;
-    if (code === 0x05) return `${REGISTERS[rest[2]]} of output ${rest[1]}: ${hexWord(rest[3] | rest[4] << 8)}`;
+    if (code === 0x05) return `${REGISTERS[rest[2]]} of output ${rest[1]}: ${inVolts(rest[3] | rest[4] << 8)}`;
     if (code === 0x06) return `reads ${REGISTERS[rest[2]]} of output ${rest[1]}`;
-    return reads ? `reads ${REGISTERS[code]}` : `${REGISTERS[code]}, by PAGE: ${hexWord(rest[0] | rest[1] << 8)}`;
+    return reads ? `reads ${REGISTERS[code]}` : `${REGISTERS[code]}, by PAGE: ${inVolts(rest[0] | rest[1] << 8)}`;
 }
 
 // A bus with a part and a plan of faults, which tells each transfer.
@@ -40,11 +51,11 @@ export class Bus {
         if (fault === "cut") arrived = bytes.slice(0, 3);
         if (fault === "damaged") arrived = bytes.map((byte, at) => (at === 3 ? byte ^ 0x40 : byte));
         const reply = arrived === null ? {heard: "silent", answer: []} : this.part.hear(arrived, reads);
-        return {fault, reply, line: {fault, reads, sent: hex(bytes), meaning: meaning(bytes, reads), heard: reply.heard, back: ""}};
+        return {fault, reply, line: {fault, reads, sent: hex(bytes), meaning: meaning(bytes, reads), heard: reply.heard}};
     }
 
-    end(line, back) {
-        this.told.push({...line, back, outputs: [0, 1].map((output) => this.part.microvolts(output)), page: this.part.page()});
+    end(line, came, back = []) {
+        this.told.push({...line, came, back: hex(back), outputs: [0, 1].map((output) => this.part.microvolts(output)), page: this.part.page()});
     }
 
     // Whether the write was acknowledged.
@@ -59,7 +70,7 @@ export class Bus {
     read(bytes) {
         const {fault, reply, line} = this.begin(bytes, true);
         const back = fault === "answer lost" ? [] : reply.answer;
-        this.end(line, back.length === 0 ? "nothing came" : hex(back));
+        this.end(line, back.length === 0 ? "nothing came" : `answered ${inVolts(back[2] | back[3] << 8)}`, back);
         return back;
     }
 }

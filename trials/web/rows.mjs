@@ -43,8 +43,10 @@ row("the restarted part behind the other", voltages.page.outputs.map(volts), ["3
 row("a lost word that was acknowledged", compare(library, ["false acknowledgement"]).page.missing, true);
 
 row("what the proved host's frames ask for", voltages.proved.told.slice(0, 2).map(({meaning}) => meaning),
-    ["VOUT_COMMAND of output 1: 34CDh", "reads VOUT_COMMAND of output 1"]);
-row("what the other's ask for", compare(library, []).page.told.map(({meaning}) => meaning), ["VOUT_COMMAND, by PAGE: 34CDh"]);
+    ["VOUT_COMMAND of output 1: 3.300 V (34CDh)", "reads VOUT_COMMAND of output 1"]);
+row("what the other's ask for", compare(library, []).page.told.map(({meaning}) => meaning), ["VOUT_COMMAND, by PAGE: 3.300 V (34CDh)"]);
+row("what comes of them", voltages.proved.told.slice(0, 2).map(({came, back}) => [came, back]),
+    [["acknowledged", ""], ["answered 3.300 V (34CDh)", "B1 02 CD 34 90"]]);
 
 // Every plan of three faults: the proved host never touches output 0, and never says done where output 1 hasn't the word.
 let [touched, untrue, plainWrong, plainTold] = [0, 0, 0, 0];

@@ -4,7 +4,7 @@
 #   trials/web/try.sh FOLDER
 #
 # FOLDER is what trials/web/build.sh left. Says what is wrong, what isn't on this machine, and last how many rows passed
-# and failed.
+# and failed. With SHOTS=OTHER, that folder gets pictures of the page at 420 and 1400 pixels.
 set -u
 case " $* " in *" --help "* | *" -h "*) sed -n '2,/^[^#]/s/^# \{0,1\}//p' "$0"; exit 0 ;; esac
 [ -f "${1-}/pm.wasm" ] || { echo "try.sh: give the folder that trials/web/build.sh left" >&2; exit 2; }
@@ -26,7 +26,23 @@ else
 fi
 browser=$(command -v chromium || command -v google-chrome || true)
 if [ -n "$browser" ] && command -v python3 > /dev/null; then
-    python3 -u -m http.server --bind 127.0.0.1 -d "$folder" 0 > "$work/server" 2>&1 &
+    # The folder's files, with pages that hold the page in a frame of a width, and say what sticks out of it.
+    mkdir -p "$work/served"
+    ln -s "$folder"/* "$work/served/"
+    for wide in 360 420 1400; do
+        cat > "$work/served/frame$wide.html" << END
+<iframe src="index.html" style="width: ${wide}px; height: 1000px; border: 0"></iframe>
+<script>
+    addEventListener("load", () => setTimeout(() => {
+        const held = document.querySelector("iframe").contentDocument;
+        const out = [...held.querySelectorAll("html, body, div, table, tr, p")].filter((it) => it.scrollWidth > it.clientWidth + 1 && it.clientWidth);
+        document.title = held.querySelector("td") ? "out: " + out.map((it) => it.tagName).join(" ") : "no transfers";
+    }, 2000));
+</script>
+END
+    done
+    : > "$work/server"
+    python3 -u -m http.server --bind 127.0.0.1 -d "$work/served" 0 > "$work/server" 2>&1 &
     server=$!
     for _ in $(seq 50); do grep -q 'http://' "$work/server" && break; sleep 0.1; done
     page=$(grep -o 'http://127.0.0.1:[0-9]*' "$work/server" | head -1)
@@ -37,10 +53,17 @@ if [ -n "$browser" ] && command -v python3 > /dev/null; then
     else
         tell 1; echo "the page doesn't show its first example:"; tail -3 "$work/log"
     fi
-    for words in 'VOUT_COMMAND of output 1: 34CDh' 'VOUT_COMMAND, by PAGE: 34CDh' '3.300 V (34CDh) confirmed'; do
+    for words in 'VOUT_COMMAND of output 1: 3.300 V (34CDh)' 'VOUT_COMMAND, by PAGE: 3.300 V (34CDh)' '3.300 V (34CDh) confirmed' \
+        'answered 3.300 V (34CDh)'; do
         if grep -qF "$words" "$work/page"; then tell 0; else tell 1; echo "the page doesn't say: $words"; fi
     done
     if ! grep -q 'id="why"' "$work/page"; then tell 0; else tell 1; echo "the page still says why nothing is there"; fi
+    for wide in 360 420 1400; do
+        timeout 60 "$browser" --headless --no-sandbox --disable-gpu --virtual-time-budget=5000 --dump-dom "$page/frame$wide.html" \
+            > "$work/frame" 2> "$work/log"
+        out=$(grep -o '<title>.*</title>' "$work/frame")
+        if [ "$out" = "<title>out: </title>" ]; then tell 0; else tell 1; echo "at $wide pixels: ${out:-nothing is shown}"; fi
+    done
     for wide in 420 1400; do
         timeout 60 "$browser" --headless --no-sandbox --disable-gpu --hide-scrollbars --window-size=$wide,1400 --virtual-time-budget=5000 \
             --screenshot="$work/$wide.png" "$page/index.html" > /dev/null 2> "$work/log"
