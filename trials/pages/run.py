@@ -90,8 +90,11 @@ class Place:
     def shell(self, script):
         around = {"HOME": self.home, "PATH": os.environ["PATH"], "LC_ALL": "C.UTF-8", "CARGO_HOME": os.path.join(self.home, "cargo"),
                   "PYTHONDONTWRITEBYTECODE": "1"}
-        return subprocess.run([*self.user, "bash", "-c", script], cwd=self.tree, env=around, capture_output=True, text=True, timeout=SECONDS,
-                              stdin=subprocess.DEVNULL)
+        try:
+            return subprocess.run([*self.user, "bash", "-c", script], cwd=self.tree, env=around, capture_output=True, text=True,
+                                  timeout=SECONDS, stdin=subprocess.DEVNULL)
+        except subprocess.TimeoutExpired as why:
+            return subprocess.CompletedProcess(why.cmd, 124, (why.stdout or b"").decode(), f"no end within {SECONDS} s")
 
 
 def over_a_model(line):
