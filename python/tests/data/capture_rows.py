@@ -104,7 +104,7 @@ WRONG = [
     ("linux --address", "capture linux: --address: its value is missing"),
     ("linux --adress=58", "--adress=58: no such option; --help tells which there are"),
     ("linux --time", "--time: no such option; --help tells which there are"),
-    ("linux bus.linux", "bus.linux: a word too many"),
+    ("linux bus.linux", "capture linux: bus.linux: a word too many: the text is read from standard input, as < bus.linux"),
     ("linux --times --samplerate=1000000", "--samplerate: no such option here; --help tells which there are"),
     ("sigrok --times", "capture sigrok: the times of sigrok are numbers of samples: give --samplerate=RATE, as "
                        "`sigrok-cli -i FILE --show` has it"),
@@ -119,7 +119,7 @@ WRONG = [
     ("i2ctransfer --back --run", "capture i2ctransfer: --back stands alone: it needs no bus, and runs nothing"),
     ("i2ctransfer 1 2", "2: a word too many"),
     ("i2ctransfer one", "capture i2ctransfer: bus one: give the number of /dev/i2c-N, as 1, or desk"),
-    ("waveform bus.trace", "bus.trace: a word too many"),
+    ("waveform bus.trace", "capture waveform: bus.trace: a word too many: the text is read from standard input, as < bus.trace"),
 ]
 # A packet that never ends, and one of too many bytes: neither fills the memory, and no line is too long for `decode`.
 ENDLESS = [("i2c-1: Start\ni2c-1: Address write: B0\n" + "i2c-1: Data write: 00\n" * 5000 + "i2c-1: Stop\n",

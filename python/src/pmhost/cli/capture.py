@@ -46,6 +46,11 @@ def bus_number(word: str) -> int:
     return int(found)
 
 
+def no_file(word: str) -> str:
+    """The judge of a file's name, which no kind of capture takes."""
+    raise argparse.ArgumentTypeError(f"{shown(word)}: a word too many: the text is read from standard input, as < {shown(word)}")
+
+
 def add(commands: Any) -> None:
     whole = commands.add_parser("capture", help="captures of a bus as traces for pmb decode", description=ABOUT)
     kinds = whole.add_subparsers(metavar="KIND", dest="kind", required=True, parser_class=type(whole))
@@ -61,6 +66,7 @@ def add(commands: Any) -> None:
         if kind == "linux":
             one.add_argument("--bus", "-b", type=bus_number, metavar="N", action=Once, dest="wanted",
                              help="the events of /dev/i2c-N: an adapter over another leaves events of both")
+        one.add_argument("file", type=no_file, nargs="?", help=argparse.SUPPRESS)
         one.set_defaults(run=run, judge=judge)
     frames = kinds.add_parser("i2ctransfer", help="frames of pmb hear as commands of i2ctransfer", description=ABOUT_FRAMES)
     frames.add_argument("wanted", type=bus_number, metavar="BUS", nargs="?", help="the number of /dev/i2c-BUS")
@@ -70,6 +76,7 @@ def add(commands: Any) -> None:
     frames.add_argument("--back", action=Once, nargs=0, const=True, help="turns such commands into frames")
     frames.set_defaults(run=run_frames, judge=judge_frames)
     drawn = kinds.add_parser("waveform", help="a trace as a waveform (VCD)", description=vcd.__doc__)
+    drawn.add_argument("file", type=no_file, nargs="?", help=argparse.SUPPRESS)
     drawn.set_defaults(run=run_waveform, judge=without_a_bus)
 
 
