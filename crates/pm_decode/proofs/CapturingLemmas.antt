@@ -63,10 +63,17 @@ ended_here : (options : TellOptions) (bytes : List ℕ)
     ≡ ended_entries options bytes
 unfolding kept_of ended_entries
 ended_here options bytes =
-    let count : 1 + length (map without_return (ended is_line_feed bytes)) ≡ length (ended is_line_feed bytes) + 1 =
-    let mapped = length-map (ended is_line_feed bytes) in omega arith in
-    λ i. entry_if (sym (timed_passes options (since is_line_feed bytes)) i)
-    (count i, sym (timed_says options (since is_line_feed bytes)) i)
+    by (is_passed options.pages (without_return (since is_line_feed bytes))) refl
+    ∙ ap (λ c. entry_if c (entry_ended (kept_of options bytes))) (sym (timed_passes options (since is_line_feed bytes)))
+  where
+    count : 1 + length (map without_return (ended is_line_feed bytes)) ≡ length (ended is_line_feed bytes) + 1
+    count = let mapped = length-map (ended is_line_feed bytes) in omega arith
+
+    by : (c : Bool) → is_passed options.pages (without_return (since is_line_feed bytes)) ≡ c
+        → entry_if c (1 + length (map without_return (ended is_line_feed bytes)), said_of options (without_return (since is_line_feed bytes)))
+        ≡ entry_if c (entry_ended (kept_of options bytes))
+    by true is = refl
+    by false is = λ i. (count i, sym (timed_says options (since is_line_feed bytes) is) i) ∷ []
 
 -- what is said with a line feed more
 said-mark : (options : TellOptions) (bytes : List ℕ) (b : ℕ) → is_line_feed b ≡ true

@@ -82,6 +82,7 @@ fn fault_words(number: u64, fault: LineFault) -> &'static str
 
 /// Appends a packet's line to a text, with its number and without a line feed: as the command table has the packet, or by
 /// its address, code and bytes where `other` is its address.
+#[inline(always)]
 #[tactic(auto, unfolding(crate::specs::CaptureText::told_line))]
 pub(crate) fn push_packet_line(
     text: &mut String,
@@ -111,6 +112,7 @@ pub(crate) fn push_packet_line(
 }
 
 // The same as an object of JSON.
+#[inline(never)]
 #[tactic(auto, using(pm_lines::specs::Lemmas::Joins::joins), unfolding(crate::specs::CaptureText::json_line))]
 fn push_packet_json(
     text: &mut String,
@@ -162,6 +164,7 @@ fn push_packet_fields(
 }
 
 // The same as it is told to a person.
+#[inline(always)]
 #[tactic(auto, using(pm_lines::specs::Lemmas::Joins::joins), unfolding(crate::specs::CaptureText::plain_line))]
 fn push_packet_plain(
     text: &mut String,
@@ -186,6 +189,7 @@ fn push_packet_plain(
 }
 
 // The text of a packet.
+#[inline(always)]
 #[tactic(auto, using(pm_lines::specs::Lemmas::Joins::joins))]
 fn push_packet_text(
     text: &mut String,
@@ -205,14 +209,14 @@ fn push_packet_text(
         None => {
             push_reached(text, marks.reached, number, shown)?;
             push_extra(text, options, lessons, marks.reached, packet, shown)?;
-            text.push_str(lack_words(marks.lacks))?;
-            push_wrong(text, number, marks.wrong)
+            push_marks(text, number, marks)
         }
         Some(addr) => push_otherwise(text, options.values, addr, packet),
     }
 }
 
 // What a packet says, with the output that it reaches where PAGE was followed.
+#[inline(always)]
 #[tactic(auto, using(pm_lines::specs::Lemmas::Joins::joins))]
 fn push_reached(
     text: &mut String,
@@ -235,13 +239,27 @@ fn push_reached(
     }
 }
 
-// What stands behind a packet that contradicts a line.
-fn push_wrong(text: &mut String, number: u64, wrong: Option<u64>) -> Result<(), AllocError>
-    ensures { OnOk result (string_bytes text.new ≡ string_bytes text.old ++ wrong_text number wrong) }
+// What stands behind a packet for its marks: that it lacks its PEC, and the lines of which one contradicts the other.
+#[inline(always)]
+#[tactic(auto, using(pm_lines::specs::Lemmas::Joins::joins))]
+fn push_marks(text: &mut String, number: u64, marks: &Marks) -> Result<(), AllocError>
+    ensures { OnOk result (string_bytes text.new
+        ≡ string_bytes text.old ++ (lack_text marks.now.lacks ++ wrong_text number marks.now.wrong)) }
 {
-    let Some(line) = wrong else {
-        return Ok(());
-    };
+    if marks.lacks {
+        text.push_str(", no PEC")?;
+    }
+    match marks.wrong {
+        None => Ok(()),
+        Some(line) => push_wrong(text, number, line),
+    }
+}
+
+// What stands behind a packet in this line that contradicts an earlier one.
+#[tactic(auto, using(pm_lines::specs::Lemmas::Joins::joins))]
+fn push_wrong(text: &mut String, number: u64, line: u64) -> Result<(), AllocError>
+    ensures { OnOk result (string_bytes text.new ≡ string_bytes text.old ++ wrong_text number (Some line)) }
+{
     text.push_str(" WRONG PAGE? lines ")?;
     push_two_lines(text, line, number)
 }
@@ -256,14 +274,7 @@ fn push_two_lines(text: &mut String, line: u64, number: u64) -> Result<(), Alloc
     push_decimal(text, number)
 }
 
-// What stands behind a packet that lacks its PEC.
-fn lack_words(lacks: bool) -> &'static str
-    ensures { result.now ≡ lack_text lacks }
-{
-    if lacks { ", no PEC" } else { "" }
-}
-
-// The same in JSON.
+// What stands in JSON behind a packet that lacks its PEC.
 fn lack_field(lacks: bool) -> &'static str
     ensures { result.now ≡ spec_lack_field lacks }
 {
@@ -284,6 +295,7 @@ fn push_time(text: &mut String, time: Option<u64>) -> Result<(), AllocError>
 }
 
 // What stands behind a packet's text: its value, or its bytes where it has a fault.
+#[inline(always)]
 #[tactic(auto, using(pm_lines::specs::Lemmas::Joins::joins))]
 fn push_extra(
     text: &mut String,
@@ -296,9 +308,27 @@ fn push_extra(
     ensures { OnOk result (string_bytes text.new ≡ string_bytes text.old
         ++ extra_text options.now lessons.now reached (packet_in packet.now) (judged_in shown.now)) }
 {
-    if !options.values {
-        return Ok(());
+    if options.values {
+        push_meaning(text, options, lessons, reached, packet, shown)
+    } else {
+        Ok(())
     }
+}
+
+// The same where values are told.
+#[inline(never)]
+#[tactic(auto, using(pm_lines::specs::Lemmas::Joins::joins))]
+fn push_meaning(
+    text: &mut String,
+    options: &TellOptions,
+    lessons: &Lessons,
+    reached: Option<u8>,
+    packet: &Packet<'_>,
+    shown: &Shown<'_>,
+) -> Result<(), AllocError>
+    ensures { OnOk result (string_bytes text.new ≡ string_bytes text.old
+        ++ meaning_text options.now lessons.now reached (packet_in packet.now) (judged_in shown.now)) }
+{
     match shown {
         Shown::Accepted { addr, view, answer } => {
             push_known(
