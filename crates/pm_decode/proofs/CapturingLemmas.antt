@@ -324,6 +324,14 @@ pub options_kept : (options : TellOptions) (bytes : List ℕ) → (kept_of optio
 unfolding kept_of
 options_kept options bytes = refl
 
+-- they stay at the end
+pub options_at_end : (options : TellOptions) (bytes : List ℕ) → (kept_at_end (kept_of options bytes)).options ≡ options
+options_at_end options bytes = by (kept_of options bytes).line.is_begun ∙ options_kept options bytes
+  where
+    by : (c : Bool) → (cond c (line_ended (kept_of options bytes)) (kept_of options bytes)).options ≡ (kept_of options bytes).options
+    by true = refl
+    by false = refl
+
 -- ---- bytes up to the first line feed
 
 module _ (old : Kept) (bytes rest : List ℕ) (line : TimedLine) (passes : PassesTimed old.line bytes rest line) where

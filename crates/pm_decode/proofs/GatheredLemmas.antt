@@ -24,7 +24,7 @@ use Rattle.pm_decode.specs.LongEngine.{IsWhole}
 use Rattle.pm_decode.specs.WrittenCaptures.{Gathered, Hears, StopsBytes, StopsHearing, WrittenCapture}
 use Rattle.pm_decode.specs.declared.options.TellOptions.{TellOptions}
 use Rattle.pm_decode.specs.declared.telling.TellEnd.{TellEnd}
-use Rattle.pm_decode.proofs.CapturingLemmas.{capture_text-end, heard-end, kept_of-append, length_kept, next-taken, options_kept}
+use Rattle.pm_decode.proofs.CapturingLemmas.{capture_text-end, heard-end, kept_of-append, length_kept, next-taken, options_at_end, options_kept}
 use Rattle.pm_decode.proofs.CapturingLemmas.{said_text-append}
 
 -- no bytes say nothing
@@ -33,7 +33,7 @@ unfolding said
 said_none options = refl
 
 -- a capture of no bytes ends well
-nothing_end : (options : TellOptions) → Clean ≡ capture_end options []
+nothing_end : (options : TellOptions) → record { end = Clean; hint = None } ≡ capture_end options []
 unfolding entries_of lines_of heard_of counts_of
 nothing_end options = refl
 
@@ -254,7 +254,7 @@ module _ (options : TellOptions) (r0 r1 w0 w1 w2 : Option (List ℕ)) (input : L
       → end ≡ capture_end options input
   end_counts new end kept is =
       is ∙ ap (λ k. told_end k.options k.heard) (kept ∙ ap kept_at_end written.kept_is)
-      ∙ ap (told_end options) (sym (heard-end options input))
+      ∙ λ i. told_end (options_at_end options input i) (sym (heard-end options input) i)
 
   -- memory was refused at the end of a capture that has bytes
   pub end_memory : old.taken ≢ 0 → (front : List ℕ) × (text : List ℕ) × (rest : List ℕ) × (0 < length front)

@@ -52,7 +52,7 @@ ends_alone : {R W : Type 0} (options : TellOptions) (run : Run R W) (result : Re
 ends_alone options run (Ok told) (read, sound, text, (input, whole, made), got) =
     (read, sound, text, (input, whole, ap made_alone made), got)
 ends_alone options run (Err Write) (failed, text, so_far, inl under_way, cut) = (failed, text, so_far, inl under_way, cut)
-ends_alone options run (Err Write) (failed, text, so_far, inr (told, input, whole, made), cut) =
+ends_alone options run (Err Write) (failed, text, so_far, inr (told, (input, whole, made)), cut) =
     (failed, text, so_far, inr (told.end, (input, whole, ap made_alone made)), cut)
 ends_alone options run (Err TooLong) ends = ends
 ends_alone options run (Err Read) ends = ends

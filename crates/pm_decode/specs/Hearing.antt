@@ -14,7 +14,7 @@ use Rattle.pm_decode.specs.Hints.{beyond_by}
 use Rattle.pm_decode.specs.PageSteps.{marks_in, pages_noted, pages_read}
 use Rattle.pm_decode.specs.Readings.{Entry, Said, Told, Noted, judged_as, other_address}
 use Rattle.pm_decode.specs.declared.hints.Hint.{Hint}
-use Rattle.pm_decode.specs.declared.hints.Hint.TheVariants.{Beyond, NoTimes, NoPackets}
+use Rattle.pm_decode.specs.declared.hints.Hint.TheVariants.{Beyond, NoTimes, NoGoodPacket}
 use Rattle.pm_decode.specs.declared.telling.TellEnd.{TellEnd}
 use Rattle.pm_decode.specs.declared.options.TellOptions.{TellOptions}
 
@@ -124,10 +124,10 @@ heard_with options heard entry = record {
 abbrev pub is_none_told : HeardLines → Bool
 is_none_told heard = heard.counts.accepted == 0 && (total_of heard.others == 0 && nat_lt 0 heard.counts.bad)
 
--- then with times no line is a time and a packet, where no packet has a fault; without them no line is a packet
+-- then with times no line is a time and a packet, where no packet has a fault; without them no line is a good packet
 abbrev pub lines_hint : Bool → ℕ → Option Hint
 lines_hint true faults = if faults == 0 then Some NoTimes else None
-lines_hint false faults = Some NoPackets
+lines_hint false faults = Some NoGoodPacket
 
 abbrev pub hint_from : Option ℕ → Option Hint → Option Hint
 hint_from (Some line) lines = Some (Beyond line)

@@ -15,17 +15,20 @@ use Rattle.pm_decode.specs.declared.options.TellOptions.{TellOptions}
 -- ---- a voltage
 
 -- a voltage of more than 1000 V, of either sign
+abbrev pub is_huge_value : Value → Bool
+is_huge_value (Measured ratio Volt) = nat_lt 1000000000 (unsigned_abs (millionths ratio))
+is_huge_value (Measured ratio Ampere) = false
+is_huge_value (Measured ratio Celsius) = false
+is_huge_value (Operates operation) = false
+is_huge_value (Protects byte) = false
+is_huge_value (Scales mode) = false
+is_huge_value (Flags status bits) = false
+is_huge_value (Capable byte) = false
+is_huge_value (Controls byte) = false
+
 abbrev pub is_huge : Option Value → Bool
 is_huge None = false
-is_huge (Some (Measured ratio Volt)) = nat_lt 1000000000 (unsigned_abs (millionths ratio))
-is_huge (Some (Measured ratio Ampere)) = false
-is_huge (Some (Measured ratio Celsius)) = false
-is_huge (Some (Operates operation)) = false
-is_huge (Some (Protects byte)) = false
-is_huge (Some (Scales mode)) = false
-is_huge (Some (Flags status bits)) = false
-is_huge (Some (Capable byte)) = false
-is_huge (Some (Controls byte)) = false
+is_huge (Some value) = is_huge_value value
 
 -- a write orders one by the format that was given, since what was taught gives it no value
 abbrev pub is_huge_order : GivenFormats → Taught → ℕ → Option ℕ → Message → Bool

@@ -1,5 +1,5 @@
 //! What is known behind the lines of a capture.
-ghost use Rattle.std.specs.Prelude.{◌≡◌, Err, IfSome, is_some, option_map};
+ghost use Rattle.std.specs.Prelude.{◌≡◌, Err, IfSome, is_some, option_map, true};
 ghost use Rattle.pm_trace.specs.ShownLines.{judged_in};
 ghost use Rattle.pm_trace.specs.Trace.{parts_judged, reading_judged};
 ghost use Rattle.pm_values.specs.Otherwise.{IsCompleted, content_of};
@@ -7,7 +7,7 @@ ghost use Rattle.pm_decode.specs.Readings.{is_without_pec};
 ghost use Rattle.pm_decode.specs.ShownReadings.{packet_in};
 
 use crate::comment::Remark;
-use crate::hints::is_beyond;
+use crate::hints::first_beyond;
 use crate::line_text::{push_bad_line, push_packet_line};
 use crate::options::TellOptions;
 use crate::others::Others;
@@ -256,31 +256,15 @@ impl HeardLines {
             shown,
             other,
         )?;
-        if options.values && options.formats.vout.is_some() {
-            self.note_beyond(options, marks.reached, number, shown);
-        }
+        self.beyond = first_beyond(
+            options,
+            &self.lessons,
+            marks.reached,
+            number,
+            shown,
+            self.beyond,
+        );
         self.lessons.learn(marks.reached, shown)
-    }
-
-    // Keeps the line, where it is the first one that orders a voltage beyond 1000 V by the format that was given.
-    #[inline(never)]
-    fn note_beyond(
-        &mut self,
-        options: &TellOptions,
-        reached: Option<u8>,
-        number: u64,
-        shown: &Shown<'_>,
-    )
-        requires { options.now.values ≡ true }
-        ensures beyond { self.new ≡ record self.old {
-          known = record self.old.known {
-            beyond = beyond_by options.now self.old.known.taught reached number (judged_in shown.now) self.old.known.beyond;
-          };
-        } }
-    {
-        if self.beyond.is_none() && is_beyond(&options.formats, &self.lessons, reached, shown) {
-            self.beyond = Some(number);
-        }
     }
 
     /// Hears a comment, with its number.

@@ -2,12 +2,13 @@
 ghost use Rattle.std.specs.Prelude.{◌≡◌, ◌<◌, ◌^◌};
 ghost use Rattle.pm_trace.specs.ShownLines.{judged_in};
 ghost use Rattle.pm_decode.specs.Hearing.{heard_lines, hint_by};
-ghost use Rattle.pm_decode.specs.Hints.{is_beyond as spec_is_beyond, is_huge as spec_is_huge};
+ghost use Rattle.pm_decode.specs.Hints.{beyond_by, first_if, is_beyond as spec_is_beyond, is_huge as spec_is_huge, is_huge_value as spec_is_huge_value};
 
 use crate::heard_lines::HeardLines;
 use crate::options::TellOptions;
+use pm_num::Frac;
 use pm_trace::Shown;
-use pm_values::{GivenFormats, Lessons, Unit, Value, packet_value};
+use pm_values::{GivenFormats, Lessons, Unit, Value, millionths, packet_value};
 
 /// What may be wrong where a capture was told whole.
 #[derive(Clone, Copy, Debug, PartialEq, Eq)]
@@ -16,12 +17,13 @@ pub enum Hint {
     Beyond(u64),
     /// With times no line was a time and a packet.
     NoTimes,
-    /// Without times no line was a packet, and one was bad, as where lines begin with times.
-    NoPackets,
+    /// Without times no line was a good packet, and one was bad, as where lines begin with times.
+    NoGoodPacket,
 }
 
 /// What may be wrong with a capture of these lines that is told so.
 pub(crate) fn hint_of(options: &TellOptions, heard: &HeardLines) -> Option<Hint>
+    requires { heard_lines heard.now < 2 ^ 64 }
     ensures { result ≡ hint_by options.now heard.now }
 {
     if let Some(line) = heard.beyond() {
@@ -32,7 +34,7 @@ pub(crate) fn hint_of(options: &TellOptions, heard: &HeardLines) -> Option<Hint>
         return None;
     }
     if !options.times {
-        Some(Hint::NoPackets)
+        Some(Hint::NoGoodPacket)
     } else if faults == 0 {
         Some(Hint::NoTimes)
     } else {
@@ -40,9 +42,47 @@ pub(crate) fn hint_of(options: &TellOptions, heard: &HeardLines) -> Option<Hint>
     }
 }
 
-/// Whether a packet orders a voltage beyond 1000 V by the format that was given, since the capture taught none; `reached`
-/// is the output that a packet reaches which names none, where that is known.
-pub(crate) fn is_beyond(
+/// The first line that orders a voltage beyond 1000 V by the format that was given, behind the one of this number; before it
+/// was this one, if there was one. `reached` is the output that its packet reaches if it names none, where that is known.
+#[inline(always)]
+pub(crate) fn first_beyond(
+    options: &TellOptions,
+    lessons: &Lessons,
+    reached: Option<u8>,
+    number: u64,
+    shown: &Shown<'_>,
+    before: Option<u64>,
+) -> Option<u64>
+    ensures { result ≡ beyond_by options.now lessons.now reached number (judged_in shown.now) before }
+{
+    if options.values && options.formats.vout.is_some() {
+        first_of(&options.formats, lessons, reached, number, shown, before)
+    } else {
+        before
+    }
+}
+
+// The same where values are told by a format that was given.
+#[inline(never)]
+fn first_of(
+    given: &GivenFormats,
+    lessons: &Lessons,
+    reached: Option<u8>,
+    number: u64,
+    shown: &Shown<'_>,
+    before: Option<u64>,
+) -> Option<u64>
+    ensures { result ≡ first_if before (spec_is_beyond given.now lessons.now reached (judged_in shown.now)) number }
+{
+    match before {
+        Some(line) => Some(line),
+        None if is_beyond(given, lessons, reached, shown) => Some(number),
+        None => None,
+    }
+}
+
+// Whether a packet orders a voltage beyond 1000 V by the format that was given, since the capture taught none.
+fn is_beyond(
     given: &GivenFormats,
     lessons: &Lessons,
     reached: Option<u8>,
@@ -67,14 +107,32 @@ pub(crate) fn is_beyond(
     }
 }
 
-// Whether a value is a voltage beyond 1000 V.
+// Whether there is a value, a voltage beyond 1000 V.
 fn is_huge(value: Option<Value>) -> bool
     ensures { result ≡ spec_is_huge value }
 {
     match value {
-        Some(Value::Measured(ratio, Unit::Volt)) => {
-            ratio.floor_micro().unsigned_abs() > 1_000_000_000
-        }
+        Some(value) => is_huge_value(value),
+        None => false,
+    }
+}
+
+// Whether a value is a voltage beyond 1000 V.
+fn is_huge_value(value: Value) -> bool
+    ensures { result ≡ spec_is_huge_value value }
+{
+    match value {
+        Value::Measured(ratio, unit) => is_huge_number(ratio, unit),
         _ => false,
+    }
+}
+
+// Whether a number with its unit is a voltage beyond 1000 V.
+fn is_huge_number(ratio: Frac, unit: Unit) -> bool
+    ensures { result ≡ spec_is_huge_value (Value.Measured ratio unit) }
+{
+    match unit {
+        Unit::Volt => millionths(ratio).unsigned_abs() > 1_000_000_000,
+        Unit::Ampere | Unit::Celsius => false,
     }
 }

@@ -35,7 +35,7 @@ pub(crate) struct LineReading<'a> {
 }
 
 impl TimedLine {
-    ghost use Rattle.std.specs.Prelude.{[], ◌==◌, None, if◌then◌else◌};
+    ghost use Rattle.std.specs.Prelude.{[], ◌==◌, None, if◌then◌else◌, true};
     ghost use Rattle.pm_trace.specs.OpenLines.{open_read};
     ghost use Rattle.pm_trace.specs.OpenLines.{IsAtLineFeed};
     ghost use Rattle.pm_decode.specs.Readings.{remark_of};
@@ -118,12 +118,25 @@ impl TimedLine {
     fn take_comment<'a>(&self, bytes: &'a [u8]) -> &'a [u8]
         ensures { PassesTimed self.now bytes.entry.now result.now self.now }
     {
+        if self.is_told() {
+            self.pass_over(bytes)
+        } else {
+            bytes
+        }
+    }
+
+    // Takes bytes that say nothing more, up to the first line feed, and gives what is left.
+    #[tactic(auto, using(crate::proofs::TimedLemmas::passes_none))]
+    fn pass_over<'a>(&self, bytes: &'a [u8]) -> &'a [u8]
+        requires { is_told self.now ≡ true }
+        ensures { PassesTimed self.now bytes.entry.now result.now self.now }
+    {
         let mut rest = bytes;
         'bytes: loop {
             let [first, more @ ..] = rest else {
                 return rest;
             };
-            if *first == b'\n' || !self.is_told() {
+            if *first == b'\n' {
                 return rest;
             }
             rest = more;

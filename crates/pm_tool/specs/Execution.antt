@@ -19,7 +19,7 @@ use Rattle.pm_decode.specs.CaptureText.{capture_end, capture_text}
 use Rattle.pm_decode.specs.Capturing.{most_bytes, said_text}
 use Rattle.pm_decode.specs.LongEngine.{Breaks, GaveAll, IsCut}
 use Rattle.pm_decode.specs.declared.hints.Hint.{Hint}
-use Rattle.pm_decode.specs.declared.hints.Hint.TheVariants.{Beyond, NoTimes, NoPackets}
+use Rattle.pm_decode.specs.declared.hints.Hint.TheVariants.{Beyond, NoTimes, NoGoodPacket}
 use Rattle.pm_decode.specs.declared.options.TellOptions.{TellOptions}
 use Rattle.pm_text.specs.Replay.{replaying}
 use Rattle.pm_text.specs.declared.replay_end.ReplayEnd.{ReplayEnd}
@@ -143,7 +143,7 @@ reading remaining old new = over remaining old new (λ _. None) (record { inner 
 abbrev pub hint_words : Hint → List ℕ
 hint_words (Beyond line) = codes "line " ++ (decimal line ++ codes " orders a voltage beyond 1000 V by --vout: a minus may be missing")
 hint_words NoTimes = codes "no line is a time and a packet: give --times to both ends, or to none"
-hint_words NoPackets = codes "no line is a packet: where lines begin with times, give --times"
+hint_words NoGoodPacket = codes "no line is a good packet: where lines begin with times, give --times"
 
 -- how a run ends whose text was written whole, by what may be wrong
 abbrev pub told_as : ℕ → List ℕ → Option Hint → End

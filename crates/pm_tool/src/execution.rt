@@ -209,13 +209,7 @@ fn done<W: Write, E: Write>(output: &mut Sink<W>, errors: &mut Sink<E>, status: 
     ensures kept { Keeps (W.contents output.old.inner) (W.contents output.new.inner) }
     ensures done { IsDone E.contents output.new errors.old errors.new status result }
 {
-    match output.flush() {
-        Ok(()) => status,
-        Err(_) => {
-            say(errors, NAME, TextFault::Write.words());
-            1
-        }
-    }
+    done_with(output, errors, status, None)
 }
 
 // The same of a telling, with what may be wrong.
@@ -256,10 +250,10 @@ fn say_hint<E: Write>(errors: &mut Sink<E>, hint: Hint)
             NAME,
             "no line is a time and a packet: give --times to both ends, or to none",
         ),
-        Hint::NoPackets => say(
+        Hint::NoGoodPacket => say(
             errors,
             NAME,
-            "no line is a packet: where lines begin with times, give --times",
+            "no line is a good packet: where lines begin with times, give --times",
         ),
     }
 }

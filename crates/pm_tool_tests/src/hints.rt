@@ -64,14 +64,14 @@ static HINTS: [(&[&str], &str, u8, &str, &str); 11] = [
         "1234567 B0 05 04 00 21 CD 34 5A\n",
         1,
         "{\"line\":1,\"fault\":\"X2 BadHex\"}\n{\"lines\":1,\"accepted\":0,\"faults\":0,\"bad\":1}\n",
-        "pmb: no line is a packet: where lines begin with times, give --times\n",
+        "pmb: no line is a good packet: where lines begin with times, give --times\n",
     ),
     (
         &["pmb", "decode", "--all"],
         "1234567 B0 05 04 00 21 CD 34 5A\nB0 03 00\n",
         1,
         "1 X2 BadHex\n2 58 write F5 WrongPec 2\nlines 2 accepted 0 other 0 faults 1 bad 1\n",
-        "pmb: no line is a packet: where lines begin with times, give --times\n",
+        "pmb: no line is a good packet: where lines begin with times, give --times\n",
     ),
     (
         &["pmb", "decode", "--all"],
