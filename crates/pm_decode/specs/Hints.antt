@@ -1,8 +1,7 @@
 -- What is told besides of a capture that was told whole: a voltage that is ordered beyond 1000 V by the format that was given,
 -- and lines of which none is what the options say that lines are. This project's own choice.
-use Rattle.std.specs.Prelude.{ℕ, Bool, true, false, ◌&&◌, ◌==◌, nat_lt, not, is_some, unsigned_abs, if◌then◌else◌, Option, Some, None}
+use Rattle.std.specs.Prelude.{ℕ, Bool, false, ◌&&◌, nat_lt, not, is_some, unsigned_abs, if◌then◌else◌, Option, Some, None}
 use Rattle.pm_frame.specs.declared.message.Message.{Message}
-use Rattle.pm_trace.specs.Counts.{Counts, total_of}
 use Rattle.pm_trace.specs.Trace.{Judged, Accepted, Faulty, BadSyntax, BadHex}
 use Rattle.pm_values.specs.Taught.{Taught}
 use Rattle.pm_values.specs.Values.{millionths, packet_value}
