@@ -1,8 +1,8 @@
 //! What is known behind the lines of a capture.
-ghost use Rattle.std.specs.Prelude.{◌≡◌, Err, IfSome, is_some, option_map, true};
+ghost use Rattle.std.specs.Prelude.{◌≡◌, ◌||◌, Err, IfSome, is_some, not, option_map, true};
 ghost use Rattle.pm_trace.specs.ShownLines.{judged_in};
 ghost use Rattle.pm_trace.specs.Trace.{parts_judged, reading_judged};
-ghost use Rattle.pm_values.specs.Otherwise.{IsCompleted, content_of};
+ghost use Rattle.pm_values.specs.Otherwise.{IsCompleted, content_of, is_accepted};
 ghost use Rattle.pm_decode.specs.Readings.{is_without_pec};
 ghost use Rattle.pm_decode.specs.ShownReadings.{packet_in};
 
@@ -94,7 +94,7 @@ impl HeardLines {
     }
 
     // The same of a line that could be read.
-    #[tactic(auto, using(crate::proofs::HearingLemmas::heard_one))]
+    #[tactic(auto, using(crate::proofs::HearingLemmas::heard_one, crate::proofs::PecLemmas::good_said, crate::proofs::PecLemmas::good_whole, crate::proofs::PecLemmas::good_known))]
     fn hear_packet(
         &mut self,
         options: &TellOptions,
@@ -112,7 +112,7 @@ impl HeardLines {
         ensures few { heard_lines self.new ≤ heard_lines self.old + 1 }
     {
         let shown = packet_shown(packet.write, packet.read);
-        if options.all || options.pages {
+        if options.pages || !is_plain(options.all, &shown) {
             return self.hear_closely(options, number, time, packet, &shown, text);
         }
         let marks = Marks::without_page(false);
@@ -311,6 +311,13 @@ impl HeardLines {
     {
         &self.others
     }
+}
+
+// Whether a packet is told as the command table has it, with its PEC: it is good, or no other is told otherwise.
+fn is_plain(all: bool, shown: &Shown<'_>) -> bool
+    ensures { result ≡ (not all || is_accepted (judged_in shown.now)) }
+{
+    !all || matches!(shown, Shown::Accepted { .. })
 }
 
 // The last part of a packet with its PEC, where it lacks nothing but that, and packets without PEC are told.

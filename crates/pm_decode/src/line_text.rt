@@ -112,7 +112,6 @@ pub(crate) fn push_packet_line(
 }
 
 // The same as an object of JSON.
-#[inline(never)]
 #[tactic(auto, using(pm_lines::specs::Lemmas::Joins::joins), unfolding(crate::specs::CaptureText::json_line))]
 fn push_packet_json(
     text: &mut String,
@@ -316,7 +315,6 @@ fn push_extra(
 }
 
 // The same where values are told.
-#[inline(never)]
 #[tactic(auto, using(pm_lines::specs::Lemmas::Joins::joins))]
 fn push_meaning(
     text: &mut String,
