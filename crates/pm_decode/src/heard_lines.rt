@@ -121,7 +121,6 @@ impl HeardLines {
     }
 
     // The same where packets without PEC are told, or PAGE is followed.
-    #[inline(never)]
     #[tactic(auto, using(crate::proofs::PecLemmas::completed_said, crate::proofs::PecLemmas::usual_said))]
     fn hear_closely(
         &mut self,
@@ -190,7 +189,6 @@ impl HeardLines {
     }
 
     // Appends a packet's line to a text where PAGE is followed, and learns what the packet teaches, orders and says of PAGE.
-    #[inline(never)]
     fn tell_on_page(
         &mut self,
         options: &TellOptions,
@@ -221,7 +219,6 @@ impl HeardLines {
     }
 
     // Appends a packet's line to a text, and learns what the packet teaches and orders.
-    #[inline(always)]
     fn tell_packet(
         &mut self,
         options: &TellOptions,

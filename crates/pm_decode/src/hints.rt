@@ -44,7 +44,6 @@ pub(crate) fn hint_of(options: &TellOptions, heard: &HeardLines) -> Option<Hint>
 
 /// The first line that orders a voltage beyond 1000 V by the format that was given, behind the one of this number; before it
 /// was this one, if there was one. `reached` is the output that its packet reaches if it names none, where that is known.
-#[inline(always)]
 pub(crate) fn first_beyond(
     options: &TellOptions,
     lessons: &Lessons,
@@ -63,7 +62,6 @@ pub(crate) fn first_beyond(
 }
 
 // The same where values are told by a format that was given.
-#[inline(never)]
 fn first_of(
     given: &GivenFormats,
     lessons: &Lessons,

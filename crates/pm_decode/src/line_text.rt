@@ -82,7 +82,6 @@ fn fault_words(number: u64, fault: LineFault) -> &'static str
 
 /// Appends a packet's line to a text, with its number and without a line feed: as the command table has the packet, or by
 /// its address, code and bytes where `other` is its address.
-#[inline(always)]
 #[tactic(auto, unfolding(crate::specs::CaptureText::told_line))]
 pub(crate) fn push_packet_line(
     text: &mut String,
@@ -163,7 +162,6 @@ fn push_packet_fields(
 }
 
 // The same as it is told to a person.
-#[inline(always)]
 #[tactic(auto, using(pm_lines::specs::Lemmas::Joins::joins), unfolding(crate::specs::CaptureText::plain_line))]
 fn push_packet_plain(
     text: &mut String,
@@ -188,7 +186,6 @@ fn push_packet_plain(
 }
 
 // The text of a packet.
-#[inline(always)]
 #[tactic(auto, using(pm_lines::specs::Lemmas::Joins::joins))]
 fn push_packet_text(
     text: &mut String,
@@ -215,7 +212,6 @@ fn push_packet_text(
 }
 
 // What a packet says, with the output that it reaches where PAGE was followed.
-#[inline(always)]
 #[tactic(auto, using(pm_lines::specs::Lemmas::Joins::joins))]
 fn push_reached(
     text: &mut String,
@@ -239,7 +235,6 @@ fn push_reached(
 }
 
 // What stands behind a packet for its marks: that it lacks its PEC, and the lines of which one contradicts the other.
-#[inline(always)]
 #[tactic(auto, using(pm_lines::specs::Lemmas::Joins::joins))]
 fn push_marks(text: &mut String, number: u64, marks: &Marks) -> Result<(), AllocError>
     ensures { OnOk result (string_bytes text.new
@@ -294,7 +289,6 @@ fn push_time(text: &mut String, time: Option<u64>) -> Result<(), AllocError>
 }
 
 // What stands behind a packet's text: its value, or its bytes where it has a fault.
-#[inline(always)]
 #[tactic(auto, using(pm_lines::specs::Lemmas::Joins::joins))]
 fn push_extra(
     text: &mut String,
