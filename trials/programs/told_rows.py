@@ -1,7 +1,7 @@
 """Rows of trials/programs/try_told_captures.py, written by hand from PMBus 1.3 Part II and SMBus: options, and traces below them.
 A line has a packet, two blanks or more, and what is told of it behind the number of its line; an object of JSON is whole.
 A `*` is the PEC of the bytes before it, a `!` another byte. A line of one column is skipped by `decode`. Lines with `=`
-are the counts, where a trace has them; a blank line ends a trace."""
+are the counts, where a trace has them, one with `?` what standard error says; a blank line ends a trace."""
 
 VALUES = """
 B0 88 / B1 00 D3 *                        58 READ_VIN read D300
@@ -304,6 +304,7 @@ B1                                        -- write F1 NotOurs bytes B1
 B0 9                                      X2 BadHex
 B0 / B1 / B2                              X1 Syntax
 = lines 18 accepted 0 faults 16 bad 2
+? no line is a good packet: where lines begin with times, give --times
 """
 
 ALL = """
@@ -1319,6 +1320,10 @@ GROUPS = [("--values", VALUES), ("--values", TAUGHT), *VOUT, *READINGS, ("--valu
           ("--all --values", WORDS), ("--times", TIMES), *JSON, *PAGES, *EACH]
 
 # Texts as bytes, the options, and the whole answer: ends of lines, skipped lines, the longest parts.
+NO_PACKET = "no line is a good packet: where lines begin with times, give --times"
+NO_TIME = "no line is a time and a packet: give --times to both ends, or to none"
+BEYOND = "line {} orders a voltage beyond 1000 V by --vout: a minus may be missing".format
+ORDER = b"B0 05 04 00 21 E9 03 25\n"  # 1001 V in ULINEAR16 with exponent 0
 WHOLE = [
     ("--values", b"", 0, "lines 0 accepted 0 faults 0 bad 0\n"),
     ("--all", b"", 0, "lines 0 accepted 0 other 0 faults 0 bad 0\n"),
@@ -1331,12 +1336,26 @@ WHOLE = [
     ("--times", b" #\n5\r\r\n5", 1,
      "1 X1 Syntax\n2 X1 Syntax\n3 5 us -- write F1 NotOurs\nlines 3 accepted 0 faults 1 bad 2\n"),
     ("--times --values", b"5", 0, "1 5 us -- write F1 NotOurs\nlines 1 accepted 0 faults 1 bad 0\n"),
-    ("--values", b"B0\tB0", 1, "1 X2 BadHex\nlines 1 accepted 0 faults 0 bad 1\n"),
-    ("--all", b"B0" * 301, 1, "1 X1 Syntax\nlines 1 accepted 0 other 0 faults 0 bad 1\n"),
+    ("--values", b"B0\tB0", 1, "1 X2 BadHex\nlines 1 accepted 0 faults 0 bad 1\n", NO_PACKET),
+    ("--all", b"B0" * 301, 1, "1 X1 Syntax\nlines 1 accepted 0 other 0 faults 0 bad 1\n", NO_PACKET),
     ("--all", b"B0D4" + b"05" * 298, 0, f"1 58 code D4 write {' '.join(['05'] * 298)}, no PEC\ncount code D4 1\n"
      "lines 1 accepted 0 other 1 faults 0 bad 0\n"),
     ("--all", b"B096/B1" + b"05" * 299, 0, f"1 58 code 96 READ_POUT read {' '.join(['05'] * 299)}, no PEC\ncount code 96 1\n"
      "lines 1 accepted 0 other 1 faults 0 bad 0\n"),
+    # What may be wrong: a voltage that the format of `--vout` makes of an order, and times at one end alone.
+    ("--values --vout=ulinear16:0", b"B0 05 04 00 21 E8 03 30\n" + 2 * ORDER, 0, "1 58 page 0 VOUT_COMMAND write 03E8 1000 V\n"
+     "2 58 page 0 VOUT_COMMAND write 03E9 1001 V\n3 58 page 0 VOUT_COMMAND write 03E9 1001 V\ncount VOUT_COMMAND 3\n"
+     "lines 3 accepted 3 faults 0 bad 0\n", BEYOND(2)),
+    ("--values --vout=direct:-1:0:0", ORDER, 0, "1 58 page 0 VOUT_COMMAND write 03E9 -1001 V\ncount VOUT_COMMAND 1\n"
+     "lines 1 accepted 1 faults 0 bad 0\n", BEYOND(1)),
+    ("--values --vout=ulinear16:0", b"B0 06 02 00 21 / B1 02 E9 03 C6\n", 0, "1 58 page 0 VOUT_COMMAND read 03E9 1001 V\n"
+     "count VOUT_COMMAND 1\nlines 1 accepted 1 faults 0 bad 0\n"),
+    ("--times", ORDER + b"x\n", 1, "1 X1 Syntax\n2 X1 Syntax\nlines 2 accepted 0 faults 0 bad 2\n", NO_TIME),
+    ("--times", ORDER + b"9 B0 00\n", 1, "1 X1 Syntax\n2 9 us 58 write F2 Short 2\nlines 2 accepted 0 faults 1 bad 1\n"),
+    ("--values", b"1234567 " + ORDER + b"B0 00\n", 1, "1 X2 BadHex\n2 58 write F2 Short 2 bytes B0 00\n"
+     "lines 2 accepted 0 faults 1 bad 1\n", NO_PACKET),
+    ("--all", b"1234567 " + ORDER + b"B0 D0\n", 1, "1 X2 BadHex\n2 58 code D0 send, no PEC\ncount code D0 1\n"
+     "lines 2 accepted 0 other 1 faults 0 bad 1\n"),
     # Lines that say nothing end no page; a comment does, of whatever length, also the last one.
     ("--pages", b"B0 00 01 ED\r\n# another device\r\n\r\n  \r\nB0 03 46\r\n#\r\nB0 03 46\n# x", 0,
      "1 58 PAGE write 01\n5 58 page 1? CLEAR_FAULTS send\n7 58 CLEAR_FAULTS send\ncount PAGE 1\ncount CLEAR_FAULTS 2\n"

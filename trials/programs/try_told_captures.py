@@ -89,22 +89,25 @@ def traces(text):
 
 
 def wanted_of(rows, words):
-    """A trace's text, the lines that are told, and the counts that it names."""
-    lines, told, counts = [], [], []
+    """A trace's text, the lines that are told, the counts that it names, and what is said besides."""
+    lines, told, counts, hint = [], [], [], ""
     for row in rows:
         if row.startswith("= "):
             counts.append(row[2:])
+            continue
+        if row.startswith("? "):
+            hint = f"pmb: {row[2:]}\n"
             continue
         line, _, said = row.partition("  ")
         line, said = filled(line, said.strip(), "--times" in words)
         lines.append(line)
         if said:
             told.append(said if said.startswith("{") else f"{len(lines)} {said}")
-    return "".join(line + "\n" for line in lines), told, counts
+    return "".join(line + "\n" for line in lines), told, counts, hint
 
 
 def row_faults(decode, words, rows):
-    text, told, counts = wanted_of(rows, words)
+    text, told, counts, hint = wanted_of(rows, words)
     status, said, errors = decode(text.encode(), words)
     found, is_bad = said.splitlines(), any(" X1 " in it or " X2 " in it or '"X' in it for it in told)
     for place, line in enumerate(told):
@@ -112,7 +115,7 @@ def row_faults(decode, words, rows):
             yield f"it tells {found[place:place + 1]}, and not {line!r}"
     if counts and found[len(told):] != counts:
         yield f"it counts {found[len(told):]}, and not {counts}"
-    if (status, errors) != (int(is_bad), ""):
+    if (status, errors) != (int(is_bad), hint):
         yield f"it has status {status}, and says {errors!r}"
     if JSON in words:
         yield from json_faults(found)
@@ -174,10 +177,10 @@ def all_rows():
     yield from name_rows()
 
 
-def whole_faults(decode, words, text, status, said):
+def whole_faults(decode, words, text, wanted):
     found = decode(text, words)
-    if found != (status, said, ""):
-        yield f"it gives {found}, and not {(status, said, '')}"
+    if found != wanted:
+        yield f"it gives {found}, and not {wanted}"
 
 
 def refusal_faults(decode, words, said):
@@ -307,9 +310,10 @@ def checks(engine):
     for words, rows in all_rows():
         found = row_faults(engine.decode, words, rows) if JSON not in words or JSON in engine.every else None
         yield f"{' '.join(words)}: {rows[0].split('  ')[0]}", found
-    for options, text, status, said in WHOLE:
+    for options, text, status, said, *hint in WHOLE:
         words = options.split()
-        found = whole_faults(engine.decode, words, text, status, said) if JSON not in words or JSON in engine.every else None
+        wanted = status, said, "".join(f"pmb: {it}\n" for it in hint)
+        found = whole_faults(engine.decode, words, text, wanted) if JSON not in words or JSON in engine.every else None
         yield f"{options} on {text[:24]!r}", found
     for options, said in REFUSED:
         yield options, refusal_faults(engine.decode, options.split(), said)

@@ -145,7 +145,7 @@ def is_on_bus(said, parts):
 
 
 def drawn_fault(options, rows):
-    trace_text, told, _ = wanted_of(rows, options.split())
+    trace_text, told, *_ = wanted_of(rows, options.split())
     lines, wanted = trace_text.splitlines(), []
     for line in told:
         number, said = line.split(" ", 1)

@@ -63,10 +63,17 @@ ended_here : (options : TellOptions) (bytes : List ℕ)
     ≡ ended_entries options bytes
 unfolding kept_of ended_entries
 ended_here options bytes =
-    let count : 1 + length (map without_return (ended is_line_feed bytes)) ≡ length (ended is_line_feed bytes) + 1 =
-    let mapped = length-map (ended is_line_feed bytes) in omega arith in
-    λ i. entry_if (sym (timed_passes options (since is_line_feed bytes)) i)
-    (count i, sym (timed_says options (since is_line_feed bytes)) i)
+    by (is_passed options.pages (without_return (since is_line_feed bytes))) refl
+    ∙ ap (λ c. entry_if c (entry_ended (kept_of options bytes))) (sym (timed_passes options (since is_line_feed bytes)))
+  where
+    count : 1 + length (map without_return (ended is_line_feed bytes)) ≡ length (ended is_line_feed bytes) + 1
+    count = let mapped = length-map (ended is_line_feed bytes) in omega arith
+
+    by : (c : Bool) → is_passed options.pages (without_return (since is_line_feed bytes)) ≡ c
+        → entry_if c (1 + length (map without_return (ended is_line_feed bytes)), said_of options (without_return (since is_line_feed bytes)))
+        ≡ entry_if c (entry_ended (kept_of options bytes))
+    by true is = refl
+    by false is = λ i. (count i, sym (timed_says options (since is_line_feed bytes) is) i) ∷ []
 
 -- what is said with a line feed more
 said-mark : (options : TellOptions) (bytes : List ℕ) (b : ℕ) → is_line_feed b ≡ true
@@ -316,6 +323,14 @@ length_kept options bytes = refl
 pub options_kept : (options : TellOptions) (bytes : List ℕ) → (kept_of options bytes).options ≡ options
 unfolding kept_of
 options_kept options bytes = refl
+
+-- they stay at the end
+pub options_at_end : (options : TellOptions) (bytes : List ℕ) → (kept_at_end (kept_of options bytes)).options ≡ options
+options_at_end options bytes = by (kept_of options bytes).line.is_begun ∙ options_kept options bytes
+  where
+    by : (c : Bool) → (cond c (line_ended (kept_of options bytes)) (kept_of options bytes)).options ≡ (kept_of options bytes).options
+    by true = refl
+    by false = refl
 
 -- ---- bytes up to the first line feed
 

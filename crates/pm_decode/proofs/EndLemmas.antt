@@ -9,17 +9,17 @@ use Rattle.pm_lines.specs.declared.fault.TextFault.{TextFault}
 use Rattle.pm_lines.specs.declared.fault.TextFault.TheVariants.{Syntax, BadHex, TooLong, Read, Write, Memory, Setup}
 use Rattle.pm_trace.specs.TraceText.{IsOfDecode}
 use Rattle.pm_trace.specs.Written.{Puts}
-use Rattle.pm_trace.specs.declared.decode_end.DecodeEnd.{DecodeEnd}
 use Rattle.pm_decode.specs.CaptureText.{capture_end, capture_text}
 use Rattle.pm_decode.specs.Capturing.{Kept, most_bytes, said_text}
 use Rattle.pm_decode.specs.LongEngine.{IsWhole, LongEnds}
 use Rattle.pm_decode.specs.Outcome.{telling}
 use Rattle.pm_decode.specs.WrittenCaptures.{Gathered, Hears, StopsHearing}
+use Rattle.pm_decode.specs.declared.telling.TellEnd.{TellEnd}
 use Rattle.pm_decode.specs.declared.options.TellOptions.{TellOptions}
 use Rattle.pm_decode.proofs.GatheredLemmas.{put_memory, put_too_long, put_unread}
 
 -- a telling over these streams
-abbrev pub Ends : {R W : Type 0} → TellOptions → Run R W → Result DecodeEnd TextFault → Type 0
+abbrev pub Ends : {R W : Type 0} → TellOptions → Run R W → Result TellEnd TextFault → Type 0
 Ends options run result =
     LongEnds (most_bytes options.long) (capture_text options) (said_text options) (capture_end options) run result
 
@@ -34,7 +34,7 @@ module _ {R W : Type 0} (options : TellOptions) (run : Run R W) (short : options
       let P : ℕ → Type 0 = λ n. length text ≤ n in
       record { given = whole.given; ended = whole.ended; short = subst P most_is whole.short }
 
-  pub as_engine : (result : Result DecodeEnd TextFault) → Ends options run result → EngineEnds (telling options) run result
+  pub as_engine : (result : Result TellEnd TextFault) → Ends options run result → EngineEnds (telling options) run result
   as_engine (Ok end) (read, sound, input, whole, is, got) = (
     read,
     sound,
@@ -123,7 +123,7 @@ module _ {R W : Type 0} (options : TellOptions) (run : Run R W) where
       (failed, capture_text options input, inr (read, input, whole, refl), short)
 
   -- all of it was written
-  pub all_told : IsFalse run.reader'.failed → IsFalse run.writer'.failed → (input : List ℕ) (end : DecodeEnd)
+  pub all_told : IsFalse run.reader'.failed → IsFalse run.writer'.failed → (input : List ℕ) (end : TellEnd)
       → IsWhole (most_bytes options.long) (run.remaining run.reader.inner) (run.remaining run.reader'.inner) input
       → Appends (run.contents run.writer.inner) (run.contents run.writer'.inner) (capture_text options input)
       → end ≡ capture_end options input → Ends options run (Ok end)

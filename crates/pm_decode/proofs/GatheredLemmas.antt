@@ -1,6 +1,6 @@
 -- What was taken of a reader and written, with a piece more, and at the end.
 use Rattle.std.proofs.Common.{◌≡◌, ℕ, ◌+◌, ◌<◌, ◌≤◌, ◌≢◌, Bool, List, [], ◌++◌, length, take, drop}
-use Rattle.std.proofs.Common.{Option, Result, Ok, Err, IfOk, IfErr, IsFalse, IsTrue, ◌↔◌}
+use Rattle.std.proofs.Common.{Option, None, Result, Ok, Err, IfOk, IfErr, IsFalse, IsTrue, ◌↔◌}
 use Rattle.std.proofs.Common.{refl, sym, ap, subst, ◌∙◌, arith, append_assoc, append-nil, length-append, length-drop, take-append-drop}
 use Rattle.std.proofs.lemmas.List.{length-take, nil_from_length}
 use Rattle.std.specs.Prelude.{MatchResult}
@@ -9,13 +9,11 @@ use Rattle.std.proofs.KnownBytes.{Appends-nil, Appends-trans, Consumes-nil, Cons
 use Rattle.pm_lines.specs.declared.fault.TextFault.{TextFault}
 use Rattle.pm_lines.specs.declared.fault.TextFault.TheVariants.{Syntax, BadHex, TooLong, Read, Write, Memory, Setup}
 use Rattle.pm_lines.specs.Streams.{AppendsFront}
-use Rattle.pm_trace.specs.TraceText.{end_of}
 use Rattle.pm_trace.specs.Written.{Puts}
 use Rattle.pm_lines.specs.Lines.{is_line_feed, lines_of}
 use Rattle.pm_trace.specs.Counts.{counts_of}
-use Rattle.pm_trace.specs.declared.decode_end.DecodeEnd.{DecodeEnd}
 use Rattle.pm_trace.specs.declared.decode_end.DecodeEnd.TheVariants.{Clean}
-use Rattle.pm_decode.specs.Hearing.{heard_of}
+use Rattle.pm_decode.specs.Hearing.{heard_of, told_end}
 use Rattle.pm_decode.specs.Readings.{entries_of}
 use Rattle.pm_decode.proofs.PutLemmas.{AppendsFront-behind, as_all}
 use Rattle.pm_decode.specs.CaptureText.{capture_end, capture_text, counts_text}
@@ -25,7 +23,8 @@ use Rattle.pm_trace.specs.Lemmas.Runs.{told-append}
 use Rattle.pm_decode.specs.LongEngine.{IsWhole}
 use Rattle.pm_decode.specs.WrittenCaptures.{Gathered, Hears, StopsBytes, StopsHearing, WrittenCapture}
 use Rattle.pm_decode.specs.declared.options.TellOptions.{TellOptions}
-use Rattle.pm_decode.proofs.CapturingLemmas.{capture_text-end, heard-end, kept_of-append, length_kept, next-taken, options_kept}
+use Rattle.pm_decode.specs.declared.telling.TellEnd.{TellEnd}
+use Rattle.pm_decode.proofs.CapturingLemmas.{capture_text-end, heard-end, kept_of-append, length_kept, next-taken, options_at_end, options_kept}
 use Rattle.pm_decode.proofs.CapturingLemmas.{said_text-append}
 
 -- no bytes say nothing
@@ -34,7 +33,7 @@ unfolding said
 said_none options = refl
 
 -- a capture of no bytes ends well
-nothing_end : (options : TellOptions) → Clean ≡ capture_end options []
+nothing_end : (options : TellOptions) → record { end = Clean; hint = None } ≡ capture_end options []
 unfolding entries_of lines_of heard_of counts_of
 nothing_end options = refl
 
@@ -251,11 +250,11 @@ module _ (options : TellOptions) (r0 r1 w0 w1 w2 : Option (List ℕ)) (input : L
       (end_text text is ∙ ap (λ l. said_text options input ++ l) (sym (append-nil text)))
 
   -- how a capture ends follows from its counts
-  pub end_counts : (new : Kept) (end : DecodeEnd) → new ≡ kept_at_end old → end ≡ end_of new.heard.counts
+  pub end_counts : (new : Kept) (end : TellEnd) → new ≡ kept_at_end old → end ≡ told_end new.options new.heard
       → end ≡ capture_end options input
   end_counts new end kept is =
-      is ∙ ap (λ k. end_of k.heard.counts) (kept ∙ ap kept_at_end written.kept_is)
-      ∙ ap (λ h. end_of h.counts) (sym (heard-end options input))
+      is ∙ ap (λ k. told_end k.options k.heard) (kept ∙ ap kept_at_end written.kept_is)
+      ∙ λ i. told_end (options_at_end options input i) (sym (heard-end options input) i)
 
   -- memory was refused at the end of a capture that has bytes
   pub end_memory : old.taken ≢ 0 → (front : List ℕ) × (text : List ℕ) × (rest : List ℕ) × (0 < length front)
@@ -293,7 +292,7 @@ module _ (options : TellOptions) (r0 r1 w0 w1 w2 : Option (List ℕ)) (input : L
       (ap (capture_text options) (none_input none) ∙ sym is ∙ sym (append-nil text) ∙ ap (λ l. l ++ (text ++ [])) (sym nothing))
 
   -- where there was no byte, the capture ends well
-  pub none_end : old.taken ≡ 0 → Clean ≡ capture_end options input
+  pub none_end : old.taken ≡ 0 → record { end = Clean; hint = None } ≡ capture_end options input
   none_end none = nothing_end options ∙ ap (capture_end options) (sym (none_input none))
 
 -- ---- a piece

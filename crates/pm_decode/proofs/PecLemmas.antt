@@ -1,9 +1,9 @@
 -- What a packet says where its PEC may be missing.
-use Rattle.std.proofs.Common.{◌≡◌, ◌∙◌, Bool, true, false, cond, List, ℕ, Option, Some, None, refl, sym, ap, true≢false}
-use Rattle.std.specs.Prelude.{is_some}
-use Rattle.pm_trace.specs.Trace.{Judged, parts_judged}
-use Rattle.pm_values.specs.Otherwise.{IsCompleted, completed_judged, judged_with, lacks_pec}
-use Rattle.pm_decode.specs.Readings.{is_without_pec, judged_by}
+use Rattle.std.proofs.Common.{◌≡◌, ◌∙◌, Bool, true, false, not, ◌||◌, ◌&&◌, cond, length, List, ℕ, Option, Some, None, refl, sym, ap, true≢false}
+use Rattle.std.specs.Prelude.{is_some, nat_lt}
+use Rattle.pm_trace.specs.Trace.{Judged, Accepted, Faulty, BadSyntax, BadHex, parts_judged}
+use Rattle.pm_values.specs.Otherwise.{IsCompleted, address_otherwise, completed_judged, is_accepted, is_all_ones, is_short, judged_with, lacks_pec, last_part}
+use Rattle.pm_decode.specs.Readings.{is_without_pec, judged_by, other_address}
 
 -- a choice that is made
 chosen : (b : Bool) (x y : Judged) → b ≡ true → cond b x y ≡ x
@@ -31,3 +31,45 @@ pub usual_said : (all : Bool) (write : List ℕ) (read : Option (List ℕ)) → 
     → parts_judged write read ≡ judged_by all (record { write = write; read = read })
 usual_said false write read lacks = refl
 usual_said true write read lacks = sym (left (lacks_pec write read) (completed_judged write read) (parts_judged write read) lacks)
+
+-- ---- a packet that is good, or of those that are told as the command table has them
+
+-- one that is good lacks nothing
+good_lacks : (write : List ℕ) (read : Option (List ℕ)) → is_accepted (parts_judged write read) ≡ true → lacks_pec write read ≡ false
+good_lacks write read good = by (parts_judged write read) good
+  where
+    rest : Bool
+    rest = nat_lt (length (last_part write read)) 16
+        && (not (is_all_ones write read) && is_accepted (completed_judged write read))
+
+    by : (judged : Judged) → is_accepted judged ≡ true → (is_short judged && rest) ≡ false
+    by (Accepted addr message answer) is = refl
+    by (Faulty addr is_read fault) is = absurd (true≢false (sym is))
+    by BadSyntax is = absurd (true≢false (sym is))
+    by BadHex is = absurd (true≢false (sym is))
+
+-- it says what it says by itself
+pub good_said : (all : Bool) (write : List ℕ) (read : Option (List ℕ)) → (not all || is_accepted (parts_judged write read)) ≡ true
+    → parts_judged write read ≡ judged_by all (record { write = write; read = read })
+good_said false write read good = refl
+good_said true write read good =
+    sym (left (lacks_pec write read) (completed_judged write read) (parts_judged write read) (good_lacks write read good))
+
+-- it has its PEC
+pub good_whole : (all : Bool) (write : List ℕ) (read : Option (List ℕ)) → (not all || is_accepted (parts_judged write read)) ≡ true
+    → false ≡ is_without_pec all (record { write = write; read = read })
+good_whole false write read good = refl
+good_whole true write read good = sym (good_lacks write read good)
+
+-- it isn't told by its code and bytes
+pub good_known : (all : Bool) (write : List ℕ) (read : Option (List ℕ)) → (not all || is_accepted (parts_judged write read)) ≡ true
+    → None ≡ other_address all (record { write = write; read = read })
+good_known false write read good = refl
+good_known true write read good =
+    by (parts_judged write read) good ∙ ap (address_otherwise write read) (good_said true write read good)
+  where
+    by : (judged : Judged) → is_accepted judged ≡ true → None ≡ address_otherwise write read judged
+    by (Accepted addr message answer) is = refl
+    by (Faulty addr is_read fault) is = absurd (true≢false (sym is))
+    by BadSyntax is = absurd (true≢false (sym is))
+    by BadHex is = absurd (true≢false (sym is))

@@ -1,8 +1,11 @@
 -- What is told without options is what a trace is told as.
 use Rattle.std.proofs.Common.{◌≡◌, ◌∙◌, ℕ, ◌+◌, Bool, false, List, [], ◌∷◌, ◌++◌, map, filter, codes, Some, None, Result, Ok, Err}
-use Rattle.std.proofs.Common.{refl, sym, ap, arith, append_assoc, append-nil}
+use Rattle.std.proofs.Common.{refl, sym, ap, arith, append_assoc, append-nil, inl, inr, subst}
 use Rattle.std.specs.Prelude.{decimal, flat_map}
 use Rattle.std.specs.List.{filter_map, enumerate_from}
+use Rattle.pm_lines.specs.Engine.{Engine, EngineEnds, Run}
+use Rattle.pm_lines.specs.declared.fault.TextFault.{TextFault}
+use Rattle.pm_lines.specs.declared.fault.TextFault.TheVariants.{Syntax, BadHex, TooLong, Read, Write, Memory, Setup}
 use Rattle.pm_lines.specs.Lines.{is_line_feed, is_unskipped, without_return}
 use Rattle.pm_trace.specs.Marks.{ended}
 use Rattle.pm_trace.specs.Decoding.{said as trace_said}
@@ -16,6 +19,7 @@ use Rattle.pm_trace.specs.Counts.{counted, counts_of, lines_in}
 use Rattle.pm_trace.specs.Trace.{line_read, parts_judged, reading_judged, told_of, trace_of}
 use Rattle.pm_trace.specs.TraceText.{count_line, counts_text as trace_counts, judged_text, told_line as trace_line, told_lines, told_text}
 use Rattle.pm_trace.specs.TraceText.{totals_line as trace_totals, trace_text}
+use Rattle.pm_trace.specs.declared.decode_end.DecodeEnd.{DecodeEnd}
 use Rattle.pm_trace.specs.declared.line_fault.LineFault.{LineFault}
 use Rattle.pm_trace.specs.declared.trace_line.TraceLine.{TraceLine}
 use Rattle.pm_values.specs.declared.formats.GivenFormats.{GivenFormats}
@@ -23,7 +27,42 @@ use Rattle.pm_decode.specs.CaptureText.{capture_text, counts_text, line_text, li
 use Rattle.pm_decode.specs.Hearing.{HeardLines, Known, heard_of, known_by, other_code, other_code_in, told_in, told_unless, unknown}
 use Rattle.pm_decode.specs.Laws.{plain_options}
 use Rattle.pm_decode.specs.Readings.{Told, entries_of, entry_of, judged_as}
+use Rattle.pm_decode.specs.declared.telling.TellEnd.{TellEnd}
 use Rattle.pm_decode.specs.declared.options.TellOptions.{TellOptions}
+
+-- ---- how a telling ends, without what may be wrong
+
+-- the engine of a telling whose end says that alone
+abbrev ending : TellOptions → Engine DecodeEnd
+ending options = record {
+  whole = λ input. Ok (capture_text options input, (capture_end options input).end);
+  early = Some (λ front. said_text options front);
+}
+
+abbrev pub end_alone : Result TellEnd TextFault → Result DecodeEnd TextFault
+end_alone (Ok told) = Ok told.end
+end_alone (Err fault) = Err fault
+
+abbrev made_alone : Result (List ℕ × TellEnd) TextFault → Result (List ℕ × DecodeEnd) TextFault
+made_alone (Ok made) = Ok (made.0, made.1.end)
+made_alone (Err fault) = Err fault
+
+ends_alone : {R W : Type 0} (options : TellOptions) (run : Run R W) (result : Result TellEnd TextFault)
+    → EngineEnds (telling options) run result → EngineEnds (ending options) run (end_alone result)
+ends_alone options run (Ok told) (read, sound, text, (input, whole, made), got) =
+    (read, sound, text, (input, whole, ap made_alone made), got)
+ends_alone options run (Err Write) (failed, text, so_far, inl under_way, cut) = (failed, text, so_far, inl under_way, cut)
+ends_alone options run (Err Write) (failed, text, so_far, inr (told, (input, whole, made)), cut) =
+    (failed, text, so_far, inr (told.end, (input, whole, ap made_alone made)), cut)
+ends_alone options run (Err TooLong) ends = ends
+ends_alone options run (Err Read) ends = ends
+ends_alone options run (Err Memory) ends = ends
+ends_alone options run (Err (Syntax line)) (sound, why, front, (whole, made), left) =
+    (sound, why, front, (whole, ap made_alone made), left)
+ends_alone options run (Err (BadHex line)) (sound, why, front, (whole, made), left) =
+    (sound, why, front, (whole, ap made_alone made), left)
+ends_alone options run (Err (Setup reason)) (sound, why, front, (whole, made), left) =
+    (sound, why, front, (whole, ap made_alone made), left)
 
 module _ (formats : GivenFormats) (long : Bool) (gap : ℕ) where
   abbrev plain : TellOptions
@@ -101,13 +140,19 @@ module _ (formats : GivenFormats) (long : Bool) (gap : ℕ) where
   unfolding said trace_said
   said_by text = lines_by unknown (filter is_unskipped (enumerate_from 1 (map without_return (ended is_line_feed text))))
 
-  end_by : (text : List ℕ) → capture_end plain text ≡ end_of (counts_of (trace_of text))
+  end_by : (text : List ℕ) → (capture_end plain text).end ≡ end_of (counts_of (trace_of text))
   unfolding entries_of trace_of unskipped_from
   end_by text = ap end_of (heard_by (unskipped_from 1 text))
 
   -- a telling without options is the engine that decodes
-  pub plain_engine : telling plain ≡ decoding
+  plain_engine : ending plain ≡ decoding
   plain_engine = λ i. record {
     whole = λ input. Ok (plain_text input i, end_by input i);
     early = Some (λ front. said_by front i);
   }
+
+  -- it ends as that engine does
+  pub plain_ends : {R W : Type 0} (run : Run R W) (result : Result TellEnd TextFault)
+      → EngineEnds (telling plain) run result → EngineEnds decoding run (end_alone result)
+  plain_ends run result ends =
+      subst (λ (engine : Engine DecodeEnd). EngineEnds engine run (end_alone result)) plain_engine (ends_alone plain run result ends)

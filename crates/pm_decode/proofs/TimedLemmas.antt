@@ -1,6 +1,6 @@
 -- What is kept of a line with one byte more at its end, and what it reads as where it ends.
 use Rattle.std.proofs.Common.{◌≡◌, ℕ, ◌+◌, ◌-◌, ◌<◌, ◌≤◌, eqb, Bool, true, false, cond, not, ◌||◌, ◌&&◌, List, [], ◌∷◌, ◌++◌, length, take}
-use Rattle.std.proofs.Common.{drop, get_or, None}
+use Rattle.std.proofs.Common.{drop, get_or, true≢false, None}
 use Rattle.std.proofs.Common.{refl, sym, ap, subst, ◌∙◌, arith, append_assoc, append-nil, inl, inr, length-append, ne_eqb}
 use Rattle.std.proofs.lemmas.List.Folds.{list_any-append}
 use Rattle.std.proofs.lemmas.List.Sums.{fold-append}
@@ -22,8 +22,8 @@ use Rattle.pm_trace.specs.Lemmas.PlainLines.{part_of-snoc}
 use Rattle.pm_trace.specs.Lemmas.Said.{open_reads, skipped_kind}
 use Rattle.pm_decode.specs.Readings.{Told, Noted, behind_word, first_word, from_first, is_comment, is_noted, is_passed, past_spaces, reading_of}
 use Rattle.pm_decode.specs.Readings.{remark_of, said_of, time_in, timed}
-use Rattle.pm_decode.specs.TimedLines.{PassesTimed, begun_with, head_takes, passes_timed, skips_timed, timed_of, timed_read, timed_said}
-use Rattle.pm_decode.specs.TimedLines.{timed_takes, word_ended}
+use Rattle.pm_decode.specs.TimedLines.{PassesTimed, begun_with, head_takes, is_told, passes_timed, plain_takes, skips_timed, timed_of, timed_read}
+use Rattle.pm_decode.specs.TimedLines.{timed_said, timed_takes, word_ended}
 use Rattle.pm_decode.specs.declared.comment.Remark.TheVariants.{Elsewhere, Unacknowledged, Loss}
 use Rattle.pm_decode.specs.declared.options.TellOptions.{TellOptions}
 use Rattle.pm_decode.specs.declared.timed_line.TimedLine.{TimedLine}
@@ -218,10 +218,21 @@ over_took false true true behind b is = refl
 over_took false true false behind b is = refl
 over_took false false some behind b is = refl
 
--- the law of the line: one byte more at its end is one step
-pub timed_of-snoc : (times : Bool) (xs : List ℕ) (b : ℕ) → timed_of times (xs ++ b ∷ []) ≡ timed_takes (timed_of times xs) b
-unfolding timed_of timed_takes
-timed_of-snoc false xs b = λ i. record {
+-- a line of which each byte may be a packet's, of a comment too
+abbrev whole_of : Bool → List ℕ → TimedLine
+whole_of times line = record {
+  times = times;
+  has_mark = is_comment line;
+  is_begun = has_bytes line;
+  is_over = cond times (has_bytes (behind_word line)) true;
+  head = cond (is_comment line) (take 16 line) [];
+  word = part_of (cond times (first_word line) []);
+  packet = line_of (cond times (behind_word line) line);
+}
+
+-- one byte more at its end
+whole_of-snoc : (times : Bool) (xs : List ℕ) (b : ℕ) → whole_of times (xs ++ b ∷ []) ≡ plain_takes (whole_of times xs) b
+whole_of-snoc false xs b = λ i. record {
   times = false;
   has_mark = mark-snoc xs b i;
   is_begun = some_there xs b i;
@@ -230,7 +241,7 @@ timed_of-snoc false xs b = λ i. record {
   word = part_of [];
   packet = line_of-snoc xs b i;
 }
-timed_of-snoc true xs b = λ i. record {
+whole_of-snoc true xs b = λ i. record {
   times = true;
   has_mark = mark-snoc xs b i;
   is_begun = some_there xs b i;
@@ -263,15 +274,98 @@ timed_of-snoc true xs b = λ i. record {
         ∙ packet_took over (is_space b) (has_bytes (first_word xs)) (behind_word xs) b refl
         ∙ ap (λ c. cond c (line_takes (line_of (behind_word xs)) b) (line_of (behind_word xs))) tests
 
+-- a line by whether it is a comment
+abbrev timed_by : Bool → Bool → List ℕ → TimedLine
+timed_by mark times line = record {
+  times = times;
+  has_mark = mark;
+  is_begun = has_bytes line;
+  is_over = cond times (has_bytes (behind_word (cond mark (take 1 line) line))) true;
+  head = cond mark (take 16 line) [];
+  word = part_of (cond times (first_word (cond mark (take 1 line) line)) []);
+  packet = line_of (cond times (behind_word (cond mark (take 1 line) line)) (cond mark (take 1 line) line));
+}
+
+-- of one that is none each byte may be a packet's
+plain_of : (times : Bool) (line : List ℕ) → is_comment line ≡ false → whole_of times line ≡ timed_by false times line
+plain_of times line is = λ i. record {
+  times = times;
+  has_mark = is i;
+  is_begun = has_bytes line;
+  is_over = cond times (has_bytes (behind_word line)) true;
+  head = cond (is i) (take 16 line) [];
+  word = part_of (cond times (first_word line) []);
+  packet = line_of (cond times (behind_word line) line);
+}
+
+-- so it is of a line of one byte
+single_of : (times : Bool) (b : ℕ) → whole_of times (b ∷ []) ≡ timed_by (is_comment (b ∷ [])) times (b ∷ [])
+single_of times b = by (is_comment (b ∷ []))
+  where
+    own : (c : Bool) → b ∷ [] ≡ cond c (take 1 (b ∷ [])) (b ∷ [])
+    own true = refl
+    own false = refl
+
+    by : (c : Bool) → record {
+      times = times;
+      has_mark = c;
+      is_begun = true;
+      is_over = cond times (has_bytes (behind_word (b ∷ []))) true;
+      head = cond c (take 16 (b ∷ [])) [];
+      word = part_of (cond times (first_word (b ∷ [])) []);
+      packet = line_of (cond times (behind_word (b ∷ [])) (b ∷ []));
+    } ≡ timed_by c times (b ∷ [])
+    by c = λ i. record {
+      times = times;
+      has_mark = c;
+      is_begun = true;
+      is_over = cond times (has_bytes (behind_word (own c i))) true;
+      head = cond c (take 16 (b ∷ [])) [];
+      word = part_of (cond times (first_word (own c i)) []);
+      packet = line_of (cond times (behind_word (own c i)) (own c i));
+    }
+
+-- the law of the line: one byte more at its end is one step
+pub timed_of-snoc : (times : Bool) (xs : List ℕ) (b : ℕ) → timed_of times (xs ++ b ∷ []) ≡ timed_takes (timed_of times xs) b
+unfolding timed_of timed_takes
+timed_of-snoc times [] b = sym (single_of times b) ∙ whole_of-snoc times [] b
+timed_of-snoc times (x ∷ xs) b = by (is_comment (x ∷ xs)) refl
+  where
+    line : List ℕ
+    line = x ∷ xs
+
+    by : (c : Bool) → is_comment line ≡ c → timed_by c times (line ++ b ∷ [])
+        ≡ cond c (record (timed_by c times line) { head = head_takes (timed_by c times line).head b }) (plain_takes (timed_by c times line) b)
+    by true is = λ i. record {
+      times = times;
+      has_mark = true;
+      is_begun = true;
+      is_over = cond times (has_bytes (behind_word (take 1 line))) true;
+      head = take-snoc line b i;
+      word = part_of (cond times (first_word (take 1 line)) []);
+      packet = line_of (cond times (behind_word (take 1 line)) (take 1 line));
+    }
+    by false is = sym (plain_of times (line ++ b ∷ []) is) ∙ whole_of-snoc times line b ∙ ap (λ l. plain_takes l b) (plain_of times line is)
+
 -- ---- bytes of a piece
 
--- a line that is no comment, and all of whose further bytes are the packet's own
-pub packet_fold : (line : TimedLine) (front : List ℕ) → line.is_begun ≡ true → line.is_over ≡ true → line.has_mark ≡ false
-    → fold timed_takes line front ≡ record line { packet = fold line_takes line.packet front }
+-- a line that is no comment yet takes a byte so
+takes_plain : (line : TimedLine) (b : ℕ) → (line.is_begun && line.has_mark) ≡ false → timed_takes line b ≡ plain_takes line b
 unfolding timed_takes
+takes_plain line b is = ap (λ c. cond c (record line { head = head_takes line.head b }) (plain_takes line b)) is
+
+-- a line that is no comment with its first byte isn't one before it
+unmarked : (begun mark first : Bool) → cond begun mark first ≡ false → (begun && mark) ≡ false
+unmarked true mark first is = is
+unmarked false mark first is = refl
+
+-- a line that is no comment, and all of whose further bytes are the packet's own
+packet_fold : (line : TimedLine) (front : List ℕ) → line.is_begun ≡ true → line.is_over ≡ true → line.has_mark ≡ false
+    → fold timed_takes line front ≡ record line { packet = fold line_takes line.packet front }
 packet_fold line [] begun over plain = refl
 packet_fold line (b ∷ front) begun over plain =
-    packet_fold (timed_takes line b) front refl (ap (λ c. c || (is_space b && has_bytes line.word.bytes)) over)
+    ap (λ l. fold timed_takes l front) (takes_plain line b (ap (λ c. c && line.has_mark) begun ∙ plain))
+    ∙ packet_fold (plain_takes line b) front refl (ap (λ c. c || (is_space b && has_bytes line.word.bytes)) over)
     (ap (λ c. cond c line.has_mark (eqb b 35)) begun ∙ plain)
     ∙ λ i. record {
       times = line.times;
@@ -287,9 +381,9 @@ packet_fold line (b ∷ front) begun over plain =
 -- a line that is no comment, and all of whose bytes are the packet's own, of which this is one
 packet_begun : (line : TimedLine) (x : ℕ) (front : List ℕ) → line.is_over ≡ true → cond line.is_begun line.has_mark (eqb x 35) ≡ false
     → fold timed_takes line (x ∷ front) ≡ record (begun_with line x) { packet = fold line_takes line.packet (x ∷ front) }
-unfolding timed_takes
 packet_begun line x front over plain =
-    packet_fold (timed_takes line x) front refl (ap (λ c. c || (is_space x && has_bytes line.word.bytes)) over) plain
+    ap (λ l. fold timed_takes l front) (takes_plain line x (unmarked line.is_begun line.has_mark (eqb x 35) plain))
+    ∙ packet_fold (plain_takes line x) front refl (ap (λ c. c || (is_space x && has_bytes line.word.bytes)) over) plain
     ∙ λ i. record {
       times = line.times;
       has_mark = cond line.is_begun line.has_mark (eqb x 35);
@@ -300,6 +394,19 @@ packet_begun line x front over plain =
       packet = fold line_takes (ap (λ c. cond (c || (is_space x && has_bytes line.word.bytes)) (line_takes line.packet x) line.packet) over
           i) front;
     }
+
+-- a comment whose first bytes are kept stays as it is
+told_takes : (line : TimedLine) (b : ℕ) → is_told line ≡ true → line ≡ timed_takes line b
+unfolding timed_takes
+told_takes line b told = by line.is_begun line.has_mark (nat_lt (length line.head) 16) refl refl refl told
+  where
+    by : (begun mark more : Bool) → line.is_begun ≡ begun → line.has_mark ≡ mark → nat_lt (length line.head) 16 ≡ more
+        → (begun && (mark && not more)) ≡ true
+        → line ≡ cond (line.is_begun && line.has_mark) (record line { head = head_takes line.head b }) (plain_takes line b)
+    by true true false begun mark full is = rw (begun, mark, full) refl
+    by true true true begun mark full is = absurd (true≢false (sym is))
+    by true false more begun mark full is = absurd (true≢false (sym is))
+    by false mark more begun marked full is = absurd (true≢false (sym is))
 
 -- the packet took all bytes up to the first line feed, of which there are some, of a line that is no comment
 pub passes_packet : (old : TimedLine) (bytes rest : List ℕ) (packet : OpenLine) → old.is_over ≡ true → 1 ≤ length bytes
@@ -348,6 +455,12 @@ passes_one {old = old} {mid = mid} {bytes = bytes} (x ∷ xs) new passes some ot
       plain = list_any-append is_line_feed passes.front (x ∷ []) ∙ rw (passes.plain, ne_eqb x 10 other) refl;
       line = is ∙ ap (λ l. timed_takes l x) passes.line ∙ sym (fold-append timed_takes old passes.front (x ∷ []));
     }
+
+-- one more of a comment whose first bytes are kept
+pub passes_told : (line : TimedLine) (bytes rest : List ℕ) → is_told line ≡ true → PassesTimed line bytes rest line
+    → 1 ≤ length rest → (get_or rest 0 0 ≡ 10 → ⊥) → PassesTimed line bytes (take (length rest - 1) (drop 1 rest)) line
+passes_told line bytes rest told passes some other =
+    passes_one rest line passes some other (told_takes line (get_or rest 0 0) told)
 
 -- more at once
 pub passes_more : (old : TimedLine) (bytes mid_rest rest : List ℕ) (mid new : TimedLine) → PassesTimed old bytes mid_rest mid
@@ -468,13 +581,12 @@ time_kept over word = by (nat_lt 300 (length word)) refl
         let few : length word ≤ 300 = grind (arith, nat_tests) in
         ap (λ l. time_in (cond over l (without_return l))) (take_all 300 word few)
 
--- the law of a line's reading: what is kept of a line reads as the line does
-pub timed_reads : (times : Bool) (line : List ℕ) → timed_read (timed_of times line) ≡ reading_of times (without_return line)
-unfolding timed_of
+-- the law of a line's reading: what is kept of a line that is no comment reads as the line does
+timed_reads : (times : Bool) (line : List ℕ) → timed_read (timed_by false times line) ≡ reading_of times (without_return line)
 timed_reads false line = λ i. record { time = None; parts = open_line_reads line i }
 timed_reads true line =
     let ends = word_ends line in
-    let time : cond (part_of (first_word line)).is_long None (time_in (word_ended (timed_of true line)))
+    let time : cond (part_of (first_word line)).is_long None (time_in (word_ended (timed_by false true line)))
     ≡ time_in (first_word (without_return line)) =
     time_kept (has_bytes (behind_word line)) (first_word line) ∙ ap time_in (sym ends.word) in
     let parts : open_read (line_of (behind_word line)) ≡ line_read (behind_word (without_return line)) =
@@ -542,18 +654,30 @@ or_turned : (a b : Bool) → (a || b) ≡ (b || a)
 or_turned true b = sym (or-true b)
 or_turned false b = sym (or-false b)
 
--- a line is skipped by what is kept of it
-pub timed_skips : (times : Bool) (line : List ℕ) → skips_timed (timed_of times line) ≡ is_skipped (without_return line)
-unfolding timed_of line_of plain_line
-timed_skips false line = sym (skipped_kind (without_return line))
-timed_skips true line =
-    let word : has_bytes (word_ended (timed_of true line)) ≡ has_bytes (first_word (without_return line)) =
+-- a line that is no comment is skipped by what is kept of it
+plain_skips : (times : Bool) (line : List ℕ) → is_comment line ≡ false
+    → skips_timed (timed_by false times line) ≡ is_skipped (without_return line)
+unfolding line_of plain_line
+plain_skips false line plain = sym (skipped_kind (without_return line))
+plain_skips true line plain =
+    let word : has_bytes (word_ended (timed_by false true line)) ≡ has_bytes (first_word (without_return line)) =
     word_there (has_bytes (behind_word line)) (first_word line)
     ∙ ap has_bytes (sym (word_ends line).word) in
-    ap (λ c. starts_with nat_eq line (codes "#") || not c) word
-    ∙ ap (λ c. c || not (has_bytes (first_word (without_return line)))) (sym (mark_kept line))
+    ap not word
+    ∙ ap (λ c. c || not (has_bytes (first_word (without_return line)))) (sym (mark_kept line ∙ plain))
     ∙ ap (λ c. starts_with nat_eq (without_return line) (codes "#") || c) (sym (no_word (without_return line)))
     ∙ or_turned (starts_with nat_eq (without_return line) (codes "#")) (list_all is_space (without_return line))
+
+-- a line is skipped by what is kept of it
+pub timed_skips : (times : Bool) (line : List ℕ) → skips_timed (timed_of times line) ≡ is_skipped (without_return line)
+unfolding timed_of
+timed_skips times line = by (is_comment line) refl
+  where
+    by : (c : Bool) → is_comment line ≡ c → skips_timed (timed_by c times line) ≡ is_skipped (without_return line)
+    by true is =
+        sym (or-true (list_all is_space (without_return line)))
+        ∙ ap (λ c. list_all is_space (without_return line) || c) (sym (mark_kept line ∙ is))
+    by false is = plain_skips times line is
 
 -- a line is a comment by what is kept of it
 marked : (times : Bool) (line : List ℕ) → (timed_of times line).has_mark ≡ is_comment line
@@ -608,21 +732,20 @@ remark_kept line = λ i. cond (start (codes "# another device") (omega arith) re
     start begin few plain =
         ap (pointwise nat_eq begin) (take-take (length begin) 16 line few) ∙ sym (start_returned line begin plain)
 
--- a line is by what is kept of it what it is
-pub timed_says : (options : TellOptions) (line : List ℕ)
+-- a line of which something is said is by what is kept of it what it is
+pub timed_says : (options : TellOptions) (line : List ℕ) → is_passed options.pages (without_return line) ≡ false
     → timed_said options.pages (timed_of options.times line) ≡ said_of options (without_return line)
 unfolding timed_of
-timed_says options line =
-    by options.pages (is_comment line)
+timed_says options line heard =
+    by options.pages (is_comment line) refl (timed_passes options line ∙ heard)
     ∙ ap (λ c. cond (options.pages && c) (Noted (remark_of (without_return line)))
     (Told (reading_of options.times (without_return line)))) (sym (mark_kept line))
   where
-    told : Told (timed_read (timed_of options.times line)) ≡ Told (reading_of options.times (without_return line))
-    told = ap Told (timed_reads options.times line)
-
-    by : (pages c : Bool)
-        → cond (pages && c) (Noted (remark_of (cond c (take 16 line) []))) (Told (timed_read (timed_of options.times line)))
+    by : (pages c : Bool) → is_comment line ≡ c
+        → (not (pages && c) && skips_timed (timed_by c options.times line)) ≡ false
+        → cond (pages && c) (Noted (remark_of (cond c (take 16 line) []))) (Told (timed_read (timed_by c options.times line)))
         ≡ cond (pages && c) (Noted (remark_of (without_return line))) (Told (reading_of options.times (without_return line)))
-    by true true = ap Noted (remark_kept line)
-    by true false = told
-    by false c = told
+    by true true is heard = ap Noted (remark_kept line)
+    by true false is heard = ap Told (timed_reads options.times line)
+    by false true is heard = absurd (true≢false heard)
+    by false false is heard = ap Told (timed_reads options.times line)

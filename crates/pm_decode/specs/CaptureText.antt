@@ -5,20 +5,20 @@ use Rattle.std.specs.Map.{lookup}
 use Rattle.pm_lines.specs.Numbers.{hex_byte}
 use Rattle.pm_trace.specs.Counts.{total_of}
 use Rattle.pm_trace.specs.Trace.{Judged, Accepted, Faulty, BadSyntax, BadHex, reading_judged}
-use Rattle.pm_trace.specs.TraceText.{count_line, end_of, judged_text, message_text}
-use Rattle.pm_trace.specs.declared.decode_end.DecodeEnd.{DecodeEnd}
+use Rattle.pm_trace.specs.TraceText.{count_line, judged_text, message_text}
 use Rattle.pm_trace.specs.declared.line_fault.LineFault.{LineFault}
 use Rattle.pm_trace.specs.declared.trace_line.TraceLine.{TraceLine}
 use Rattle.pm_values.specs.Otherwise.{other_text, spaced}
 use Rattle.pm_values.specs.Taught.{Taught}
 use Rattle.pm_values.specs.ValueText.{known_text}
 use Rattle.pm_values.specs.Values.{packet_value}
-use Rattle.pm_decode.specs.Hearing.{HeardLines, Known, heard_of, heard_lines, known_by, unknown}
+use Rattle.pm_decode.specs.Hearing.{HeardLines, Known, heard_lines, heard_of, known_by, told_end, unknown}
 use Rattle.pm_decode.specs.JsonText.{count_json, judged_fields, lack_field, number_field_if, other_fields, other_jsons, text_field, totals_json, wrong_field}
 use Rattle.pm_decode.specs.PageSteps.{marks_in}
 use Rattle.pm_decode.specs.Readings.{Entry, Said, Told, Noted, entries_of, judged_by, other_address}
 use Rattle.pm_decode.specs.declared.options.TellOptions.{TellOptions}
 use Rattle.pm_decode.specs.declared.page_step.Marks.{Marks}
+use Rattle.pm_decode.specs.declared.telling.TellEnd.{TellEnd}
 
 -- ---- what stands behind a packet's text
 
@@ -188,6 +188,6 @@ empty_by false true = codes "lines 0 accepted 0 other 0 faults 0 bad 0\n"
 empty_by true false = codes "{\"lines\":0,\"accepted\":0,\"faults\":0,\"bad\":0}\n"
 empty_by true true = codes "{\"lines\":0,\"accepted\":0,\"other\":0,\"faults\":0,\"bad\":0}\n"
 
--- how it ends: there are bad lines, or none
-abbrev pub capture_end : TellOptions → List ℕ → DecodeEnd
-capture_end options text = end_of (heard_of options (entries_of options text)).counts
+-- how it ends: there are bad lines, or none, and what may be wrong
+abbrev pub capture_end : TellOptions → List ℕ → TellEnd
+capture_end options text = told_end options (heard_of options (entries_of options text))

@@ -1,33 +1,42 @@
 -- What is known behind the lines of a capture: what they teach and say of PAGE, and how many there were of each kind. This
 -- project's own choice.
-use Rattle.std.specs.Prelude.{ℕ, ◌+◌, Bool, List, [], Option, Some, None, Result, Ok, Err}
+use Rattle.std.specs.Prelude.{ℕ, ◌+◌, ◌==◌, ◌&&◌, nat_lt, Bool, true, false, if◌then◌else◌, List, [], Option, Some, None, Result, Ok, Err}
 use Rattle.std.specs.List.{filter_map, fold}
 use Rattle.pm_trace.specs.Counts.{Counts, counted, counts_of, counts_with, lines_in, one_more, total_of}
 use Rattle.pm_trace.specs.Pages.{Pages, no_pages}
 use Rattle.pm_trace.specs.Trace.{ToldLine}
+use Rattle.pm_trace.specs.TraceText.{end_of}
 use Rattle.pm_trace.specs.declared.line_fault.LineFault.{LineFault}
 use Rattle.pm_trace.specs.declared.trace_line.TraceLine.{TraceLine}
 use Rattle.pm_values.specs.Otherwise.{content_of}
 use Rattle.pm_values.specs.Taught.{Taught, taught_by, untaught}
+use Rattle.pm_decode.specs.Hints.{beyond_by}
 use Rattle.pm_decode.specs.PageSteps.{marks_in, pages_noted, pages_read}
 use Rattle.pm_decode.specs.Readings.{Entry, Said, Told, Noted, judged_as, other_address}
+use Rattle.pm_decode.specs.declared.hints.Hint.{Hint}
+use Rattle.pm_decode.specs.declared.hints.Hint.TheVariants.{Beyond, NoTimes, NoGoodPacket}
+use Rattle.pm_decode.specs.declared.telling.TellEnd.{TellEnd}
 use Rattle.pm_decode.specs.declared.options.TellOptions.{TellOptions}
 
 -- ---- what is known
 
--- what was taught of formats, and said of PAGE
+-- what was taught of formats, said of PAGE, and which line was the first one that ordered a voltage beyond 1000 V by the format
+-- that was given
 pub record Known : Type 0 where
   pub taught : Taught
   pub pages : Pages
+  pub beyond : Option ℕ
 
 abbrev pub unknown : Known
-unknown = record { taught = untaught; pages = no_pages }
+unknown = record { taught = untaught; pages = no_pages; beyond = None }
 
 -- behind a line that isn't skipped
 abbrev pub known_read : TellOptions → ℕ → Option ℕ → Result TraceLine LineFault → Known → Known
 known_read options number time parts known = record {
   taught = taught_by (marks_in options known.pages time parts).reached known.taught (judged_as options.all parts);
   pages = pages_read options number time parts known.pages;
+  beyond = beyond_by options known.taught (marks_in options known.pages time parts).reached number (judged_as options.all parts)
+      known.beyond;
 }
 
 abbrev pub known_said : TellOptions → ℕ → Said → Known → Known
@@ -108,3 +117,26 @@ heard_with options heard entry = record {
   counts = counts_with heard.counts (told_in options.all entry);
   others = more_if heard.others (other_code options.all entry);
 }
+
+-- ---- what may be wrong
+
+-- there are bad lines, and no packet was told as a good one or by its code
+abbrev pub is_none_told : HeardLines → Bool
+is_none_told heard = heard.counts.accepted == 0 && (total_of heard.others == 0 && nat_lt 0 heard.counts.bad)
+
+-- then with times no line is a time and a packet, where no packet has a fault; without them no line is a good packet
+abbrev pub lines_hint : Bool → ℕ → Option Hint
+lines_hint true faults = if faults == 0 then Some NoTimes else None
+lines_hint false faults = Some NoGoodPacket
+
+abbrev pub hint_from : Option ℕ → Option Hint → Option Hint
+hint_from (Some line) lines = Some (Beyond line)
+hint_from None lines = lines
+
+abbrev pub hint_by : TellOptions → HeardLines → Option Hint
+hint_by options heard = hint_from heard.known.beyond
+    (if is_none_told heard then lines_hint options.times heard.counts.faults else None)
+
+-- how a capture ends of which this was heard
+abbrev pub told_end : TellOptions → HeardLines → TellEnd
+told_end options heard = record { end = end_of heard.counts; hint = hint_by options heard }

@@ -1,6 +1,7 @@
 -- What the crate promises.
 pub mod CaptureText
 pub mod Hearing
+pub mod Hints
 pub mod JsonText
 pub mod Laws
 pub mod LongEngine

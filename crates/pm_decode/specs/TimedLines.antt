@@ -8,6 +8,10 @@ use Rattle.pm_trace.specs.Parts.{part_of, part_takes}
 use Rattle.pm_decode.specs.Readings.{Reading, Said, Told, Noted, behind_word, first_word, is_comment, remark_of, time_in, timed}
 use Rattle.pm_decode.specs.declared.timed_line.TimedLine.{TimedLine}
 
+-- the bytes of a line that may be a packet's: of a comment the first byte alone, which says that it is one
+abbrev pub own_bytes : List ℕ → List ℕ
+own_bytes line = if is_comment line then take 1 line else line
+
 -- these bytes of a line; the packet's own are all of them where lines have no time, and the first 16 of a comment tell what it
 -- says
 unfoldable pub timed_of : Bool → List ℕ → TimedLine
@@ -15,10 +19,10 @@ timed_of times line = record {
   times = times;
   has_mark = is_comment line;
   is_begun = has_bytes line;
-  is_over = if times then has_bytes (behind_word line) else true;
+  is_over = if times then has_bytes (behind_word (own_bytes line)) else true;
   head = if is_comment line then take 16 line else [];
-  word = part_of (if times then first_word line else []);
-  packet = line_of (if times then behind_word line else line);
+  word = part_of (if times then first_word (own_bytes line) else []);
+  packet = line_of (if times then behind_word (own_bytes line) else own_bytes line);
 }
 
 -- a byte is the packet's own: lines have no time, or a space ended the word, or ends it
@@ -36,9 +40,17 @@ begun_with line byte = record line {
 abbrev pub head_takes : List ℕ → ℕ → List ℕ
 head_takes head byte = if nat_lt (length head) 16 then head ++ byte ∷ [] else head
 
--- one byte more
-unfoldable pub timed_takes : TimedLine → ℕ → TimedLine
-timed_takes line byte = record {
+-- a comment goes on
+abbrev pub goes_on : TimedLine → Bool
+goes_on line = line.is_begun && line.has_mark
+
+-- and its first bytes are kept: further ones say nothing more
+abbrev pub is_told : TimedLine → Bool
+is_told line = line.is_begun && (line.has_mark && not (nat_lt (length line.head) 16))
+
+-- one byte more, of a line that isn't a comment yet
+abbrev pub plain_takes : TimedLine → ℕ → TimedLine
+plain_takes line byte = record {
   times = line.times;
   has_mark = if line.is_begun then line.has_mark else byte == 35;
   is_begun = true;
@@ -48,6 +60,10 @@ timed_takes line byte = record {
   packet = if is_of_packet line byte then line_takes line.packet byte else line.packet;
 }
 
+-- one byte more
+unfoldable pub timed_takes : TimedLine → ℕ → TimedLine
+timed_takes line byte = if goes_on line then record line { head = head_takes line.head byte } else plain_takes line byte
+
 -- ---- where the line ends here
 
 -- the word, without the carriage return that is no part of the line
@@ -56,8 +72,8 @@ word_ended line = if line.is_over then line.word.bytes else without_return line.
 
 -- the line is skipped
 abbrev pub skips_timed : TimedLine → Bool
-skips_timed line = if line.times then (line.has_mark || not (has_bytes (word_ended line)))
-    else is_skipped_kind line.packet.kind
+skips_timed line = line.has_mark
+    || (if line.times then not (has_bytes (word_ended line)) else is_skipped_kind line.packet.kind)
 
 -- what it reads as
 abbrev pub timed_read : TimedLine → Reading

@@ -6,7 +6,9 @@ ghost use Rattle.pm_decode.specs.TimedLines.{passes_timed, timed_said};
 
 use crate::counts_text::push_counts;
 use crate::heard_lines::HeardLines;
+use crate::hints::hint_of;
 use crate::options::TellOptions;
+use crate::telling::TellEnd;
 use crate::timed_line::TimedLine;
 use crate::told_text::ToldText;
 use pm_lines::MAX_TEXT;
@@ -39,7 +41,7 @@ impl Model for Capture {
 
 impl Capture {
     ghost use Rattle.std.specs.Prelude.{[], ◌+◌, ◌≤◌, ◌<◌, ◌++◌, true, OnOk, OnErr, OnSome, IfSome, MatchOption, List, ℕ, length, string_bytes};
-    ghost use Rattle.pm_trace.specs.TraceText.{end_of};
+    ghost use Rattle.pm_decode.specs.Hearing.{told_end};
     ghost use Rattle.pm_decode.specs.Capturing.{kept_at_end, kept_of, line_ended, most_bytes, next, text_ended, told, told_at_end};
     ghost use Rattle.pm_decode.specs.CaptureText.{counts_text};
 
@@ -170,14 +172,17 @@ impl Capture {
     }
 
     /// How a capture ends that was counted.
-    pub(crate) fn end(&self) -> DecodeEnd
-        ensures { result ≡ end_of self.now.heard.counts }
+    pub(crate) fn end(&self) -> TellEnd
+        ensures { result ≡ told_end self.now.options self.now.heard }
     {
         let (_, _, _, bad) = self.heard.tally().lines();
-        if bad == 0 {
-            DecodeEnd::Clean
-        } else {
-            DecodeEnd::BadLines
+        TellEnd {
+            end: if bad == 0 {
+                DecodeEnd::Clean
+            } else {
+                DecodeEnd::BadLines
+            },
+            hint: hint_of(&self.options, &self.heard),
         }
     }
 }

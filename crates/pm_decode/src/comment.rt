@@ -30,7 +30,7 @@ impl Model for CommentHead {
 }
 
 impl CommentHead {
-    ghost use Rattle.std.specs.Prelude.{[]};
+    ghost use Rattle.std.specs.Prelude.{[], length, nat_lt, not};
     ghost use Rattle.pm_decode.specs.Readings.{remark_of};
     ghost use Rattle.pm_decode.specs.TimedLines.{head_takes};
 
@@ -57,6 +57,13 @@ impl CommentHead {
         if self.bytes.len() < 16 {
             self.bytes.push(byte);
         }
+    }
+
+    /// Whether there are as many bytes as are kept.
+    pub(crate) fn is_full(&self) -> bool
+        ensures { result ≡ not (nat_lt (length self.now) 16) }
+    {
+        self.bytes.len() >= 16
     }
 
     /// What the comment says.

@@ -51,5 +51,8 @@ pub fn decode<R: Read, W: Write>(
         pages: false,
         gap: 0,
     };
-    tell(alloc, reader, writer, &options)
+    match tell(alloc, reader, writer, &options) {
+        Ok(told) => Ok(told.end),
+        Err(fault) => Err(fault),
+    }
 }

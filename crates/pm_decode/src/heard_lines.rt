@@ -1,16 +1,17 @@
 //! What is known behind the lines of a capture.
-ghost use Rattle.std.specs.Prelude.{◌≡◌, Err, IfSome, is_some, option_map};
+ghost use Rattle.std.specs.Prelude.{◌≡◌, ◌||◌, Err, IfSome, is_some, not, option_map, true};
 ghost use Rattle.pm_trace.specs.ShownLines.{judged_in};
 ghost use Rattle.pm_trace.specs.Trace.{parts_judged, reading_judged};
-ghost use Rattle.pm_values.specs.Otherwise.{IsCompleted, content_of};
+ghost use Rattle.pm_values.specs.Otherwise.{IsCompleted, content_of, is_accepted};
 ghost use Rattle.pm_decode.specs.Readings.{is_without_pec};
 ghost use Rattle.pm_decode.specs.ShownReadings.{packet_in};
 
 use crate::comment::Remark;
+use crate::hints::first_beyond;
 use crate::line_text::{push_bad_line, push_packet_line};
 use crate::options::TellOptions;
 use crate::others::Others;
-use crate::page_step::{Marks, learn_step, page_step};
+use crate::page_step::{Marks, page_step};
 use crate::timed_line::LineReading;
 use arrayvec::ArrayVec;
 use pm_trace::{LineFault, Pages, Shown, Tally, packet_shown};
@@ -23,6 +24,8 @@ use std::marker::Model;
 pub(crate) struct HeardLines {
     lessons: Lessons,
     pages: Pages,
+    // The first line that orders a voltage beyond 1000 V by the format that was given.
+    beyond: Option<u64>,
     tally: Tally,
     others: Others,
 }
@@ -32,14 +35,19 @@ impl Model for HeardLines {
 
     ghost Value = { HeardLines };
 
-    ghost view = { λ h. record { known = record { taught = h.lessons; pages = h.pages }; counts = h.tally; others = h.others } };
+    ghost view = { λ h. record { known = record { taught = h.lessons; pages = h.pages; beyond = h.beyond }; counts = h.tally; others = h.others } };
 }
 
 impl HeardLines {
     ghost use Rattle.std.specs.Prelude.{◌+◌, ◌<◌, ◌≤◌, ◌^◌, ◌++◌, codes, OnOk, Ok, string_bytes};
     ghost use Rattle.pm_trace.specs.Counts.{lines_in};
     ghost use Rattle.pm_decode.specs.CaptureText.{line_text};
-    ghost use Rattle.pm_decode.specs.Hearing.{heard_lines, heard_with, unheard};
+    ghost use Rattle.pm_decode.specs.CaptureText.{told_line};
+    ghost use Rattle.pm_decode.specs.Hearing.{heard_lines, heard_with, known_read, unheard};
+    ghost use Rattle.pm_decode.specs.Hints.{beyond_by};
+    ghost use Rattle.pm_decode.specs.Readings.{other_address};
+    ghost use Rattle.pm_values.specs.Taught.{taught_by};
+    ghost use Rattle.pm_decode.specs.declared.page_step.Marks.{Marks};
     ghost use Rattle.pm_decode.specs.Readings.{Noted, Told, judged_by};
     ghost use Rattle.pm_decode.specs.ShownReadings.{reading_in};
     ghost use Rattle.pm_decode.specs.declared.options.TellOptions.{TellOptions};
@@ -51,6 +59,7 @@ impl HeardLines {
         HeardLines {
             lessons: Lessons::new(alloc),
             pages: Pages::new(alloc),
+            beyond: None,
             tally: Tally::new(alloc),
             others: Others::new(alloc),
         }
@@ -85,7 +94,7 @@ impl HeardLines {
     }
 
     // The same of a line that could be read.
-    #[tactic(auto, using(crate::proofs::PecLemmas::completed_said, crate::proofs::PecLemmas::usual_said))]
+    #[tactic(auto, using(crate::proofs::HearingLemmas::heard_one, crate::proofs::PecLemmas::good_said, crate::proofs::PecLemmas::good_whole, crate::proofs::PecLemmas::good_known))]
     fn hear_packet(
         &mut self,
         options: &TellOptions,
@@ -103,12 +112,40 @@ impl HeardLines {
         ensures few { heard_lines self.new ≤ heard_lines self.old + 1 }
     {
         let shown = packet_shown(packet.write, packet.read);
-        match completed_if(options.all, packet, &shown) {
+        if options.pages || !is_plain(options.all, &shown) {
+            return self.hear_closely(options, number, time, packet, &shown, text);
+        }
+        let marks = Marks::without_page(false);
+        self.tell_packet(options, &marks, number, time, packet, &shown, None, text)?;
+        self.tally.count(&shown)
+    }
+
+    // The same where packets without PEC are told, or PAGE is followed.
+    #[tactic(auto, using(crate::proofs::PecLemmas::completed_said, crate::proofs::PecLemmas::usual_said))]
+    fn hear_closely(
+        &mut self,
+        options: &TellOptions,
+        number: u64,
+        time: Option<u64>,
+        packet: &Packet<'_>,
+        shown: &Shown<'_>,
+        text: &mut String,
+    ) -> Result<(), AllocError>
+        requires few { heard_lines self.old + 1 < 2 ^ 64 }
+        requires shown { judged_in shown.now ≡ parts_judged packet.now.write.now (option_map (λ bytes. bytes.now) packet.now.read) }
+        ensures text { OnOk result (string_bytes text.new ++ codes "\n" ≡ string_bytes text.old
+            ++ line_text options.now self.old.known
+            (number, Told (record { time = time; parts = Ok (packet_in packet.now) }))) }
+        ensures heard { OnOk result (self.new
+            ≡ heard_with options.now self.old (number, Told (record { time = time; parts = Ok (packet_in packet.now) }))) }
+        ensures few { heard_lines self.new ≤ heard_lines self.old + 1 }
+    {
+        match completed_if(options.all, packet, shown) {
             Some(part) => {
                 let whole = shown_with(packet.write, packet.is_read(), &part);
                 self.hear_shown(options, number, time, packet, &whole, true, text)
             }
-            None => self.hear_shown(options, number, time, packet, &shown, false, text),
+            None => self.hear_shown(options, number, time, packet, shown, false, text),
         }
     }
 
@@ -139,29 +176,92 @@ impl HeardLines {
         } else {
             None
         };
-        let step = if options.pages {
-            Some(page_step(&self.pages, options.gap, time, packet, shown, other))
+        if options.pages {
+            self.tell_on_page(options, lacks, number, time, packet, shown, other, text)?;
         } else {
-            None
-        };
+            let marks = Marks::without_page(lacks);
+            self.tell_packet(options, &marks, number, time, packet, shown, other, text)?;
+        }
+        match other {
+            None => self.tally.count(shown),
+            Some(_) => self.others.count(told_code(packet)),
+        }
+    }
+
+    // Appends a packet's line to a text where PAGE is followed, and learns what the packet teaches, orders and says of PAGE.
+    fn tell_on_page(
+        &mut self,
+        options: &TellOptions,
+        lacks: bool,
+        number: u64,
+        time: Option<u64>,
+        packet: &Packet<'_>,
+        shown: &Shown<'_>,
+        other: Option<u8>,
+        text: &mut String,
+    ) -> Result<(), AllocError>
+        requires pages { options.now.pages ≡ true }
+        requires shown { judged_in shown.now ≡ judged_by options.now.all (packet_in packet.now) }
+        requires lacks { lacks ≡ is_without_pec options.now.all (packet_in packet.now) }
+        requires other { other ≡ other_address options.now.all (packet_in packet.now) }
+        ensures text { OnOk result (string_bytes text.new ++ codes "\n" ≡ string_bytes text.old
+            ++ line_text options.now self.old.known
+            (number, Told (record { time = time; parts = Ok (packet_in packet.now) }))) }
+        ensures known { OnOk result (self.new ≡ record self.old {
+          known = known_read options.now number time (Ok (packet_in packet.now)) self.old.known;
+        }) }
+        ensures few { heard_lines self.new ≡ heard_lines self.old }
+    {
+        let step = page_step(&self.pages, options.gap, time, packet, shown, other);
         let marks = Marks::of(lacks, &step);
+        self.tell_packet(options, &marks, number, time, packet, shown, other, text)?;
+        self.pages.learn(number, step.addr, step.place, step.used)
+    }
+
+    // Appends a packet's line to a text, and learns what the packet teaches and orders.
+    fn tell_packet(
+        &mut self,
+        options: &TellOptions,
+        marks: &Marks,
+        number: u64,
+        time: Option<u64>,
+        packet: &Packet<'_>,
+        shown: &Shown<'_>,
+        other: Option<u8>,
+        text: &mut String,
+    ) -> Result<(), AllocError>
+        requires shown { judged_in shown.now ≡ judged_by options.now.all (packet_in packet.now) }
+        requires other { other ≡ other_address options.now.all (packet_in packet.now) }
+        ensures text { OnOk result (string_bytes text.new ++ codes "\n" ≡ string_bytes text.old
+            ++ told_line options.now self.old.known.taught marks.now number time (Ok (packet_in packet.now))) }
+        ensures known { OnOk result (self.new ≡ record self.old {
+          known = record self.old.known {
+            taught = taught_by marks.now.reached self.old.known.taught (judged_in shown.now);
+            beyond = beyond_by options.now self.old.known.taught marks.now.reached number (judged_in shown.now) self.old.known.beyond;
+          };
+        }) }
+        ensures few { heard_lines self.new ≡ heard_lines self.old }
+    {
         push_packet_line(
             text,
             options,
             &self.lessons,
-            &marks,
+            marks,
             number,
             time,
             packet,
             shown,
             other,
         )?;
-        self.lessons.learn(marks.reached, shown)?;
-        learn_step(&mut self.pages, number, step)?;
-        match other {
-            None => self.tally.count(shown),
-            Some(_) => self.others.count(told_code(packet)),
-        }
+        self.beyond = first_beyond(
+            options,
+            &self.lessons,
+            marks.reached,
+            number,
+            shown,
+            self.beyond,
+        );
+        self.lessons.learn(marks.reached, shown)
     }
 
     /// Hears a comment, with its number.
@@ -188,6 +288,13 @@ impl HeardLines {
         lines + self.others.total()
     }
 
+    /// The first line that ordered a voltage beyond 1000 V by the format that was given.
+    pub(crate) fn beyond(&self) -> Option<u64>
+        ensures { result ≡ self.now.known.beyond }
+    {
+        self.beyond
+    }
+
     /// The counts of the lines that are told as the command table has them.
     pub(crate) fn tally(&self) -> &Tally
         ensures { result.now ≡ self.now.counts }
@@ -201,6 +308,13 @@ impl HeardLines {
     {
         &self.others
     }
+}
+
+// Whether a packet is told as the command table has it, with its PEC: it is good, or no other is told otherwise.
+fn is_plain(all: bool, shown: &Shown<'_>) -> bool
+    ensures { result ≡ (not all || is_accepted (judged_in shown.now)) }
+{
+    !all || matches!(shown, Shown::Accepted { .. })
 }
 
 // The last part of a packet with its PEC, where it lacks nothing but that, and packets without PEC are told.

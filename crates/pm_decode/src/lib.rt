@@ -37,6 +37,7 @@ mod comment;
 mod counts_text;
 mod decoding;
 mod heard_lines;
+mod hints;
 mod json_counts;
 mod json_fields;
 mod json_text;
@@ -51,6 +52,7 @@ mod timed_line;
 mod told_text;
 
 pub use decoding::decode;
+pub use hints::Hint;
 pub use laws::plain_captures_are_traces;
 pub use options::TellOptions;
-pub use telling::tell;
+pub use telling::{TellEnd, tell};

@@ -205,8 +205,7 @@ fn push_packet_text(
         None => {
             push_reached(text, marks.reached, number, shown)?;
             push_extra(text, options, lessons, marks.reached, packet, shown)?;
-            text.push_str(lack_words(marks.lacks))?;
-            push_wrong(text, number, marks.wrong)
+            push_marks(text, number, marks)
         }
         Some(addr) => push_otherwise(text, options.values, addr, packet),
     }
@@ -235,13 +234,26 @@ fn push_reached(
     }
 }
 
-// What stands behind a packet that contradicts a line.
-fn push_wrong(text: &mut String, number: u64, wrong: Option<u64>) -> Result<(), AllocError>
-    ensures { OnOk result (string_bytes text.new ≡ string_bytes text.old ++ wrong_text number wrong) }
+// What stands behind a packet for its marks: that it lacks its PEC, and the lines of which one contradicts the other.
+#[tactic(auto, using(pm_lines::specs::Lemmas::Joins::joins))]
+fn push_marks(text: &mut String, number: u64, marks: &Marks) -> Result<(), AllocError>
+    ensures { OnOk result (string_bytes text.new
+        ≡ string_bytes text.old ++ (lack_text marks.now.lacks ++ wrong_text number marks.now.wrong)) }
 {
-    let Some(line) = wrong else {
-        return Ok(());
-    };
+    if marks.lacks {
+        text.push_str(", no PEC")?;
+    }
+    match marks.wrong {
+        None => Ok(()),
+        Some(line) => push_wrong(text, number, line),
+    }
+}
+
+// What stands behind a packet in this line that contradicts an earlier one.
+#[tactic(auto, using(pm_lines::specs::Lemmas::Joins::joins))]
+fn push_wrong(text: &mut String, number: u64, line: u64) -> Result<(), AllocError>
+    ensures { OnOk result (string_bytes text.new ≡ string_bytes text.old ++ wrong_text number (Some line)) }
+{
     text.push_str(" WRONG PAGE? lines ")?;
     push_two_lines(text, line, number)
 }
@@ -256,14 +268,7 @@ fn push_two_lines(text: &mut String, line: u64, number: u64) -> Result<(), Alloc
     push_decimal(text, number)
 }
 
-// What stands behind a packet that lacks its PEC.
-fn lack_words(lacks: bool) -> &'static str
-    ensures { result.now ≡ lack_text lacks }
-{
-    if lacks { ", no PEC" } else { "" }
-}
-
-// The same in JSON.
+// What stands in JSON behind a packet that lacks its PEC.
 fn lack_field(lacks: bool) -> &'static str
     ensures { result.now ≡ spec_lack_field lacks }
 {
@@ -296,9 +301,26 @@ fn push_extra(
     ensures { OnOk result (string_bytes text.new ≡ string_bytes text.old
         ++ extra_text options.now lessons.now reached (packet_in packet.now) (judged_in shown.now)) }
 {
-    if !options.values {
-        return Ok(());
+    if options.values {
+        push_meaning(text, options, lessons, reached, packet, shown)
+    } else {
+        Ok(())
     }
+}
+
+// The same where values are told.
+#[tactic(auto, using(pm_lines::specs::Lemmas::Joins::joins))]
+fn push_meaning(
+    text: &mut String,
+    options: &TellOptions,
+    lessons: &Lessons,
+    reached: Option<u8>,
+    packet: &Packet<'_>,
+    shown: &Shown<'_>,
+) -> Result<(), AllocError>
+    ensures { OnOk result (string_bytes text.new ≡ string_bytes text.old
+        ++ meaning_text options.now lessons.now reached (packet_in packet.now) (judged_in shown.now)) }
+{
     match shown {
         Shown::Accepted { addr, view, answer } => {
             push_known(

@@ -1,12 +1,11 @@
 //! What PAGE, as a capture shows it, says of a packet.
-ghost use Rattle.std.specs.Prelude.{◌≡◌, OnOk};
+ghost use Rattle.std.specs.Prelude.{◌≡◌, None, Some};
 ghost use Rattle.pm_trace.specs.ShownLines.{judged_in};
-ghost use Rattle.pm_decode.specs.PageSteps.{is_lost as spec_is_lost, is_unanswered as spec_is_unanswered, judged_address, marks_by, pages_at, place_by, step_by};
+ghost use Rattle.pm_decode.specs.PageSteps.{is_lost as spec_is_lost, is_unanswered as spec_is_unanswered, judged_address, marks_by, place_by, step_by};
 ghost use Rattle.pm_decode.specs.ShownReadings.{packet_in};
 
 use pm_trace::{PageUse, Pages, Place, Shown, page_use};
 use pm_values::Packet;
-use std::alloc::AllocError;
 
 /// A packet as it comes: its address, what is known of that, and what the packet says of its page.
 #[derive(Clone, Copy, Debug)]
@@ -88,35 +87,25 @@ fn is_unanswered(packet: &Packet<'_>) -> bool
 }
 
 impl Marks {
-    /// The marks of a packet that lacks its PEC or doesn't, and has such a step where PAGE is followed.
-    pub(crate) fn of(lacks: bool, step: &Option<PageStep>) -> Marks
-        ensures { result ≡ marks_by lacks step.now }
+    /// The marks of a packet that lacks its PEC or doesn't, where PAGE isn't followed.
+    pub(crate) fn without_page(lacks: bool) -> Marks
+        ensures { result ≡ marks_by lacks None }
     {
-        match step {
-            None => Marks {
-                lacks,
-                reached: None,
-                wrong: None,
-            },
-            Some(step) => Marks {
-                lacks,
-                reached: step.place.output(step.used),
-                wrong: step.place.contradicted(step.used),
-            },
+        Marks {
+            lacks,
+            reached: None,
+            wrong: None,
         }
     }
-}
 
-/// Learns what the packet of this line says of its page. Takes memory for an address that is new.
-pub(crate) fn learn_step(
-    pages: &mut Pages,
-    number: u64,
-    step: Option<PageStep>,
-) -> Result<(), AllocError>
-    ensures { OnOk result (pages.new ≡ pages_at number step pages.old) }
-{
-    match step {
-        None => Ok(()),
-        Some(step) => pages.learn(number, step.addr, step.place, step.used),
+    /// The marks of a packet that lacks its PEC or doesn't, and that says so of its page.
+    pub(crate) fn of(lacks: bool, step: &PageStep) -> Marks
+        ensures { result ≡ marks_by lacks (Some step.now) }
+    {
+        Marks {
+            lacks,
+            reached: step.place.output(step.used),
+            wrong: step.place.contradicted(step.used),
+        }
     }
 }

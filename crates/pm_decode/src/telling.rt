@@ -13,6 +13,7 @@ ghost use Rattle.pm_decode.specs.Outcome.{telling};
 ghost use Rattle.pm_decode.specs.WrittenCaptures.{Hears, StopsBytes, StopsHearing, WrittenCapture};
 
 use crate::capture::Capture;
+use crate::hints::Hint;
 use crate::options::TellOptions;
 use crate::told_text::ToldText;
 use pm_lines::{Sink, Source, TextFault};
@@ -26,6 +27,15 @@ const PIECE: usize = 512;
 /// The bytes of lines that are written at once, where the reader brings as many as it is asked for.
 const GATHERED: usize = 16_384;
 
+/// How a telling ends that wrote all of its text.
+#[derive(Clone, Copy, Debug, PartialEq, Eq)]
+pub struct TellEnd {
+    /// Whether a line was bad.
+    pub end: DecodeEnd,
+    /// What may be wrong.
+    pub hint: Option<Hint>,
+}
+
 /// Reads a capture and writes what it says, as the options have it: a line for each of its lines that isn't skipped,
 /// at the end `count NAME k` for each code that accepted lines carry, in the order of first appearance, then with
 /// `all` `count code HH k` for each other code, in ascending order, and `lines L accepted A faults F bad B`. Neither
@@ -34,7 +44,8 @@ const GATHERED: usize = 16_384;
 /// At most 512 bytes are read at a time. What the lines say is written as soon as a read brings fewer, or 16 KiB of
 /// it are there.
 ///
-/// A bad line is written by its letters, and ends nothing: `BadLines` says that there is one. Takes memory for what is
+/// A bad line is written by its letters, and ends nothing: `BadLines` says that there is one. What may be wrong stands in the
+/// end, and isn't written. Takes memory for what is
 /// gathered, which is less than 16 KiB and what the lines of one piece of 512 bytes say, for the text of one line and of
 /// the counts, for the counts of codes, and for the format of each output and address that the capture teaches: none of
 /// it grows with the capture, but by a code, an output or an address that is new.
@@ -50,7 +61,7 @@ pub fn tell<R: Read, W: Write>(
     reader: &mut Source<R>,
     writer: &mut Sink<W>,
     options: &TellOptions,
-) -> Result<DecodeEnd, TextFault>
+) -> Result<TellEnd, TextFault>
     requires reader { IsFalse reader.old.failed }
     requires writer { IsFalse writer.old.failed }
     // What is written is the capture's text. X1, X2 and X7 never come.
@@ -73,7 +84,7 @@ fn tell_all<R: Read, W: Write>(
     options: &TellOptions,
     capture: &mut Capture,
     told: &mut ToldText,
-) -> Result<DecodeEnd, TextFault>
+) -> Result<TellEnd, TextFault>
     requires reader { IsFalse reader.old.failed }
     requires writer { IsFalse writer.old.failed }
     requires fresh { capture.old ≡ kept_of options.now [] }
@@ -86,7 +97,10 @@ fn tell_all<R: Read, W: Write>(
     if capture.taken() == 0 {
         // the text of the counts takes memory, which is wanted only for what was read
         writer.put(empty_text(options).as_bytes())?;
-        return Ok(DecodeEnd::Clean);
+        return Ok(TellEnd {
+            end: DecodeEnd::Clean,
+            hint: None,
+        });
     }
     tell_end(capture, told)?;
     writer.put(told.bytes())?;

@@ -35,12 +35,12 @@ pub(crate) struct LineReading<'a> {
 }
 
 impl TimedLine {
-    ghost use Rattle.std.specs.Prelude.{[], ◌==◌, None, if◌then◌else◌};
+    ghost use Rattle.std.specs.Prelude.{[], ◌==◌, None, if◌then◌else◌, true};
     ghost use Rattle.pm_trace.specs.OpenLines.{open_read};
     ghost use Rattle.pm_trace.specs.OpenLines.{IsAtLineFeed};
     ghost use Rattle.pm_decode.specs.Readings.{remark_of};
     ghost use Rattle.pm_decode.specs.ShownReadings.{parts_in, reading_in};
-    ghost use Rattle.pm_decode.specs.TimedLines.{PassesTimed, begun_with, skips_timed, timed_of, timed_read, timed_takes, word_ended};
+    ghost use Rattle.pm_decode.specs.TimedLines.{PassesTimed, begun_with, is_told, skips_timed, timed_of, timed_read, timed_takes, word_ended};
 
     /// A line without bytes.
     #[tactic(auto, unfolding(crate::specs::TimedLines::timed_of))]
@@ -80,7 +80,7 @@ impl TimedLine {
     {
         let mut rest = bytes;
         'bytes: loop {
-            rest = self.take_packet(rest);
+            rest = self.take_packet(self.take_comment(rest));
             let [first, more @ ..] = rest else {
                 return rest;
             };
@@ -113,14 +113,55 @@ impl TimedLine {
         self.packet.take_line(bytes)
     }
 
+    // Takes at once what a comment has behind the first bytes, up to the first line feed, and gives what is left.
+    #[tactic(auto, using(crate::proofs::TimedLemmas::passes_none))]
+    fn take_comment<'a>(&self, bytes: &'a [u8]) -> &'a [u8]
+        ensures { PassesTimed self.now bytes.entry.now result.now self.now }
+    {
+        if self.is_told() {
+            self.pass_over(bytes)
+        } else {
+            bytes
+        }
+    }
+
+    // Takes bytes that say nothing more, up to the first line feed, and gives what is left.
+    #[tactic(auto, using(crate::proofs::TimedLemmas::passes_none))]
+    fn pass_over<'a>(&self, bytes: &'a [u8]) -> &'a [u8]
+        requires { is_told self.now ≡ true }
+        ensures { PassesTimed self.now bytes.entry.now result.now self.now }
+    {
+        let mut rest = bytes;
+        'bytes: loop {
+            let [first, more @ ..] = rest else {
+                return rest;
+            };
+            if *first == b'\n' {
+                return rest;
+            }
+            rest = more;
+        }
+    }
+
+    // Whether further bytes say nothing more: the line is a comment, and its first bytes are kept.
+    fn is_told(&self) -> bool
+        ensures { result ≡ is_told self.now }
+    {
+        self.is_begun && self.has_mark && self.head.is_full()
+    }
+
     // Takes one byte more.
     #[tactic(auto, unfolding(crate::specs::TimedLines::timed_takes))]
     fn take(&mut self, byte: u8)
         ensures { self.new ≡ timed_takes self.old byte }
     {
+        let goes_on = self.is_begun && self.has_mark;
         self.begin(byte);
         if self.has_mark {
             self.head.take(byte);
+        }
+        if goes_on {
+            return;
         }
         if byte == b' ' && !self.word.bytes().is_empty() {
             self.is_over = true;
@@ -169,8 +210,11 @@ impl TimedLine {
     pub(crate) fn is_skipped(&self) -> bool
         ensures { result ≡ skips_timed self.now }
     {
+        if self.has_mark {
+            return true;
+        }
         if self.times {
-            self.has_mark || self.word_ended().is_empty()
+            self.word_ended().is_empty()
         } else {
             self.packet.is_skipped()
         }

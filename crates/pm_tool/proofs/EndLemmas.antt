@@ -14,7 +14,7 @@ use Rattle.pm_lines.specs.Streams.{AppendsFront, Held}
 use Rattle.pm_lines.specs.declared.fault.TextFault.{TextFault}
 use Rattle.pm_lines.specs.declared.fault.TextFault.TheVariants.{Syntax, BadHex, TooLong, Read, Write, Memory, Setup}
 use Rattle.pm_console.specs.Refusals.{Says, text_refusal}
-use Rattle.pm_tool.specs.Execution.{End, EngineRuns, Printed, CutShort, Refused, Broken, Misused, NumberEnds, NumberRefuses, UsageEnds}
+use Rattle.pm_tool.specs.Execution.{End, EngineRuns, Printed, Hinted, CutShort, Refused, Broken, Misused, NumberEnds, NumberRefuses, UsageEnds}
 use Rattle.pm_tool.specs.Execution.{IsDone, IsEnd, LineEnds, ParserEnds, refusal_line, wants_memory}
 use Rattle.pm_tool.specs.NumberFaults.{refusal_status, refusal_words}
 use Rattle.pm_tool.specs.NumberText.{IsCommandLineFault, IsNumberText, IsOfNumber, RefusesNumber}
@@ -176,6 +176,7 @@ usage_ends input faults kind end (inl memory) (inl usage) = absurd (none end (su
   where
     none : (end : End) → UsageEnds OutOfMemory end → ⊥
     none (Printed status text) h = let e : ◌≡◌ {A = ℕ} 1 0 = h.1 in omega arith
+    none (Hinted status text words) h = h
     none (CutShort text) h = let e : ◌≡◌ {A = ℕ} 1 0 = h.0 in omega arith
     none (Refused status words) h = h
     none (Broken text words) h = h

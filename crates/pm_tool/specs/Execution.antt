@@ -1,7 +1,7 @@
 -- How a run of the program ends: its status, what standard output got, and the one line that
 -- standard error gets. This project's own choice.
 use Rattle.std.specs.Prelude.{◌≡◌, ◌⊎◌, ◌↔◌, ℕ, List, [], ◌++◌, Option, Some, None}
-use Rattle.std.specs.Prelude.{Result, Ok, Err, IsTrue, IsFalse, IsSomeAnd, codes, false}
+use Rattle.std.specs.Prelude.{Result, Ok, Err, IsTrue, IsFalse, IsSomeAnd, codes, decimal, false}
 use Rattle.std.specs.Io.KnownBytes.{Appends}
 use Rattle.std.specs.declared.io.ErrorKind.{ErrorKind as IoKind}
 use Rattle.clap.specs.Kinds.{IsAmong, Kinds}
@@ -18,6 +18,8 @@ use Rattle.pm_trace.specs.declared.decode_end.DecodeEnd.TheVariants.{Clean, BadL
 use Rattle.pm_decode.specs.CaptureText.{capture_end, capture_text}
 use Rattle.pm_decode.specs.Capturing.{most_bytes, said_text}
 use Rattle.pm_decode.specs.LongEngine.{Breaks, GaveAll, IsCut}
+use Rattle.pm_decode.specs.declared.hints.Hint.{Hint}
+use Rattle.pm_decode.specs.declared.hints.Hint.TheVariants.{Beyond, NoTimes, NoGoodPacket}
 use Rattle.pm_decode.specs.declared.options.TellOptions.{TellOptions}
 use Rattle.pm_text.specs.Replay.{replaying}
 use Rattle.pm_text.specs.declared.replay_end.ReplayEnd.{ReplayEnd}
@@ -43,6 +45,8 @@ use Rattle.pm_tool.specs.declared.numbers.question.Question.{Question}
 pub data End : Type 0 where
   -- standard output got the whole of a text
   Printed : (status : ℕ) (text : List ℕ) → End
+  -- the same, and standard error says what may be wrong
+  Hinted : (status : ℕ) (text : List ℕ) (words : List ℕ) → End
   -- standard output failed: it got a prefix of a text
   CutShort : (text : List ℕ) → End
   -- standard output got nothing, and standard error says why
@@ -54,6 +58,7 @@ pub data End : Type 0 where
 
 abbrev pub status_of : End → ℕ
 status_of (Printed status text) = status
+status_of (Hinted status text words) = status
 status_of (CutShort text) = 1
 status_of (Refused status words) = status
 status_of (Broken text words) = 1
@@ -66,6 +71,7 @@ refusal_line words = program_line (codes "pmb") words
 -- what standard error gets, if anything
 abbrev pub said_by : End → Option (List ℕ)
 said_by (Printed status text) = None
+said_by (Hinted status text words) = Some (refusal_line words)
 said_by (CutShort text) = Some (refusal_line (fault_words Write))
 said_by (Refused status words) = Some (refusal_line words)
 said_by (Broken text words) = Some (refusal_line words)
@@ -79,6 +85,8 @@ AppendsSome old new text =
 -- what standard output got; it failed exactly where its text was cut short
 abbrev pub Prints : {W : Type 0} → (W → Option (List ℕ)) → Held W → Held W → End → Type 0
 Prints contents old new (Printed status text) =
+    IsFalse new.failed × Appends (contents old.inner) (contents new.inner) text
+Prints contents old new (Hinted status text words) =
     IsFalse new.failed × Appends (contents old.inner) (contents new.inner) text
 Prints contents old new (CutShort text) =
     IsTrue new.failed × AppendsSome (contents old.inner) (contents new.inner) text
@@ -110,6 +118,7 @@ decode_status BadLines = 1
 abbrev pub EngineRuns : {R T : Type 0} → Engine T → (T → ℕ) → (R → Option (List ℕ)) → Held R → Held R → End → Type 0
 EngineRuns {T = T} engine status_in remaining old new (Printed status text) = IsFalse new.failed
     × (end : T) × (status ≡ status_in end) × IsMade engine (remaining old.inner) (remaining new.inner) text end
+EngineRuns engine status_in remaining old new (Hinted status text words) = ⊥
 EngineRuns engine status_in remaining old new (CutShort text) =
     IsReadSoFar (remaining old.inner) (remaining new.inner) new.failed engine.early text
     × IsUnderWay engine (remaining old.inner) (remaining new.inner) text
@@ -130,14 +139,30 @@ abbrev pub reading : {R : Type 0} → (R → Option (List ℕ)) → Held R → H
 reading remaining old new = over remaining old new (λ _. None) (record { inner = tt; failed = false })
     (record { inner = tt; failed = false })
 
+-- what is said of a telling that may be wrong
+abbrev pub hint_words : Hint → List ℕ
+hint_words (Beyond line) = codes "line " ++ (decimal line ++ codes " orders a voltage beyond 1000 V by --vout: a minus may be missing")
+hint_words NoTimes = codes "no line is a time and a packet: give --times to both ends, or to none"
+hint_words NoGoodPacket = codes "no line is a good packet: where lines begin with times, give --times"
+
+-- how a run ends whose text was written whole, by what may be wrong
+abbrev pub told_as : ℕ → List ℕ → Option Hint → End
+told_as status text None = Printed status text
+told_as status text (Some hint) = Hinted status text (hint_words hint)
+
 -- How a telling ends that these options ask for, by what its reader gave: as every engine does that writes early, but
 -- that a trace may have more bytes with `--long`.
 module _ {R : Type 0} (options : TellOptions) (remaining : R → Option (List ℕ)) (old new : Held R) where
-  abbrev pub TellRuns : End → Type 0
-  TellRuns (Printed status text) = IsFalse new.failed × (input : List ℕ)
+  -- the text of all that the reader gave was written
+  abbrev pub TellsWhole : End → Type 0
+  TellsWhole end = IsFalse new.failed × (input : List ℕ)
       × GaveAll (most_bytes options.long) (capture_text options) (said_text options) (capture_end options)
       (reading remaining old new) input
-      × (status ≡ decode_status (capture_end options input)) × (text ≡ capture_text options input)
+      × (end ≡ told_as (decode_status (capture_end options input).end) (capture_text options input) (capture_end options input).hint)
+
+  abbrev pub TellRuns : End → Type 0
+  TellRuns (Printed status text) = TellsWhole (Printed status text)
+  TellRuns (Hinted status text words) = TellsWhole (Hinted status text words)
   TellRuns (CutShort text) = IsCut (most_bytes options.long) (capture_text options) (said_text options)
       (capture_end options) (reading remaining old new) text
   TellRuns (Broken text words) = (fault : TextFault) × (words ≡ text_refusal fault)
@@ -171,6 +196,7 @@ NumberRefuses asked fault = asked ≡ Err fault
 -- how `number` ends
 abbrev pub NumberEnds : Result Question NumberFault → End → Type 0
 NumberEnds asked (Printed status text) = (status ≡ 0) × IsNumberText asked text
+NumberEnds asked (Hinted status text words) = ⊥
 NumberEnds asked (CutShort text) = IsNumberText asked text
 NumberEnds asked (Refused status words) = (fault : NumberFault) × (status ≡ refusal_status fault)
     × (words ≡ refusal_words fault) × NumberRefuses asked fault
@@ -191,6 +217,7 @@ ChoiceEnds remaining old new (NumberChosen format word micro) end = (new ≡ old
 -- asked for is printed, and what is said of any other fault is the parser's own text; each says something
 abbrev pub UsageEnds : ErrorKind → End → Type 0
 UsageEnds kind (Printed status text) = (status ≡ 0) × (usage_status kind ≡ 0) × IsSaid text
+UsageEnds kind (Hinted status text words) = ⊥
 UsageEnds kind (CutShort text) = (usage_status kind ≡ 0) × IsSaid text
 UsageEnds kind (Refused status words) = ⊥
 UsageEnds kind (Broken text words) = ⊥
@@ -248,5 +275,16 @@ pub record IsEnd {W E : Type 0} (out : W → Option (List ℕ)) (err : E → Opt
 abbrev pub IsDone : {W E : Type 0} → (E → Option (List ℕ)) → Held W → Held E → Held E → ℕ → ℕ → Type 0
 IsDone err output errors errors' wanted status =
     ((IsFalse output.failed) × (status ≡ wanted) × (errors' ≡ errors))
+    ⊎ ((IsTrue output.failed) × (status ≡ 1)
+    × Says err errors errors' (refusal_line (fault_words Write)))
+
+-- the same of a telling, of which is said what may be wrong
+abbrev pub SaysHint : {E : Type 0} → (E → Option (List ℕ)) → Held E → Held E → Option Hint → Type 0
+SaysHint err errors errors' None = errors' ≡ errors
+SaysHint err errors errors' (Some hint) = Says err errors errors' (refusal_line (hint_words hint))
+
+abbrev pub IsToldDone : {W E : Type 0} → (E → Option (List ℕ)) → Held W → Held E → Held E → ℕ → Option Hint → ℕ → Type 0
+IsToldDone err output errors errors' wanted hint status =
+    ((IsFalse output.failed) × (status ≡ wanted) × SaysHint err errors errors' hint)
     ⊎ ((IsTrue output.failed) × (status ≡ 1)
     × Says err errors errors' (refusal_line (fault_words Write)))

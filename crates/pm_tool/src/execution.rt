@@ -1,4 +1,4 @@
-ghost use Rattle.std.specs.Prelude.{◌≡◌, ◌⊎◌, ◌≤◌, IsFalse, MatchResult, Err, Ok, map, string_bytes};
+ghost use Rattle.std.specs.Prelude.{◌≡◌, ◌⊎◌, ◌≤◌, IsFalse, MatchResult, Err, Ok, flat_map, map, string_bytes};
 ghost use Rattle.std.specs.Io.KnownBytes.{Keeps};
 ghost use Rattle.std.specs.IoError.{error_kind};
 ghost use Rattle.std.specs.Process.{exit_status};
@@ -7,9 +7,10 @@ ghost use Rattle.clap.specs.Walk.{texts};
 ghost use Rattle.clap.specs.Words.{kind_of};
 ghost use Rattle.pm_console.specs.Arguments.{arguments_of};
 ghost use Rattle.pm_console.specs.Refusals.{Says, text_refusal};
+ghost use Rattle.pm_decode.specs.declared.hints.Hint.TheVariants.{Beyond};
 ghost use Rattle.pm_tool.specs.Execution.{End, EngineRuns, IsDone, IsEnd, NumberEnds, RunEnds, UsageEnds};
 ghost use Rattle.pm_tool.specs.Execution.{OptionsEnd, TellEnds, TellRuns};
-ghost use Rattle.pm_tool.specs.Execution.{CutShort, Printed, refusal_line, wants_memory};
+ghost use Rattle.pm_tool.specs.Execution.{CutShort, IsToldDone, Printed, hint_words, refusal_line, wants_memory};
 ghost use Rattle.pm_tool.specs.Question.{asked_by};
 
 use crate::commandline::{Chosen, TellTexts, chosen, option_words};
@@ -18,7 +19,7 @@ use crate::text_commands::{Decoding, Hearing, Replaying, TextCommand};
 use pm_console::{
     Usage, misuse, refuse_arguments, refuse_memory, say, say_fault, texts_of, usage_of, words_of,
 };
-use pm_decode::{TellOptions, tell};
+use pm_decode::{Hint, TellOptions, tell};
 use pm_text::{Sink, Source, TextFault};
 use std::alloc::Global;
 use std::env::Args;
@@ -67,7 +68,8 @@ pub fn program<R: Read, W: Write, E: Write>(
 /// failed before.
 ///
 /// Status 0: the text was written to the output, or help or the version that was asked for. Status 1:
-/// a stopped replay or a trace with a bad line, with nothing on the third stream; a refused input, a
+/// a stopped replay or a trace with a bad line. In both cases the third stream gets nothing but what may be
+/// wrong with a trace that was told with options, in one line. Status 1 too: a refused input, a
 /// failed stream or want of memory, and 2: a faulty command line; each of these with one line on the
 /// third stream, where that can be written, but for the parser's own texts.
 ///
@@ -185,7 +187,7 @@ fn run_telling<R: Read, W: Write, E: Write>(
         × IsEnd W.contents E.contents output.old output.new errors.old errors.new result end }
 {
     match tell(alloc, input, output, options) {
-        Ok(end) => done(output, errors, Decoding.status_of(end)),
+        Ok(told) => done_with(output, errors, Decoding.status_of(told.end), told.hint),
         Err(fault) => refuse_text(errors, &fault),
     }
 }
@@ -207,13 +209,80 @@ fn done<W: Write, E: Write>(output: &mut Sink<W>, errors: &mut Sink<E>, status: 
     ensures kept { Keeps (W.contents output.old.inner) (W.contents output.new.inner) }
     ensures done { IsDone E.contents output.new errors.old errors.new status result }
 {
+    done_with(output, errors, status, None)
+}
+
+// The same of a telling, with what may be wrong.
+fn done_with<W: Write, E: Write>(
+    output: &mut Sink<W>,
+    errors: &mut Sink<E>,
+    status: u8,
+    hint: Option<Hint>,
+) -> u8
+    requires output { IsFalse output.old.failed }
+    requires errors { IsFalse errors.old.failed }
+    ensures kept { Keeps (W.contents output.old.inner) (W.contents output.new.inner) }
+    ensures done { IsToldDone E.contents output.new errors.old errors.new status hint result }
+{
     match output.flush() {
-        Ok(()) => status,
+        Ok(()) => {
+            if let Some(hint) = hint {
+                say_hint(errors, hint);
+            }
+            status
+        }
         Err(_) => {
             say(errors, NAME, TextFault::Write.words());
             1
         }
     }
+}
+
+// Says what may be wrong.
+fn say_hint<E: Write>(errors: &mut Sink<E>, hint: Hint)
+    requires { IsFalse errors.old.failed }
+    ensures { Says E.contents errors.old errors.new (refusal_line (hint_words hint)) }
+{
+    match hint {
+        Hint::Beyond(line) => say_beyond(errors, line),
+        Hint::NoTimes => say(
+            errors,
+            NAME,
+            "no line is a time and a packet: give --times to both ends, or to none",
+        ),
+        Hint::NoGoodPacket => say(
+            errors,
+            NAME,
+            "no line is a good packet: where lines begin with times, give --times",
+        ),
+    }
+}
+
+// Says which line orders a voltage beyond 1000 V.
+fn say_beyond<E: Write>(errors: &mut Sink<E>, line: u64)
+    requires { IsFalse errors.old.failed }
+    ensures { Says E.contents errors.old errors.new (refusal_line (hint_words (Beyond line))) }
+{
+    let mut digits = itoa::Buffer::new();
+    say_pieces(
+        errors,
+        &[
+            NAME.as_bytes(),
+            b": ",
+            b"line ",
+            digits.format(line).as_bytes(),
+            b" orders a voltage beyond 1000 V by --vout: a minus may be missing",
+            b"\n",
+        ],
+    );
+}
+
+// Says the line that these pieces make.
+fn say_pieces<E: Write>(errors: &mut Sink<E>, pieces: &[&[u8]])
+    requires { IsFalse errors.old.failed }
+    ensures { Says E.contents errors.old errors.new (flat_map (λ piece. piece.now) pieces.now) }
+{
+    let _ = errors.put_all(pieces);
 }
 
 // `pmb number`, with the texts of its three options.

@@ -1,9 +1,8 @@
 //! What captures are told as, written out by hand.
 
 use crate::checks::equal;
-use pm_decode::{TellOptions, tell};
+use pm_decode::{TellEnd, TellOptions, tell};
 use pm_lines::{Sink, Source, TextFault};
-use pm_trace::DecodeEnd;
 use pm_values::GivenFormats;
 use std::alloc::Global;
 use std::process::Abort;
@@ -33,7 +32,7 @@ fn told(
     alloc: Global,
     capture: &str,
     options: &TellOptions,
-) -> (Result<DecodeEnd, TextFault>, Vec<u8>) {
+) -> (Result<TellEnd, TextFault>, Vec<u8>) {
     let mut reader = Source::new(capture.as_bytes());
     let mut writer = Sink::new(Vec::new(alloc));
     let end = tell(alloc, &mut reader, &mut writer, options);

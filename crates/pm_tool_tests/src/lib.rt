@@ -14,6 +14,7 @@ mod example;
 mod facts;
 #[cfg(test)]
 mod hear;
+mod hints;
 #[cfg(test)]
 mod numbers;
 #[cfg(test)]

@@ -5,7 +5,7 @@ from . import trace
 from .following import Pages
 from .lines import MOST_BYTES, TextFault, decimal, is_skipped, lines_of
 from .numbers import coefficients_fault
-from .packets import name_of
+from .packets import VOUT_CODES, name_of
 from .telling import fields_of, object_text, of_all, text_of
 from .trace import judged, parts_of
 from .values import READINGS, Formats, value_fields, words_of_value
@@ -92,6 +92,7 @@ class Telling:
         self.pages = Pages(1000 * options.get("--gap", GAP)) if "--pages" in options else None
         self.said, self.counts, self.codes = [], {}, {}
         self.faults = self.bad = self.others = 0
+        self.beyond = None  # the first line that orders a voltage beyond 1000 V by --vout
 
     def line(self, number, line):
         if is_skipped(line):
@@ -121,6 +122,8 @@ class Telling:
             packet = self.pages.followed(packet)
         self.count(packet)
         self.say(number, time, packet, (frame, read), wrong)
+        if self.beyond is None and self.is_beyond(packet):
+            self.beyond = number
         self.formats.learn(packet)
         if self.pages:
             self.pages.learn(number, packet, frame)
@@ -154,6 +157,21 @@ class Telling:
         if "--values" not in self.options or packet["kind"] not in ("read", "write", "other"):
             return {}
         return value_fields(packet, None if packet["kind"] == "other" else self.formats.of(packet))
+
+    def is_beyond(self, packet):
+        """Whether a packet orders a voltage beyond 1000 V, and only --vout gives it one."""
+        return (packet["kind"] == "write" and packet["code"] in VOUT_CODES and not self.formats.of_the_trace(packet)
+                and abs(self.value(packet).get("volts", 0)) > 1000 * 10**6)
+
+    def hint(self):
+        """What may be wrong, or None."""
+        if self.beyond is not None:
+            return f"line {self.beyond} orders a voltage beyond 1000 V by --vout: a minus may be missing"
+        if self.counts or self.codes or not self.bad:
+            return None
+        if "--times" not in self.options:
+            return "no line is a good packet: where lines begin with times, give --times"
+        return None if self.faults else "no line is a time and a packet: give --times to both ends, or to none"
 
     def ends(self):
         """The lines of the counts."""
@@ -190,4 +208,7 @@ def decode(text, words):
     if is_whole:
         told.ends()
     said = "".join(line + "\n" for line in told.said)
-    return (int(told.bad > 0), said, "") if is_whole else (1, said, "pmb: X3 TooLong\n")
+    if not is_whole:
+        return 1, said, "pmb: X3 TooLong\n"
+    hint = told.hint()
+    return int(told.bad > 0), said, f"pmb: {hint}\n" if hint else ""

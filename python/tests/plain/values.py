@@ -109,6 +109,12 @@ class Formats:
             if packet["payload"][0] < 0x20:
                 self.linear.add(packet["address"])
 
+    def of_the_trace(self, packet):
+        """The same as `of` where no format of voltages is given."""
+        plain = Formats(None, self.readings)
+        plain.modes, plain.linear, plain.coefficients = self.modes, self.linear, self.coefficients
+        return plain.of(packet)
+
     def of(self, packet):
         """The format of a packet's reading or voltage, or None."""
         address, code = packet["address"], packet["code"]

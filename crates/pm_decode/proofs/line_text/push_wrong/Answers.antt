@@ -1,11 +1,11 @@
-use Rattle.std.proofs.Common.{◌≡◌, ◌∙◌, ◌++◌, ℕ, List, OnOk, ap, append_assoc, codes, string_bytes, subst, sym}
-use Rattle.pm_decode.specs.CaptureText.{two_lines, wrong_text}
+use Rattle.std.proofs.Common.{◌≡◌, ◌∙◌, ◌++◌, ℕ, List, OnOk, ap, append_assoc, codes, string_bytes, subst}
+use Rattle.pm_decode.specs.CaptureText.{two_lines}
 use Rattle.pm_decode.proofs.line_text.push_wrong.Goals as goal
 
 pub returns : goal.returns
 returns c =
     let text = string_bytes c.args.text.now in
-    let lines = two_lines c.in-Some.line c.args.number in
+    let lines = two_lines c.args.line c.args.number in
     let P : List ℕ → Type 0 = λ l. OnOk c.push_two_lines.result (string_bytes c.push_two_lines.new.text ≡ l) in
-    subst P (ap (λ l. l ++ lines) c.in_ok-push_str.ensures.bytes ∙ append_assoc text (codes " WRONG PAGE? lines ") lines
-    ∙ ap (λ w. text ++ wrong_text c.args.number w) (sym c.in-Some.is)) c.push_two_lines.ensures
+    subst P (ap (λ l. l ++ lines) c.in_ok-push_str.ensures.bytes ∙ append_assoc text (codes " WRONG PAGE? lines ") lines)
+    c.push_two_lines.ensures

@@ -7,11 +7,11 @@ returns-in-Ok g c =
       out = g.W.Write.contents;
       err = g.E.Write.contents;
       output = c.args.output.now;
-      output' = c.done.new.output;
+      output' = c.done_with.new.output;
       errors = c.args.errors.now;
-      errors' = c.done.new.errors;
-    }) c.args.options.now g.R.Read.remaining c.args.input.now c.tell.new.reader c.tell.new.writer c.in-Ok.end _ _
-    c.status_of.ensures c.in-Ok.ensures.ends c.done.ensures.kept c.done.ensures.done
+      errors' = c.done_with.new.errors;
+    }) c.args.options.now g.R.Read.remaining c.args.input.now c.tell.new.reader c.tell.new.writer c.in-Ok.told _ _
+    c.status_of.ensures c.in-Ok.ensures.ends c.done_with.ensures.kept c.done_with.ensures.done
 
 pub returns-in-Err : goal.returns-in-Err
 returns-in-Err g c =

@@ -1,6 +1,6 @@
 use Rattle.std.proofs.Common.{codes, refl, inr}
 use Rattle.pm_tool.proofs.EndLemmas.{said_as}
-use Rattle.pm_tool.proofs.execution.done.Goals as goal
+use Rattle.pm_tool.proofs.execution.done_with.Goals as goal
 
 pub returns-in-Err-clause-done : goal.returns-in-Err-clause-done
 returns-in-Err-clause-done g c =

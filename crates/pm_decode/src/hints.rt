@@ -1,0 +1,136 @@
+//! What is told besides of a capture that was told whole.
+ghost use Rattle.std.specs.Prelude.{◌≡◌, ◌<◌, ◌^◌};
+ghost use Rattle.pm_trace.specs.ShownLines.{judged_in};
+ghost use Rattle.pm_decode.specs.Hearing.{heard_lines, hint_by};
+ghost use Rattle.pm_decode.specs.Hints.{beyond_by, first_if, is_beyond as spec_is_beyond, is_huge as spec_is_huge, is_huge_value as spec_is_huge_value};
+
+use crate::heard_lines::HeardLines;
+use crate::options::TellOptions;
+use pm_num::Frac;
+use pm_trace::Shown;
+use pm_values::{GivenFormats, Lessons, Unit, Value, millionths, packet_value};
+
+/// What may be wrong where a capture was told whole.
+#[derive(Clone, Copy, Debug, PartialEq, Eq)]
+pub enum Hint {
+    /// The line of this number is the first one that orders a voltage beyond 1000 V by the format that was given.
+    Beyond(u64),
+    /// With times no line was a time and a packet.
+    NoTimes,
+    /// Without times no line was a good packet, and one was bad, as where lines begin with times.
+    NoGoodPacket,
+}
+
+/// What may be wrong with a capture of these lines that is told so.
+pub(crate) fn hint_of(options: &TellOptions, heard: &HeardLines) -> Option<Hint>
+    requires { heard_lines heard.now < 2 ^ 64 }
+    ensures { result ≡ hint_by options.now heard.now }
+{
+    if let Some(line) = heard.beyond() {
+        return Some(Hint::Beyond(line));
+    }
+    let (_, accepted, faults, bad) = heard.tally().lines();
+    if accepted > 0 || heard.others().total() > 0 || bad == 0 {
+        return None;
+    }
+    if !options.times {
+        Some(Hint::NoGoodPacket)
+    } else if faults == 0 {
+        Some(Hint::NoTimes)
+    } else {
+        None
+    }
+}
+
+/// The first line that orders a voltage beyond 1000 V by the format that was given, behind the one of this number; before it
+/// was this one, if there was one. `reached` is the output that its packet reaches if it names none, where that is known.
+pub(crate) fn first_beyond(
+    options: &TellOptions,
+    lessons: &Lessons,
+    reached: Option<u8>,
+    number: u64,
+    shown: &Shown<'_>,
+    before: Option<u64>,
+) -> Option<u64>
+    ensures { result ≡ beyond_by options.now lessons.now reached number (judged_in shown.now) before }
+{
+    if options.values && options.formats.vout.is_some() {
+        first_of(&options.formats, lessons, reached, number, shown, before)
+    } else {
+        before
+    }
+}
+
+// The same where values are told by a format that was given.
+fn first_of(
+    given: &GivenFormats,
+    lessons: &Lessons,
+    reached: Option<u8>,
+    number: u64,
+    shown: &Shown<'_>,
+    before: Option<u64>,
+) -> Option<u64>
+    ensures { result ≡ first_if before (spec_is_beyond given.now lessons.now reached (judged_in shown.now)) number }
+{
+    match before {
+        Some(line) => Some(line),
+        None if is_beyond(given, lessons, reached, shown) => Some(number),
+        None => None,
+    }
+}
+
+// Whether a packet orders a voltage beyond 1000 V by the format that was given, since the capture taught none.
+fn is_beyond(
+    given: &GivenFormats,
+    lessons: &Lessons,
+    reached: Option<u8>,
+    shown: &Shown<'_>,
+) -> bool
+    ensures { result ≡ spec_is_beyond given.now lessons.now reached (judged_in shown.now) }
+{
+    match shown {
+        Shown::Accepted {
+            addr,
+            view,
+            answer: None,
+        } => {
+            let taught = GivenFormats {
+                vout: None,
+                readings: given.readings,
+            };
+            is_huge(packet_value(given, lessons, *addr, reached, view, None))
+                && packet_value(&taught, lessons, *addr, reached, view, None).is_none()
+        }
+        _ => false,
+    }
+}
+
+// Whether there is a value, a voltage beyond 1000 V.
+fn is_huge(value: Option<Value>) -> bool
+    ensures { result ≡ spec_is_huge value }
+{
+    match value {
+        Some(value) => is_huge_value(value),
+        None => false,
+    }
+}
+
+// Whether a value is a voltage beyond 1000 V.
+fn is_huge_value(value: Value) -> bool
+    ensures { result ≡ spec_is_huge_value value }
+{
+    match value {
+        Value::Measured(ratio, unit) => is_huge_number(ratio, unit),
+        _ => false,
+    }
+}
+
+// Whether a number with its unit is a voltage beyond 1000 V.
+fn is_huge_number(ratio: Frac, unit: Unit) -> bool
+    ensures { result ≡ spec_is_huge_value (Value.Measured ratio unit) }
+{
+    match unit {
+        Unit::Volt => millionths(ratio).unsigned_abs() > 1_000_000_000,
+        Unit::Ampere | Unit::Celsius => false,
+    }
+}

@@ -1,0 +1,14 @@
+use Rattle.std.proofs.Common.{subst, sym}
+use Rattle.pm_console.specs.Refusals.{Says}
+use Rattle.pm_tool.specs.Execution.{hint_words, refusal_line}
+use Rattle.pm_tool.proofs.execution.say_hint.Goals as goal
+
+pub returns-in-NoTimes : goal.returns-in-NoTimes
+returns-in-NoTimes g c =
+    subst (λ hint. Says g.E.Write.contents c.args.errors.now c.say.new.errors (refusal_line (hint_words hint)))
+    (sym c.in-NoTimes.is) c.say.ensures
+
+pub returns-in-NoGoodPacket : goal.returns-in-NoGoodPacket
+returns-in-NoGoodPacket g c =
+    subst (λ hint. Says g.E.Write.contents c.args.errors.now c.say-in-NoGoodPacket.new.errors (refusal_line (hint_words hint)))
+    (sym c.in-NoGoodPacket.is) c.say-in-NoGoodPacket.ensures

@@ -1,0 +1,98 @@
+//! What `decode` with options says of a trace that was told whole, where something may be wrong.
+
+use crate::checks::is_true;
+use crate::run::run_on;
+
+/// The words, what is read, the status, what is printed and what is said.
+static HINTS: [(&[&str], &str, u8, &str, &str); 11] = [
+    // The first order beyond 1000 V is named.
+    (
+        &["pmb", "decode", "--values", "--vout=ulinear16:0"],
+        "# x\nB0 05 04 00 21 E8 03 30\nB0 05 04 00 21 E9 03 25\nB0 05 04 00 21 D0 07 7D\n",
+        0,
+        "2 58 page 0 VOUT_COMMAND write 03E8 1000 V\n3 58 page 0 VOUT_COMMAND write 03E9 1001 V\n4 58 page 0 VOUT_COMMAND write 07D0 2000 V\ncount VOUT_COMMAND 3\nlines 3 accepted 3 faults 0 bad 0\n",
+        "pmb: line 3 orders a voltage beyond 1000 V by --vout: a minus may be missing\n",
+    ),
+    // One below -1000 V is, too.
+    (
+        &["pmb", "decode", "--values", "--vout=direct:-1:0:0"],
+        "B0 05 04 00 21 E9 03 25\n",
+        0,
+        "1 58 page 0 VOUT_COMMAND write 03E9 -1001 V\ncount VOUT_COMMAND 1\nlines 1 accepted 1 faults 0 bad 0\n",
+        "pmb: line 1 orders a voltage beyond 1000 V by --vout: a minus may be missing\n",
+    ),
+    // A read is no order.
+    (
+        &["pmb", "decode", "--values", "--vout=ulinear16:0"],
+        "B0 06 02 00 21 / B1 02 E9 03 C6\n",
+        0,
+        "1 58 page 0 VOUT_COMMAND read 03E9 1001 V\ncount VOUT_COMMAND 1\nlines 1 accepted 1 faults 0 bad 0\n",
+        "",
+    ),
+    // By a format that the trace taught nothing is said.
+    (
+        &["pmb", "decode", "--values", "--vout=ulinear16:0"],
+        "B0 06 02 00 20 / B1 01 00 22\nB0 05 04 00 21 E9 03 25\nB0 05 04 01 21 E9 03 33\n",
+        0,
+        "1 58 page 0 VOUT_MODE read 00 ULINEAR16 0\n2 58 page 0 VOUT_COMMAND write 03E9 1001 V\n3 58 page 1 VOUT_COMMAND write 03E9 1001 V\ncount VOUT_MODE 1\ncount VOUT_COMMAND 2\nlines 3 accepted 3 faults 0 bad 0\n",
+        "pmb: line 3 orders a voltage beyond 1000 V by --vout: a minus may be missing\n",
+    ),
+    (
+        &["pmb", "decode", "--values", "--pages", "--vout=ulinear16:0"],
+        "B0 00 01 ED\nB0 20 / B1 00 81\nB0 21 E9 03 47\nB0 00 00 EA\nB0 21 E9 03 47\n",
+        0,
+        "1 58 PAGE write 01\n2 58 page 1? VOUT_MODE read 00 ULINEAR16 0\n3 58 page 1? VOUT_COMMAND write 03E9 1001 V\n4 58 PAGE write 00\n5 58 page 0? VOUT_COMMAND write 03E9 1001 V\ncount PAGE 2\ncount VOUT_MODE 1\ncount VOUT_COMMAND 2\nlines 5 accepted 5 faults 0 bad 0\n",
+        "pmb: line 5 orders a voltage beyond 1000 V by --vout: a minus may be missing\n",
+    ),
+    // Times at one end alone. Where a packet was read, nothing is said.
+    (
+        &["pmb", "decode", "--times"],
+        "B0 05 04 00 21 CD 34 5A\n",
+        1,
+        "1 X1 Syntax\nlines 1 accepted 0 faults 0 bad 1\n",
+        "pmb: no line is a time and a packet: give --times to both ends, or to none\n",
+    ),
+    (
+        &["pmb", "decode", "--times"],
+        "9 B0 05 04 00 21 CD 34 50\nx\n",
+        1,
+        "1 9 us 58 write F5 WrongPec 7\n2 X1 Syntax\nlines 2 accepted 0 faults 1 bad 1\n",
+        "",
+    ),
+    (
+        &["pmb", "decode", "--json"],
+        "1234567 B0 05 04 00 21 CD 34 5A\n",
+        1,
+        "{\"line\":1,\"fault\":\"X2 BadHex\"}\n{\"lines\":1,\"accepted\":0,\"faults\":0,\"bad\":1}\n",
+        "pmb: no line is a good packet: where lines begin with times, give --times\n",
+    ),
+    (
+        &["pmb", "decode", "--all"],
+        "1234567 B0 05 04 00 21 CD 34 5A\nB0 03 00\n",
+        1,
+        "1 X2 BadHex\n2 58 write F5 WrongPec 2\nlines 2 accepted 0 other 0 faults 1 bad 1\n",
+        "pmb: no line is a good packet: where lines begin with times, give --times\n",
+    ),
+    (
+        &["pmb", "decode", "--all"],
+        "1234567 B0 05 04 00 21 CD 34 5A\nB0 D0 01\n",
+        1,
+        "1 X2 BadHex\n2 58 code D0 write 01, no PEC\ncount code D0 1\nlines 2 accepted 0 other 1 faults 0 bad 1\n",
+        "",
+    ),
+    (
+        &["pmb", "decode", "--long"],
+        "# x\n",
+        0,
+        "lines 0 accepted 0 faults 0 bad 0\n",
+        "",
+    ),
+];
+
+#[test]
+fn what_may_be_wrong_is_said(rt: HostRuntime) {
+    for &(words, text, status, output, errors) in &HINTS {
+        let found = run_on(rt.alloc(), words, text);
+        is_true(&rt, found.is(status, output, errors), &words);
+    }
+}
