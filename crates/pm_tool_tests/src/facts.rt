@@ -15,19 +15,25 @@ use std::test::Fail;
 use values::VALUES;
 
 /// The words, the status, and the lines that are read, with what is told of each behind ` -> `; a line without that is told
-/// at the end.
+/// at the end, or on standard error where it begins with `? `.
 pub(super) type Row = (&'static [&'static str], u8, &'static str);
 
-/// What a row has read, and what it has told.
+/// What a row has read, what it has told, and what it has said on standard error.
 #[derive(Drop)]
 struct Texts {
     read: String,
     told: String,
+    said: String,
 }
 
 impl Texts {
     // One more line of a row. What is told of it begins with its number, but for an object of JSON, which has it inside.
     fn add(&mut self, alloc: Global, number: usize, line: &str) -> Result<(), AllocError> {
+        if let Some(words) = line.strip_prefix("? ") {
+            self.said.push_str("pmb: ")?;
+            self.said.push_str(words)?;
+            return self.said.push('\n');
+        }
         let Some((packet, said)) = line.split_once(" -> ") else {
             self.told.push_str(line)?;
             return self.told.push('\n');
@@ -47,6 +53,7 @@ fn texts_of(alloc: Global, lines: &str) -> Result<Texts, AllocError> {
     let mut texts = Texts {
         read: String::new(alloc),
         told: String::new(alloc),
+        said: String::new(alloc),
     };
     for (number, line) in lines.split('\n').enumerate() {
         if !line.is_empty() {
@@ -65,7 +72,8 @@ fn are_told(rt: &(impl Abort + AllocGlobal), rows: &[Row]) -> Result<(), Fail> {
         for (line, wanted) in told.zip(texts.told.split('\n')) {
             is_true(rt, line == wanted.as_bytes(), &(words, wanted));
         }
-        is_true(rt, found.is(status, texts.told.as_str(), ""), &words);
+        let is = found.is(status, texts.told.as_str(), texts.said.as_str());
+        is_true(rt, is, &words);
     }
     Ok(())
 }

@@ -50,7 +50,7 @@ static TOLD: [(&[&str], &str, u8, &str, &str); 39] = [
         "B0 D4\nB\n",
         1,
         "1 58 write F2 Short 2\n2 X2 BadHex\nlines 2 accepted 0 faults 1 bad 1\n",
-        "",
+        "pmb: no line is a good packet: where lines begin with times, give --times\n",
     ),
     (
         &["pmb", "decode", "--json", "--values"],

@@ -52,6 +52,7 @@ B1 -> -- write F1 NotOurs bytes B1
 B0 9 -> X2 BadHex
 B0 / B1 / B2 -> X1 Syntax
 lines 18 accepted 0 faults 16 bad 2
+? no line is a good packet: where lines begin with times, give --times
 ",
     ),
     (
