@@ -298,7 +298,7 @@ plain_of times line is = λ i. record {
   packet = line_of (cond times (behind_word line) line);
 }
 
--- so it is of a line of one byte
+-- the same of a line of one byte, which may be a comment's
 single_of : (times : Bool) (b : ℕ) → whole_of times (b ∷ []) ≡ timed_by (is_comment (b ∷ [])) times (b ∷ [])
 single_of times b = by (is_comment (b ∷ []))
   where
