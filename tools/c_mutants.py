@@ -19,7 +19,7 @@ class Copy:
     """What is tried on: a copy of the files, with one text in the place of another."""
 
     def __init__(self, folder, built):
-        self.folder, self.built = folder, built
+        self.folder, self.built, self.sound = folder, built, {}
         for each in ("crates/pm_host_c/include", "crates/pm_device_c/include", "examples/c", "rust"):
             shutil.copytree(os.path.join(ROOT, each), os.path.join(folder, each), ignore=shutil.ignore_patterns("target"))
 
@@ -36,7 +36,7 @@ class Copy:
         wrong = next((words for _, words in mutant_file.misplaced(bug, text_of)), None)
         if wrong:
             return wrong
-        if not self.passes(bug):
+        if not self.is_sound(bug):
             return "its test fails without it"
         was = {name: text_of(name) for name, *_ in bug.pairs}
         for name, text in mutant_file.planted(bug, text_of).items():
@@ -46,6 +46,13 @@ class Copy:
         finally:
             for name, text in was.items():
                 write(os.path.join(self.folder, name), text)
+
+    def is_sound(self, bug):
+        """Whether its test passes without it, which is tried once for all bugs that name it."""
+        asked = tuple(bug.said.get(word) for word in ("test", "mishaps", "prints"))
+        if asked not in self.sound:
+            self.sound[asked] = self.passes(bug)
+        return self.sound[asked]
 
     def passes(self, bug):
         """Whether the test that a bug names passes."""

@@ -47,7 +47,13 @@ def root_of(home):
 
 def add_probe(copy):
     """Adds the function to a copy's crate."""
-    uses = "\n".join("ghost use Rattle.%s.%s.{%s};" % (copy.crate, *it) for it in definitions(copy.home))
+    uses, seen = [], {}
+    for module, name in definitions(copy.home):
+        seen[name] = seen.get(name, 0) + 1
+        # (two modules may begin with one name)
+        brought = name if seen[name] == 1 else f"{name} as {name}{seen[name]}"
+        uses.append("ghost use Rattle.%s.%s.{%s};" % (copy.crate, module, brought))
+    uses = "\n".join(uses)
     write(os.path.join(copy.home, "src/compile_probe.rt"), PROBE % uses)
     with_probe(copy, root_of(copy.home), read(os.path.join(copy.home, root_of(copy.home))))
 

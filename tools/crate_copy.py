@@ -108,10 +108,10 @@ class CrateCopy:
         verdicts = [line for line in lines if line.startswith("logic=")]
         return lines, verdicts[-1].split()[0] if verdicts else None
 
-    def failed_test(self):
-        """The first line of a test that fails, if one does. A test has five minutes, since it is run with no
-        optimisation; where tests can't be run, the line says so."""
-        for name in self.tests:
+    def failed_test(self, first=None):
+        """The first line of a test that fails, if one does: those of the crate `first` are tried before the others. A test has five
+        minutes, since it is run with no optimisation; where tests can't be run, the line says so."""
+        for name in sorted(self.tests, key=lambda name: name != first):
             lines = run(os.path.join(self.top, "crates", name), "rt", "try", "--test", "--seconds", "300")
             for line in lines:
                 if "FAILED" in line or "panicked" in line or (" failed" in line and " 0 failed" not in line):

@@ -33,7 +33,7 @@ class Edit:
     """A planted bug: the replacements in each file, and the functions that they change."""
 
     def __init__(self, home, mutant):
-        self.name, self.is_of_definition = mutant.name, mutant.is_of_definition()
+        self.name, self.is_of_definition, self.test = mutant.name, mutant.is_of_definition(), mutant.said.get("test")
         self.why, self.texts, self.pieces, self.functions = "", {}, [], set()
         originals = {}
 
@@ -134,7 +134,7 @@ def judged(copy, edits):
 def noticed(copy, edit):
     """What the tests say of an edit."""
     kept = copy.write(edit.texts)
-    line = copy.failed_test()
+    line = copy.failed_test(edit.test)
     copy.write(kept)
     if not line:
         return "NO TEST NOTICES"
@@ -150,8 +150,9 @@ class Told:
     def edit(self, edit, verdict, note, seconds):
         if verdict == "PROVED" and self.tests:
             note = noticed(self.copy, edit)
-        self.failed += verdict == "broken"
-        self.passed += verdict != "broken"
+        is_unnoticed = verdict == "broken" or note.startswith("NO TEST")
+        self.failed += is_unnoticed
+        self.passed += not is_unnoticed
         print("%-8s %-55s %3d s  %s" % (verdict, edit.name, seconds, note[:200]), flush=True)
 
 

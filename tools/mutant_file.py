@@ -7,9 +7,10 @@
     new: what stands there instead
     test: what has to fail with it
 
-`kind` stands where a definition changes together with its code. Lines `old:` behind one another are one text of several lines,
-and so are lines `new:` and others; a text that is to end in a line's end has an empty last one. Files are those of the crate, or of the
-repository. Lines before the first bug, and those that begin with #, are comments.
+`kind` stands where a definition changes together with its code. Of a crate's bug `test` names the crate whose tests are tried first.
+Lines `old:` behind one another are one text of several lines, and so are lines `new:` and others; a text that is to end in a line's
+end has an empty last one. Files are those of the crate, or of the repository. Lines before the first bug, and those that begin with
+#, are comments.
 """
 import os
 

@@ -107,8 +107,9 @@ elif ! gcc -shared -Wl,--whole-archive "$built/libpm_host_c.a" "$built/libpm_dev
     -o "$folder/libpmhost.so" > "$folder/log" 2>&1; then
     counted "Python" 0 0 1
 else
-    PMHOST_LIBRARY=$folder/libpmhost.so PYTHONPATH=python/src python3 -B -m unittest discover -s python/tests -t python \
-        > "$folder/log" 2>&1 < /dev/null
+    # (the processes that the tests start share what is compiled, in a folder that goes with this one)
+    PMHOST_LIBRARY=$folder/libpmhost.so PYTHONPATH=python/src PYTHONPYCACHEPREFIX=$folder/compiled PYTHONDONTWRITEBYTECODE='' \
+        python3 -m unittest discover -s python/tests -t python > "$folder/log" 2>&1 < /dev/null
     status=$?
     # (a test that was skipped is neither)
     read -r good bad < <(awk '/^Ran [0-9]+ tests?/ {ran = $2} {line = $0} END {

@@ -1,30 +1,42 @@
 """Planted bugs of the package pmhost, each on a copy, with the test that has to fail for it."""
 import os
+import py_compile
+import re
 import shutil
 import subprocess
 import sys
 import tempfile
+import time
 
 import mutant_file
 from crate_copy import read, write
 from program import ROOT
 
+# Within which a run ends, on a slow machine too.
+SECONDS = 900
+
 
 def copied(folder):
-    """The repository in a folder: the package and its tests are a copy, all else is the repository's own."""
+    """The repository in a folder: the package and its tests are a copy, all else is the repository's own. The copy is compiled once, and
+    what is compiled goes by the text of its source: a run compiles the file with the bug alone, and keeps nothing of it."""
     for name in os.listdir(ROOT):
         if name not in ("python", ".git"):
             os.symlink(os.path.join(ROOT, name), os.path.join(folder, name))
     shutil.copytree(os.path.join(ROOT, "python"), os.path.join(folder, "python"),
                     ignore=shutil.ignore_patterns("__pycache__", "*.egg-info"))
+    for top, _, names in os.walk(os.path.join(folder, "python")):
+        for name in names:
+            if name.endswith(".py"):
+                py_compile.compile(os.path.join(top, name), invalidation_mode=py_compile.PycInvalidationMode.CHECKED_HASH)
 
 
-def tried(folder, test):
-    """The test's run over the copy."""
+def tried(folder, *words):
+    """The run of these tests over the copy; TimeoutExpired where it doesn't end."""
     source = os.path.join(folder, "python", "src")
     around = {**os.environ, "PYTHONPATH": source, "PYTHONDONTWRITEBYTECODE": "1"}
-    return subprocess.run([sys.executable, "-m", "unittest", f"tests.{test}"], cwd=os.path.join(folder, "python"), env=around,
-                          capture_output=True, text=True)
+    around.pop("PYTHONPYCACHEPREFIX", None)
+    return subprocess.run([sys.executable, "-m", "unittest", *words], cwd=os.path.join(folder, "python"), env=around,
+                          stdin=subprocess.DEVNULL, capture_output=True, text=True, timeout=SECONDS)
 
 
 def planted(folder, bug):
@@ -39,7 +51,9 @@ def planted(folder, bug):
     for name, text in mutant_file.planted(bug, text_of).items():
         write(os.path.join(folder, name), text)
     try:
-        ran = tried(folder, bug.said["test"])
+        ran = tried(folder, "--failfast", f"tests.{bug.said['test']}")
+    except subprocess.TimeoutExpired:
+        return False, f"no end in {SECONDS} s"
     finally:
         for name, text in was.items():
             write(os.path.join(folder, name), text)
@@ -48,15 +62,22 @@ def planted(folder, bug):
     return ran.returncode == 1 and bool(failed), failed.partition(" (")[0] or (said or ["it said nothing"])[-1]
 
 
+def look_at_tests(folder, tests):
+    """Ends the script where a test fails with no bug, or can't be run here. They run in one process."""
+    ran = tried(folder, "--verbose", *(f"tests.{it}" for it in tests))
+    faults = re.findall(r"^(?:FAIL|ERROR): .*|^.* \.\.\. skipped .*", ran.stderr, re.M)
+    if ran.returncode or faults:
+        sys.exit("\n".join([*faults, "these tests have to pass with no bug; programs are named by PMB, PMBHOST and PMBPART"]))
+
+
 def try_all(bugs, tally):
     with tempfile.TemporaryDirectory() as folder:
         copied(folder)
-        for test in sorted({it.said["test"] for it in bugs}):
-            ran = tried(folder, test)
-            if ran.returncode:
-                sys.exit(f"{test} fails with no bug: {ran.stderr.strip().splitlines()[-1]}")
+        look_at_tests(folder, sorted({it.said["test"] for it in bugs}))
         for bug in bugs:
+            start = time.time()
             is_found, said = planted(folder, bug)
-            tally.tell(bug.name, [] if is_found else [f"not found: {bug.said['test']}: {said}"])
+            took = f"{bug.said['test']}: {said} ({time.time() - start:.1f} s)"
+            tally.tell(bug.name, [] if is_found else [f"not found: {took}"])
             if is_found:
-                print(f"{bug.name}: found: {bug.said['test']}: {said}", flush=True)
+                print(f"{bug.name}: found: {took}", flush=True)

@@ -144,8 +144,8 @@ class Traces(unittest.TestCase):
         once = capture("bus.trace").splitlines()
         for bus, wanted in ((None, [line for line in once for _ in (0, 1)]), (1, once), (0, once)):
             self.assertEqual(traced("linux", both, 0x58, bus), wanted)
-        self.assertEqual(pmhost("capture", "linux", "--bus=1", "--address=58", text=both), (0, capture("bus.trace"), ""))
-        self.assertEqual(pmhost("capture", "linux", "--bus=7", text=both),
+        self.assertEqual(called("capture", "linux", "--bus=1", "--address=58", text=both), (0, capture("bus.trace"), ""))
+        self.assertEqual(called("capture", "linux", "--bus=7", text=both),
                          (1, "", "pmhost: no linux capture: no packet\n"))
 
     def test_captures_of_a_kernel_tell_what_went_over_its_bus(self):
@@ -170,11 +170,11 @@ class Times(unittest.TestCase):
                 continue
             wanted = "".join(f"{time} {packet}\n" for time, packet in zip(TIMES[form], lines))
             with self.subTest(form):
-                self.assertEqual(pmhost("capture", form, "--address=58", *words, text=capture(name)), (0, wanted, ""))
+                self.assertEqual(called("capture", form, "--address=58", *words, text=capture(name)), (0, wanted, ""))
 
     def test_a_samplerate_has_its_unit_or_is_in_hertz(self):
         for rate in "4000000", "4000000Hz", "4000kHz", "4MHz":
-            status, out, _ = pmhost("capture", "sigrok", "-a", "0x58", "--times", f"--samplerate={rate}", text=capture("bus.samples"))
+            status, out, _ = called("capture", "sigrok", "-a", "0x58", "--times", f"--samplerate={rate}", text=capture("bus.samples"))
             self.assertEqual((status, [int(line.split()[0]) for line in out.splitlines()]),
                              (0, [time // 4 for time in TIMES["sigrok"]]), rate)
 
@@ -194,7 +194,7 @@ class Times(unittest.TestCase):
 
     @needs("pmb")
     def test_decode_takes_them(self):
-        status, out, _ = pmhost("capture", "sigrok", "-a", "58", "--times", "--samplerate=1MHz", text=capture("bus.samples"))
+        status, out, _ = called("capture", "sigrok", "-a", "58", "--times", "--samplerate=1MHz", text=capture("bus.samples"))
         told = decoded(out, "--times")
         self.assertEqual((status, told[0], told[-1]),
                          (0, "1 0 us 58 page 0 VOUT_COMMAND write 34CD", "lines 8 accepted 6 faults 2 bad 0"))
@@ -240,9 +240,10 @@ class Streams(unittest.TestCase):
                               stderr=subprocess.PIPE, text=True, env=running.around(), preexec_fn=running.with_signals) as ran:
             ran.stdin.write(capture("bus.linux"))
             ran.stdin.flush()
-            ran.stdout.readline()
+            is_there = select.select([ran.stdout], [], [], 20)[0]
             ran.send_signal(signal.SIGINT)
             _, errors = ran.communicate()
+        self.assertTrue(is_there, "no line came while it lived")
         self.assertEqual((ran.returncode, errors), (130, ""))
 
     def test_closed_and_full_streams_end_it_in_one_line(self):
@@ -271,26 +272,26 @@ class Frames(unittest.TestCase):
 
     def test_frames_become_commands_and_come_back(self):
         frames = "".join(f"{frame}\n" for frame, _, _ in FRAMES)
-        made = pmhost("capture", "i2ctransfer", "7", text=frames)
+        made = called("capture", "i2ctransfer", "7", text=frames)
         self.assertEqual(made, (0, "".join(f"i2ctransfer -y 7 {command}\n" for _, command, _ in FRAMES), ""))
-        self.assertEqual(pmhost("capture", "i2ctransfer", "--back", text=made[1]), (0, frames, ""))
+        self.assertEqual(called("capture", "i2ctransfer", "--back", text=made[1]), (0, frames, ""))
 
     def test_faulty_frames_say_why(self):
         for text, why in FAULTY:
             with self.subTest(text):
-                self.assertEqual(pmhost("capture", "i2ctransfer", "7", text=f"{text}\n"),
+                self.assertEqual(called("capture", "i2ctransfer", "7", text=f"{text}\n"),
                                  (1, "", f"pmhost: capture i2ctransfer: {why}\n"))
 
     def test_what_is_no_command_is_no_frame(self):
         for text in NO_COMMANDS:
             with self.subTest(text):
-                self.assertEqual(pmhost("capture", "i2ctransfer", "--back", text=text)[:2], (1, ""))
+                self.assertEqual(called("capture", "i2ctransfer", "--back", text=text)[:2], (1, ""))
 
     def test_each_end_of_a_command(self):
         for words, frames, tool, *wanted in TRANSFERS:
             with self.subTest(f"{words} {tool}"), tempfile.TemporaryDirectory() as folder:
                 put(folder, "i2ctransfer", f"#!/bin/sh\n{tool}\n")
-                found = pmhost("capture", "i2ctransfer", *words.split(), text=frames, PATH=f"{folder}:/usr/bin:/bin")
+                found = called("capture", "i2ctransfer", *words.split(), text=frames, PATH=f"{folder}:/usr/bin:/bin")
                 self.assertEqual(found, tuple(wanted))
 
     def test_a_machine_without_i2ctransfer_is_told_what_to_install(self):

@@ -1,4 +1,6 @@
-"""Ten thousand random events beside the plain host of python/tests/plain: the two say the same after each."""
+"""Ten thousand random events beside the plain host of python/tests/plain: the two say the same after each. PMHOST_EVENTS says how many
+they are."""
+import os
 import random
 import unittest
 
@@ -9,7 +11,7 @@ from plain import limits as plain_limits  # noqa: E402
 from plain.converter import PROTECT, REGISTERS, Converter  # noqa: E402
 from plain.host import ANY, Host as PlainHost  # noqa: E402
 
-ADDRESS, EVENTS = 0x58, 10000
+ADDRESS, EVENTS = 0x58, int(os.environ.get("PMHOST_EVENTS", "10000"))
 WORDS = (0x00, 0x40, 0x80, 0x94, 0xA8, 0x20)
 WITHIN = {"yes": True, "no": False, "unknown": None}
 

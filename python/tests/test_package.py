@@ -1,6 +1,7 @@
 """What the package imports: nothing but its own modules and the standard library, and never the plain model."""
 import ast
 import contextlib
+import functools
 import os
 import sys
 import tempfile
@@ -25,15 +26,16 @@ def modules():
                 yield os.path.relpath(os.path.join(folder, name), FOLDER)
 
 
+@functools.cache
 def imported(path):
     """The top names that a file imports from elsewhere, wherever the import stands in it."""
-    with open(os.path.join(FOLDER, path), encoding="utf-8") as text:
-        tree = ast.parse(text.read())
-    for node in ast.walk(tree):
+    found = set()
+    for node in ast.walk(ast.parse(stored(FOLDER, path))):
         if isinstance(node, ast.Import):
-            yield from (alias.name.partition(".")[0] for alias in node.names)
+            found.update(alias.name.partition(".")[0] for alias in node.names)
         elif isinstance(node, ast.ImportFrom) and node.level == 0 and node.module:
-            yield node.module.partition(".")[0]
+            found.add(node.module.partition(".")[0])
+    return found
 
 
 class Gate(unittest.TestCase):
@@ -64,20 +66,19 @@ class Imports(unittest.TestCase):
         self.assertGreater(len(found), 20)
         for path in found:
             with self.subTest(path=path):
-                self.assertLessEqual(set(imported(path)), set(sys.stdlib_module_names) | {"pmhost"} | BESIDE)
+                self.assertLessEqual(imported(path), set(sys.stdlib_module_names) | {"pmhost"} | BESIDE)
 
     def test_no_module_that_people_run_has_the_plain_model(self):
         for path in modules():
             with self.subTest(path=path):
-                self.assertFalse({"plain", "tests"} & set(imported(path)))
-                with open(os.path.join(FOLDER, path), encoding="utf-8") as text:
-                    self.assertNotIn("sys.path", text.read())
+                self.assertFalse({"plain", "tests"} & imported(path))
+                self.assertNotIn("sys.path", stored(FOLDER, path))
 
     def test_one_layer_speaks_to_the_kernel(self):
-        self.assertEqual([path for path in modules() if "fcntl" in set(imported(path))], ["bus/linux.py"])
+        self.assertEqual([path for path in modules() if "fcntl" in imported(path)], ["bus/linux.py"])
 
     def test_one_parser(self):
-        found = sorted(path for path in modules() if "argparse" in set(imported(path)))
+        found = sorted(path for path in modules() if "argparse" in imported(path))
         self.assertTrue(all(path.startswith("cli" + os.sep) for path in found), found)
 
 

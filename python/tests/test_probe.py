@@ -118,13 +118,14 @@ class OneFault(unittest.TestCase):
     MISHAPS = ("lost", "false", "damaged", "restart", "short0", "empty")
 
     def test_one_fault(self):
+        folder = self.enterContext(tempfile.TemporaryDirectory())
         for part in self.PARTS:
             whole = probed("-b 7 -a 58 probe --writes", part)
             for mishap in self.MISHAPS:
                 for at in range(len(whole.trace.splitlines())):
                     run = runs.Run("probe")
                     run.words, run.part, run.mishaps = "-b 7 -a 58 probe --writes", part, " ".join(["ok"] * at + [mishap])
-                    with tempfile.TemporaryDirectory() as folder, self.subTest(part=part, mishap=mishap, at=at):
+                    with self.subTest(part=part, mishap=mishap, at=at):
                         got = runs.ran(run, folder)
                         self.assertEqual((got.status, got.out.splitlines()[-1:]), (whole.status, whole.out.splitlines()[-1:]), got.err)
 

@@ -28,8 +28,9 @@ class Blocks(unittest.TestCase):
     def carry_out(self, name):
         found = blocks(name)
         self.assertGreater(len(found), 0)
+        folder = self.enterContext(tempfile.TemporaryDirectory())
         for run in found:
-            with self.subTest(run=run.words, mishaps=run.mishaps, part=run.part), tempfile.TemporaryDirectory() as folder:
+            with self.subTest(run=run.words, mishaps=run.mishaps, part=run.part):
                 got = ran(run, folder)
                 self.assertEqual((got.status, got.out, got.err), (run.status, run.out, run.err))
                 self.assertEqual(got.found, run.wanted)

@@ -31,10 +31,14 @@ print(order(DeskBus(0x58), "3.3"), [(it.register, it.confirmed) for it in Pmbus(
 
 @unittest.skipUnless(shutil.which("mypy"), "no mypy here")
 class Types(unittest.TestCase):
+    @classmethod
+    def setUpClass(cls):
+        # (the package is looked at once for all scripts)
+        cls.cache = cls.enterClassContext(tempfile.TemporaryDirectory())
+
     def mypy(self, *words):
-        with tempfile.TemporaryDirectory() as cache:
-            ran = subprocess.run(["mypy", "--strict", "--cache-dir", cache, *words], capture_output=True, text=True, check=False,
-                                 env={**os.environ, "MYPYPATH": SOURCE})
+        ran = subprocess.run(["mypy", "--strict", "--cache-dir", self.cache, *words], capture_output=True, text=True, check=False,
+                             env={**os.environ, "MYPYPATH": SOURCE})
         return ran.returncode, ran.stdout
 
     def test_the_package_and_a_user_s_script(self):

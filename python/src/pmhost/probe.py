@@ -101,9 +101,12 @@ class Probe:
 
     def _protect(self) -> Read:
         """What WRITE_PROTECT answers."""
+        def is_held(read: Read) -> bool:
+            return read.payload != b"\0" or self.reads.packet(PROTECT).payload == b"\0"
+
         try:
             return guarded(self.address, "WRITE_PROTECT", lambda: self._word(0, "OPERATION")[1], lambda: self.reads.packet(PROTECT),
-                           lambda read: read.payload != b"\0" or self.reads.packet(PROTECT).payload == b"\0")
+                           is_held)
         except NotBelieved as doubt:
             self.found.doubt = self.found.doubt or "WRITE_PROTECT gave no answer that can be believed: probe again"
             return Read(None, why=str(doubt))

@@ -8,6 +8,7 @@ limits, `judge` looks at what the whole call has. A command that uses a bus adds
 from __future__ import annotations
 
 import argparse
+import functools
 import re
 import sys
 from types import ModuleType
@@ -41,8 +42,9 @@ fails, and 130 after an interruption, which says what is now unknown."""
 BAD_CALL, INTERRUPTED = 2, 130
 
 
+@functools.cache
 def parser() -> tuple[Parser, dict[str, argparse.ArgumentParser]]:
-    """The whole parser, and that of each command."""
+    """The whole parser, and that of each command. They are built once: to build them takes longer than most calls."""
     whole = Parser(prog="pmhost", description=ABOUT)
     bus_options(whole, "")
     whole.add_argument("--version", action="version", version=f"pmhost {__version__}")
