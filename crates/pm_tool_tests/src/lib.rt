@@ -14,6 +14,7 @@ mod example;
 mod facts;
 #[cfg(test)]
 mod hear;
+#[cfg(test)]
 mod hints;
 #[cfg(test)]
 mod numbers;
