@@ -44,11 +44,11 @@ def pages():
 
 
 def shown(text):
-    """Each `$` line of a page with the lines after it, up to the next one or the block's end."""
+    """Each `$` line of a page, which goes on in the next one behind a pipe, with the lines after it, up to the next `$` or the
+    block's end."""
     for _, block in re.findall(r"^(```\w*|\.Bd [^\n]*)\n(.*?)^(?:```|\.Ed)$", text, re.M | re.S):
         for part in re.split(r"^\$ ", block, flags=re.M)[1:]:
-            command, _, output = part.partition("\n")
-            yield command, output
+            yield re.fullmatch(r"((?:[^\n]*\|\n +)*[^\n]*)\n?(.*)", part, re.S).groups()
 
 
 class Shell:

@@ -15,7 +15,7 @@ from pmhost.capture.vcd import waveform
 
 from . import running
 from .data.capture_rows import (ADDRESSED, CAPTURES, COUNTS, ENDLESS, FAILED, FAULTY, FRAMES, HEADS, LONG, MOST_MEMORY, NO_COMMANDS,
-                                READINGS, REFUSED, SHORT, STAND_IN, STREAMS, TIMES, TRANSFERS, UNTIMED, WRONG)
+                                READINGS, REFUSED, SHORT, STAND_IN, STREAMS, TIMES, TRANSFERS, UNDRAWN, UNTIMED, WRONG)
 from .running import DATA, EXAMPLES, called, needs, needs_tool, pmhost, stored
 
 FOLDER = os.path.join(DATA, "captures")
@@ -58,6 +58,11 @@ class Waveforms(unittest.TestCase):
             with self.subTest(name):
                 self.assertEqual(waveform(stored(path)), capture(f"{name}.vcd"))
                 self.assertEqual(pmhost("capture", "waveform", text=stored(path)), (0, capture(f"{name}.vcd"), ""))
+
+    def test_texts_that_are_no_traces_aren_t_drawn(self):
+        for text, why in UNDRAWN:
+            with self.subTest(text):
+                self.assertEqual(called("capture", "waveform", text=text), (1, "", f"pmhost: capture waveform: {why}\n"))
 
     @needs_tool("sigrok-cli")
     def test_sigrok_reads_them_as_stored(self):
@@ -146,7 +151,7 @@ class Traces(unittest.TestCase):
             self.assertEqual(traced("linux", both, 0x58, bus), wanted)
         self.assertEqual(called("capture", "linux", "--bus=1", "--address=58", text=both), (0, capture("bus.trace"), ""))
         self.assertEqual(called("capture", "linux", "--bus=7", text=both),
-                         (1, "", "pmhost: no linux capture: no packet\n"))
+                         (1, "", "pmhost: no linux capture: no packet: line 1 is of i2c-1, not of i2c-7\n"))
 
     def test_captures_of_a_kernel_tell_what_went_over_its_bus(self):
         sent = capture("kernel.bus").splitlines()
@@ -263,8 +268,14 @@ class Calls(unittest.TestCase):
                 self.assertEqual(called("capture", *words.split()), (2, "", f"pmhost: {said}\n"))
 
     def test_options_of_a_bus_stand_in_front_of_no_capture(self):
-        self.assertEqual(called("-a", "58", "capture", "linux"), (
-            2, "", "pmhost: capture: --address in front of it is an option of a bus, and it uses none\n"))
+        for words, said in ("-a 58 capture linux", "give it behind the kind, as capture linux --address=58"), \
+                           ("-b 1 capture linux", "give it behind the kind, as capture linux --bus=1"):
+            option = said.rpartition(" ")[2].partition("=")[0]
+            self.assertEqual(called(*words.split()), (
+                2, "", f"pmhost: capture: {option} in front of it is an option of a bus: {said}\n"))
+        for words, option in ("-b 1 capture sigrok", "--bus"), ("-a 58 capture waveform", "--address"):
+            self.assertEqual(called(*words.split()), (
+                2, "", f"pmhost: capture: {option} in front of it is an option of a bus, and it uses none\n"))
 
 
 class Frames(unittest.TestCase):

@@ -103,7 +103,7 @@ class Host:
 
     def __init__(self, address: int, outputs: int = 1, passes: int = 3, without: Iterable[str | int] = ()) -> None:
         self._image = at.HostImage()
-        self._address = whole(address, 0x08, 0x77, "address")
+        self._address = whole(address, 0x08, 0x77, "address", "seven bits, as 0x58, which the wire shows as B0h")
         self._outputs = whole(outputs, 1, 8, "outputs")
         self._passes = whole(passes, 1, 15, "passes")
         has = registers_image(without)
@@ -128,7 +128,7 @@ class Host:
         return self._passes
 
     def _there(self, output: int) -> int:
-        return whole(output, 0, self._outputs - 1, "output")
+        return whole(output, 0, self._outputs - 1, "output", f"the host was made with outputs={self._outputs}")
 
     # ---- Limits ----
 

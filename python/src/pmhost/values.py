@@ -28,12 +28,12 @@ MOST = 10**15
 DECIMAL = re.compile(r"-?[0-9]+(\.[0-9]+)?\Z")
 
 
-def whole(number: object, least: int, most: int, what: str) -> int:
-    """A whole number from least to most."""
+def whole(number: object, least: int, most: int, what: str, why: str = "") -> int:
+    """A whole number from least to most, and why no other."""
     if isinstance(number, bool) or not isinstance(number, int):
         raise TypeError(f"{what}: a whole number is wanted, and not {number!r}")
     if not least <= number <= most:
-        raise ValueError(f"{what}: {number} isn't {least} to {most}")
+        raise ValueError(f"{what}: {number} isn't {least} to {most}{': ' * bool(why)}{why}")
     return number
 
 

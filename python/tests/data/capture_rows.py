@@ -57,8 +57,19 @@ ADDRESSED = [
 ]
 # Texts that are no captures, and why.
 REFUSED = [
-    ("sigrok", "", "no packet"), ("linux", "i2c_write: i2c-1 0x58", "line 1: no message of the kernel"),
+    ("sigrok", "", "no packet: the text is empty"), ("sigrok", "any\nwords\n", "no packet"),
+    ("sigrok", f"# any words\n{WRITE}", "no packet: line 2 is of a capture of the kind linux"),
+    ("saleae", f"# tracer: nop\n{WRITE}", "the first line doesn't name the columns type, ack, address, read and data: line 1 is of a "
+                                          "capture of the kind linux"),
+    ("sigrok", f"{SALEAE}stop,,,,\n", "no packet: line 1 is of a capture of the kind saleae"),
+    ("sigrok", '"type","start_time","ack","address","read","data"\n', "no packet: line 1 is of a capture of the kind saleae"),
+    ("linux", "i2c-1: Start\n", "no packet: line 1 is of a capture of the kind sigrok"),
+    ("linux", "# a trace\nB0 06 02 00 21 / B1 02 CD 34 B9\n", "no packet: line 2 is of a trace, which pmb decode reads"),
+    ("sigrok", "$timescale 1 us $end\n#0\n", "no packet: line 1 is of a waveform (VCD), which sigrok-cli reads"),
+    ("linux", "i2c_write: i2c-1 0x58", "line 1: no message of the kernel"),
     ("linux", "i2c_result: i2c-1 none", "line 1: no result of the kernel"), ("saleae", "type,data\n", "the first line"),
+    ("saleae", "i2c-1: Start\ni2c-1: Stop\n", "the first line doesn't name the columns type, ack, address, read and data: line 1 is of a "
+                                              "capture of the kind sigrok"),
     ("sigrok", "i2c-1: Start\ni2c-1: Address read: 58\n", "line 2: the address has no direction bit"),
     ("saleae", f"{SALEAE}address,true,here,false,\n", "line 3: no byte in the column address"),
     ("saleae", f"{SALEAE}address,true\n", "line 3: no byte in the column address"),
@@ -87,6 +98,10 @@ COUNTS = [("faults.trace", "lines 4 accepted 3 faults 1 bad 0"),
 # How transfers that fail are told.
 FAILED = [("linux", "# failed (1 of 2): B0 06 02 00 21 / B1"), ("linux", "# failed (-6): B0"),
           ("sigrok", "# no device acknowledged the address: B0"), ("saleae", "# no device acknowledged the address: B0")]
+# Texts that `pmhost capture waveform` doesn't draw, and why.
+UNDRAWN = [("", "no packet"), ("# a comment\n\n", "no packet"),
+           ("i2c-1: Start\n", "line 1: no packet, as B0 03 46: give a trace, made without --times"),
+           ("# a trace with times\n0 B0 03 46\n", "line 2: no packet, as B0 03 46: give a trace, made without --times")]
 # Wrong command lines of `pmhost capture`, and what they say: status 2, and nothing on standard output.
 HEXADECIMAL = "give one from 08 to 77, in hexadecimal"
 RATE = "give the samples a second, as `sigrok-cli -i FILE --show` has them: 1000000, or 1MHz"
@@ -111,6 +126,7 @@ WRONG = [
     ("sigrok --times --samplerate=0", f"capture sigrok: samplerate 0: {RATE}"),
     ("sigrok --times --samplerate=1Mhz", f"capture sigrok: samplerate 1Mhz: {RATE}"),
     ("sigrok --samplerate=1000000", "capture sigrok: --samplerate is of --times, which isn't given"),
+    ("--address=58 linux", "--address: no such option here; --help tells which there are"),
     ("vcd", "capture: vcd: no kind; there are sigrok, linux, saleae, i2ctransfer, waveform"),
     ("", "capture: the kind, as sigrok, is missing"),
     ("i2ctransfer", "capture i2ctransfer: give a bus, as 1, with --run behind it to run the commands; or --back"),

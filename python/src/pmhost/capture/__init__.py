@@ -12,9 +12,11 @@ does an address that nobody acknowledged. Another byte that wasn't acknowledged 
 from __future__ import annotations
 
 import csv
+import itertools
+import re
 from collections.abc import Callable, Iterable, Iterator
 
-from . import kernel, saleae, sigrok
+from . import kernel, saleae, sigrok, vcd
 from .times import Clock, NoCapture
 from .transfer import Transfer
 
@@ -23,6 +25,15 @@ __all__ = ["Clock", "FORMATS", "NoCapture", "Transfer", "clock_of", "lines_of", 
 # Of each format: what reads its transfers, and how many units of its times a second has, None where a capture says so.
 FORMATS: dict[str, tuple[Callable[..., Iterator[Transfer]], int | None]] = {
     "sigrok": (sigrok.transfers, None), "linux": (kernel.transfers, 10**6), "saleae": (saleae.transfers, saleae.UNITS)}
+
+# What a line of each format has, and one of the two texts that other programs read: it tells which text was given, where no packet
+# was found.
+SIGNS: tuple[tuple[str, Callable[[str], re.Match[str] | None]], ...] = (
+    ("sigrok", sigrok.LINE.search), ("linux", kernel.HEAD.match), ("linux", kernel.EVENT.search), ("saleae", saleae.HEAD.match),
+    ("trace", vcd.PACKET.fullmatch), ("waveform", vcd.HEAD.match))
+READERS = {"trace": "a trace, which pmb decode reads", "waveform": "a waveform (VCD), which sigrok-cli reads"}
+# So many lines are looked at.
+LOOKED_AT = 200
 
 
 def clock_of(form: str, samplerate: int | None = None) -> Clock:
@@ -38,7 +49,8 @@ def trace(form: str, lines: Iterable[str], address: int | None = None, bus: int 
     """The lines of the trace, one after another as the capture's lines come: of the transfers with the device at an address
     where one is given, and of the kernel's events of one bus where one is given. With a clock transfers have their times.
     NoCapture where the text is none of this format, or has no transfer."""
-    is_empty = True
+    is_empty, first = True, list[str]()
+    lines = beginning_kept(lines, first)
     try:
         found = FORMATS[form][0](lines, clock) if bus is None else kernel.transfers(lines, clock, bus)
         for transfer in found:
@@ -46,8 +58,33 @@ def trace(form: str, lines: Iterable[str], address: int | None = None, bus: int 
             yield from transfer.lines(address)
     except csv.Error as fault:
         raise NoCapture(str(fault)) from fault
+    except saleae.NoTable as fault:
+        raise saleae.NoTable(f"{fault}{instead(form, first, bus)}") from fault
     if is_empty:
-        raise NoCapture("no packet")
+        raise NoCapture(f"no packet{instead(form, first, bus)}")
+
+
+def beginning_kept(lines: Iterable[str], first: list[str]) -> Iterator[str]:
+    """The same lines as they come; the first ones are kept in a list."""
+    rest = iter(lines)
+    for line in itertools.islice(rest, LOOKED_AT):
+        first.append(line)
+        yield line
+    yield from rest
+
+
+def instead(form: str, first: list[str], bus: int | None) -> str:
+    """What the first lines of a text without a packet are, behind a colon; nothing where that isn't known."""
+    if not first:
+        return ": the text is empty"
+    for number, line in enumerate(first, 1):
+        event = kernel.EVENT.search(line)
+        if event and bus is not None and int(event[2]) != bus:
+            return f": line {number} is of i2c-{event[2]}, not of i2c-{bus}"
+        for name, fits in SIGNS:
+            if name != form and fits(line.strip()):
+                return f": line {number} is of {READERS.get(name, f'a capture of the kind {name}')}"
+    return ""
 
 
 def lines_of(file: Iterable[bytes]) -> Iterator[str]:

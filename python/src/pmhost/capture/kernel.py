@@ -7,6 +7,7 @@ from collections.abc import Iterable, Iterator
 from .times import Clock, NoCapture
 from .transfer import Transfer
 
+HEAD = re.compile(r"# tracer: ")
 EVENT = re.compile(r"i2c_(write|read|reply|result):\s+i2c-(\d+) (.*)")
 MESSAGE = re.compile(r"#(\d+) a=([0-9a-f]+) f=([0-9a-f]+) l=(\d+)(?: \[([0-9a-f-]*)\])?")
 RESULT = re.compile(r"n=(\d+) ret=(-?\d+)")

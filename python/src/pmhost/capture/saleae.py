@@ -9,8 +9,13 @@ from .times import PICO, Clock, NoCapture
 from .transfer import Transfer
 
 BYTE = re.compile("(?:0[xX])?0*[0-9A-Fa-f]{1,2}")
+HEAD = re.compile(r'(?:"?name"?,)?"?type"?,.*"?\baddress\b')
 COLUMNS = {"type", "ack", "address", "read", "data"}
 UNITS = 10**PICO
+
+
+class NoTable(NoCapture):
+    """The first line isn't that of such a table."""
 
 
 def transfers(lines: Iterable[str], clock: Clock | None = None) -> Iterator[Transfer]:
@@ -18,7 +23,7 @@ def transfers(lines: Iterable[str], clock: Clock | None = None) -> Iterator[Tran
     rows = csv.DictReader(lines)
     names = set(rows.fieldnames or ())
     if not COLUMNS <= names:
-        raise NoCapture("the first line doesn't name the columns type, ack, address, read and data")
+        raise NoTable("the first line doesn't name the columns type, ack, address, read and data")
     if clock and "start_time" not in names:
         raise NoCapture("the first line doesn't name the column start_time, which --times needs")
     transfer: Transfer | None = None

@@ -1,12 +1,14 @@
 """The packets of a trace as a waveform (VCD) of SCL and SDA, as a logic analyser has it: a bus of 100 kHz, a microsecond a
 step. Bytes of a line's write part are acknowledged, and of its read part all but the last; a byte after which `!` stands
-isn't, and a line that ends in `..` has no stop. Lines that are no packet aren't drawn.
+isn't, and a line that ends in `..` has no stop. Lines that are no packet aren't drawn. A text whose first line that is no comment
+is no packet is refused, as a trace with times.
 """
 from __future__ import annotations
 
 import re
 
 PACKET = re.compile(r"(?:[0-9A-Fa-f]{2}!? *)+(?:/ *(?:[0-9A-Fa-f]{2}!? *)+)*(?:\.\.)?")
+HEAD = re.compile(r"\$(?:date|version|comment|timescale)\b")
 
 
 class Waveform:
@@ -60,6 +62,15 @@ class Waveform:
 
     def text(self) -> str:
         return "\n".join([*self.lines, f"#{self.now + 40}"]) + "\n"
+
+
+def fault_of(trace: str) -> str | None:
+    """Why a text is no trace to draw, or None. Its first line that is no comment tells: in a trace with times it is no packet."""
+    for number, line in enumerate(trace.splitlines(), 1):
+        if line.strip() and not line.startswith("#"):
+            return None if PACKET.fullmatch(line.strip()) else \
+                f"line {number}: no packet, as B0 03 46: give a trace, made without --times"
+    return "no packet"
 
 
 def waveform(trace: str) -> str:

@@ -52,7 +52,8 @@ def no_file(word: str) -> str:
 
 
 def add(commands: Any) -> None:
-    whole = commands.add_parser("capture", help="captures of a bus as traces for pmb decode", description=ABOUT)
+    whole = commands.add_parser("capture", help="captures of a bus as traces for pmb decode", description=ABOUT,
+                                  epilog="Options stand behind the kind: pmhost capture sigrok --help has those of sigrok.")
     kinds = whole.add_subparsers(metavar="KIND", dest="kind", required=True, parser_class=type(whole))
     for kind, about in KINDS.items():
         one = kinds.add_parser(kind, help=about, description=f"{ABOUT}\n\nThe capture is {about}.")
@@ -91,6 +92,10 @@ class Once(argparse.Action):
 
 
 def judge(arguments: argparse.Namespace) -> None:
+    for option, own in ("address", "device"), ("bus", "wanted"):
+        if getattr(arguments, option, None) and hasattr(arguments, own):
+            raise BadCall(f"capture: --{option} in front of it is an option of a bus: give it behind the kind, as "
+                          f"capture {arguments.kind} --{option}={'58' if option == 'address' else '1'}")
     without_a_bus(arguments)
     rate = getattr(arguments, "samplerate", None)
     if arguments.kind == "sigrok" and arguments.times and not rate:
@@ -153,4 +158,9 @@ def run_commands(text: bytes, bus: str, is_shared: bool, call: Call) -> int:
 
 
 def run_waveform(arguments: argparse.Namespace) -> int:
-    return told([vcd.waveform(standard_input().read().decode("utf-8", "replace")).removesuffix("\n")])
+    text = standard_input().read().decode("utf-8", "replace")
+    fault = vcd.fault_of(text)
+    if fault:
+        complain(f"capture waveform: {fault}")
+        return BAD_LINE
+    return told([vcd.waveform(text).removesuffix("\n")])

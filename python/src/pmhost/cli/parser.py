@@ -35,10 +35,16 @@ class Parser(argparse.ArgumentParser):
 MISSING = {"O": "the output", "VOLTAGE": "the voltage, as 3.3V,", "REG": "the register", "WORD": "the word, as 34CD,",
            "high|low": "high or low", "FILE": "the file", "SCENARIO": "the scenario", "KIND": "the kind, as sigrok,"}
 
+# The commands of the program pmb.
+PMB = ("replay", "hear", "decode", "number")
+
 
 def line_of(message: str, program: str) -> str:
     """What argparse says, with the command in front of it, and the words of this program's own judges alone."""
     command, message = program.partition(" ")[2], " ".join(message.split())
+    of_pmb = re.match(f"argument COMMAND: invalid choice: '({'|'.join(PMB)})' ", message)
+    if of_pmb:
+        return f"{of_pmb[1]}: no command here, but one of pmb: pmb {of_pmb[1]} --help tells more"
     choice = re.match(r"argument (COMMAND|KIND): invalid choice: (.*) \(choose from (.*)\)\Z", message)
     if choice:
         words = f"{shown(ast.literal_eval(choice[2]))}: no {choice[1].lower()}; there are {choice[3].replace(chr(39), '')}"
