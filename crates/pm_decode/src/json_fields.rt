@@ -1,5 +1,5 @@
 //! The fields of objects of JSON.
-ghost use Rattle.std.specs.Prelude.{◌≡◌, ◌++◌, OnOk, string_bytes};
+ghost use Rattle.std.specs.Prelude.{◌≡◌, ◌++◌, OnOk, codes, string_bytes};
 ghost use Rattle.pm_lines.specs.Numbers.{hex_byte};
 ghost use Rattle.pm_decode.specs.JsonText.{address_field, bytes_field, hex_words, key, number_field, number_field_if, signed_field, text_field};
 
@@ -17,13 +17,22 @@ pub(crate) fn push_key(text: &mut String, name: &str) -> Result<(), AllocError>
     text.push_str("\":")
 }
 
+/// Appends a key behind other fields to a text, and the quote before the key's own text.
+#[tactic(auto, using(pm_lines::specs::Lemmas::Joins::joins), unfolding(crate::specs::JsonText::key))]
+pub(crate) fn push_text_key(text: &mut String, name: &str) -> Result<(), AllocError>
+    ensures { OnOk result (string_bytes text.new ≡ string_bytes text.old ++ (key name.now ++ codes "\"")) }
+{
+    text.push_str(",\"")?;
+    text.push_str(name)?;
+    text.push_str("\":\"")
+}
+
 /// Appends a field with a text of signs of which none has to be escaped.
 #[tactic(auto, using(pm_lines::specs::Lemmas::Joins::joins), unfolding(crate::specs::JsonText::text_field))]
 pub(crate) fn push_text_field(text: &mut String, name: &str, value: &str) -> Result<(), AllocError>
     ensures { OnOk result (string_bytes text.new ≡ string_bytes text.old ++ text_field name.now value.now) }
 {
-    push_key(text, name)?;
-    text.push_str("\"")?;
+    push_text_key(text, name)?;
     text.push_str(value)?;
     text.push_str("\"")
 }
@@ -33,8 +42,7 @@ pub(crate) fn push_text_field(text: &mut String, name: &str, value: &str) -> Res
 pub(crate) fn push_hex_field(text: &mut String, name: &str, byte: u8) -> Result<(), AllocError>
     ensures { OnOk result (string_bytes text.new ≡ string_bytes text.old ++ text_field name.now (hex_byte byte)) }
 {
-    push_key(text, name)?;
-    text.push_str("\"")?;
+    push_text_key(text, name)?;
     push_hex(text, byte)?;
     text.push_str("\"")
 }
@@ -103,8 +111,7 @@ pub(crate) fn push_bytes_field(
     if bytes.is_empty() {
         return Ok(());
     }
-    push_key(text, name)?;
-    text.push_str("\"")?;
+    push_text_key(text, name)?;
     push_hex_words(text, bytes)?;
     text.push_str("\"")
 }

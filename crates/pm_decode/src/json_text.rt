@@ -8,7 +8,7 @@ ghost use Rattle.pm_decode.specs.JsonText.{code_fields, coefficients_fields, fau
 
 use crate::json_fields::{
     push_address_field, push_bytes_field, push_hex_field, push_key, push_number_field,
-    push_number_field_if, push_signed_field, push_text_field,
+    push_number_field_if, push_signed_field, push_text_field, push_text_key,
 };
 use crate::json_value::push_value_fields;
 use crate::options::TellOptions;
@@ -236,8 +236,7 @@ fn push_whole_field(text: &mut String, values: bool, packet: &Packet<'_>) -> Res
     if !values || packet.write.is_empty() && packet.read.is_none() {
         return Ok(());
     }
-    push_key(text, "packet")?;
-    text.push_str("\"")?;
+    push_text_key(text, "packet")?;
     push_whole_words(text, packet)?;
     text.push_str("\"")
 }

@@ -3,7 +3,7 @@ ghost use Rattle.std.specs.Prelude.{◌≡◌, ◌++◌, codes, OnOk, string_byt
 ghost use Rattle.pm_values.specs.ValueText.{capability_text, mode_text, on_off_text};
 ghost use Rattle.pm_decode.specs.JsonText.{fraction_by, rounded_field, text_field, unit_key as spec_unit_key, value_fields, value_fields_if};
 
-use crate::json_fields::{push_key, push_signed_field, push_text_field};
+use crate::json_fields::{push_key, push_signed_field, push_text_field, push_text_key};
 use pm_num::Frac;
 use pm_table::VoutMode;
 use pm_values::{
@@ -82,8 +82,7 @@ fn push_mode_field(text: &mut String, mode: VoutMode) -> Result<(), AllocError>
     ensures { OnOk result (string_bytes text.new
         ≡ string_bytes text.old ++ text_field (codes "value") (mode_text mode)) }
 {
-    push_key(text, "value")?;
-    text.push_str("\"")?;
+    push_text_key(text, "value")?;
     push_mode(text, mode)?;
     text.push_str("\"")
 }
@@ -94,8 +93,7 @@ fn push_capability_field(text: &mut String, byte: u8) -> Result<(), AllocError>
     ensures { OnOk result (string_bytes text.new
         ≡ string_bytes text.old ++ text_field (codes "value") (capability_text byte)) }
 {
-    push_key(text, "value")?;
-    text.push_str("\"")?;
+    push_text_key(text, "value")?;
     push_capability(text, byte)?;
     text.push_str("\"")
 }
@@ -106,8 +104,7 @@ fn push_on_off_field(text: &mut String, byte: u8) -> Result<(), AllocError>
     ensures { OnOk result (string_bytes text.new
         ≡ string_bytes text.old ++ text_field (codes "value") (on_off_text byte)) }
 {
-    push_key(text, "value")?;
-    text.push_str("\"")?;
+    push_text_key(text, "value")?;
     push_on_off(text, byte)?;
     text.push_str("\"")
 }

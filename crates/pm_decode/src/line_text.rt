@@ -5,7 +5,7 @@ ghost use Rattle.pm_trace.specs.Trace.{reading_judged};
 ghost use Rattle.pm_trace.specs.TraceText.{judged_text};
 ghost use Rattle.pm_values.specs.Taught.{Taught};
 ghost use Rattle.pm_decode.specs.CaptureText.{bytes_text, extra_text, json_line, lack_text, plain_line, meaning_text, packet_fields_by, packet_text_by, reached_text, read_bytes_text, time_text, told_line, two_lines, wrong_text};
-ghost use Rattle.pm_decode.specs.JsonText.{lack_field as spec_lack_field};
+ghost use Rattle.pm_decode.specs.JsonText.{lack_field};
 ghost use Rattle.pm_decode.specs.Readings.{judged_by, other_address};
 ghost use Rattle.pm_decode.specs.ShownReadings.{packet_in};
 ghost use Rattle.pm_decode.specs.declared.page_step.Marks.{Marks};
@@ -154,7 +154,7 @@ fn push_packet_fields(
     match other {
         None => {
             push_judged_fields(text, options, lessons, marks.reached, packet, shown)?;
-            text.push_str(lack_field(marks.lacks))?;
+            push_lack_field(text, marks.lacks)?;
             push_wrong_field(text, number, marks.wrong)
         }
         Some(addr) => push_other_fields(text, options.values, addr, packet),
@@ -269,10 +269,14 @@ fn push_two_lines(text: &mut String, line: u64, number: u64) -> Result<(), Alloc
 }
 
 // What stands in JSON behind a packet that lacks its PEC.
-fn lack_field(lacks: bool) -> &'static str
-    ensures { result.now ≡ spec_lack_field lacks }
+fn push_lack_field(text: &mut String, lacks: bool) -> Result<(), AllocError>
+    ensures { OnOk result (string_bytes text.new ≡ string_bytes text.old ++ lack_field lacks) }
 {
-    if lacks { ",\"pec\":false" } else { "" }
+    if lacks {
+        text.push_str(",\"pec\":false")
+    } else {
+        Ok(())
+    }
 }
 
 // The time of a packet, where it is known.
