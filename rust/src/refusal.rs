@@ -138,7 +138,7 @@ refusals! {
     NoCell = 0xE1,
     /// No frame of this kind is being sent.
     OtherFrame = 0xE2,
-    /// No address from 08h to 77h.
+    /// No address from 08h to 77h: seven bits, as 58h, and not B0h, which is 58h with the bit for a write.
     NoAddress = 0xE3,
     /// No packet has these numbers.
     NoPacket = 0xE4,

@@ -20,7 +20,7 @@
  * host of another version. It looks at the mark, the version, the setup and the stage of the open job, 13 of
  * the 2,064 bytes, and while an order is open at what is known of its cell; at nothing else. So most damage
  * isn't noticed: of flipped bits and overwritten bytes about 0.4 %. Damaged memory that still reads as a
- * host is safe to use, and what it says may be wrong, its limits too: keep it from others.
+ * host is safe to use, and what it says may be wrong; its limits may be others, or read as none. Keep it from others.
  *
  * What stands in a pm_host is a function of what it holds: two hosts that were made and told the same are equal byte for
  * byte. It holds no pointer, so it may be copied, and kept over a sleep or a warm reset. Who keeps one
@@ -95,7 +95,7 @@ enum {
     PM_NO_HOST = 0xE0,            /* the memory holds no host of this version */
     PM_NO_CELL = 0xE1,            /* the command code is no cell's */
     PM_OTHER_FRAME = 0xE2,        /* no frame of this kind is being sent */
-    PM_NO_ADDRESS = 0xE3,         /* no address from 08h to 77h */
+    PM_NO_ADDRESS = 0xE3,         /* no address from 08h to 77h: 58h, say, and not the byte B0h that begins a write */
     PM_NO_PACKET = 0xE4,          /* no packet has these numbers */
     PM_NO_LIMITS = 0xE6,          /* the output has no limits */
     PM_NO_NAME = 0xE7,            /* the number has no name */
