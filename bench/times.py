@@ -1,7 +1,8 @@
 #!/usr/bin/env python3
 """How long `pmb` takes for three texts of 1 MiB, to a pipe, to a file and to nothing, and its page faults and system
 calls. The time is the median and, in brackets, the best of many runs; where `--earlier` names another program, the runs of
-the two alternate, so that what else the machine does falls on both. The ratio is that of the medians.
+the two alternate, so that what else the machine does falls on both. The ratio is that of the medians. Where rustc is there, `decode`
+alternates with a plain Rust program too (bench/decode/plain.rs), which stands in the column of the earlier one.
 
     bench/times.py [--earlier PMB] [--rounds N]
 
@@ -40,7 +41,7 @@ def ran(pmb, command, path, target, out):
     return took, used.ru_minflt
 
 
-def timed(programs, command, path, target, out, rounds):
+def timed(programs, command, path, target, out, rounds, what=""):
     times, faults = {name: [] for name in programs}, {}
     for at in range(rounds):
         # each goes first as often as the other
@@ -48,7 +49,7 @@ def timed(programs, command, path, target, out, rounds):
             took, faults[name] = ran(programs[name], command, path, target, out)
             times[name].append(took)
     best = ", ".join(f"{min(found):.1f}" for found in times.values())
-    measured.row(f"{command} to {target} (best {best})", "ms", {name: statistics.median(found) for name, found in times.items()})
+    measured.row(f"{command}{what} to {target} (best {best})", "ms", {name: statistics.median(found) for name, found in times.items()})
     return faults
 
 
@@ -62,6 +63,22 @@ def system_calls(pmb, command, path, folder):
     return {line[-1]: int(line[3]) for line in lines if len(line) > 4 and line[3].isdigit()}
 
 
+def beside_plain(pmb, path, out, rounds):
+    """`decode` beside a plain Rust program, which has to say the same."""
+    if not shutil.which("rustc"):
+        measured.lacks("rustc", "a plain Rust program")
+        return
+    plain = out + ".plain"
+    subprocess.run(["rustc", "--edition", "2021", "-O", "-o", plain, os.path.join(program.ROOT, "bench/decode/plain.rs")], check=True)
+    with open(path, "rb") as text:
+        told = text.read()
+    said = [subprocess.run([each, "decode"], input=told, capture_output=True, check=True).stdout for each in (pmb, plain)]
+    if said[0] != said[1]:
+        sys.exit("the plain Rust program doesn't say what pmb decode says")
+    for target in TARGETS:
+        timed({"this": pmb, "earlier": plain}, "decode", path, target, out, rounds, " beside a plain Rust program")
+
+
 def main():
     program.answer_help(__doc__)
     programs, rounds = measured.programs(), int(measured.value_behind("--rounds") or 15)
@@ -72,6 +89,8 @@ def main():
                 file.write(measured.usual_text(command))
             for target in TARGETS:
                 faults = timed(programs, command, path, target, out, rounds)
+            if command == "decode":
+                beside_plain(programs["this"], path, out, rounds)
             measured.row(f"{command}, page faults", "", faults)
             if shutil.which("strace"):
                 calls = {name: system_calls(pmb, command, path, folder) for name, pmb in programs.items()}

@@ -1,7 +1,10 @@
 //! The same by a plain Rust program, line by line over a text in memory, without proofs: the
-//! microseconds of the best of nine runs, and the bytes written. Built by bench/decode/run.sh.
+//! microseconds of the best of nine runs, and the bytes written. Built by bench/decode/run.sh. With
+//! the one word `decode` it is what `pmb decode` is, from standard input to standard output, for
+//! bench/times.py.
 use std::collections::HashMap;
 use std::fmt::Write;
+use std::io::{Read, Write as _};
 use std::time::Instant;
 
 struct Info(&'static str, usize, bool, bool);
@@ -160,8 +163,28 @@ fn decode(text: &str, table: &[u8; 256]) -> String {
     out
 }
 
+// The packet error code of each byte.
+fn codes() -> [u8; 256] {
+    let mut table = [0; 256];
+    for (place, entry) in table.iter_mut().enumerate() {
+        let mut code = place as u8;
+        for _ in 0..8 {
+            code = (code << 1) ^ if code > 127 { 7 } else { 0 };
+        }
+        *entry = code;
+    }
+    table
+}
+
 fn main() {
     let words: Vec<String> = std::env::args().collect();
+    let table = codes();
+    if words.len() == 2 && words[1] == "decode" {
+        let mut text = String::new();
+        std::io::stdin().read_to_string(&mut text).unwrap();
+        std::io::stdout().write_all(decode(&text, &table).as_bytes()).unwrap();
+        return;
+    }
     let size: usize = words[2].parse().unwrap();
     let long = " 5A".repeat(298);
     let lines = match words[1].as_str() {
@@ -171,14 +194,6 @@ fn main() {
     };
     let mut text = lines.repeat(size / lines.len() + 1);
     text.truncate(size);
-    let mut table = [0; 256];
-    for (place, entry) in table.iter_mut().enumerate() {
-        let mut code = place as u8;
-        for _ in 0..8 {
-            code = (code << 1) ^ if code > 127 { 7 } else { 0 };
-        }
-        *entry = code;
-    }
     let mut best = u128::MAX;
     let mut written = 0;
     for _ in 0..9 {

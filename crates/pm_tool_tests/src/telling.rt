@@ -7,7 +7,7 @@ use pm_tool::{Source, TellTexts};
 use std::test::Fail;
 
 /// The words, what is read, the status, what is printed and what is said.
-static TOLD: [(&[&str], &str, u8, &str, &str); 39] = [
+static TOLD: [(&[&str], &str, u8, &str, &str); 40] = [
     // An output's mode teaches its format, and no other's.
     (
         &["pmb", "decode", "--values"],
@@ -312,6 +312,14 @@ static TOLD: [(&[&str], &str, u8, &str, &str); 39] = [
         2,
         "",
         "pmb: bad vout\n",
+    ),
+    // A capture of no bytes is its counts.
+    (
+        &["pmb", "decode", "--json"],
+        "",
+        0,
+        "{\"lines\":0,\"accepted\":0,\"faults\":0,\"bad\":0}\n",
+        "",
     ),
 ];
 
