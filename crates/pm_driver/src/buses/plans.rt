@@ -2,8 +2,10 @@
 
 ghost use Rattle.std.specs.Prelude.{◌≡◌, ◌≤◌, true, length};
 ghost use Rattle.pm_driver.specs.Acts.{IsNoWrite};
+ghost use Rattle.pm_driver.specs.Driven.{Runs};
+ghost use Rattle.pm_host.specs.declared.job.Job.TheVariants as asked;
 ghost use Rattle.pm_driver.specs.Looks.{Looks};
-ghost use Rattle.pm_driver.specs.NeverRestarts.{NeverRestarts, PatientNeverRestarts};
+ghost use Rattle.pm_driver.specs.NeverRestarts.{NeverRestarts, PatientNeverRestarts, patient_device, patient_gives, patient_restarts};
 ghost use Rattle.pm_driver.specs.Plan.{device_in, gives_so, restarts_so};
 ghost use Rattle.pm_driver.specs.PlanEnds.{IsAllowed, PatientWentThrough, WentThrough, is_at_end, is_ready};
 
@@ -18,13 +20,14 @@ use pm_host::{HostFault, Job, JobEnd};
 use pm_limits::LimitFault;
 use pm_table::Cell;
 
-/// Carries a job out over a plan without restarts: what the host confirms is held.
+/// Carries a job out, as [`Driver::run`], over a plan without restarts: what the host confirms is held on.
 pub fn run_without_restart<'a>(
     driver: &mut Driver<SimulatedBus<'a>>,
     job: Job,
 ) -> Result<JobEnd, LimitFault>
     requires { NeverRestarts driver.old }
-    ensures { NeverRestarts driver.new }
+    ensures runs { Runs gives_so device_in restarts_so job driver.old result driver.new }
+    ensures never { NeverRestarts driver.new }
 {
     never_restarts_stays();
     driver.run(job)
@@ -46,20 +49,21 @@ pub fn read_without_restart<'a>(
     driver.read(request, answer)
 }
 
-/// A job over a patient bus, which counts the restarts of its adapter.
+/// The same of a job over a patient bus, which counts the restarts of its adapter.
 pub fn run_patiently_without_restart<'a>(
     driver: &mut Driver<Patient<SimulatedBus<'a>>>,
     job: Job,
 ) -> Result<JobEnd, LimitFault>
     requires { PatientNeverRestarts driver.old }
-    ensures { PatientNeverRestarts driver.new }
+    ensures runs { Runs patient_gives patient_device patient_restarts job driver.old result driver.new }
+    ensures never { PatientNeverRestarts driver.new }
 {
     patient_never_restarts_stays();
     driver.run(job)
 }
 
-/// An order over a plan at its end, as an empty one is, of a cell that WRITE_PROTECT allows: it is done, and its word is
-/// held.
+/// An order, as [`Driver::order`], over a plan at its end, as an empty one is, of a cell that WRITE_PROTECT allows: where it isn't
+/// refused it is done, and its word is held.
 pub fn order_through<'a>(
     driver: &mut Driver<SimulatedBus<'a>>,
     cell: Cell,
@@ -67,7 +71,8 @@ pub fn order_through<'a>(
 ) -> Result<JobEnd, LimitFault>
     requires end { is_at_end driver.old.bus ≡ true }
     requires allowed { IsAllowed cell driver.old.bus.device }
-    ensures { WentThrough cell word result driver.new }
+    ensures runs { Runs gives_so device_in restarts_so (asked.Order cell word) driver.old result driver.new }
+    ensures through { WentThrough cell word result driver.new }
 {
     orders_go_through();
     driver.laws();
@@ -82,7 +87,8 @@ pub fn order_patiently_through<'a>(
 ) -> Result<JobEnd, LimitFault>
     requires ready { is_ready driver.old.bus ≡ true }
     requires allowed { IsAllowed cell driver.old.bus.adapter.device }
-    ensures { PatientWentThrough cell word result driver.new }
+    ensures runs { Runs patient_gives patient_device patient_restarts (asked.Order cell word) driver.old result driver.new }
+    ensures through { PatientWentThrough cell word result driver.new }
 {
     patient_orders_go_through();
     driver.laws();

@@ -1,7 +1,9 @@
-ghost use Rattle.std.specs.Prelude.{◌≡◌, IfSome, MatchOption, None, Some, replicate};
+ghost use Rattle.std.specs.Prelude.{◌≡◌, IfSome, MatchOption, None, Some, is_some, replicate, true};
 ghost use Rattle.pm_limits.specs.Part.{all_registers};
 ghost use Rattle.pm_host.specs.Summary.{start};
 ghost use Rattle.pm_device.specs.History.{start_of};
+ghost use Rattle.pm_device.specs.Start.{config_fault};
+ghost use Rattle.pm_host.specs.Refusals.{setup_fault};
 ghost use Rattle.pm_world.specs.Setup.{setup_of};
 ghost use Rattle.pm_driver.specs.NeverRestarts.{NeverRestarts};
 ghost use Rattle.pm_driver.specs.Adapter.{IsUnheard};
@@ -150,6 +152,7 @@ pub fn driver_over<'a>(c: Config, passes: u8, plan: &'a [Fault]) -> Option<Drive
     ensures plan { IfSome result (λ driver. driver.bus.plan.now ≡ plan.now) }
     ensures next { IfSome result (λ driver. driver.bus.next ≡ 0) }
     ensures never { restarts_of plan.now ≡ 0 → IfSome result (λ driver. NeverRestarts driver) }
+    ensures some { config_fault c ≡ None → setup_fault c.count passes ≡ None → is_some result ≡ true }
 {
     // These calls hand their laws to the prover.
     spell(c);
