@@ -12,11 +12,11 @@ It runs the built program, or the one that the environment variable PMB names. W
 an earlier commit, has to say the same.
 """
 import argparse
+import functools
 import json
 import os
 import random
 import re
-import subprocess
 import sys
 
 sys.dont_write_bytecode = True
@@ -65,6 +65,7 @@ def shortened(line):
     return " ".join(word for word in line.split(" ") if not re.fullmatch(SMALL, word))
 
 
+@functools.lru_cache(maxsize=65536)
 def kind_of_told(line):
     """The kind of a line that options change: of an object its names, and of a status that it has flags."""
     if line.startswith("{"):
@@ -72,9 +73,22 @@ def kind_of_told(line):
     return re.sub(r"(STATUS_\w+ (?:read|write)) .*", r"\1 flags", shortened(line.replace(", ", " , ")))
 
 
+@functools.cache
+def streams():
+    """Three files in memory, which stand for the standard streams of a program: millions of runs are spawned."""
+    return [os.memfd_create(name) for name in ("input", "output", "errors")]
+
+
 def ran(arguments, text=b"", path=None):
-    it = subprocess.run([path or program.PROGRAM, *arguments], input=text, capture_output=True)
-    return it.returncode, it.stdout.decode(errors="replace"), it.stderr.decode(errors="replace")
+    path, files = path or program.PROGRAM, streams()
+    for file, held in zip(files, (text, b"", b"")):
+        os.ftruncate(file, 0)
+        os.pwrite(file, held, 0)
+        os.lseek(file, 0, os.SEEK_SET)
+    actions = [(os.POSIX_SPAWN_DUP2, file, place) for place, file in enumerate(files)]
+    status = os.waitpid(os.posix_spawnp(path, [path, *arguments], os.environ, file_actions=actions), 0)[1]
+    said = [os.pread(file, os.fstat(file).st_size, 0).decode(errors="replace") for file in files[1:]]
+    return os.waitstatus_to_exitcode(status), *said
 
 
 def differing(arguments, text, found, wanted):

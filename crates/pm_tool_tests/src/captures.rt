@@ -174,7 +174,7 @@ fn each_line_is_an_object_of_json(rt: HostRuntime) {
     );
 }
 
-static PAGES: [(&str, &str); 2] = [
+static PAGES: [(&str, &str); 3] = [
     (
         "B0 00 01 ED\nB0 20 / B1 14 ED\nB0 21 CD 34 38\nB0 00 / B1 00 C2\nB0 21 CD 34 38\nB0 00 01\nB0 21 CD 34 38\n",
         "1 58 PAGE write 01\n2 58 page 1? VOUT_MODE read 14 ULINEAR16 -12\n3 58 page 1? VOUT_COMMAND write 34CD 3.300048 V\n4 58 PAGE read 00 WRONG PAGE? lines 1 and 4\n5 58 page 0? VOUT_COMMAND write 34CD\n6 58 write F2 Short 3 bytes B0 00 01\n7 58 VOUT_COMMAND write 34CD WRONG PAGE? lines 6 and 7\ncount PAGE 2\ncount VOUT_MODE 1\ncount VOUT_COMMAND 3\nlines 7 accepted 6 faults 1 bad 0\n",
@@ -182,6 +182,10 @@ static PAGES: [(&str, &str); 2] = [
     (
         "B0 00 03 E3\n# another device: A0 00\n\nB0 03 46\n# another devic\nB0 03 46\nB0 00 03 E3\nB2 03 46\nB0 03 46\nB0 9\nB0 03 46\n# byte 2 wasn't acknowledged\nB0 00 03 E3\nB0 03 46",
         "1 58 PAGE write 03\n4 58 page 3? CLEAR_FAULTS send\n6 58 CLEAR_FAULTS send\n7 58 PAGE write 03\n8 59 write F5 WrongPec 2 bytes B2 03 46\n9 58 page 3? CLEAR_FAULTS send\n10 X2 BadHex\n11 58 CLEAR_FAULTS send\n13 58 PAGE write 03\n14 58 CLEAR_FAULTS send WRONG PAGE? lines 13 and 14\ncount PAGE 3\ncount CLEAR_FAULTS 5\nlines 10 accepted 8 faults 1 bad 1\n",
+    ),
+    (
+        "# bytes were lost\nB0 00 03 E3\nB0 03 46\n",
+        "2 58 PAGE write 03\n3 58 page 3? CLEAR_FAULTS send\ncount PAGE 1\ncount CLEAR_FAULTS 1\nlines 2 accepted 2 faults 0 bad 0\n",
     ),
 ];
 

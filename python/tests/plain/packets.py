@@ -3,6 +3,7 @@
 A message is ("write", page, code, payload), ("read", page, code) or ("coefficients", code, side); the
 page is None in a plain packet. A fault is a name and a place, which is None for F1.
 """
+import functools
 
 # Code: its name, the bytes of its payload, whether it is read, whether it is written, and whether it is
 # of one output or of the device. The three block codes have no payload of their own.
@@ -46,8 +47,15 @@ def is_written(code):
 
 
 def pec(frame):
-    """The remainder of the message times x^8 by x^8 + x^2 + x + 1, as one long division."""
-    message = int.from_bytes(bytes(frame), "big") << 8
+    """The PEC of some bytes."""
+    return remainder(bytes(frame))
+
+
+@functools.lru_cache(maxsize=4096)
+def remainder(frame):
+    """The remainder of the message times x^8 by x^8 + x^2 + x + 1, as one long division; remembered, since a trace is told with
+    many options."""
+    message = int.from_bytes(frame, "big") << 8
     for place in range(message.bit_length() - 1, 7, -1):
         if message >> place & 1:
             message ^= 0x107 << place - 8

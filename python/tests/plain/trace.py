@@ -1,4 +1,5 @@
 """The text that shows a trace."""
+import functools
 import re
 
 from .lines import MOST_BYTES, hex_word, numbered
@@ -11,8 +12,9 @@ from .packets import (
 MOST_IN_PART = 300
 
 
+@functools.lru_cache(maxsize=4096)
 def parts_of(line):
-    """The write part and the read part, or None, of a line; or the words of its fault."""
+    """The write part and the read part, or None, of a line; or the words of its fault. Nobody changes the lists."""
     parts = line.split(b"/")
     words = [[word for word in part.split(b" ") if word] for part in parts]
     if any(not re.fullmatch(rb"([0-9A-Fa-f]{2})+", word) for part in words for word in part):

@@ -120,6 +120,8 @@ B0 02 / B1 14 78 -> 58 code 02 ON_OFF_CONFIG read 14 by CONTROL, CONTROL active 
 B0 02 / B1 16 76 -> 58 code 02 ON_OFF_CONFIG read 16 by CONTROL, CONTROL active high, off with delay, PEC right
 B0 02 / B1 15 7F -> 58 code 02 ON_OFF_CONFIG read 15 by CONTROL, CONTROL active low, off at once, PEC right
 B0 02 / B1 1F 49 -> 58 code 02 ON_OFF_CONFIG read 1F by OPERATION and CONTROL, CONTROL active high, off at once, PEC right
+B0 02 / B1 1C 40 -> 58 code 02 ON_OFF_CONFIG read 1C by OPERATION and CONTROL, CONTROL active low, off with delay, PEC right
+B0 02 F4 -> 58 code 02 ON_OFF_CONFIG write F4 by CONTROL, CONTROL active low, off with delay, bit 7, bit 6, bit 5, no PEC
 B0 02 FF -> 58 code 02 ON_OFF_CONFIG write FF by OPERATION and CONTROL, CONTROL active high, off at once, bit 7, bit 6, bit 5, no PEC
 B0 02 80 -> 58 code 02 ON_OFF_CONFIG write 80 always on, bit 7, no PEC
 B0 02 40 -> 58 code 02 ON_OFF_CONFIG write 40 always on, bit 6, no PEC
@@ -136,6 +138,8 @@ B0 9F / B1 01 41 11 -> 58 code 9F APP_PROFILE_SUPPORT read 01 41, PEC right
 B0 97 / B1 01 41 A1 -> 58 code 97 READ_PIN read 01 41, PEC right
 B0 AF / B1 01 41 B8 -> 58 code AF read 01 41, PEC right
 B0 99 / B1 00 51 -> 58 code 99 MFR_ID read 00, PEC right
+B0 99 / B1 00 -> 58 code 99 MFR_ID read 00, no PEC
+B0 99 / B1 -> 58 code 99 MFR_ID read, no PEC
 B0 99 / B1 02 41 5A -> 58 code 99 MFR_ID read 02 41, PEC right
 B0 99 / B1 01 1F F8 -> 58 code 99 MFR_ID read 01 1F, PEC right
 B0 99 / B1 01 7F DF -> 58 code 99 MFR_ID read 01 7F, PEC right
@@ -144,10 +148,10 @@ B0 99 / B1 01 5C 36 -> 58 code 99 MFR_ID read 01 5C, PEC right
 B0 06 02 03 99 / B1 04 03 4C 54 43 50 -> 58 page 3 code 99 MFR_ID read 03 4C 54 43 "LTC", PEC right
 B0 06 02 03 7B / B1 01 80 7B -> 58 page 3 code 7B STATUS_IOUT read 80 IOUT_OC_FAULT, PEC right
 count CAPABILITY 12
-count code 02 12
+count code 02 14
 count code 7B 1
 count code 97 1
-count code 99 8
+count code 99 10
 count code 9A 1
 count code 9B 1
 count code 9C 1
@@ -157,7 +161,7 @@ count code 9F 1
 count code AD 1
 count code AE 1
 count code AF 1
-lines 43 accepted 12 other 31 faults 0 bad 0
+lines 47 accepted 12 other 35 faults 0 bad 0
 "#,
     ),
     (

@@ -3,7 +3,7 @@
 use super::Row;
 
 /// Rows under each option.
-pub(super) static LINES: [Row; 14] = [
+pub(super) static LINES: [Row; 16] = [
     (
         &["pmb", "decode"],
         1,
@@ -82,6 +82,8 @@ B0 06 02 01 EF / B1 00 -> 58 page 1 code EF read, no PEC
 B0 06 02 01 EF / B1 02 60 -> 58 code 06 PAGE_PLUS_READ write 02 01 EF read 02 60, no PEC
 B0 06 03 01 EF / B1 01 60 -> 58 code 06 PAGE_PLUS_READ write 03 01 EF read 01 60, no PEC
 B0 06 02 01 EF 00 / B1 01 60 -> 58 code 06 PAGE_PLUS_READ write 02 01 EF 00 read 01 60, no PEC
+B0 06 02 01 / B1 01 60 -> 58 code 06 PAGE_PLUS_READ write 02 01 read 01 60, no PEC
+B0 06 02 01 EF / B1 -> 58 code 06 PAGE_PLUS_READ write 02 01 EF read, no PEC
 B0 05 02 00 06 4B -> 58 page 0 code 06 PAGE_PLUS_READ send, PEC right
 B0 21 CD 34 38 01 -> 58 code 21 VOUT_COMMAND write CD 34 38 01, no PEC
 B0 21 CD -> 58 code 21 VOUT_COMMAND write CD, no PEC
@@ -97,7 +99,7 @@ EE D4 -> 77 code D4 send, no PEC
 count VOUT_COMMAND 1
 count code 03 1
 count code 05 2
-count code 06 4
+count code 06 6
 count code 0B 1
 count code 20 2
 count code 21 3
@@ -108,7 +110,7 @@ count code 8B 1
 count code 96 5
 count code D4 8
 count code EF 3
-lines 35 accepted 1 other 34 faults 0 bad 0
+lines 37 accepted 1 other 36 faults 0 bad 0
 ",
     ),
     (
@@ -219,6 +221,32 @@ lines 3 accepted 0 other 3 faults 0 bad 0
 ",
     ),
     (
+        &["pmb", "decode", "--all"],
+        1,
+        "
+B0 03 46 -> 58 CLEAR_FAULTS send
+B0 9 -> X2 BadHex
+count CLEAR_FAULTS 1
+lines 2 accepted 1 other 0 faults 0 bad 1
+",
+    ),
+    (
+        &["pmb", "decode", "--all", "--pages"],
+        0,
+        "
+B0 00 01 ED -> 58 PAGE write 01
+B0 21 CD 34 38 -> 58 page 1? VOUT_COMMAND write 34CD
+B0 D4 / B1 05 -> 58 code D4 read 05, no PEC
+B0 21 CD 34 38 -> 58 page 1? VOUT_COMMAND write 34CD
+B0 D4 / B1 -> 58 code D4 read, no PEC
+B0 21 CD 34 38 -> 58 VOUT_COMMAND write 34CD
+count PAGE 1
+count VOUT_COMMAND 3
+count code D4 2
+lines 6 accepted 4 other 2 faults 0 bad 0
+",
+    ),
+    (
         &["pmb", "decode", "--times"],
         1,
         "
@@ -287,6 +315,9 @@ B0 7E / B1 04 95 -> {"line":11,"address":"58","code":"7E","name":"STATUS_CML","d
 B0 05 04 01 21 CD 34 5A -> {"line":12,"address":"58","direction":"write","packet":"B0 05 04 01 21 CD 34 5A","fault":"F5 WrongPec","place":7}
 B0 06 02 00 21 / B1 02 CD -> {"line":13,"address":"58","direction":"read","packet":"B0 06 02 00 21 / B1 02 CD","fault":"F2 Short","place":3}
 B0 21 CD 34 38 -> {"line":14,"address":"58","code":"21","name":"VOUT_COMMAND","direction":"write","payload":"CD 34"}
+B0 -> {"line":15,"address":"58","direction":"write","packet":"B0","fault":"F2 Short","place":1}
+B0 / B1 -> {"line":16,"address":"58","direction":"write","packet":"B0 / B1","fault":"F2 Short","place":1}
+B0 20 / -> {"line":17,"address":"58","direction":"read","packet":"B0 20 /","fault":"F1 NotOurs"}
 {"count":"VOUT_MODE","lines":1}
 {"count":"VOUT_COMMAND","lines":2}
 {"count":"READ_VIN","lines":1}
@@ -297,7 +328,7 @@ B0 21 CD 34 38 -> {"line":14,"address":"58","code":"21","name":"VOUT_COMMAND","d
 {"count":"STATUS_BYTE","lines":1}
 {"count":"STATUS_WORD","lines":1}
 {"count":"STATUS_CML","lines":1}
-{"lines":14,"accepted":12,"faults":2,"bad":0}
+{"lines":17,"accepted":12,"faults":5,"bad":0}
 "#,
     ),
     (

@@ -4,7 +4,7 @@
 use super::Row;
 
 /// Rows under `--values`.
-pub(super) static VALUES: [Row; 8] = [
+pub(super) static VALUES: [Row; 13] = [
     (
         &["pmb", "decode", "--values"],
         0,
@@ -198,9 +198,10 @@ B0 05 04 FF 21 01 00 16 -> 58 page 255 VOUT_COMMAND write 0001 32768 V
 B0 06 02 FF 20 / B1 01 10 6B -> 58 page 255 VOUT_MODE read 10 ULINEAR16 -16
 B0 05 04 FF 21 01 00 16 -> 58 page 255 VOUT_COMMAND write 0001 0.000015 V
 B0 05 04 FE 21 01 00 00 -> 58 page 254 VOUT_COMMAND write 0001
+B2 05 04 00 21 01 00 7E -> 59 page 0 VOUT_COMMAND write 0001
 count VOUT_MODE 2
-count VOUT_COMMAND 3
-lines 5 accepted 5 faults 0 bad 0
+count VOUT_COMMAND 4
+lines 6 accepted 6 faults 0 bad 0
 ",
     ),
     (
@@ -278,6 +279,63 @@ B0 21 CD 34 38 -> 58 VOUT_COMMAND write 34CD 3.300048 V
 count VOUT_COMMAND 3
 count VOUT_MODE 1
 lines 4 accepted 4 faults 0 bad 0
+",
+    ),
+    (
+        &["pmb", "decode", "--values"],
+        0,
+        "
+B4 20 / B5 1F D0 -> 5A VOUT_MODE read 1F ULINEAR16 -1
+B4 88 / B5 00 D3 D2 -> 5A READ_VIN read D300 12 V
+B6 20 / B7 20 6B -> 5B VOUT_MODE read 20
+B6 88 / B7 00 D3 C0 -> 5B READ_VIN read D300
+count VOUT_MODE 2
+count READ_VIN 2
+lines 4 accepted 4 faults 0 bad 0
+",
+    ),
+    (
+        &["pmb", "decode", "--values", "--vout=direct:1:-1:6"],
+        0,
+        "
+B0 05 04 00 21 FF FF F6 -> 58 page 0 VOUT_COMMAND write FFFF 0.999999 V
+B0 05 04 00 21 00 00 D2 -> 58 page 0 VOUT_COMMAND write 0000 1 V
+B0 05 04 00 21 00 80 5B -> 58 page 0 VOUT_COMMAND write 8000 0.967232 V
+B0 05 04 00 21 FF 7F 7F -> 58 page 0 VOUT_COMMAND write 7FFF 1.032767 V
+count VOUT_COMMAND 4
+lines 4 accepted 4 faults 0 bad 0
+",
+    ),
+    (
+        &["pmb", "decode", "--values", "--vout=direct:1:0:6"],
+        0,
+        "
+B0 05 04 00 21 FF FF F6 -> 58 page 0 VOUT_COMMAND write FFFF -0.000001 V
+B0 05 04 00 21 01 00 C7 -> 58 page 0 VOUT_COMMAND write 0001 0.000001 V
+count VOUT_COMMAND 2
+lines 2 accepted 2 faults 0 bad 0
+",
+    ),
+    (
+        &["pmb", "decode", "--values", "--vout=direct:1:0:-12"],
+        0,
+        "
+B0 05 04 00 21 00 80 5B -> 58 page 0 VOUT_COMMAND write 8000 -32768000000000000 V
+B0 05 04 00 21 FF 7F 7F -> 58 page 0 VOUT_COMMAND write 7FFF 32767000000000000 V
+count VOUT_COMMAND 2
+lines 2 accepted 2 faults 0 bad 0
+? line 1 orders a voltage beyond 1000 V by --vout: a minus may be missing
+",
+    ),
+    (
+        &["pmb", "decode", "--values", "--vout=direct:1:-1000:6"],
+        0,
+        "
+B0 05 04 00 21 00 00 D2 -> 58 page 0 VOUT_COMMAND write 0000 1000 V
+B0 05 04 00 21 01 00 C7 -> 58 page 0 VOUT_COMMAND write 0001 1000.000001 V
+count VOUT_COMMAND 2
+lines 2 accepted 2 faults 0 bad 0
+? line 2 orders a voltage beyond 1000 V by --vout: a minus may be missing
 ",
     ),
 ];
