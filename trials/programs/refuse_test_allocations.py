@@ -44,7 +44,7 @@ def built():
     ran = subprocess.run(words, cwd=CRATE, stdout=subprocess.PIPE, stderr=subprocess.STDOUT, text=True)
     if ran.returncode:
         sys.exit(f"{' '.join(words)} in {CRATE} failed:\n{ran.stdout[-1000:]}")
-    return os.path.join(CRATE, "out/pm_engine_tests_tests")
+    return os.path.join(CRATE, "out", os.path.basename(CRATE) + "_tests")
 
 
 def tests_of(tests):
