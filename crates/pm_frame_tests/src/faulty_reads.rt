@@ -7,8 +7,7 @@ ghost use Rattle.std.specs.Prelude.{◌≡◌, true};
 ghost use Rattle.pm_table.specs.Address.{IsAddress};
 ghost use Rattle.pm_frame.specs.Layout.{fits_layout, is_read_message};
 
-use crate::checks::agrees;
-use crate::framing::{ADDRESSES, Ends, answer_fault, framed, request_fault, sent, slow_pec};
+use crate::framing::{ADDRESSES, Ends, answer_fault, fails, framed, request_fault, sent, slow_pec};
 use pm_frame::{FrameFault, Message, fits};
 use pm_table::address_ok;
 use std::alloc::{AllocError, Global};
@@ -62,17 +61,38 @@ fn request_from(rt: &impl Abort, addr: u8, first: u8, bytes: &[u8]) -> Option<Fr
     request_fault(addr, frame.as_slice())
 }
 
-// Each row at an address, with its first byte and with another one.
+// A row at an address, with its first byte and with another one.
+fn request_fails(rt: &impl Abort, addr: u8, row: usize, bytes: &[u8], fault: FrameFault)
+    requires { IsAddress addr }
+{
+    let ours = addr * 2;
+    fails(rt, row, request_from(rt, addr, ours, bytes), fault);
+    fails(
+        rt,
+        row,
+        request_from(rt, addr, ours + 1, bytes),
+        FrameFault::NotOurs,
+    );
+    fails(
+        rt,
+        row,
+        request_from(rt, addr, addr ^ 1, bytes),
+        FrameFault::NotOurs,
+    );
+}
+
+// Each row at an address, and no byte.
 fn requests_fail(rt: &impl Abort, addr: u8) {
     assert!(rt; address_ok(addr));
-    let ours = addr * 2;
-    let other = Some(FrameFault::NotOurs);
     for (row, (bytes, fault)) in FAULTY_REQUESTS.iter().enumerate() {
-        agrees(rt, row, &request_from(rt, addr, ours, bytes), &Some(*fault));
-        agrees(rt, row, &request_from(rt, addr, ours + 1, bytes), &other);
-        agrees(rt, row, &request_from(rt, addr, addr ^ 1, bytes), &other);
+        request_fails(rt, addr, row, bytes, *fault);
     }
-    agrees(rt, FAULTY_REQUESTS.len(), &request_fault(addr, &[]), &other);
+    fails(
+        rt,
+        FAULTY_REQUESTS.len(),
+        request_fault(addr, &[]),
+        FrameFault::NotOurs,
+    );
 }
 
 #[test]
@@ -94,7 +114,10 @@ const SLOPES: Message = Message::ReadCoefficients {
     side: 0,
 };
 
-static FAULTY_ANSWERS: [(Message, &[u8], Ends, FrameFault); 19] = [
+// A request, what came back behind its first byte, what ends that, and the fault.
+type Answer = (Message, &'static [u8], Ends, FrameFault);
+
+static FAULTY_ANSWERS: [Answer; 19] = [
     // a request with a count: the length, the count, the PEC
     (PAGE_PLUS, &[], Ends::Bare, FrameFault::Short(1)),
     (PAGE_PLUS, &[0x02, 0xCD], Ends::Bare, FrameFault::Short(3)),
@@ -186,26 +209,42 @@ fn answer_from(
     answer_fault(addr, request, frame.as_slice())
 }
 
-// Each row at an address, with its first byte and with another one.
+// A row at an address, with this first byte.
+fn answer_fails(
+    rt: &impl Abort,
+    addr: u8,
+    first: u8,
+    row: usize,
+    faulty: &Answer,
+    wanted: FrameFault,
+)
+    requires { IsAddress addr }
+{
+    let (request, bytes, ends, _) = faulty;
+    assert!(rt; request.is_read() && fits(request));
+    fails(
+        rt,
+        row,
+        answer_from(rt, addr, first, request, bytes, *ends),
+        wanted,
+    );
+}
+
+// Each row at an address, with its first byte and with another one, and no byte.
 fn answers_fail(rt: &impl Abort, addr: u8) {
     assert!(rt; address_ok(addr));
     let ours = addr * 2 + 1;
-    let other = Some(FrameFault::NotOurs);
-    for (row, (request, bytes, ends, fault)) in FAULTY_ANSWERS.iter().enumerate() {
-        assert!(rt; request.is_read() && fits(request));
-        let found = answer_from(rt, addr, ours, request, bytes, *ends);
-        agrees(rt, row, &found, &Some(*fault));
-        let found = answer_from(rt, addr, ours - 1, request, bytes, *ends);
-        agrees(rt, row, &found, &other);
-        let found = answer_from(rt, addr, addr ^ 1, request, bytes, *ends);
-        agrees(rt, row, &found, &other);
+    for (row, faulty) in FAULTY_ANSWERS.iter().enumerate() {
+        answer_fails(rt, addr, ours, row, faulty, faulty.3);
+        answer_fails(rt, addr, ours - 1, row, faulty, FrameFault::NotOurs);
+        answer_fails(rt, addr, addr ^ 1, row, faulty, FrameFault::NotOurs);
     }
     assert!(rt; PLAIN.is_read() && fits(&PLAIN));
-    agrees(
+    fails(
         rt,
         FAULTY_ANSWERS.len(),
-        &answer_fault(addr, &PLAIN, &[]),
-        &other,
+        answer_fault(addr, &PLAIN, &[]),
+        FrameFault::NotOurs,
     );
 }
 
@@ -227,7 +266,7 @@ fn the_pec_of_an_answer_covers_the_request(rt: HostRuntime) {
     assert!(rt; PAGE_PLUS.is_read() && fits(&PAGE_PLUS));
     for (row, answer) in OTHER_PECS.iter().enumerate() {
         let found = answer_fault(0x58, &PAGE_PLUS, answer);
-        agrees(&rt, row, &found, &Some(FrameFault::WrongPec(4)));
+        fails(&rt, row, found, FrameFault::WrongPec(4));
     }
 }
 
@@ -245,8 +284,7 @@ fn a_million_bytes_are_no_answer(rt: HostRuntime) -> Result<(), AllocError> {
     let bytes = a_million_of(0xB1, rt.alloc())?;
     for (row, (request, fault)) in MILLIONS.iter().enumerate() {
         assert!(rt; request.is_read() && fits(request));
-        let found = answer_fault(0x58, request, &bytes);
-        agrees(&rt, row, &found, &Some(*fault));
+        fails(&rt, row, answer_fault(0x58, request, &bytes), *fault);
     }
     Ok(())
 }

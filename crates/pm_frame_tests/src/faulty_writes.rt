@@ -5,7 +5,7 @@
 ghost use Rattle.pm_table.specs.Address.{IsAddress};
 
 use crate::checks::agrees;
-use crate::framing::{ADDRESSES, Ends, framed, request_fault, write_fault};
+use crate::framing::{ADDRESSES, Ends, fails, framed, request_fault, write_fault};
 use pm_frame::FrameFault;
 use pm_table::address_ok;
 use std::alloc::{AllocError, Global};
@@ -189,32 +189,38 @@ fn write_from(rt: &impl Abort, addr: u8, first: u8, bytes: &[u8], ends: Ends) ->
     write_fault(addr, frame.as_slice())
 }
 
-// Each row at an address, with its first byte and with another one.
+// A row at an address, with its first byte and with another one.
+fn write_fails(rt: &impl Abort, addr: u8, row: usize, bytes: &[u8], ends: Ends, fault: FrameFault)
+    requires { IsAddress addr }
+{
+    let ours = addr * 2;
+    fails(rt, row, write_from(rt, addr, ours, bytes, ends), fault);
+    fails(
+        rt,
+        row,
+        write_from(rt, addr, ours + 1, bytes, ends),
+        FrameFault::NotOurs,
+    );
+    fails(
+        rt,
+        row,
+        write_from(rt, addr, addr ^ 1, bytes, ends),
+        FrameFault::NotOurs,
+    );
+}
+
+// Each row at an address, and no byte.
 fn writes_fail(rt: &impl Abort, addr: u8) {
     assert!(rt; address_ok(addr));
-    let ours = addr * 2;
-    let other = Some(FrameFault::NotOurs);
     for (row, (bytes, ends, fault)) in FAULTY_WRITES.iter().enumerate() {
-        agrees(
-            rt,
-            row,
-            &write_from(rt, addr, ours, bytes, *ends),
-            &Some(*fault),
-        );
-        agrees(
-            rt,
-            row,
-            &write_from(rt, addr, ours + 1, bytes, *ends),
-            &other,
-        );
-        agrees(
-            rt,
-            row,
-            &write_from(rt, addr, addr ^ 1, bytes, *ends),
-            &other,
-        );
+        write_fails(rt, addr, row, bytes, *ends, *fault);
     }
-    agrees(rt, FAULTY_WRITES.len(), &write_fault(addr, &[]), &other);
+    fails(
+        rt,
+        FAULTY_WRITES.len(),
+        write_fault(addr, &[]),
+        FrameFault::NotOurs,
+    );
 }
 
 #[test]
@@ -236,7 +242,7 @@ static COUNTS_BEFORE_CODES: [&[u8]; 3] = [
 fn a_count_below_two_comes_before_the_code_at_its_place(rt: HostRuntime) {
     for (row, bytes) in COUNTS_BEFORE_CODES.iter().enumerate() {
         let found = write_fault(0x58, bytes);
-        agrees(&rt, row, &found, &Some(FrameFault::WrongCount(2)));
+        fails(&rt, row, found, FrameFault::WrongCount(2));
     }
 }
 
@@ -260,7 +266,7 @@ fn the_length_of_a_frame_is_that_of_its_count_up_to_255(rt: HostRuntime) -> Resu
     for (row, (zeros, fault)) in LENGTHS.iter().enumerate() {
         let bytes = lengthened(rt.alloc(), &[0xB0, 0x05, 0xFF, 0x00, 0x21], 0, *zeros)?;
         agrees(&rt, row, &bytes.len(), &(*zeros).saturating_add(5));
-        agrees(&rt, row, &write_fault(0x58, &bytes), &Some(*fault));
+        fails(&rt, row, write_fault(0x58, &bytes), *fault);
     }
     Ok(())
 }
@@ -290,8 +296,8 @@ static MILLIONS: [(&[u8], FrameFault, FrameFault); 5] = [
 fn a_million_bytes_are_read(rt: HostRuntime) -> Result<(), AllocError> {
     for (row, (front, in_write, in_request)) in MILLIONS.iter().enumerate() {
         let bytes = lengthened(rt.alloc(), front, 0x05, 999_998)?;
-        agrees(&rt, row, &write_fault(0x58, &bytes), &Some(*in_write));
-        agrees(&rt, row, &request_fault(0x58, &bytes), &Some(*in_request));
+        fails(&rt, row, write_fault(0x58, &bytes), *in_write);
+        fails(&rt, row, request_fault(0x58, &bytes), *in_request);
     }
     Ok(())
 }

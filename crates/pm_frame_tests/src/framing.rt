@@ -4,6 +4,7 @@ ghost use Rattle.std.specs.Prelude.{◌≡◌, true};
 ghost use Rattle.pm_table.specs.Address.{IsAddress};
 ghost use Rattle.pm_frame.specs.Layout.{fits_layout, is_read_message};
 
+use crate::checks::agrees;
 use pm_frame::{Frame, FrameFault, Message, read_answer, read_request, read_write, write_part};
 use std::process::Abort;
 
@@ -48,6 +49,11 @@ pub(crate) fn slow_pec(before: u8, bytes: &[u8]) -> u8 {
         }
     }
     register
+}
+
+/// Fails where the fault of a row isn't the one that is wanted.
+pub(crate) fn fails(rt: &impl Abort, row: usize, found: Option<FrameFault>, wanted: FrameFault) {
+    agrees(rt, row, &found, &Some(wanted));
 }
 
 // Calls with long contracts, of which the rows need nothing: the prover carries none of them through their
