@@ -1,7 +1,7 @@
 //! Replays over the base configuration: where they stop, a restart at each place, what a hand-made run is
 //! reported as, and what is no scenario.
 
-use crate::checks::{equal, is_true};
+use crate::checks::{equal, is_true, joined};
 use pm_test_streams::{Engine, Engines, REPORT, SCENARIO, in_pieces};
 use pm_text::{Ran, TextFault, read_scenario, render_report};
 use pm_world::{Cause, Stop, World};
@@ -55,7 +55,7 @@ fn report(alloc: Global, said: Said) -> Result<String, Fail> {
 
 // What a replay of a scenario with these events results in.
 fn replayed(alloc: Global, events: &str) -> Result<(Result<bool, TextFault>, Vec<u8>), Fail> {
-    let text = format!(in alloc; "{HEAD}{events}")?;
+    let text = joined(alloc, &[HEAD, events])?;
     Ok(Engine::Replay.text_of(alloc, in_pieces(text.as_bytes(), 4096)))
 }
 

@@ -2,7 +2,7 @@
 
 mod faults;
 
-use crate::checks::equal;
+use crate::checks::{equal, joined, shown};
 use pm_device::{Config, OutputStart};
 use pm_table::Coefficients;
 use pm_test_streams::SCENARIO;
@@ -59,14 +59,13 @@ fn with_event(alloc: Global, line: &str) -> Result<String, AllocError> {
     Ok(text)
 }
 
-// A scenario, or why it is none: a function of its own, so that no test's proof carries what the call
-// promises.
-fn scenario_of(alloc: Global, text: &str) -> Result<Scenario, TextFault> {
+/// A scenario, or why it is none: a function of its own, so that no test's proof carries what the call promises.
+pub(crate) fn scenario_of(alloc: Global, text: &str) -> Result<Scenario, TextFault> {
     read_scenario(alloc, text.as_bytes())
 }
 
-// A text is refused for this.
-fn is_refused(rt: &(impl Abort + AllocGlobal), text: &str, fault: TextFault) {
+/// A text is refused for this.
+pub(crate) fn is_refused(rt: &(impl Abort + AllocGlobal), text: &str, fault: TextFault) {
     let found = scenario_of(rt.alloc(), text).err();
     equal(rt, &found, &Some(fault), &text);
 }
@@ -74,7 +73,7 @@ fn is_refused(rt: &(impl Abort + AllocGlobal), text: &str, fault: TextFault) {
 // What stands in the only event of a scenario, as it is printed to debug.
 fn event_of(alloc: Global, text: &str) -> Result<String, Fail> {
     let scenario = scenario_of(alloc, text)?;
-    Ok(format!(in alloc; "{:?}", scenario.events.as_slice())?)
+    Ok(shown(alloc, &scenario.events.as_slice())?)
 }
 
 // The configuration of the worked scenario.
@@ -97,7 +96,7 @@ fn the_worked_scenario_is_read(rt: HostRuntime) -> Result<(), Fail> {
     equal(&rt, &scenario.config, &worked(), &1);
     equal(&rt, &(scenario.version, scenario.passes), &(1, 2), &2);
     equal(&rt, &scenario.events.as_slice().len(), &4, &3);
-    let text = format!(in rt.alloc(); "{:?}", scenario.events.into_vec())?;
+    let text = shown(rt.alloc(), &scenario.events.into_vec())?;
     equal(
         &rt,
         &text.as_str(),
@@ -236,7 +235,10 @@ fn with_outputs(alloc: Global, lines: usize) -> Result<String, AllocError> {
 // and a faulty one after them is told by its line.
 fn are_counted(rt: &(impl Abort + AllocGlobal), lines: usize, count: u8) -> Result<(), Fail> {
     let mut text = with_outputs(rt.alloc(), lines)?;
-    let faulty = format!(in rt.alloc(); "{text}output 14 80 1000 4000 1100 0F0\nbegin")?;
+    let faulty = joined(
+        rt.alloc(),
+        &[text.as_str(), "output 14 80 1000 4000 1100 0F0\nbegin"],
+    )?;
     text.push_str("begin")?;
     let config = scenario_of(rt.alloc(), &text)?.config;
     equal(rt, &config.count, &count, &lines);

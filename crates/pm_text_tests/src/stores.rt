@@ -1,8 +1,9 @@
 //! The user store in texts: what is stored comes back by a restart and by a restore, in version 2 alone.
 
-use crate::checks::{equal, is_true};
+use crate::checks::{equal, is_true, joined, shown};
+use crate::scenarios::{is_refused, scenario_of};
 use pm_test_streams::{Engine, Engines, SCENARIO, in_pieces};
-use pm_text::{TextFault, read_scenario};
+use pm_text::TextFault;
 use std::alloc::Global;
 use std::process::Abort;
 use std::test::Fail;
@@ -10,8 +11,21 @@ use std::test::Fail;
 // A scenario of version 2 that starts with such a WRITE_PROTECT, orders a word of output 0, and goes on so.
 fn text_with(alloc: Global, protect: &str, events: &str) -> Result<String, Fail> {
     let output = "output 14 80 1000 4000 1100 0F00 0000";
-    Ok(format!(in alloc;
-        "scenario 2\naddress 58\npasses 2\nprotect {protect}\ncoefficients 1 0 0\n{output}\n{output}\nbegin\norder 0 VOUT_COMMAND 34CD\ndeliver whole\nfinish ack\nexchange whole whole\n{events}"
+    let ordered =
+        "\nbegin\norder 0 VOUT_COMMAND 34CD\ndeliver whole\nfinish ack\nexchange whole whole\n";
+    let head = "scenario 2\naddress 58\npasses 2\nprotect ";
+    Ok(joined(
+        alloc,
+        &[
+            head,
+            protect,
+            "\ncoefficients 1 0 0\n",
+            output,
+            "\n",
+            output,
+            ordered,
+            events,
+        ],
     )?)
 }
 
@@ -186,8 +200,14 @@ fn hear_stores_and_restores(rt: HostRuntime) -> Result<(), Fail> {
     for &(text, answers, word) in &HEARD {
         let (end, written) = Engine::Hear.text_of(rt.alloc(), in_pieces(text.as_bytes(), 4096));
         equal(&rt, &end, &Ok(true), &text);
-        let wanted = format!(in rt.alloc();
-            "{answers}output 0 VOUT_COMMAND {word}\noutput 1 VOUT_COMMAND 1000\n"
+        let wanted = joined(
+            rt.alloc(),
+            &[
+                answers,
+                "output 0 VOUT_COMMAND ",
+                word,
+                "\noutput 1 VOUT_COMMAND 1000\n",
+            ],
         )?;
         equal(&rt, &written.as_slice(), &wanted.as_bytes(), &text);
     }
@@ -211,9 +231,9 @@ fn expect_event(
     wanted: Result<&str, TextFault>,
 ) -> Result<(), Fail> {
     let text = text_with(rt.alloc(), "00", line)?;
-    match (read_scenario(rt.alloc(), text.as_bytes()), wanted) {
+    match (scenario_of(rt.alloc(), &text), wanted) {
         (Ok(scenario), Ok(wanted)) => {
-            let events = format!(in rt.alloc(); "{:?}", scenario.events.as_slice())?;
+            let events = shown(rt.alloc(), &scenario.events.as_slice())?;
             is_true(rt, events.as_str().ends_with(wanted), &line);
         }
         (found, wanted) => equal(rt, &found.err(), &wanted.err(), &line),
@@ -243,13 +263,16 @@ fn store_and_restore_are_lines_of_one_word(rt: HostRuntime) -> Result<(), Fail> 
 #[test]
 fn version_1_knows_no_store(rt: HostRuntime) -> Result<(), Fail> {
     for event in ["store", "restore", "store 0", "restore ZZ"] {
-        let text = format!(in rt.alloc(); "{SCENARIO}{event}\n")?;
-        let found = read_scenario(rt.alloc(), text.as_bytes()).err();
-        equal(&rt, &found, &Some(TextFault::Syntax(13)), &event);
+        let text = joined(rt.alloc(), &[SCENARIO, event, "\n"])?;
+        is_refused(&rt, &text, TextFault::Syntax(13));
     }
     // What is heard is judged by the table all the same: a byte too many of a known code, and no wrong PEC.
-    let text = format!(in rt.alloc();
-        "{SCENARIO}order 0 VOUT_COMMAND 34CD\ndeliver bytes B0150000 stop\n"
+    let text = joined(
+        rt.alloc(),
+        &[
+            SCENARIO,
+            "order 0 VOUT_COMMAND 34CD\ndeliver bytes B0150000 stop\n",
+        ],
     )?;
     let (end, written) = Engine::Replay.text_of(rt.alloc(), in_pieces(text.as_bytes(), 4096));
     equal(&rt, &end, &Ok(true), &1);

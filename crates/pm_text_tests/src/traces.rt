@@ -3,7 +3,7 @@
 mod bad_lines;
 mod packets;
 
-use crate::checks::{equal, is_true};
+use crate::checks::{equal, is_true, joined};
 use pm_test_streams::{Engine, Engines, TRACE, in_pieces};
 use pm_text::{Decoder, Shown, TextFault, read_trace_line, render_line};
 use std::alloc::{AllocError, Global};
@@ -181,7 +181,7 @@ fn line_of(
     } else {
         part(alloc, "B1", reads)?
     };
-    Ok(format!(in alloc; "{write}{middle}{read}{end}")?)
+    Ok(joined(alloc, &[write.as_str(), middle, read.as_str(), end])?)
 }
 
 fn begins_with(rt: &(impl Abort + AllocGlobal), line: &str, wanted: &str) {

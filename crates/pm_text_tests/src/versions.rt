@@ -1,8 +1,9 @@
 //! Scenarios of both versions: VOUT_MIN stands in the second one, and the first is read and told as it was.
 
-use crate::checks::{equal, is_true};
+use crate::checks::{equal, is_true, joined, shown};
+use crate::scenarios::{is_refused, scenario_of};
 use pm_test_streams::{Engine, Engines, REPORT, SCENARIO, in_pieces};
-use pm_text::{Scenario, TextFault, read_scenario};
+use pm_text::TextFault;
 use std::alloc::Global;
 use std::process::Abort;
 use std::test::Fail;
@@ -113,7 +114,7 @@ fn a_report_of_version_2_tells_the_possible_words(rt: HostRuntime) -> Result<(),
 
 #[test]
 fn a_report_of_version_1_tells_no_possible_words(rt: HostRuntime) -> Result<(), Fail> {
-    let text = format!(in rt.alloc(); "{SCENARIO}{LOST}")?;
+    let text = joined(rt.alloc(), &[SCENARIO, LOST])?;
     let (end, written) = replayed(rt.alloc(), &text);
     equal(&rt, &end, &Ok(true), &1);
     let told = std::str::from_utf8(&written)?;
@@ -163,8 +164,9 @@ static ORDERED: [(&str, &str, &str, &str); 4] = [
 
 // The report after an event of version 2, which is carried out.
 fn report_after(rt: &(impl Abort + AllocGlobal), event: &str) -> Result<Vec<u8>, Fail> {
-    let events = format!(in rt.alloc();
-        "{event}\ndeliver whole\nfinish ack\nexchange whole whole\n"
+    let events = joined(
+        rt.alloc(),
+        &[event, "\ndeliver whole\nfinish ack\nexchange whole whole\n"],
     )?;
     let text = text_with(rt.alloc(), 8, "", &events)?;
     let (end, written) = replayed(rt.alloc(), &text);
@@ -216,7 +218,7 @@ fn is_heard(rt: &(impl Abort + AllocGlobal), text: &str, wanted: &str) {
 fn hear_takes_vout_min_and_shows_what_it_cuts(rt: HostRuntime) -> Result<(), Fail> {
     let outputs = "output 0 VOUT_COMMAND 1000\noutput 1 VOUT_COMMAND 1000\n";
     for &(text, answers) in &HEARD {
-        let wanted = format!(in rt.alloc(); "{answers}{outputs}")?;
+        let wanted = joined(rt.alloc(), &[answers, outputs])?;
         is_heard(&rt, text, &wanted);
     }
     Ok(())
@@ -253,17 +255,6 @@ static FAULTY: [(usize, &str, TextFault); 10] = [
     (0, "scenario", TextFault::Syntax(1)),
 ];
 
-// A scenario, or why it is none: a function of its own, so that no test's proof carries what the call
-// promises.
-fn scenario_of(alloc: Global, text: &str) -> Result<Scenario, TextFault> {
-    read_scenario(alloc, text.as_bytes())
-}
-
-fn is_refused(rt: &(impl Abort + AllocGlobal), text: &str, fault: TextFault) {
-    let found = scenario_of(rt.alloc(), text).err();
-    equal(rt, &found, &Some(fault), &text);
-}
-
 #[test]
 fn a_line_of_version_2_is_faulty_so(rt: HostRuntime) -> Result<(), Fail> {
     for &(place, line, fault) in &FAULTY {
@@ -284,7 +275,7 @@ static UNKNOWN_TO_VERSION_1: [&str; 4] = [
 #[test]
 fn no_event_of_version_1_names_vout_min(rt: HostRuntime) -> Result<(), Fail> {
     for &event in &UNKNOWN_TO_VERSION_1 {
-        let text = format!(in rt.alloc(); "{SCENARIO}{event}\n")?;
+        let text = joined(rt.alloc(), &[SCENARIO, event, "\n"])?;
         is_refused(&rt, &text, TextFault::Syntax(13));
     }
     Ok(())
@@ -315,8 +306,16 @@ fn has_least(
     m: &str,
     wanted: u16,
 ) -> Result<(), Fail> {
-    let text = format!(in rt.alloc();
-        "scenario 1\naddress 58\npasses 2\nprotect 00\ncoefficients {m} 5 3\noutput {mode} 80 1000 4000 1100 0F00\nbegin\n"
+    let head = "scenario 1\naddress 58\npasses 2\nprotect 00\ncoefficients ";
+    let text = joined(
+        rt.alloc(),
+        &[
+            head,
+            m,
+            " 5 3\noutput ",
+            mode,
+            " 80 1000 4000 1100 0F00\nbegin\n",
+        ],
     )?;
     let (version, found, _) = least(rt.alloc(), &text)?;
     equal(rt, &(version, found), &(1, wanted), &(mode, m));
@@ -337,7 +336,7 @@ fn version_2_has_vout_min_of_each_output(rt: HostRuntime) -> Result<(), Fail> {
     let text = text_with(alloc, 8, "", "check 1 VOUT_MIN\n")?;
     equal(&rt, &least(alloc, &text)?, &(2, 0x0800, 0x07D0), &1);
     let scenario = scenario_of(alloc, &text)?;
-    let events = format!(in alloc; "{:?}", scenario.events.as_slice())?;
+    let events = shown(alloc, &scenario.events.as_slice())?;
     equal(&rt, &events.as_str(), &"[Check(Out(1, VoutMin))]", &2);
     Ok(())
 }
@@ -345,8 +344,12 @@ fn version_2_has_vout_min_of_each_output(rt: HostRuntime) -> Result<(), Fail> {
 #[test]
 fn bytes_of_vout_min_are_judged_by_the_table_in_version_1(rt: HostRuntime) -> Result<(), Fail> {
     // The count says that one byte follows the code, and VOUT_MIN has two: a faulty frame of a known code.
-    let text = format!(in rt.alloc();
-        "{SCENARIO}order 0 VOUT_COMMAND 34CD\ndeliver bytes B00503002BCD00 stop\n"
+    let text = joined(
+        rt.alloc(),
+        &[
+            SCENARIO,
+            "order 0 VOUT_COMMAND 34CD\ndeliver bytes B00503002BCD00 stop\n",
+        ],
     )?;
     let (end, written) = replayed(rt.alloc(), &text);
     equal(&rt, &end, &Ok(true), &1);

@@ -1,6 +1,6 @@
 //! Scenarios whose setup is refused, and what is said of each.
 
-use crate::checks::is_true;
+use crate::checks::{is_true, joined};
 use crate::run::run_on;
 use std::process::Abort;
 use std::test::Fail;
@@ -19,7 +19,7 @@ fn is_refused_setup(
         text.push_str("\n")?;
     }
     text.push_str("begin\n")?;
-    let errors = format!(in rt.alloc(); "pmb: X7 Setup {words}\n")?;
+    let errors = joined(rt.alloc(), &["pmb: X7 Setup ", words, "\n"])?;
     let found = run_on(rt.alloc(), &["pmb", "replay"], text.as_str());
     is_true(rt, found.is(1, "", errors.as_str()), &words);
     Ok(())
@@ -118,9 +118,18 @@ static SETUPS: [(&str, &str, &str, &str, &[&str], &str); 15] = [
 #[test]
 fn a_refused_setup_is_told(rt: HostRuntime) -> Result<(), Fail> {
     for &(address, passes, protect, coefficients, outputs, words) in &SETUPS {
-        let text = format!(in rt.alloc();
-            "scenario 1\naddress {address}\npasses {passes}\nprotect {protect}\ncoefficients {coefficients}\n"
-        )?;
+        let head = [
+            "scenario 1\naddress ",
+            address,
+            "\npasses ",
+            passes,
+            "\nprotect ",
+            protect,
+            "\ncoefficients ",
+            coefficients,
+            "\n",
+        ];
+        let text = joined(rt.alloc(), &head)?;
         is_refused_setup(&rt, text, outputs, words)?;
     }
     Ok(())

@@ -2,7 +2,7 @@
 
 use super::packets::is_written;
 use super::rendered;
-use crate::checks::equal;
+use crate::checks::{equal, joined};
 use pm_text::TextFault;
 use std::process::Abort;
 use std::test::Fail;
@@ -30,7 +30,10 @@ fn is_bad(
     said: &str,
     fault: TextFault,
 ) -> Result<(), Fail> {
-    let text = format!(in rt.alloc(); "1 {said}\nlines 1 accepted 0 faults 0 bad 1\n")?;
+    let text = joined(
+        rt.alloc(),
+        &["1 ", said, "\nlines 1 accepted 0 faults 0 bad 1\n"],
+    )?;
     is_written(rt, line, &text);
     let alone = rendered(rt.alloc(), line, 1).err();
     equal(rt, &alone, &Some(fault), &line);

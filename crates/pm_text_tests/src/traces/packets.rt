@@ -1,7 +1,7 @@
 //! A line of each packet and of each fault of a packet, and what it says.
 
 use super::{decoded, rendered};
-use crate::checks::equal;
+use crate::checks::{equal, joined};
 use std::process::Abort;
 use std::test::Fail;
 
@@ -326,7 +326,7 @@ pub(super) fn is_written(rt: &(impl Abort + AllocGlobal), line: &str, text: &str
 // A line by itself says this, with its number.
 fn says_alone(rt: &(impl Abort + AllocGlobal), line: &str, said: &str) -> Result<(), Fail> {
     let alone = rendered(rt.alloc(), line, 1)?;
-    let wanted = format!(in rt.alloc(); "1 {said}")?;
+    let wanted = joined(rt.alloc(), &["1 ", said])?;
     equal(rt, &alone.as_str(), &wanted.as_str(), &line);
     Ok(())
 }
@@ -339,7 +339,7 @@ fn expect_said(
     counts: &str,
 ) -> Result<(), Fail> {
     says_alone(rt, line, said)?;
-    let text = format!(in rt.alloc(); "1 {said}\n{counts}\n")?;
+    let text = joined(rt.alloc(), &["1 ", said, "\n", counts, "\n"])?;
     is_written(rt, line, text.as_str());
     Ok(())
 }
@@ -347,7 +347,10 @@ fn expect_said(
 #[test]
 fn each_line_says_its_packet(rt: HostRuntime) -> Result<(), Fail> {
     for &(line, said, code) in &ACCEPTED {
-        let counts = format!(in rt.alloc(); "count {code} 1\nlines 1 accepted 1 faults 0 bad 0")?;
+        let counts = joined(
+            rt.alloc(),
+            &["count ", code, " 1\nlines 1 accepted 1 faults 0 bad 0"],
+        )?;
         expect_said(&rt, line, said, counts.as_str())?;
     }
     Ok(())
