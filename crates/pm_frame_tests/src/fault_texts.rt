@@ -1,6 +1,6 @@
 //! How each fault shows: as programs print it.
 
-use crate::checks::agrees;
+use crate::checks::prints;
 use pm_frame::FrameFault;
 use std::alloc::AllocError;
 
@@ -18,8 +18,7 @@ static ROWS: [(FrameFault, &str); 8] = [
 #[test]
 fn each_fault_shows_its_words_and_its_place(rt: HostRuntime) -> Result<(), AllocError> {
     for (row, (fault, wanted)) in ROWS.iter().enumerate() {
-        let shown = format!(in rt.alloc(); "{fault}")?;
-        agrees(&rt, row, &shown.as_str(), wanted);
+        prints(&rt, row, fault, wanted)?;
     }
     Ok(())
 }

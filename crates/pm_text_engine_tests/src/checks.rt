@@ -1,8 +1,18 @@
-//! What every test asks, as two calls: a macro that words its message is proved anew wherever it stands.
+//! What every test asks, and the texts that it makes, as calls: a macro that words a text is proved anew wherever it stands.
 ghost use Rattle.std.specs.Prelude.{IsTrue};
 
-use std::fmt::Debug;
+use std::alloc::{AllocError, Global};
+use std::fmt::{Debug, Display};
 use std::process::Abort;
+
+/// A value as it is printed, with a text behind it.
+pub(crate) fn printed(
+    alloc: Global,
+    value: &impl Display,
+    more: &str,
+) -> Result<String, AllocError> {
+    format!(in alloc; "{value}{more}")
+}
 
 /// Fails where what is found isn't what is wanted, and says both and where that was.
 pub(crate) fn equal<T: PartialEq + Debug>(rt: &impl Abort, found: &T, wanted: &T, at: &impl Debug) {

@@ -1,7 +1,7 @@
 //! The engines over readers and writers that fail, take nothing, or never end: the fault, the calls that
 //! were made, and what was written until then.
 
-use crate::checks::{equal, is_true};
+use crate::checks::{equal, is_true, printed};
 use crate::worked::worked;
 use pm_test_streams::{
     Engine, Engines, FRAME, Failure, Halves, KINDS, Paper, Pieces, SCENARIO, TRACE, blank_paper,
@@ -247,7 +247,7 @@ fn are_clears(rt: &(impl Abort + AllocGlobal), written: &[u8], count: usize) -> 
     equal(rt, &feeds_in(written), &count, &1);
     let lines = written.split(|byte| *byte == b'\n').take(count);
     for (at, line) in lines.enumerate() {
-        let wanted = format!(in rt.alloc(); "{} 58 CLEAR_FAULTS send", at.saturating_add(1))?;
+        let wanted = printed(rt.alloc(), &at.saturating_add(1), " 58 CLEAR_FAULTS send")?;
         equal(rt, &line, &wanted.as_bytes(), &2);
     }
     Ok(())

@@ -1,6 +1,6 @@
 //! The faults of texts and of numbers: their words, what stands beside them, and how they show.
 
-use crate::checks::equal;
+use crate::checks::{equal, printed};
 use pm_device::ConfigFault;
 use pm_host::HostFault;
 use pm_num::NumFault;
@@ -21,7 +21,7 @@ fn is_told(
 ) -> Result<(), Fail> {
     equal(rt, &fault.words(), &words, &1);
     equal(rt, &fault.line(), &line, &text);
-    let shown = format!(in rt.alloc(); "{fault}")?;
+    let shown = printed(rt.alloc(), &fault, "")?;
     equal(rt, &shown.as_str(), &text, &2);
     equal(rt, &fault.setup().is_some(), &(words == "X7 Setup"), &text);
     Ok(())
@@ -101,7 +101,7 @@ fn is_refused(
 ) -> Result<(), Fail> {
     equal(rt, &fault.words(), &words, &1);
     equal(rt, &fault.status(), &status, &words);
-    let shown = format!(in rt.alloc(); "{fault}")?;
+    let shown = printed(rt.alloc(), &fault, "")?;
     equal(rt, &shown.as_str(), &words, &2);
     Ok(())
 }

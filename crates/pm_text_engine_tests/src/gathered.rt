@@ -1,5 +1,5 @@
 //! What `decode` gathers before it writes, where a read brings as many bytes as it asks for.
-use crate::checks::{equal, is_true};
+use crate::checks::{equal, is_true, printed};
 use pm_test_streams::{Ended, Engine, Engines, Failure, Paper, Pieces, blank_paper, in_pieces};
 use pm_text::TextFault;
 use std::alloc::Global;
@@ -20,7 +20,7 @@ fn clears(alloc: Global, lines: usize) -> Result<Vec<u8>, Fail> {
 fn told(alloc: Global, lines: usize) -> Result<String, Fail> {
     let mut text = String::new(alloc);
     for number in 1..lines.saturating_add(1) {
-        text.push_str(&format!(in alloc; "{number} 58 CLEAR_FAULTS send\n")?)?;
+        text.push_str(&printed(alloc, &number, " 58 CLEAR_FAULTS send\n")?)?;
     }
     Ok(text)
 }
@@ -28,8 +28,10 @@ fn told(alloc: Global, lines: usize) -> Result<String, Fail> {
 // All of it.
 fn told_whole(alloc: Global, lines: usize) -> Result<String, Fail> {
     let mut text = told(alloc, lines)?;
-    text.push_str(&format!(in alloc; "count CLEAR_FAULTS {lines}\n")?)?;
-    text.push_str(&format!(in alloc; "lines {lines} accepted {lines} faults 0 bad 0\n")?)?;
+    text.push_str("count CLEAR_FAULTS ")?;
+    text.push_str(&printed(alloc, &lines, "\nlines ")?)?;
+    text.push_str(&printed(alloc, &lines, " accepted ")?)?;
+    text.push_str(&printed(alloc, &lines, " faults 0 bad 0\n")?)?;
     Ok(text)
 }
 

@@ -1,6 +1,6 @@
 //! How each fault shows: as programs print it.
 
-use crate::checks::agrees;
+use crate::checks::prints;
 use pm_table::TableFault;
 use std::alloc::AllocError;
 
@@ -14,8 +14,7 @@ static ROWS: [(TableFault, &str); 4] = [
 #[test]
 fn each_fault_shows_its_words(rt: HostRuntime) -> Result<(), AllocError> {
     for (row, (fault, wanted)) in ROWS.iter().enumerate() {
-        let shown = format!(in rt.alloc(); "{fault}")?;
-        agrees(&rt, row, &shown.as_str(), wanted);
+        prints(&rt, row, fault, wanted)?;
     }
     Ok(())
 }

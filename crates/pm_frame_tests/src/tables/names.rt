@@ -1,6 +1,6 @@
 //! Names of codes, registers and cells, and the cells of a device in their order.
 
-use crate::checks::agrees;
+use crate::checks::{agrees, prints};
 use pm_table::{Cell, Code, Reg, UnknownName};
 use std::alloc::AllocError;
 
@@ -15,9 +15,7 @@ static CODES: [(u8, &str); 5] = [
 #[test]
 fn a_code_is_told_by_its_name_or_its_number(rt: HostRuntime) -> Result<(), AllocError> {
     for (row, (code, wanted)) in CODES.iter().enumerate() {
-        let code = Code(*code);
-        let text = format!(in rt.alloc(); "{code}")?;
-        agrees(&rt, row, &text.as_str(), wanted);
+        prints(&rt, row, &Code(*code), wanted)?;
     }
     Ok(())
 }
@@ -32,8 +30,7 @@ static CELLS: [(Cell, &str); 4] = [
 #[test]
 fn a_cell_is_told_by_its_output_and_its_register(rt: HostRuntime) -> Result<(), AllocError> {
     for (row, (cell, wanted)) in CELLS.iter().enumerate() {
-        let text = format!(in rt.alloc(); "{cell}")?;
-        agrees(&rt, row, &text.as_str(), wanted);
+        prints(&rt, row, cell, wanted)?;
     }
     Ok(())
 }
