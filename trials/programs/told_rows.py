@@ -1373,28 +1373,32 @@ WHOLE = [
     ("--values", b"B0" * 300, 0, f"1 58 write F5 WrongPec 299 bytes {' '.join(['B0'] * 300)}\nlines 1 accepted 0 faults 1 bad 0\n"),
 ]
 
+BAD_VOUT = "bad vout: give linear11, ulinear16:N or direct:M:B:R, as ulinear16:-12"
+BAD_READINGS = "bad readings: give one to eight, as 8C:linear11,58:8D:direct:1:0:3"
+BAD_GAP = "bad gap: give 0 to 1000000 milliseconds"
+
 # Faulty command lines, and the one line that is said; None for a text of the parser's own.
 REFUSED = [
     ("--vout=linear11", "give --vout with --values"), ("--vout=", "give --vout with --values"),
     ("--all --vout=ulinear16:-12 --times", "give --vout with --values"),
-    *((f"--values --vout={form}", "bad vout") for form in (
+    *((f"--values --vout={form}", BAD_VOUT) for form in (
         "", "linear", "linear11:0", "LINEAR11", "linear16:-12", "ulinear16", "ulinear16:16", "ulinear16:-17", "ulinear16:x",
         "ulinear16:1:2", "direct", "direct:1:0", "direct:1:0:0:0", "direct:0:0:0", "direct:1:0:13", "direct:1:0:-13",
         "direct:32768:0:0", "direct:1:-32769:0", "direct:1:0:128", "direct::0:0", "ulinear16/16", "ulinear16//1", "ulinear16/",
         "direct/1:0/13", "/linear11", "/", "ulinear16\\-12", "8C:linear11")),
     ("--readings=linear11", "give --readings with --values"), ("--readings=", "give --readings with --values"),
-    *((f"--values --readings={entries}", "bad readings") for entries in (
+    *((f"--values --readings={entries}", BAD_READINGS) for entries in (
         "", "linear", "ulinear16:-12", "8C", "8C:", ":linear11", "8B:linear11", "58:linear11", "8C:58:linear11", "07:8C:linear11",
         "78:8C:linear11", "B0:8C:linear11", "58:8C:8D:linear11", "8:linear11", "08C:linear11", "0x8C:linear11", "linear11,", ",linear11",
         "linear11,,linear11", "direct:0:0:0", "direct:1:0:13", "8C:direct:1:0:-13", "linear11:0", ",".join(["linear11"] * 9),
         "8B/linear11", "8C//linear11", "58/8C/8D/linear11", "ulinear16/-12")),
     ("--gap=5", "give --gap with --pages and --times"), ("--gap=x --pages", "give --gap with --pages and --times"),
     ("--times --gap=5", "give --gap with --pages and --times"),
-    *((f"--pages --times --gap={gap}", "bad gap") for gap in (
+    *((f"--pages --times --gap={gap}", BAD_GAP) for gap in (
         "", "x", "+1", "-1", "-0", "1.5", "1,5", "0x5", "5ms", "1000001", "10000000", "00000005")),
     # The first in this order.
     ("--gap=x --readings=x --vout=x", "give --vout with --values"), ("--gap=x --readings=x", "give --readings with --values"),
-    ("--gap=x --readings=x --vout=x --values", "bad vout"), ("--gap=x --readings=x --values", "bad readings"),
+    ("--gap=x --readings=x --vout=x --values", BAD_VOUT), ("--gap=x --readings=x --values", BAD_READINGS),
     ("--values --values", None), ("--all --all", None), ("--json --json", None), ("--long --long", None), ("--times --times", None),
     ("--pages --pages", None), ("--values --vout=linear11 --vout=linear11", None),
     ("--values --readings=linear11 --readings=linear11", None), ("--pages --times --gap=1 --gap=1", None), ("--values=1", None),

@@ -75,16 +75,19 @@ STORIES["limits beside an open order"] = [
     (NEW, "ended done"), ("narrow 0 0 3200000", "narrowed")]
 # How many words may be possible of a cell before an order is refused.
 MOST_WORDS = 16
+BAD_ADDRESS = "pmbhost: bad address: give 08 to 77, in hexadecimal, as 58\n"
+BAD_WITHOUT = "pmbhost: bad without: give VOUT_MAX, VOUT_MARGIN_HIGH, VOUT_MARGIN_LOW or VOUT_MIN, a comma between each\n"
+BAD_LIMIT = "pmbhost: bad limit: give OUTPUT:LEAST:MOST in microvolts, as 0:800000:3400000, one for each output\n"
 # Options, standard input, and the status and what is said.
 ENDS = [
     (["--address=58", "--outputs=2", "--passes=2"], b"", 0, b"", ""),
     (["--address=58", "--outputs=2", "--passes=2"], b"seen", 0, b"seen no\n", ""),
     (["--address=58", "--outputs=2", "--passes=2"], b"seen\r\n\n#\n", 0, b"seen no\nrefused X1 Syntax\nrefused X1 Syntax\n", ""),
-    (["--address=07", "--outputs=2", "--passes=2"], b"seen\n", 2, b"", "pmbhost: bad address\n"),
-    (["--address=78", "--outputs=2", "--passes=2"], b"seen\n", 2, b"", "pmbhost: bad address\n"),
-    (["--outputs=2", "--passes=2"], b"seen\n", 2, b"", "pmbhost: bad address\n"),
-    (["--address=58", "--outputs=two", "--passes=2"], b"seen\n", 2, b"", "pmbhost: bad outputs\n"),
-    (["--address=58", "--outputs=2", "--passes=256"], b"seen\n", 2, b"", "pmbhost: bad passes\n"),
+    (["--address=07", "--outputs=2", "--passes=2"], b"seen\n", 2, b"", BAD_ADDRESS),
+    (["--address=78", "--outputs=2", "--passes=2"], b"seen\n", 2, b"", BAD_ADDRESS),
+    (["--outputs=2", "--passes=2"], b"seen\n", 2, b"", BAD_ADDRESS),
+    (["--address=58", "--outputs=two", "--passes=2"], b"seen\n", 2, b"", "pmbhost: bad outputs: give 1 to 8\n"),
+    (["--address=58", "--outputs=2", "--passes=256"], b"seen\n", 2, b"", "pmbhost: bad passes: give 1 to 15\n"),
     (["--address=58", "--outputs=0", "--passes=0"], b"seen\n", 1, b"", "pmbhost: H1 OutputCount\n"),
     (["--address=58", "--outputs=9", "--passes=2"], b"seen\n", 1, b"", "pmbhost: H1 OutputCount\n"),
     (["--address=58", "--outputs=8", "--passes=0"], b"seen\n", 1, b"", "pmbhost: H2 Passes\n"),
@@ -94,12 +97,12 @@ ENDS = [
     (["--address=58", "--outputs=2", "--passes=2", "--limit=0:3465000:3200000"], b"seen\n", 2, b"", "pmbhost: L1 LimitsInverted\n"),
     (["--address=58", "--outputs=2", "--passes=2", "--limit=2:1:2"], b"seen\n", 2, b"", "pmbhost: H4 UnknownOutput\n"),
     (["--address=58", "--outputs=2", "--passes=2", f"--limit=0:1:{10**15 + 1}"], b"seen\n", 2, b"", "pmbhost: N5 TooLarge\n"),
-    (["--address=58", "--outputs=2", "--passes=2", "--limit=0:1:2", "--limit=0:1:2"], b"seen\n", 2, b"", "pmbhost: bad limit\n"),
-    (["--address=58", "--outputs=2", "--passes=2", "--limit=0:1"], b"seen\n", 2, b"", "pmbhost: bad limit\n"),
+    (["--address=58", "--outputs=2", "--passes=2", "--limit=0:1:2", "--limit=0:1:2"], b"seen\n", 2, b"", BAD_LIMIT),
+    (["--address=58", "--outputs=2", "--passes=2", "--limit=0:1"], b"seen\n", 2, b"", BAD_LIMIT),
     (["--address=58", "--outputs=9", "--passes=2", "--limit=x"], b"seen\n", 1, b"", "pmbhost: H1 OutputCount\n"),
     (["--address=58", "--outputs=1", "--passes=2", "--without=VOUT_MIN"], b"check 0 VOUT_MIN\nplan 0 VOUT_MIN=0001\n", 0,
      b"refused L7 MissingRegister\nrefused L7 MissingRegister VOUT_MIN\n", ""),
-    (["--address=58", "--outputs=1", "--passes=2", "--without=VOUT_COMMAND"], b"seen\n", 2, b"", "pmbhost: bad without\n"),
+    (["--address=58", "--outputs=1", "--passes=2", "--without=VOUT_COMMAND"], b"seen\n", 2, b"", BAD_WITHOUT),
 ]
 NAMES = [name_of(code) for code in (0x01, 0x21, 0x24, 0x25, 0x26, 0x2B)]
 VOLTAGES = NAMES[1:]

@@ -151,11 +151,11 @@ IsAsked given (Err fault) = first_fault (vout_asked given) (readings_asked given
 -- what is said of a fault of the options, and the status that goes with it
 abbrev pub tell_fault_words : TellFault → List ℕ
 tell_fault_words VoutAlone = codes "give --vout with --values"
-tell_fault_words Vout = codes "bad vout"
+tell_fault_words Vout = codes "bad vout: give linear11, ulinear16:N or direct:M:B:R, as ulinear16:-12"
 tell_fault_words ReadingsAlone = codes "give --readings with --values"
-tell_fault_words Readings = codes "bad readings"
+tell_fault_words Readings = codes "bad readings: give one to eight, as 8C:linear11,58:8D:direct:1:0:3"
 tell_fault_words GapAlone = codes "give --gap with --pages and --times"
-tell_fault_words Gap = codes "bad gap"
+tell_fault_words Gap = codes "bad gap: give 0 to 1000000 milliseconds"
 
 abbrev pub tell_fault_status : TellFault → ℕ
 tell_fault_status VoutAlone = 2

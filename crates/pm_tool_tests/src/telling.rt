@@ -6,6 +6,14 @@ use pm_test_streams::{blank_paper, in_pieces};
 use pm_tool::{Source, TellTexts};
 use std::test::Fail;
 
+const BAD_VOUT: &str =
+    "pmb: bad vout: give linear11, ulinear16:N or direct:M:B:R, as ulinear16:-12\n";
+
+const BAD_READINGS: &str =
+    "pmb: bad readings: give one to eight, as 8C:linear11,58:8D:direct:1:0:3\n";
+
+const BAD_GAP: &str = "pmb: bad gap: give 0 to 1000000 milliseconds\n";
+
 /// The words, what is read, the status, what is printed and what is said.
 static TOLD: [(&[&str], &str, u8, &str, &str); 40] = [
     // An output's mode teaches its format, and no other's.
@@ -72,28 +80,28 @@ static TOLD: [(&[&str], &str, u8, &str, &str); 40] = [
         "B0 05 04 00 21 CD 34 5A\n",
         2,
         "",
-        "pmb: bad vout\n",
+        BAD_VOUT,
     ),
     (
         &["pmb", "decode", "--values", "--vout", "direct:0:5:3"],
         "B0 05 04 00 21 CD 34 5A\n",
         2,
         "",
-        "pmb: bad vout\n",
+        BAD_VOUT,
     ),
     (
         &["pmb", "decode", "--values", "--vout=direct:1:5:13"],
         "B0 05 04 00 21 CD 34 5A\n",
         2,
         "",
-        "pmb: bad vout\n",
+        BAD_VOUT,
     ),
     (
         &["pmb", "decode", "--values", "--vout=ulinear16:16"],
         "B0 05 04 00 21 CD 34 5A\n",
         2,
         "",
-        "pmb: bad vout\n",
+        BAD_VOUT,
     ),
     // `--readings`: entries of an address and a code, of a code, and of all; the first that fits.
     (
@@ -137,21 +145,21 @@ static TOLD: [(&[&str], &str, u8, &str, &str); 40] = [
         "B0 05 04 00 21 CD 34 5A\n",
         2,
         "",
-        "pmb: bad readings\n",
+        BAD_READINGS,
     ),
     (
         &["pmb", "decode", "--values", "--readings=58:8B:linear11"],
         "B0 05 04 00 21 CD 34 5A\n",
         2,
         "",
-        "pmb: bad readings\n",
+        BAD_READINGS,
     ),
     (
         &["pmb", "decode", "--values", "--readings=07:88:linear11"],
         "B0 05 04 00 21 CD 34 5A\n",
         2,
         "",
-        "pmb: bad readings\n",
+        BAD_READINGS,
     ),
     (
         &["pmb", "decode", "--readings=float"],
@@ -171,7 +179,7 @@ static TOLD: [(&[&str], &str, u8, &str, &str); 40] = [
         "B0 05 04 00 21 CD 34 5A\n",
         2,
         "",
-        "pmb: bad vout\n",
+        BAD_VOUT,
     ),
     // A `/` stands for a `:`.
     (
@@ -198,7 +206,7 @@ static TOLD: [(&[&str], &str, u8, &str, &str); 40] = [
         "B0 05 04 00 21 CD 34 5A\n",
         2,
         "",
-        "pmb: bad vout\n",
+        BAD_VOUT,
     ),
     // `--gap`: with both of the others, in one to seven digits.
     (
@@ -241,63 +249,63 @@ static TOLD: [(&[&str], &str, u8, &str, &str); 40] = [
         "B0 05 04 00 21 CD 34 5A\n",
         2,
         "",
-        "pmb: bad gap\n",
+        BAD_GAP,
     ),
     (
         &["pmb", "decode", "--pages", "--times", "--gap=x"],
         "B0 05 04 00 21 CD 34 5A\n",
         2,
         "",
-        "pmb: bad gap\n",
+        BAD_GAP,
     ),
     (
         &["pmb", "decode", "--pages", "--times", "--gap=-0"],
         "B0 05 04 00 21 CD 34 5A\n",
         2,
         "",
-        "pmb: bad gap\n",
+        BAD_GAP,
     ),
     (
         &["pmb", "decode", "--pages", "--times", "--gap=+1"],
         "B0 05 04 00 21 CD 34 5A\n",
         2,
         "",
-        "pmb: bad gap\n",
+        BAD_GAP,
     ),
     (
         &["pmb", "decode", "--pages", "--times", "--gap=1.5"],
         "B0 05 04 00 21 CD 34 5A\n",
         2,
         "",
-        "pmb: bad gap\n",
+        BAD_GAP,
     ),
     (
         &["pmb", "decode", "--pages", "--times", "--gap=1000001"],
         "B0 05 04 00 21 CD 34 5A\n",
         2,
         "",
-        "pmb: bad gap\n",
+        BAD_GAP,
     ),
     (
         &["pmb", "decode", "--pages", "--times", "--gap=10000000"],
         "B0 05 04 00 21 CD 34 5A\n",
         2,
         "",
-        "pmb: bad gap\n",
+        BAD_GAP,
     ),
     (
         &["pmb", "decode", "--pages", "--times", "--gap=00000005"],
         "B0 05 04 00 21 CD 34 5A\n",
         2,
         "",
-        "pmb: bad gap\n",
+        BAD_GAP,
     ),
     (
         &["pmb", "decode", "--gap=x", "--readings=x", "--values"],
         "B0 05 04 00 21 CD 34 5A\n",
         2,
         "",
-        "pmb: bad readings\n",
+        BAD_READINGS,
     ),
     (
         &["pmb", "decode", "--gap=x", "--readings=x"],
@@ -311,7 +319,7 @@ static TOLD: [(&[&str], &str, u8, &str, &str); 40] = [
         "B0 05 04 00 21 CD 34 5A\n",
         2,
         "",
-        "pmb: bad vout\n",
+        BAD_VOUT,
     ),
     // A capture of no bytes is its counts.
     (

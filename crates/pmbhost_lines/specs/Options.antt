@@ -105,12 +105,12 @@ start_of options = start_by (address_of options.address.now) (small_of options.o
 
 -- what is said of a fault of the options, and the status that goes with it
 abbrev pub start_fault_words : StartFault → List ℕ
-start_fault_words Address = codes "bad address"
-start_fault_words Outputs = codes "bad outputs"
-start_fault_words Passes = codes "bad passes"
-start_fault_words Without = codes "bad without"
+start_fault_words Address = codes "bad address: give 08 to 77, in hexadecimal, as 58"
+start_fault_words Outputs = codes "bad outputs: give 1 to 8"
+start_fault_words Passes = codes "bad passes: give 1 to 15"
+start_fault_words Without = codes "bad without: give VOUT_MAX, VOUT_MARGIN_HIGH, VOUT_MARGIN_LOW or VOUT_MIN, a comma between each"
 start_fault_words (Host fault) = host_fault_words fault
-start_fault_words Limit = codes "bad limit"
+start_fault_words Limit = codes "bad limit: give OUTPUT:LEAST:MOST in microvolts, as 0:800000:3400000, one for each output"
 start_fault_words (Limits fault) = limit_fault_words fault
 
 abbrev pub start_status : StartFault → ℕ

@@ -14,13 +14,16 @@ SWITCHES = ("--values", "--all", "--long", "--times", "--json", "--pages")
 VALUED = ("--vout", "--readings", "--gap")
 TIME = re.compile(rb" *([0-9]{1,18})(?= |$)")
 MOST_READINGS, MOST_GAP, GAP = 8, 1_000_000, 1000
+BAD_VOUT = "bad vout: give linear11, ulinear16:N or direct:M:B:R, as ulinear16:-12"
+BAD_READINGS = "bad readings: give one to eight, as 8C:linear11,58:8D:direct:1:0:3"
+BAD_GAP = "bad gap: give 0 to 1000000 milliseconds"
 
 
 class BadOptions(Exception):
     """What is wrong with the command line: a line, or None where the parser has a text of its own."""
 
 
-def format_named(text, refusal="bad vout"):
+def format_named(text, refusal=BAD_VOUT):
     """The format that a text names; a slash stands for a colon."""
     name, *numbers = text.replace("/", ":").split(":")
     bounds = {"linear11": [], "ulinear16": [(-16, 15)], "direct": [(-2**15, 2**15 - 1)] * 2 + [(-2**7, 2**7 - 1)]}.get(name)
@@ -44,19 +47,19 @@ def readings_named(text):
             places.append(int(words.pop(0), 16))
             words = words or [""]
         address, code = [None, None, *places][-2:]
-        form = format_named(":".join(words), "bad readings")
+        form = format_named(":".join(words), BAD_READINGS)
         if form[0] == "ulinear16" or code not in (None, *READINGS) or address is not None and not 0x08 <= address <= 0x77:
-            raise BadOptions("bad readings")
+            raise BadOptions(BAD_READINGS)
         entries.append((address, code, form))
     if len(entries) > MOST_READINGS:
-        raise BadOptions("bad readings")
+        raise BadOptions(BAD_READINGS)
     return entries
 
 
 def gap_named(text):
     """The milliseconds of `--gap`."""
     if not re.fullmatch("[0-9]{1,7}", text) or int(text) > MOST_GAP:
-        raise BadOptions("bad gap")
+        raise BadOptions(BAD_GAP)
     return int(text)
 
 

@@ -11,12 +11,21 @@ use std::process::Abort;
 use std::test::Fail;
 
 static START: [(StartFault, &str); 7] = [
-    (StartFault::Address, "bad address"),
-    (StartFault::Outputs, "bad outputs"),
-    (StartFault::Passes, "bad passes"),
-    (StartFault::Without, "bad without"),
+    (
+        StartFault::Address,
+        "bad address: give 08 to 77, in hexadecimal, as 58",
+    ),
+    (StartFault::Outputs, "bad outputs: give 1 to 8"),
+    (StartFault::Passes, "bad passes: give 1 to 15"),
+    (
+        StartFault::Without,
+        "bad without: give VOUT_MAX, VOUT_MARGIN_HIGH, VOUT_MARGIN_LOW or VOUT_MIN, a comma between each",
+    ),
     (StartFault::Host(HostFault::OutputCount), "H1 OutputCount"),
-    (StartFault::Limit, "bad limit"),
+    (
+        StartFault::Limit,
+        "bad limit: give OUTPUT:LEAST:MOST in microvolts, as 0:800000:3400000, one for each output",
+    ),
     (
         StartFault::Limits(LimitFault::LimitsInverted),
         "L1 LimitsInverted",

@@ -120,7 +120,12 @@ static ENDS: [(&[&[u8]], u8, &str, &str); 9] = [
         "",
     ),
     (&[b"pmbhost", b"--version"], 0, "pmbhost 0.1.0\n", ""),
-    (&[b"pmbhost"], 2, "", "pmbhost: bad address\n"),
+    (
+        &[b"pmbhost"],
+        2,
+        "",
+        "pmbhost: bad address: give 08 to 77, in hexadecimal, as 58\n",
+    ),
     (
         &[b"pmbhost", b"--address=58", b"--outputs=2", b"--passes=16"],
         1,

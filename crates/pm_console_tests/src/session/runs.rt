@@ -6,6 +6,12 @@ use pmbhost_lines::run;
 use std::alloc::Global;
 use std::io::ErrorKind;
 
+const BAD_WITHOUT: &str =
+    "pmbhost: bad without: give VOUT_MAX, VOUT_MARGIN_HIGH, VOUT_MARGIN_LOW or VOUT_MIN, a comma between each\n";
+
+const BAD_LIMIT: &str =
+    "pmbhost: bad limit: give OUTPUT:LEAST:MOST in microvolts, as 0:800000:3400000, one for each output\n";
+
 // A run over the line `seen`, whose writer fails at this call, 0 for none: its status, and what was
 // written and said.
 fn ran(
@@ -44,21 +50,21 @@ static ENDS: [([&str; 3], usize, u8, &str, &str); 8] = [
         0,
         2,
         "",
-        "pmbhost: bad address\n",
+        "pmbhost: bad address: give 08 to 77, in hexadecimal, as 58\n",
     ),
     (
         ["--address=58", "--outputs=-1", "--passes=2"],
         0,
         2,
         "",
-        "pmbhost: bad outputs\n",
+        "pmbhost: bad outputs: give 1 to 8\n",
     ),
     (
         ["--address=58", "--outputs=2", "--passes=+2"],
         0,
         2,
         "",
-        "pmbhost: bad passes\n",
+        "pmbhost: bad passes: give 1 to 15\n",
     ),
     (
         ["--address=58", "--outputs=9", "--passes=0"],
@@ -100,7 +106,7 @@ fn each_end_has_its_status_and_its_line(rt: HostRuntime) {
         ran(rt.alloc(), Ok(&["pmbhost", "--outputs=2", "--passes=2"]), 0),
         2,
         "",
-        "pmbhost: bad address\n",
+        "pmbhost: bad address: give 08 to 77, in hexadecimal, as 58\n",
     );
     expect_run(
         &rt,
@@ -144,36 +150,11 @@ static LIMITS: [([&str; 2], u8, &str, &str); 9] = [
         "",
         "pmbhost: N5 TooLarge\n",
     ),
-    (
-        ["--limit=0:1:2", "--limit=0:1:2"],
-        2,
-        "",
-        "pmbhost: bad limit\n",
-    ),
-    (
-        ["--limit=0:1", "--limit=0:1:2"],
-        2,
-        "",
-        "pmbhost: bad limit\n",
-    ),
-    (
-        ["--limit=0:1:2:3", "--limit="],
-        2,
-        "",
-        "pmbhost: bad limit\n",
-    ),
-    (
-        ["--limit=1:1:2", "--limit=0:one:2"],
-        2,
-        "",
-        "pmbhost: bad limit\n",
-    ),
-    (
-        ["--limit=0:1:2", "--limit=256:1:2"],
-        2,
-        "",
-        "pmbhost: bad limit\n",
-    ),
+    (["--limit=0:1:2", "--limit=0:1:2"], 2, "", BAD_LIMIT),
+    (["--limit=0:1", "--limit=0:1:2"], 2, "", BAD_LIMIT),
+    (["--limit=0:1:2:3", "--limit="], 2, "", BAD_LIMIT),
+    (["--limit=1:1:2", "--limit=0:one:2"], 2, "", BAD_LIMIT),
+    (["--limit=0:1:2", "--limit=256:1:2"], 2, "", BAD_LIMIT),
 ];
 
 #[test]
@@ -201,16 +182,11 @@ static LACKING: [(&str, u8, &str, &str); 8] = [
         "",
     ),
     ("--without=", 0, "seen no\n", ""),
-    ("--without=VOUT_COMMAND", 2, "", "pmbhost: bad without\n"),
-    ("--without=OPERATION", 2, "", "pmbhost: bad without\n"),
-    (
-        "--without=VOUT_MIN,vout_max",
-        2,
-        "",
-        "pmbhost: bad without\n",
-    ),
-    ("--without=VOUT_MIN,", 2, "", "pmbhost: bad without\n"),
-    ("--without=,", 2, "", "pmbhost: bad without\n"),
+    ("--without=VOUT_COMMAND", 2, "", BAD_WITHOUT),
+    ("--without=OPERATION", 2, "", BAD_WITHOUT),
+    ("--without=VOUT_MIN,vout_max", 2, "", BAD_WITHOUT),
+    ("--without=VOUT_MIN,", 2, "", BAD_WITHOUT),
+    ("--without=,", 2, "", BAD_WITHOUT),
 ];
 
 #[test]

@@ -29,11 +29,13 @@ impl TellFault {
     {
         match self {
             TellFault::VoutAlone => "give --vout with --values",
-            TellFault::Vout => "bad vout",
+            TellFault::Vout =>
+                "bad vout: give linear11, ulinear16:N or direct:M:B:R, as ulinear16:-12",
             TellFault::ReadingsAlone => "give --readings with --values",
-            TellFault::Readings => "bad readings",
+            TellFault::Readings =>
+                "bad readings: give one to eight, as 8C:linear11,58:8D:direct:1:0:3",
             TellFault::GapAlone => "give --gap with --pages and --times",
-            TellFault::Gap => "bad gap",
+            TellFault::Gap => "bad gap: give 0 to 1000000 milliseconds",
         }
     }
 
