@@ -153,6 +153,7 @@ pub fn driver_over<'a>(c: Config, passes: u8, plan: &'a [Fault]) -> Option<Drive
     ensures next { IfSome result (λ driver. driver.bus.next ≡ 0) }
     ensures never { restarts_of plan.now ≡ 0 → IfSome result (λ driver. NeverRestarts driver) }
     ensures some { config_fault c ≡ None → setup_fault c.count passes ≡ None → is_some result ≡ true }
+    ensures accepted { is_some result ≡ true → (config_fault c ≡ None) × (setup_fault c.count passes ≡ None) }
 {
     // These calls hand their laws to the prover.
     spell(c);
