@@ -5,7 +5,9 @@ mod faults;
 mod guards;
 mod orders;
 mod parts;
+mod plans;
 mod rails;
+mod surveys;
 
 use self::guards::{LINEAR, first, guard, learn, refusal};
 use crate::checks::equal;
