@@ -18,7 +18,8 @@ built='' after_ci=''
 case ${1-} in
     '') ;;
     --after-ci) after_ci=yes ;;
-    --built) built=$(realpath "${2-}") || exit 2 ;;
+    --built) [ -d "${2-}" ] || { echo "packages.sh: '${2-}' is no folder: give --built FOLDER, from where the repository stands" >&2; exit 2; }
+        built=$(realpath "$2") ;;
     *) echo "packages.sh: '$1': give --after-ci, --built FOLDER, or nothing" >&2; exit 2 ;;
 esac
 folder=$(mktemp -d)

@@ -15,7 +15,7 @@ import sys
 
 sys.path.append(os.path.join(os.path.dirname(os.path.abspath(__file__)), "..", "..", "python", "src"))
 
-from pmhost import DeskBus, LinuxBus, NoBus  # noqa: E402
+from pmhost import DeskBus, LinuxBus, NoBus, SetupRefused  # noqa: E402
 from pmhost.programs import HostProgram, Missing, NoAnswer  # noqa: E402
 
 SEND = re.compile(r"send ([0-9A-F ]+?)(?: read ([0-9]+))?")
@@ -58,7 +58,7 @@ def main():
             print(f"{line}: {answer}", flush=True)
             is_well = is_well and answer.startswith(ENDED_WELL)
         host.close()
-    except (NoBus, Missing, NoAnswer, ValueError, TypeError) as fault:
+    except (NoBus, Missing, NoAnswer, SetupRefused, ValueError, TypeError) as fault:
         sys.exit(f"drive.py: {fault}")
     return 0 if is_well else 1
 

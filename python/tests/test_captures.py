@@ -59,6 +59,11 @@ class Waveforms(unittest.TestCase):
                 self.assertEqual(waveform(stored(path)), capture(f"{name}.vcd"))
                 self.assertEqual(pmhost("capture", "waveform", text=stored(path)), (0, capture(f"{name}.vcd"), ""))
 
+    def test_bytes_need_no_spaces_between_them(self):
+        spaced = waveform("B0 06 02 00 21 / B1 02! CD 34 B9\n")
+        for line in "B006020021/B102!CD34B9", "B0 0602 0021/ B1 02!CD 34B9":
+            self.assertEqual(waveform(f"{line}\n"), spaced)
+
     def test_texts_that_are_no_traces_aren_t_drawn(self):
         for text, why in UNDRAWN:
             with self.subTest(text):

@@ -2,11 +2,13 @@
 import _ctypes
 import os
 import pty
+import signal
 import subprocess
 import sys
+import tempfile
 import unittest
 
-from .running import with_signals
+from .running import needs_tool, with_signals
 from .runs import called
 
 HERE = os.path.dirname(os.path.abspath(__file__))
@@ -110,6 +112,28 @@ class Processes(unittest.TestCase):
                                env={**os.environ, "PMHOST_LIBRARY": "/nowhere.so"}, stderr=subprocess.PIPE, stdout=subprocess.PIPE)
         self.assertEqual((ended.returncode, ended.stdout), (2, ""))
         self.assertRegex(ended.stderr, r"\Apmhost: /nowhere\.so: .*; `pip install ./python` makes this package's library, .*\n\Z")
+
+    @needs_tool("gcc")
+    def test_the_command_with_another_library_says_so_in_one_line(self):
+        """A part's library alone has no call of a host."""
+        with tempfile.TemporaryDirectory() as folder:
+            other = os.path.join(folder, "libpm_device.so")
+            subprocess.run(["gcc", "-shared", "-fPIC", "-x", "c", "-", "-o", other], check=True, text=True,
+                           input="unsigned long pm_part_size(void) { return 372; }\n")
+            ended = subprocess.run([sys.executable, "-B", "-m", "pmhost", "-b", "desk", "read", "0"], check=False, text=True,
+                                   env={**os.environ, "PMHOST_LIBRARY": other}, stderr=subprocess.PIPE, stdout=subprocess.PIPE)
+        self.assertEqual((ended.returncode, ended.stdout), (2, ""))
+        self.assertRegex(ended.stderr, r"\Apmhost: .*libpm_device\.so is another library than this package is for: it has no pm_\w+\n\Z")
+
+    def test_an_interruption_before_the_command_begins_tells_no_traceback(self):
+        """A module that is imported while the package is interrupts the process."""
+        with tempfile.TemporaryDirectory() as folder:
+            with open(os.path.join(folder, "dataclasses.py"), "w", encoding="utf-8") as file:
+                file.write("import os, signal\nos.kill(os.getpid(), signal.SIGINT)\n")
+            around = {**os.environ, "PYTHONPATH": os.pathsep.join([folder, os.environ.get("PYTHONPATH", "")])}
+            ended = subprocess.run([sys.executable, "-B", "-m", "pmhost", "-b", "desk", "read", "0"], check=False, text=True, env=around,
+                                   stderr=subprocess.PIPE, stdout=subprocess.PIPE)
+        self.assertEqual((ended.returncode, ended.stdout, ended.stderr), (-signal.SIGINT, "", ""))
 
 
 class Colours(unittest.TestCase):

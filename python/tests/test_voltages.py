@@ -26,7 +26,7 @@ class Voltages(unittest.TestCase):
             self.assertEqual(microvolts(shown(micro)), micro)
 
     def test_a_bare_number_is_refused_with_both_readings(self):
-        for word, said in (("3.3", "voltage 3.3: give its unit: 3.3V, or 3.3uV"), ("3,3", "voltage 3,3: give its unit: 3.3V, or 3.3uV"),
+        for word, said in (("3.3", "voltage 3.3: give its unit, V, mV or uV, as 3.3V"), ("3,3", "voltage 3,3: give its unit, V, mV or uV, as 3.3V"),
                            ("3300000", "voltage 3300000: give its unit: 3300000V, or 3300000uV, which is 3.3V")):
             with self.subTest(word=word), self.assertRaisesRegex(ValueError, f"^{said}$"):
                 microvolts(word)

@@ -90,9 +90,9 @@ pub struct PlanOrder {
 /// Why a plan gives no order. Nothing has begun, and nothing changed.
 #[derive(Clone, Copy, Debug, PartialEq, Eq)]
 pub struct NotPlanned {
-    /// H3, H4, L7, or P1 to P7.
+    /// Of a plan H3, H4, L7, or P1 to P7; of a loop also what one of its other calls refuses, as H5 or N3 of `set_micro`.
     pub refusal: Refusal,
-    /// The cell that it is about; `None` of H3, H4 and P1.
+    /// The cell that it is about, where one is known: `None` of H3, H4 and P1.
     pub cell: Option<Cell>,
 }
 

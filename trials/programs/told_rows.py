@@ -57,7 +57,7 @@ B0 01 B0 *                                58 OPERATION write B0
 B0 01 FF *                                58 OPERATION write FF
 
 B0 10 00 *                                58 WRITE_PROTECT write 00 all writes
-B0 10 20 *                                58 WRITE_PROTECT write 20 writes of WRITE_PROTECT, OPERATION, PAGE and VOUT_COMMAND
+B0 10 20 *                                58 WRITE_PROTECT write 20 writes of WRITE_PROTECT, OPERATION, PAGE, ON_OFF_CONFIG and VOUT_COMMAND
 B0 10 40 *                                58 WRITE_PROTECT write 40 writes of WRITE_PROTECT, OPERATION and PAGE
 B0 10 / B1 80 *                           58 WRITE_PROTECT read 80 writes of WRITE_PROTECT
 B0 10 03 *                                58 WRITE_PROTECT write 03

@@ -99,7 +99,8 @@ uint8_t pm_part_new(pm_part *part, const pm_part_config *config);
 typedef struct { uint8_t length; uint8_t unused; uint8_t bytes[16]; } pm_part_reply;
 
 /* It hears one frame, which a repeated start ends where `is_request` isn't 0, otherwise a stop. Answers what it made of
- * it (PM_HEARD_..), and PM_NO_PART, with which nothing changes. The reply is empty for all but PM_HEARD_ANSWERED. */
+ * it (PM_HEARD_..): the reply is empty for all but PM_HEARD_ANSWERED. PM_NO_PART, and then nothing is written, the reply
+ * neither. */
 uint8_t pm_part_hear(pm_part *part, const uint8_t *bytes, uint64_t count, uint8_t is_request, pm_part_reply *reply);
 
 /* It restarts, as after a loss of its supply: the outputs' cells have their words in the store, WRITE_PROTECT its start

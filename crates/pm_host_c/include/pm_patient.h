@@ -62,7 +62,8 @@ static inline int pm_is_ready(const pm_patient *bus, uint8_t address_byte) {
     return came != 0 && came <= 2 && !pm_is_ones(answer, came);
 }
 
-/* A pm_write; the context is a pm_patient. It answers what the last try did. */
+/* A pm_write; the context is a pm_patient. It answers what the last try did. It sends one store alone until has_stored is 0
+ * again, which pm_patient_run sees to: carry a store out by that. */
 static inline uint8_t pm_patient_write(void *context, const uint8_t *bytes, uint64_t count) {
     pm_patient *bus = (pm_patient *)context;
     uint32_t begun = bus->now(bus->context), patience = pm_patience(bus, bytes, count);

@@ -75,7 +75,7 @@ static MEANINGS: [(&str, &str); 9] = [
     ),
     (
         "B0 10 20 5D",
-        "1 58 WRITE_PROTECT write 20 writes of WRITE_PROTECT, OPERATION, PAGE and VOUT_COMMAND\ncount WRITE_PROTECT 1\nlines 1 accepted 1 faults 0 bad 0\n",
+        "1 58 WRITE_PROTECT write 20 writes of WRITE_PROTECT, OPERATION, PAGE, ON_OFF_CONFIG and VOUT_COMMAND\ncount WRITE_PROTECT 1\nlines 1 accepted 1 faults 0 bad 0\n",
     ),
     (
         "B0 79 / B1 42 80 2C",

@@ -27,7 +27,7 @@ operation_text MarginHigh = codes "on, margin high"
 -- the writes that a byte of WRITE_PROTECT lets through
 abbrev pub protection_text : ℕ → List ℕ
 protection_text byte = if byte == 0x00 then codes "all writes"
-    else (if byte == 0x20 then codes "writes of WRITE_PROTECT, OPERATION, PAGE and VOUT_COMMAND"
+    else (if byte == 0x20 then codes "writes of WRITE_PROTECT, OPERATION, PAGE, ON_OFF_CONFIG and VOUT_COMMAND"
     else (if byte == 0x40 then codes "writes of WRITE_PROTECT, OPERATION and PAGE" else codes "writes of WRITE_PROTECT"))
 
 abbrev pub mode_text : VoutMode → List ℕ

@@ -70,7 +70,7 @@ pub fn protection_words(byte: u8) -> &'static str
 {
     match byte {
         0x00 => "all writes",
-        0x20 => "writes of WRITE_PROTECT, OPERATION, PAGE and VOUT_COMMAND",
+        0x20 => "writes of WRITE_PROTECT, OPERATION, PAGE, ON_OFF_CONFIG and VOUT_COMMAND",
         0x40 => "writes of WRITE_PROTECT, OPERATION and PAGE",
         _ => "writes of WRITE_PROTECT",
     }

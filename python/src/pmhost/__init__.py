@@ -8,6 +8,7 @@
 
 What the library's calls answer is proved (docs/c.md says of what); this package is tested, and not proved.
 """
+from . import _started
 from ._version import __version__
 from .bus import DeskBus, LinuxBus, NoBus, NoTransfer, PatientBus, Smbus2Bus
 from .errors import (Differs, FrameRefused, HostRefused, LimitRefused, MemoryRefused, NotDone, NumberRefused, PartRefused,

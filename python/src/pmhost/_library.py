@@ -2,6 +2,9 @@
 import ctypes as c
 import os
 import sys
+from typing import NoReturn
+
+from ._started import is_command
 
 PATH = os.environ.get("PMHOST_LIBRARY") or os.path.join(os.path.dirname(os.path.abspath(__file__)), "libpmhost.so")
 
@@ -13,10 +16,12 @@ SURVEY_SIZE = 40
 CELLS = 49
 
 
-def _is_command() -> bool:
-    """Whether this process is the command, to whose user a line says more than a traceback. While `python -m` imports the
-    package, its first argument is still that option."""
-    return sys.argv[:1] == ["-m"] and "pmhost" in sys.orig_argv or os.path.basename(sys.argv[0]) == "pmhost"
+def _stop(why: str) -> NoReturn:
+    """Says why there is no library: in a line to the user of the command, and else as an ImportError."""
+    if not is_command():
+        raise ImportError(why) from None
+    sys.stderr.write(f"pmhost: {why}\n")
+    sys.exit(2)
 
 
 def _load() -> c.CDLL:
@@ -24,11 +29,7 @@ def _load() -> c.CDLL:
         loaded = c.CDLL(PATH)
         loaded.pm_part_size.restype = c.c_uint64
     except (OSError, AttributeError) as fault:
-        why = f"{fault}; `pip install ./python` makes this package's library, PMHOST_LIBRARY names another"
-        if not _is_command():
-            raise ImportError(why) from None
-        sys.stderr.write(f"pmhost: {why}\n")
-        sys.exit(2)
+        _stop(f"{fault}; `pip install ./python` makes this package's library, PMHOST_LIBRARY names another")
     return loaded
 
 
@@ -209,14 +210,14 @@ CALLS = {
 def _library() -> c.CDLL:
     for name, (answers, takes) in CALLS.items():
         if not hasattr(_loaded, name):
-            raise ImportError(f"{PATH} is another library than this package is for: it has no {name}")
+            _stop(f"{PATH} is another library than this package is for: it has no {name}")
         call = getattr(_loaded, name)
         call.restype, call.argtypes = answers, takes
     found = (_loaded.pm_version() >> 8, _loaded.pm_host_version(), _loaded.pm_host_size(),
              _loaded.pm_survey_version(), _loaded.pm_survey_size())
     wanted = VERSION >> 8, HOST_VERSION, c.sizeof(HostImage), SURVEY_VERSION, c.sizeof(SurveyImage)
     if found != wanted:
-        raise ImportError(f"{PATH} is another library than this package is for: it says {found}, and not {wanted}")
+        _stop(f"{PATH} is another library than this package is for: it says {found}, and not {wanted}")
     return _loaded
 
 

@@ -217,7 +217,7 @@ def judge_keys(at: str, table: dict[str, object], has_parts: bool) -> None:
 def microvolts(at: str, text: object) -> int:
     """A voltage in whole microvolts."""
     if isinstance(text, (int, Decimal)) and not isinstance(text, bool) and (isinstance(text, int) or text.is_finite()):
-        raise BadRails(f"{at}: {text}: give a text with its unit: {quoted(text)}")
+        raise BadRails(f"{at}: {text}: give a text with its unit{quoted(text)}")
     if not isinstance(text, str):
         raise BadRails(f'{at}: {text}: give a voltage with its unit, as "3.3V"')
     try:
@@ -230,9 +230,8 @@ def microvolts(at: str, text: object) -> int:
 
 
 def quoted(number: int | Decimal) -> str:
-    """The two readings of a bare number."""
-    text = f"{number:f}" if isinstance(number, Decimal) else str(number)
-    return f'"{text}V" or "{text}uV"'
+    """What a bare number may mean."""
+    return f', V, mV or uV: "{number:f}V"' if isinstance(number, Decimal) else f': "{number}V" or "{number}uV"'
 
 
 def judge(at: str, rail: Rail) -> None:

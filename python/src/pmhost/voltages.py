@@ -28,8 +28,9 @@ def microvolts(word: str, what: str = "voltage ") -> int:
 def readings(word: str) -> str:
     """What a number without its unit may mean."""
     number = word.replace(",", ".")
-    small = f"{number}uV" if "." in number else f"{number}uV, which is {shown(int(number))}"
-    return f"give its unit: {number}V, or {small}"
+    if "." in number:
+        return f"give its unit, V, mV or uV, as {number}V"
+    return f"give its unit: {number}V, or {number}uV, which is {shown(int(number))}"
 
 
 def shown(micro: int) -> str:

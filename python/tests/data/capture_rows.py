@@ -39,6 +39,12 @@ SHORT = [
     ("linux", WRITE, ["# no result: B0 03"]),
     ("linux", WRITE + "i2c_result: i2c-1 n=1 ret=-6\n", ["# failed (-6): B0 03"]),
     ("linux", WRITE + "i2c_result: i2c-1 n=2 ret=1\n", ["# failed (1 of 2): B0 03"]),
+    ("linux", WRITE + "i2c_result: i2c-1 n=2 ret=2\n", ["# the capture shows 1 of 2 messages: B0 03"]),
+    # Where the kernel dropped events, in a packet and between two.
+    ("linux", WRITE + "CPU:1 [LOST 2 EVENTS]\ni2c_result: i2c-1 n=2 ret=2\n" + WRITE + "i2c_result: i2c-1 n=1 ret=1\n",
+     ["# the kernel dropped events: B0 03", "B0 03"]),
+    ("linux", WRITE + "i2c_result: i2c-1 n=1 ret=1\nCPU:1 [LOST EVENTS]\n" + WRITE + "i2c_result: i2c-1 n=1 ret=1\n",
+     ["B0 03", "# the kernel dropped events", "B0 03"]),
     ("linux", WRITE.replace("f=0000", "f=0010") + "i2c_result: i2c-1 n=1 ret=1\n", ["# an address of ten bits: B0 03"]),
     ("linux", "i2c_result: i2c-1 n=1 ret=1\n" + WRITE + "i2c_result: i2c-1 n=1 ret=1\n", ["B0 03"]),
     ("linux", "smbus_write: i2c-1 a=058 f=0000 c=3 BYTE l=1 [03]\n" + WRITE + "i2c_result: i2c-1 n=1 ret=1\n", ["B0 03"]),
@@ -74,6 +80,9 @@ REFUSED = [
     ("saleae", f"{SALEAE}address,true,here,false,\n", "line 3: no byte in the column address"),
     ("saleae", f"{SALEAE}address,true\n", "line 3: no byte in the column address"),
     ("saleae", f"{SALEAE}data,true,,,0x134\n", "line 3: no byte in the column data"),
+    ("saleae", f"{SALEAE}address,true,64,false,\n", "line 3: no byte in the column address: export it in hexadecimal, as 0x58"),
+    ("saleae", f"name,{SALEAE}".replace("start", "I2C,start") + 'I2C [1],data,true,,,0xFF\n',
+     "line 3: rows of I2C and of I2C [1]: export the table of one analyser"),
     ("linux", "smbus_write: i2c-1 a=058 f=0000 c=21 WORD_DATA l=2 [cd-34]\n",
      "no packet: the events smbus_ show no packet error code; capture those of i2c_"),
 ]
@@ -106,9 +115,9 @@ UNDRAWN = [("", "no packet"), ("# a comment\n\n", "no packet"),
 HEXADECIMAL = "give one from 08 to 77, in hexadecimal"
 RATE = "give the samples a second, as `sigrok-cli -i FILE --show` has them: 1000000, or 1MHz"
 WRONG = [
-    ("linux --bus=x", "capture linux: bus x: give the number of /dev/i2c-N, as 1, or desk"),
+    ("linux --bus=x", "capture linux: bus x: give the number of /dev/i2c-N, as 1"),
     ("linux --bus=desk", "capture linux: bus desk: give the number of /dev/i2c-N, as 1"),
-    ("sigrok --bus=1", "--bus: no such option here; --help tells which there are"),
+    ("sigrok --bus=1", "--bus: no such option here; pmhost --help tells those of a bus, and COMMAND --help those that stand behind a command"),
     ("linux --bus=1 --bus=2", "capture linux: --bus: it stands twice"),
     ("linux --address=80", f"capture linux: address 80: {HEXADECIMAL}: on the wire 80 is 40h"),
     ("linux --address=0xB0", f"capture linux: address 0xB0: {HEXADECIMAL}: on the wire B0 is 58h"),
@@ -120,13 +129,13 @@ WRONG = [
     ("linux --adress=58", "--adress=58: no such option; --help tells which there are"),
     ("linux --time", "--time: no such option; --help tells which there are"),
     ("linux bus.linux", "capture linux: bus.linux: a word too many: the text is read from standard input, as < bus.linux"),
-    ("linux --times --samplerate=1000000", "--samplerate: no such option here; --help tells which there are"),
+    ("linux --times --samplerate=1000000", "--samplerate: no such option here; pmhost --help tells those of a bus, and COMMAND --help those that stand behind a command"),
     ("sigrok --times", "capture sigrok: the times of sigrok are numbers of samples: give --samplerate=RATE, as "
                        "`sigrok-cli -i FILE --show` has it"),
     ("sigrok --times --samplerate=0", f"capture sigrok: samplerate 0: {RATE}"),
     ("sigrok --times --samplerate=1Mhz", f"capture sigrok: samplerate 1Mhz: {RATE}"),
     ("sigrok --samplerate=1000000", "capture sigrok: --samplerate is of --times, which isn't given"),
-    ("--address=58 linux", "--address: no such option here; --help tells which there are"),
+    ("--address=58 linux", "--address: no such option here; pmhost --help tells those of a bus, and COMMAND --help those that stand behind a command"),
     ("vcd", "capture: vcd: no kind; there are sigrok, linux, saleae, i2ctransfer, waveform"),
     ("", "capture: the kind, as sigrok, is missing"),
     ("i2ctransfer", "capture i2ctransfer: give a bus, as 1, with --run behind it to run the commands; or --back"),
@@ -134,7 +143,7 @@ WRONG = [
     ("i2ctransfer 1 --share-bus", "capture i2ctransfer: --share-bus is of --run, which isn't given"),
     ("i2ctransfer --back --run", "capture i2ctransfer: --back stands alone: it needs no bus, and runs nothing"),
     ("i2ctransfer 1 2", "2: a word too many"),
-    ("i2ctransfer one", "capture i2ctransfer: bus one: give the number of /dev/i2c-N, as 1, or desk"),
+    ("i2ctransfer one", "capture i2ctransfer: bus one: give the number of /dev/i2c-N, as 1"),
     ("waveform bus.trace", "capture waveform: bus.trace: a word too many: the text is read from standard input, as < bus.trace"),
 ]
 # A packet that never ends, and one of too many bytes: neither fills the memory, and no line is too long for `decode`.

@@ -134,11 +134,11 @@ WRONG = [
     ("--limit=2:1V:2V", "picture: --limit 2: there is no output 2"),
     ("--limit=0:2V:1V", "picture: limit 0:2V:1V: the least is above the most"),
     ("--limit=0:950000:3465000", "picture: limit 0:950000:3465000: 950000: give its unit: 950000V, or 950000uV, which is 0.95V"),
-    ("--limit=0:0.95:3.465V", "picture: limit 0:0.95:3.465V: 0.95: give its unit: 0.95V, or 0.95uV"),
+    ("--limit=0:0.95:3.465V", "picture: limit 0:0.95:3.465V: 0.95: give its unit, V, mV or uV, as 0.95V"),
     ("--limit=0:1V", "picture: limit 0:1V: give an output, the least and the most with their units, as 0:3.135V:3.465V"),
-    ("--limit=0:1V:2V --limit=0:1V:2V", "picture: --limit 0: output 0 has limits already"),
+    ("--limit=0:1V:2V --limit=0:1V:2V", "picture: --limit 0: output 0 has limits already: give one --limit for each output"),
     ("--limits=0:1V:2V", "--limits=0:1V:2V: no such option; --help tells which there are"),
-    ("--outputs=2", "--outputs: no such option here; --help tells which there are"),
+    ("--outputs=2", "--outputs: no such option here; pmhost --help tells those of a bus, and COMMAND --help those that stand behind a command"),
     ("more.scenario", "more.scenario: a word too many"),
 ]
 # Eight rails, of 0.85 to 5 V, in 100 rows: a job, its output and word, and what comes of it on the bus, a line each.

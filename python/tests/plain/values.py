@@ -1,6 +1,6 @@
 """What a code's payload says to a person. A value is a dictionary of what JSON has of it, in its order; `words_of_value`
 makes the text of it. Where nothing is known it is empty."""
-from .converter import ALLOWED, OPERATION, PROTECT, accepts, format_of, mode_fault
+from .converter import OPERATION, PROTECT, accepts, format_of, mode_fault
 from .names import bits_of, capability_words, fields_of_bytes
 from .numbers import coefficients_fault, millionths, value_of
 from .packets import CODES, VOUT_CODES, name_of
@@ -15,6 +15,9 @@ STATUS_BITS = {
                     "TON_MAX_FAULT", "TOFF_MAX_WARNING", "TRACKING"),
     "STATUS_CML": ("COMMAND", "DATA", "PEC", "MEMORY", "PROCESSOR", "bit 2", "COMMUNICATION", "OTHER"),
 }
+# The writes that the standard lets through under each byte of WRITE_PROTECT; the converter here has no ON_OFF_CONFIG.
+LET_THROUGH = {0x80: ("WRITE_PROTECT",), 0x40: ("WRITE_PROTECT", "OPERATION", "PAGE"),
+               0x20: ("WRITE_PROTECT", "OPERATION", "PAGE", "ON_OFF_CONFIG", "VOUT_COMMAND")}
 # What a reading measures, as JSON names it, and its unit in a text.
 UNITS = {"READ_VIN": "volts", "READ_IOUT": "amperes", "READ_TEMPERATURE_1": "celsius"}
 LETTERS = {"volts": "V", "amperes": "A", "celsius": "C"}
@@ -48,7 +51,7 @@ def protection_words(byte):
         return None
     if byte == 0:
         return "all writes"
-    *before, last = [name_of(code) for code in ALLOWED[byte]]
+    *before, last = LET_THROUGH[byte]
     return "writes of " + (", ".join(before) + " and " if before else "") + last
 
 

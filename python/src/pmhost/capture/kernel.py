@@ -12,6 +12,8 @@ EVENT = re.compile(r"i2c_(write|read|reply|result):\s+i2c-(\d+) (.*)")
 MESSAGE = re.compile(r"#(\d+) a=([0-9a-f]+) f=([0-9a-f]+) l=(\d+)(?: \[([0-9a-f-]*)\])?")
 RESULT = re.compile(r"n=(\d+) ret=(-?\d+)")
 SMBUS = re.compile(r"smbus_(?:write|read|reply|result):\s")
+# What the kernel puts where it dropped events of a processor.
+LOST = re.compile(r"CPU:\d+ \[LOST (?:\d+ )?EVENTS\]")
 TEN_BITS, READS = 0x10, 0x01
 
 
@@ -41,12 +43,22 @@ class Messages:
         transfer = Transfer(self.time)
         transfer.ending = self.fault
         if result != wanted or len(self.sent) != wanted:
-            transfer.ending = f"failed ({result})" if result < 0 else f"failed ({result} of {wanted})"
+            transfer.ending = (f"failed ({result})" if result < 0 else f"failed ({result} of {wanted})" if result != wanted
+                               else f"the capture shows {len(self.sent)} of {wanted} messages")
         for place in sorted(self.sent):
             transfer.begin()
             for byte in self.sent[place]:
                 transfer.add(byte)
         return transfer
+
+
+def cut(buses: dict[str, Messages], ending: str) -> list[Transfer]:
+    """The transfers that are open, none of which has a result; they are open no more."""
+    left = [messages.transfer(len(messages.sent), len(messages.sent)) for messages in buses.values()]
+    for transfer in left:
+        transfer.ending = ending
+    buses.clear()
+    return left
 
 
 def transfers(lines: Iterable[str], clock: Clock | None = None, wanted: int | None = None) -> Iterator[Transfer]:
@@ -57,6 +69,8 @@ def transfers(lines: Iterable[str], clock: Clock | None = None, wanted: int | No
         found = EVENT.search(line)
         if not found:
             smbus = smbus or SMBUS.search(line) is not None
+            if LOST.match(line):
+                yield from cut(buses, "the kernel dropped events") or [Transfer(ending="the kernel dropped events")]
             continue
         if wanted not in (None, int(found[2])):
             continue
@@ -72,10 +86,8 @@ def transfers(lines: Iterable[str], clock: Clock | None = None, wanted: int | No
         if bus in buses:
             is_told = True
             yield buses.pop(bus).transfer(int(ended[1]), int(ended[2]))
-    for messages in buses.values():
-        transfer = messages.transfer(len(messages.sent), len(messages.sent))
-        transfer.ending = "no result"
-        is_told = True
-        yield transfer
+    left = cut(buses, "no result")
+    is_told |= bool(left)
+    yield from left
     if smbus and not is_told:
         raise NoCapture("no packet: the events smbus_ show no packet error code; capture those of i2c_")

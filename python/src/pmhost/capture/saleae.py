@@ -8,9 +8,10 @@ from collections.abc import Iterable, Iterator
 from .times import PICO, Clock, NoCapture
 from .transfer import Transfer
 
-BYTE = re.compile("(?:0[xX])?0*[0-9A-Fa-f]{1,2}")
+BYTE = re.compile("0[xX]0*[0-9A-Fa-f]{1,2}")
 HEAD = re.compile(r'(?:"?name"?,)?"?type"?,.*"?\baddress\b')
 COLUMNS = {"type", "ack", "address", "read", "data"}
+TYPES = {"start", "stop", "address", "data"}
 UNITS = 10**PICO
 
 
@@ -27,7 +28,12 @@ def transfers(lines: Iterable[str], clock: Clock | None = None) -> Iterator[Tran
     if clock and "start_time" not in names:
         raise NoCapture("the first line doesn't name the column start_time, which --times needs")
     transfer: Transfer | None = None
+    name: str | None = None
     for number, row in enumerate(rows, 2):
+        if row["type"] in TYPES:
+            name = name or row.get("name")
+            if row.get("name") != name:
+                raise NoCapture(f"line {number}: rows of {name} and of {row['name']}: export the table of one analyser")
         if row["type"] == "start":
             transfer = transfer or Transfer(clock.of_seconds(row["start_time"], number) if clock else None)
             transfer.begin()
@@ -38,7 +44,7 @@ def transfers(lines: Iterable[str], clock: Clock | None = None) -> Iterator[Tran
         elif row["type"] in ("address", "data") and transfer:
             shown = row[row["type"]] or ""
             if not BYTE.fullmatch(shown):
-                raise NoCapture(f"line {number}: no byte in the column {row['type']}")
+                raise NoCapture(f"line {number}: no byte in the column {row['type']}: export it in hexadecimal, as 0x58")
             byte = int(shown, 16)
             if row["type"] == "address":
                 byte = byte << 1 & 0xFF | (row["read"] == "true")

@@ -11,11 +11,11 @@ MOST_BYTES, MOST_PARTS = 300, 4
 
 class Transfer:
     """Parts of bytes, each acknowledged or not; `ending` says what is wrong with its end, if anything is. `time` is that of
-    its start, or None where times aren't asked for."""
+    its start, or None where times aren't asked for. One without parts is a note of what the capture doesn't show."""
 
-    def __init__(self, time: int | None = None) -> None:
+    def __init__(self, time: int | None = None, ending: str | None = "no stop") -> None:
         self.parts: list[list[tuple[int, bool]]] = []
-        self.ending: str | None = "no stop"
+        self.ending = ending
         self.begun, self.is_long, self.time = 0, False, time
 
     def begin(self) -> None:
@@ -77,6 +77,6 @@ class Transfer:
         """What the trace has of it, where only transfers with an address are wanted, or all."""
         refusal = self.refusal(address)
         if refusal:
-            return [f"# {refusal}: {self.bytes()}"]
+            return [f"# {refusal}: {self.bytes()}" if self.parts else f"# {refusal}"]
         before = "" if self.time is None else f"{self.time} "
         return [*self.unacknowledged(), before + self.bytes()]

@@ -1,7 +1,7 @@
 """The packets of a trace as a waveform (VCD) of SCL and SDA, as a logic analyser has it: a bus of 100 kHz, a microsecond a
 step. Bytes of a line's write part are acknowledged, and of its read part all but the last; a byte after which `!` stands
 isn't, and a line that ends in `..` has no stop. Lines that are no packet aren't drawn. A text whose first line that is no comment
-is no packet is refused, as a trace with times.
+is no packet is refused, as that of a trace with times is, but where its first time has an even number of digits.
 """
 from __future__ import annotations
 
@@ -53,7 +53,7 @@ class Waveform:
         has_stop, parts = not line.endswith(".."), line.removesuffix("..").split("/")
         for part in parts:
             self.start()
-            words = part.split()
+            words = re.findall("[0-9A-Fa-f]{2}!?", part)
             for place, word in enumerate(words):
                 is_last_read = int(words[0][:2], 16) & 1 and place == len(words) - 1 and place > 0
                 self.byte(int(word[:2], 16), not word.endswith("!") and not is_last_read)

@@ -13,6 +13,7 @@ import re
 import sys
 from types import ModuleType
 
+from .._started import take_interruptions
 from .._version import __version__
 from ..bus import NoBus
 from ..bus.linux import Calls
@@ -34,11 +35,12 @@ ABOUT = """Supply voltages over PMBus, by a proved host.
     pmhost -b 1 -a 58 --outputs 2 --limit 0:3.135V:3.465V set 0 3.3V
     pmhost -b desk read 0 + known
 
-Several commands stand in one call with a + between them, and share one host. Options stand before or behind a command's
-words. After a command that doesn't end well none is begun, and only known and band are answered.
+Several commands stand in one call with a + between them, and share one host. Options of a bus stand before or behind a
+command's words, those of one command behind its name. After a command that doesn't end well none is begun, and only known
+and band are answered.
 
 The status is 0 where every command ended well, 1 where one didn't, 2 where the call can't be carried out or a stream
-fails, and 130 after an interruption, which says what is now unknown."""
+fails (1 of capture, timeline and picture), and 130 after an interruption, which says what is now unknown."""
 BAD_CALL, INTERRUPTED = 2, 130
 
 
@@ -159,6 +161,7 @@ def main(words: list[str] | None = None, kernel: Calls | None = None) -> int:
     """The status of the command line, over the calls of a kernel."""
     given, closed, call = list(sys.argv[1:] if words is None else words), streams.open_missing(), None
     try:
+        take_interruptions()
         if 1 in closed:
             raise BadCall("standard output is closed: nothing was sent")
         if given == ["--completion"]:

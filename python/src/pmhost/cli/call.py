@@ -92,7 +92,7 @@ class Call:
         self.limits: dict[int, tuple[int, int]] = {}
         for output, least, most in self._all("limit"):
             if output in self.limits:
-                raise BadCall(f"--limit: output {output} has limits already")
+                raise BadCall(f"--limit: output {output} has limits already: give one --limit for each output")
             self.limits[output] = least, most
 
     # ---- Options ----

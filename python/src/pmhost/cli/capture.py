@@ -9,7 +9,7 @@ from .. import capture
 from ..capture import i2ctransfer, vcd
 from . import streams
 from .call import Call, complain
-from .parser import BadCall, address_of, bus_of, shown
+from .parser import BUS, BadCall, address_of, shown
 from .texts import standard_input, told, without_a_bus
 
 ABOUT = """Turns a capture of a bus on standard input into a trace for pmb decode, packet by packet as they end.
@@ -40,10 +40,10 @@ def samplerate_of(word: str) -> int:
 
 def bus_number(word: str) -> int:
     """The number of a bus of Linux: a model part has none."""
-    found = bus_of(word)
-    if not found.isdecimal():
+    found = BUS.match(word)
+    if not found:
         raise argparse.ArgumentTypeError(f"bus {shown(word)}: give the number of /dev/i2c-N, as 1")
-    return int(found)
+    return int(found[1])
 
 
 def no_file(word: str) -> str:

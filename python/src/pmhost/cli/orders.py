@@ -90,9 +90,9 @@ def add(commands: Any) -> None:
     found.add_argument("output", **output)
     bus_options(found)
     found = command("read", read, "reads a register, a reading or a status register, and tells what it says", judge_read)
-    found.add_argument("output", **device)
+    found.add_argument("output", **device | {"help": f"the output, from 0; or - for {DEVICE}, readings and status registers"})
     completed_by(found.add_argument("register", metavar="REG", nargs="?", type=register_of((*REGISTERS, DEVICE, *KINDS)),
-                                    help="VOUT_COMMAND if left out"), (*REGISTERS, DEVICE, *KINDS))
+                                    help=f"VOUT_COMMAND if left out, with - {DEVICE}"), (*REGISTERS, DEVICE, *KINDS))
     bus_options(found)
     found = command("survey", survey_output, "reads what decides what an output commands, and tells that")
     found.add_argument("output", **output)

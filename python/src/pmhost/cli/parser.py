@@ -63,7 +63,7 @@ def line_of(message: str, program: str) -> str:
     elif message.startswith("unrecognized arguments: "):
         word = message.partition(": ")[2].split()[0]
         is_option = re.match("--?[A-Za-z]", word)
-        message = f"{shown(word.partition('=')[0])}: no such option here; --help tells which there are" if is_option else \
+        message = f"{shown(word.partition('=')[0])}: no such option here; pmhost --help tells those of a bus, and COMMAND --help those that stand behind a command" if is_option else \
             f"{shown(word)}: a word too many"
     else:
         message = re.sub(r"\Aargument [^:]*: ", "", message)

@@ -67,7 +67,7 @@ def run_picture(arguments: argparse.Namespace) -> int:
         if output >= len(run.setup.outputs):
             raise BadCall(f"picture: --limit {output}: there is no output {output}")
         if output in rails:
-            raise BadCall(f"picture: --limit {output}: output {output} has limits already")
+            raise BadCall(f"picture: --limit {output}: output {output} has limits already: give one --limit for each output")
         rails[output] = least, most
     name = os.path.basename(arguments.scenario)
     return told([picture.Picture(picture.Seen(run), name, rails).svg().removesuffix("\n")])

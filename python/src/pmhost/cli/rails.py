@@ -95,7 +95,7 @@ def told(arguments: argparse.Namespace, board: Board, run: Any) -> int:
     if why and arguments.command == "apply" and not is_dry:
         why += after_a_stop(board)
     found = Answer(said(arguments), "stopped" if why else "would order" if is_dry else "done", status=1 if why else 0, why=why,
-                   rows=rows(board, is_dry, are_wanted))
+                   rows=rows(board, is_dry and not why, are_wanted))
     with file.written(found.end, why):
         return answered(call, board, found, is_dry, are_wanted)
 
@@ -103,7 +103,8 @@ def told(arguments: argparse.Namespace, board: Board, run: Any) -> int:
 def answered(call: Call, board: Board, found: Answer, is_dry: bool, are_wanted: bool) -> int:
     """Says it, and has the parts store where that is wanted."""
     if not call.is_json and board.settings:
-        call.say_lines([*table(board, is_dry), *(line for rail in board.rails for line in rail_lines(board, rail, are_wanted))])
+        call.say_lines([*table(board, is_dry and not found.status),
+                        *(line for rail in board.rails for line in rail_lines(board, rail, are_wanted))])
     if board.wants_store and not found.status and not is_dry:
         store(call, board, found)
     found.restart_seen = any(part.restart_seen for part in board.parts.values())

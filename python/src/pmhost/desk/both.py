@@ -69,7 +69,8 @@ class Desk:
     def carry_out(self, host: LineHost, job: list[str]) -> tuple[str, bool]:
         """The last answer to a job, and whether it went well. A job that begins with `part` is said to the part."""
         if job[0] == "part":
-            return self.part.ask(" ".join(job[1:])), True
+            answer = self.part.ask(" ".join(job[1:]))
+            return answer, not answer.startswith("refused ")
         answer = host.carry_out(job)
         return answer, answer.startswith(WELL)
 
