@@ -57,7 +57,7 @@ JOBS = [
     ("--plain-host order 0 OPERATION 00 + part word 0 OPERATION", 0,
      "order 0 OPERATION 00\n  B0 00 00 EA  ok: part taken, acknowledged\n  B0 01 00 FF  ok: part taken, acknowledged\n"
      "ended done\npart word 0 OPERATION\nword 00 stored 80\n" + HELD, ""),
-    ("part foo + seen", 1, "part foo\nrefused X2 BadHex\n" + HELD,
+    ("part foo + seen", 1, "part foo\nrefused X2 BadHex\nseen\nseen no\n" + HELD,
      "pmhost: desk: part foo: a field that is hexadecimal of a stated length isn't\n"),
 ]
 EXAMPLE = "as order 1 VOUT_COMMAND 34CD"
