@@ -19,8 +19,8 @@ pub trait Bus {
 
     /// Sends a packet and then a stop. Whether every byte was acknowledged, which nobody trusts.
     ///
-    /// The converter heard the packet any number of times, each time whole, cut or so damaged that its packet error
-    /// code betrays it (`sent`).
+    /// The converter heard the packet any number of times, each time whole, cut, so damaged that its packet error code
+    /// betrays it, or as other bytes that a repeated start ended (`sent`).
     fn write(&mut self, packet: &[u8]) -> bool
         ensures sent { IsSent packet.now (held self.old) (restarts self.old)
             (held self.new) (restarts self.new) }
@@ -29,8 +29,8 @@ pub trait Bus {
     /// Sends a request, a repeated start and the read address, and reads. How many bytes came, the
     /// read address, which is put first, with them.
     ///
-    /// The bytes are this request's own answer, or fewer than a whole one, or so damaged that their packet error
-    /// code betrays it (`asked`). The loop hands over a room of just a whole answer's length, all zero, as its own contract
+    /// The bytes are this request's own answer, or fewer than there is room for, or so damaged that their packet error code
+    /// betrays it (`asked`). The loop hands over a room of just a whole answer's length, all zero, as its own contract
     /// says (`MayDo`); of who else calls this, only that it has a byte is asked.
     fn read(&mut self, request: &[u8], answer: &mut [u8]) -> usize
         requires { 1 ≤ length answer.old }

@@ -1,7 +1,8 @@
 //! Buses for a [`Driver`](crate::Driver), each proved to meet the contract of [`Bus`](crate::Bus).
 //!
 //! A [`SimulatedBus`] has the model converter at its other end, and a plan of faults: a firmware's own code is tried
-//! over it under loss, cuts, repeats, damage and restarts, and each frame goes just as its plan says. A [`DeadBus`] is one
+//! over it under loss, cuts, repeats, damage and restarts. Each frame goes just as its plan says, but what no bus may do to a
+//! frame, as damage that the packet error code doesn't betray, and what is longer than its room, is lost. A [`DeadBus`] is one
 //! whose line is cut. [`Retrying`] stands over any bus, and tries a write again that wasn't acknowledged. [`Patient`] stands
 //! over any [`Adapter`](crate::Adapter), and sends again what the converter heard nothing of.
 //!

@@ -177,7 +177,8 @@ impl<B: Bus> Driver<B> {
     /// Reads what no job asks for, as a status or a measured value: one [`Bus::read`] of this request, of which the host isn't
     /// told. How many bytes came, the read address with them; [`read_plain`](pm_frame::read_plain) and
     /// [`read_block`](pm_frame::read_block) judge them. Refused with H3 where a job is open, which changes nothing. There is
-    /// room for a byte at least.
+    /// room for a byte at least. Give just the room of a whole answer: of fewer bytes a bus promises nothing, so that of a block
+    /// shorter than its room the packet error code is all that speaks.
     ///
     /// No beginning of the request is a write to the converter, since the bus may cut it off there by a stop: that of
     /// [`code_request`](pm_frame::code_request) never is one, nor bytes whose code isn't written, as PAGE_PLUS_READ, nor the

@@ -17,8 +17,8 @@
 //! [`Driver::survey`] reads what decides what an output commands, and [`Driver::apply`] carries a plan out: while the bus
 //! counts no restart, the output commands at each moment what it commanded before or what is wanted
 //! ([`applied_plans_keep_rails`]), and what is wanted once all is reached ([`applied_plans_come_true`],
-//! [`reached_plans_are_commanded`]); what it commands is in the band that a survey ends with, which has one value then
-//! ([`surveys_are_true`]). A survey whose checks are all answered takes at most one check less than two for each cell that it
+//! [`reached_plans_are_commanded`]); what it commands is in the band that a survey ends with by its own rule, which has one value
+//! then ([`surveys_are_true`]). A survey whose checks are all answered takes at most one check less than two for each cell that it
 //! reads ([`surveys_take_few_checks`]), since two answers that surprise show a restart between them ([`one_surprise_at_most`]).
 //!
 //! It has no clock and no memory: a bus decides how long it waits, and whether it tries a write again. There is one host
@@ -48,7 +48,7 @@
 //!         margin_low: None,
 //!         min: None,
 //!     };
-//!     Some(driver.apply(0, &wanted, 60)) // Reached: the converter holds both words
+//!     Some(driver.apply(0, &wanted, 60)) // Reached: unless it restarted, the converter holds both words
 //! }
 //! ```
 #![tactic(auto)]

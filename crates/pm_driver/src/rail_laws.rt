@@ -32,7 +32,9 @@ fn laws_of_rails()
 }
 
 /// Where the bus counted no restart since a plan began to be carried out, the output commands at each moment what it
-/// commanded before or what is wanted, and changes once at most, however its jobs ended and wherever it stopped.
+/// commanded before or what is wanted, and changes once at most, however its jobs ended and wherever it stopped. Of a part
+/// that is said to lack registers this law and the next two ask that no VOUT_MIN or VOUT_MAX that it lacks cuts its outputs,
+/// and that the host had no good answer for any that it lacks.
 pub fn applied_plans_keep_rails<B: Bus>()
     ensures { AppliedPlansKeepRails B.gives B.held B.restarts }
 {
@@ -57,7 +59,8 @@ pub fn reached_plans_are_commanded<B: Bus>()
 /// Where the bus counted no restart since a survey began, the output commanded at each moment of it what it commands at its
 /// end, and what that is lies in the output's band. Where the survey has ended by its own rule, the band has one value.
 /// Where it has no tries left, the band rests on answers of before it too, and the converter must not have restarted since
-/// those. A survey that has read nothing begins so in any life, and goes on in the life that it led to.
+/// those. A survey that has read nothing begins so in any life, and goes on in the life that it led to. Of a part that is said
+/// to lack registers it asks the same as the laws of plans.
 pub fn surveys_are_true<B: Bus>()
     ensures { SurveysAreTrue B.gives B.held B.restarts }
 {

@@ -100,8 +100,9 @@ fn is_same(register: Reg, other: Reg) -> bool
 
 impl<B: Bus> Driver<B> {
     /// Carries out what a survey asks for, until it has ended by its own rule or has no tries left. Whether it has ended by
-    /// its rule: then all that decides what the output commands is known, by good answers that came since it began.
-    /// Otherwise give it more tries, or begin a new one.
+    /// its rule: then all that decides what the output commands is known, of the registers that the part has by good answers
+    /// that came since it began. Otherwise it has no tries left, and more of them or a new survey go on; or it stands at a
+    /// margin that OPERATION selects, or that a plan wants, and that the part lacks, where more tries don't help.
     ///
     /// Refused with H3 where a job is open, which changes nothing. The output is there.
     pub fn survey(&mut self, survey: &mut Survey) -> Result<bool, HostFault>
@@ -130,13 +131,15 @@ impl<B: Bus> Driver<B> {
     /// Carries a plan out: brings an output's registers from the words that they hold to those that are wanted, with this
     /// many jobs at most. No limits, or the output's own, refuse what it orders.
     ///
-    /// It reads what the plan needs, and is refused before anything is written. Then it gives the plan's orders, one after
+    /// It reads what the plan needs, and is refused before anything is written, unless the converter restarts in between. Then it gives the plan's orders, one after
     /// another; an order that ended unknown is checked before the next, and one that differs is given once more. Where
     /// something was ordered it reads all once more. Where each register has its wanted word, nothing is written.
     ///
     /// At each moment the output commands what it commanded before or what is wanted, unless the converter restarted:
-    /// [`applied_plans_keep_rails`](crate::applied_plans_keep_rails). `Reached`: the converter holds each wanted word, by
-    /// [`applied_plans_come_true`](crate::applied_plans_come_true). `Stopped` says why, and [`known`](Driver::known)
+    /// [`applied_plans_keep_rails`](crate::applied_plans_keep_rails). `Reached`: unless it restarted, the converter holds each
+    /// wanted word, by [`applied_plans_come_true`](crate::applied_plans_come_true). Of a part that is said to lack registers
+    /// both hold where no VOUT_MIN or VOUT_MAX that it lacks cuts its outputs, and the host had no good answer for any that it
+    /// lacks. `Stopped` says why, and [`known`](Driver::known)
     /// what each register is known to hold. Where a job is open it is refused with H3, and changes nothing. The output is
     /// there.
     pub fn apply(&mut self, output: u8, wanted: &Wanted, tries: u16) -> ApplyEnd

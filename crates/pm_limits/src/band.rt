@@ -34,8 +34,8 @@ pub struct Band {
 /// doesn't take, as A0h. `None` exactly where the format isn't known, or where such a byte hands the voltage to AVSBus:
 /// its bits 5 and 4 are 11, as of B0h. The output is there.
 ///
-/// What the device commands lies in it, unless it restarted since the good answers that the band rests on. At
-/// most 16 words a register are looked at, and no combination is tried.
+/// What the device commands lies in it, unless it restarted since the good answers that the band rests on, and where no
+/// VOUT_MIN or VOUT_MAX that it is said to lack cuts the output. At most 16 words a register are looked at, and no combination is tried.
 pub fn band_of(host: &Host, registers: PartRegisters, output: u8) -> Option<Band>
     requires { output < host.now.setup.outputs }
     ensures { result ≡ band_at registers host.now output }

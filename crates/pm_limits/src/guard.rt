@@ -253,8 +253,8 @@ impl Guard {
     /// whole band does or it has no limits, `No` where the whole band lies below the limits or above them,
     /// otherwise `NotKnown`. The output is there.
     ///
-    /// The limits hold for good where each word that the registers of the output, and the device's user store, had
-    /// before the guard lies within them. Check the registers, and see that this answers `Yes`. What the store
+    /// The limits hold for good where each word lies within them that the registers of the output, and the device's user
+    /// store, had before the guard, or that was ordered before these limits were given. Check the registers, and see that this answers `Yes`. What the store
     /// holds no host can read: a restore or a restart of the device may bring it out.
     pub fn within(&self, output: u8) -> Within
         requires { output < self.now.host.setup.outputs }

@@ -5,6 +5,6 @@ pub enum Within {
     Yes,
     /// The whole band lies below the limits, or above them.
     No,
-    /// The band lies partly within, or isn't known because the format isn't.
+    /// The band lies partly within, or there is none: the format isn't known, or a byte of AVSBus is possible for OPERATION.
     NotKnown,
 }

@@ -38,7 +38,7 @@ pub data Answered (part : PartRegisters) (begun : Survey) (first : Summary) : �
       (ended (asking v (Some (Check cell))) (Some (Check cell)) Done) after
 
 -- Where no answer surprises, a survey that has read nothing takes a check for each cell that it reads (`calm`). Where one
--- does at most, it takes one less than two for each (`short`).
+-- does at most, it takes at most one less than two for each (`short`).
 pub record SurveysAreShort : Type 0 where
   pub calm : (part : PartRegisters) (begun v : Survey) (first s : Summary) (checks : ℕ) → HasPlaces first.known →
       begun.output < 8 → begun.read ≡ nothing_read → Answered part begun first checks 0 v s → checks ≡ reads_in v.read

@@ -36,8 +36,8 @@ pub fn plans_are_accepted()
     ensures { PlansAreAccepted }
 {}
 
-/// A survey that has nothing left to ask for has its answers: since it began the format was learned and is known
-/// (`format`), each register that is needed was read and is known (`known`), and for a plan WRITE_PROTECT too
+/// A survey that has ended by its own rule has its answers: since it began the format was learned and is known (`format`),
+/// each register that is needed is known, and was read where the part has it (`known`), and for a plan WRITE_PROTECT too
 /// (`protection`). Where it has tries left it asks as long as this isn't so, and each job takes one (`asks`), unless it is
 /// stuck at a needed register that the part doesn't have; of a part with every register it never is (`whole`). It never
 /// asks for a register that the part doesn't have (`unread`). Where it has ended by its own rule the output has a band
@@ -47,8 +47,8 @@ pub fn surveys_end_known()
 {}
 
 /// A survey that has read nothing takes a check for each cell that it reads, where each has a good answer of a word that
-/// its cell takes and none surprises (`calm`); and one less than two for each where one surprises at most (`short`), as it
-/// is unless the converter restarts after the first of them.
+/// its cell takes and none surprises (`calm`); and at most one less than two for each where one surprises at most (`short`), as
+/// it is unless the converter restarts after the first of them.
 pub fn surveys_are_short()
     ensures { SurveysAreShort }
 {

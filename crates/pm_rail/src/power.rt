@@ -26,8 +26,8 @@ pub struct Rail {
     /// Whether it is on.
     pub power: Power,
     /// Between which voltages it commands, in volts, as [`Guard::band`] says; an output that is off has its band too,
-    /// of the register that OPERATION selects then. `None` exactly where its format isn't learned, or where OPERATION
-    /// may be a byte that hands the voltage to AVSBus.
+    /// of the register that OPERATION selects then. `None` exactly where its format isn't learned, or where a byte that
+    /// hands the voltage to AVSBus is one of those that OPERATION is known to be able to hold.
     pub band: Option<Band>,
     /// Whether the band lies within its limits, as [`Guard::within`] says.
     pub within: Within,

@@ -107,7 +107,7 @@ impl Reads {
 ///
 /// Ask `next` for a job while the guard's host is idle, carry the job out, and tell `told` how it ended; where `next` answers
 /// `None`, the survey has ended. It has ended by its own rule where [`Survey::is_done`] says so, and otherwise because it has
-/// no tries left.
+/// no tries left, or stands at a margin that OPERATION selects, or that a plan wants, and that the part lacks.
 #[derive(Clone, Copy, Debug, PartialEq, Eq)]
 pub struct Survey {
     /// The output's number, from 0.
@@ -192,8 +192,8 @@ impl Survey {
         self.asked = None;
     }
 
-    /// Whether the survey has ended by its own rule: the format and each needed cell is known by a good answer that came
-    /// since it began, by `surveys_end_known`. The output is there.
+    /// Whether the survey has ended by its own rule: the format and each needed cell is known, of those that the part has by a
+    /// good answer that came since it began, by `surveys_end_known`. The output is there.
     pub fn is_done(&self, guard: &Guard) -> bool
         requires { self.now.output < guard.now.host.setup.outputs }
         ensures { result ≡ is_surveyed guard.now.registers self.now guard.now.host }

@@ -215,7 +215,8 @@ pub fn lives_stay_limited()
 
 /// However frames are delivered, lost, cut, damaged, repeated or falsely acknowledged, and whenever an end restarts:
 /// where the host gives a band for an output, what the converter commands there lies in it, unless that restarted
-/// since the good answers that the band rests on.
+/// since the good answers that the band rests on. Of a part that is said to lack VOUT_MIN or VOUT_MAX it asks that no such
+/// register cuts the output.
 pub fn bands_are_held()
     ensures { BandsAreHeld }
 {
@@ -225,7 +226,8 @@ pub fn bands_are_held()
 /// No narrower band is true. Let the converter not have restarted since the host did, let no word but 00h have been
 /// ordered for WRITE_PROTECT or read from it since then, and no restore. Choose an end for each output. Then one
 /// life, which is named, tells the host just what it was told since it started, and leaves each output that has a
-/// band at the chosen end, as that very fraction, all at once.
+/// band at the chosen end, as that very fraction, all at once. Of a part that is said to lack VOUT_MIN or VOUT_MAX it asks
+/// that the host was told nothing of one.
 pub fn bands_are_exact()
     ensures { BandsAreExact }
 {

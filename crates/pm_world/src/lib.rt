@@ -6,7 +6,7 @@
 //! settings are, what the host's words about them are worth, and when an order goes through.
 //!
 //! What a run tests of the bus is that the packet error code (PEC) betrays damage: bytes that it doesn't
-//! betray, and that no cut explains, stop a run as [`Cause::NotBetrayed`]. What no run can test are
+//! betray, that no cut and no repeated start explains, and that aren't too few for an answer, stop a run as [`Cause::NotBetrayed`]. What no run can test are
 //! premises: there are one host and one converter, a frame is heard during its own attempt alone, and an
 //! answer belongs to its own exchange. Time, voltages between frames and more than one converter are no
 //! part of a world.

@@ -32,7 +32,8 @@ pub fn plans_hold_in_lives()
 /// converter restarted since the first of these reads, what the output commands lies in the band, where the registers that
 /// decide and that the survey hasn't read were read since the converter's last restart; and where the survey has ended by its
 /// own rule, the band has one value, which is what the output commands, each register that is needed holds the word that
-/// is known, and a plan may begin (`keeps`).
+/// is known, and a plan may begin (`keeps`). Of a part that is said to lack registers it asks that no VOUT_MIN or VOUT_MAX that
+/// it lacks cuts the output, and that the host had no good answer for any that it lacks.
 pub fn surveys_hold_in_lives()
     ensures { SurveysHoldInLives }
 {
@@ -41,8 +42,8 @@ pub fn surveys_hold_in_lives()
     surveys_end_known();
 }
 
-/// However frames are delivered, lost, cut, damaged, repeated or falsely acknowledged: where an idle host says that an
-/// output's band lies within limits, it goes on to say so, while each job goes through a guard with these limits, neither
+/// However frames are delivered, lost, cut, damaged, repeated or falsely acknowledged: where the converter didn't restart
+/// since any answer that the host has, of any cell, and an idle host says that an output's band lies within limits, it goes on to say so, while each job goes through a guard with these limits, neither
 /// end restarts, no restore is asked for, and the output isn't turned off by a byte with which it may lie outside.
 pub fn within_stays_within()
     ensures { WithinStaysWithin }

@@ -4,7 +4,7 @@ use crate::Bus;
 use crate::buses::converter_end::lose_request;
 use pm_device::Converter;
 
-/// A bus whose line is cut: nothing arrives, and nothing comes back.
+/// A bus whose line is cut: nothing of a write arrives, nothing is acknowledged, and nothing comes back.
 #[derive(Drop)]
 pub struct DeadBus {
     /// The converter at its other end.
@@ -16,7 +16,7 @@ impl Bus for DeadBus {
 
     ghost restarts = { λ bus. 0 };
 
-    ghost gives = { λ old call new. gives_nothing call };
+    ghost gives = { λ old call new. gives_nothing old.device call new.device };
 
     fn write(&mut self, _packet: &[u8]) -> bool {
         false

@@ -27,7 +27,7 @@ fn applied<B: Bus>(driver: &mut Driver<B>) -> Option<ApplyEnd> {
         margin_low: None,
         min: None,
     };
-    Some(driver.apply(0, &wanted, 60)) // Reached: the converter holds both words
+    Some(driver.apply(0, &wanted, 60)) // Reached: unless it restarted, the converter holds both words
 }
 
 fn status<B: Bus>(driver: &mut Driver<B>) -> Option<u16> {
