@@ -65,6 +65,7 @@ program() { [ -z "$1" ] || [ -x "$1" ] || die "no program at $1: build it $2, or
 for each in pm_host_c pm_device_c; do
     [ -f "$(archive $each)" ] || die "no archive at $(archive $each): build it by (cd crates/$each && rt lib), or give --archives FOLDER"
 done
+command -v ${CC-cc} > /dev/null || die "no C compiler ${CC-cc} on this machine: name one by CC"
 if [ -z "$library" ]; then
     program "$pmb" "by (cd crates/pmb && rt run -- replay < stdin), set PMB"
     program "$pmbhost" "as docs/no-board.md says, set PMBHOST"

@@ -19,7 +19,8 @@ from pmhost import DeskBus, LinuxBus, NoBus, SetupRefused  # noqa: E402
 from pmhost.programs import HostProgram, Missing, NoAnswer  # noqa: E402
 
 SEND = re.compile(r"send ([0-9A-F ]+?)(?: read ([0-9]+))?")
-ENDED_WELL = ("ended done", "ended learned", "state ", "seen ", "band ", "limits ")
+ENDED_WELL = ("ended done", "ended learned", "state ", "seen ", "band ", "limits ", "narrowed", "idle",
+              "restarted", "survey done", "rail ", "plan ")
 
 
 def told(bus, answer):
@@ -51,6 +52,8 @@ def main():
         sys.exit(__doc__.strip())
     name, address, outputs, *limits = sys.argv[1:]
     try:
+        if not re.fullmatch("[0-9A-Fa-f]{2}", address) or not outputs.isdecimal():
+            raise ValueError("give the address in two hexadecimal digits and how many outputs there are, as 58 2")
         bus = DeskBus(int(address, 16), int(outputs)) if name == "desk" else LinuxBus(name, int(address, 16))
         host, is_well = HostProgram(int(address, 16), int(outputs), 3, limits), True
         for line in map(str.strip, sys.stdin):
@@ -58,7 +61,12 @@ def main():
             print(f"{line}: {answer}", flush=True)
             is_well = is_well and answer.startswith(ENDED_WELL)
         host.close()
-    except (NoBus, Missing, NoAnswer, SetupRefused, ValueError, TypeError) as fault:
+    except KeyboardInterrupt:
+        sys.exit("drive.py: interrupted")
+    except BrokenPipeError:
+        os.dup2(os.open(os.devnull, os.O_WRONLY), 1)
+        return 1
+    except (NoBus, Missing, NoAnswer, SetupRefused, ValueError, TypeError, OSError) as fault:
         sys.exit(f"drive.py: {fault}")
     return 0 if is_well else 1
 

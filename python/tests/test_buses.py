@@ -7,7 +7,7 @@ import unittest
 from decimal import Decimal
 from unittest import mock
 
-from pmhost import DeskBus, LinuxBus, NoBus, NoTransfer, Pmbus, Smbus2Bus
+from pmhost import DeskBus, LinuxBus, NoBus, NoTransfer, Pmbus, Smbus2Bus, Unknown
 from pmhost.bus.ones import given
 from pmhost.bus import Trace, linux
 from pmhost.bus.linux import I2C_FUNCS, I2C_RDWR, I2C_SLAVE, BusTrace, Message, Messages
@@ -38,6 +38,29 @@ class Linux(unittest.TestCase):
                                   (Messages, "msgs", 0), (Messages, "nmsgs", 8)):
             self.assertEqual(getattr(each, name).offset, place)
         self.assertEqual((I2C_SLAVE, I2C_FUNCS, I2C_RDWR), (0x0703, 0x0705, 0x0707))
+
+    def test_a_closed_bus_sends_nothing_and_closes_once(self):
+        """The number of its file may be another bus's by then."""
+        bus = self.bus()
+        pmbus = Pmbus(bus, ADDRESS)
+        pmbus.learn(0)
+        bus.close()
+        self.over.opened = 1
+        for call in (lambda: bus.write(FRAME), lambda: bus.read(REQUEST, 4)):
+            with self.assertRaisesRegex(NoTransfer, "the bus is closed") as raised:
+                call()
+            self.assertEqual(raised.exception.errno, errno.EBADF)
+        with self.assertRaises(Unknown):
+            pmbus.order_volts(0, "3.25")
+        bus.close()
+        self.assertEqual((self.over.opened, self.over.part.converter.commanded(0)), (1, (4096, 4096)))
+
+    def test_a_frame_for_another_address_is_not_sent(self):
+        bus = self.bus()
+        with self.assertRaisesRegex(NoTransfer, "the bus was opened for another address"):
+            bus.write(bytes.fromhex("B205040021CD34") + b"\x5a")
+        with self.assertRaises(Unknown):
+            Pmbus(bus, 0x59).learn(0)
 
     def test_names_of_a_bus(self):
         for number in (7, "7", "i2c-7", "/dev/i2c-7"):

@@ -1,11 +1,14 @@
 """Each call on its good path, with frames and words from the worked examples of docs/."""
+import copy
+import pickle
 import unittest
-from decimal import Decimal
+from decimal import Decimal, localcontext
 
 import pmhost
 from pmhost import Band, Format, Host, Known, Limits, LINEAR11, Packet, Sending, Step
 from pmhost import _library
 from pmhost.errors import name_of, refusal
+from pmhost.values import microvolts_of
 
 from .fixtures import RAILS, rails
 
@@ -30,6 +33,21 @@ class Frames(unittest.TestCase):
         self.assertEqual((len(host.save()), host.address, host.outputs, host.passes), (_library.HOST_SIZE, 0x58, 1, 3))
         self.assertNotEqual(host.save(), other.save())
 
+    def test_copies_share_nothing(self):
+        host, part = Host(0x58), pmhost.Part(0x58, [pmhost.Output()])
+        other, another = copy.copy(host), copy.copy(part)
+        other.order(0, "OPERATION", 0x80)
+        another.hear(bytes.fromhex("B0050400 21CD345A"))
+        self.assertIsNone(host.sending())
+        self.assertNotEqual(part.word(0, "VOUT_COMMAND"), another.word(0, "VOUT_COMMAND"))
+
+    def test_errors_go_to_other_processes_whole(self):
+        for fault in (refusal(7), refusal(0x67), pmhost.Differs("text", "differs", 0x1234, (1, 2)), pmhost.Unknown("text", "unknown"),
+                      pmhost.NoBus("the bus", 16), pmhost.NoTransfer("the transfer", 121)):
+            found = pickle.loads(pickle.dumps(fault))
+            self.assertEqual((type(found), str(found), vars(found)), (type(fault), str(fault), vars(fault)))
+            self.assertEqual(getattr(found, "errno", None), getattr(fault, "errno", None))
+
     def test_packets_are_written_and_read(self):
         write = Packet("PAGE_PLUS_WRITE", 0x21, 0, 2, 0x34CD)
         self.assertEqual(write.frame(0x58), bytes.fromhex("B005040021CD345A"))
@@ -53,6 +71,26 @@ class Jobs(unittest.TestCase):
         self.assertEqual(pmbus.order_volts(0, Decimal("3.25")), Decimal("3.25"))
         self.assertEqual((pmbus.volts(0), pmbus.bus.part.volts(0)), (Decimal("3.25"), Decimal("3.25")))
         self.assertIsNone(pmbus.volts(1))
+
+    def test_a_voltage_does_not_hang_on_the_caller_s_precision(self):
+        part = rails()
+        part.learn(0)
+        with localcontext() as context:
+            context.prec = 3
+            self.assertEqual(str(part.order_volts(0, "3.3")), "3.300048")
+
+    def test_numbers_that_no_voltage_is_are_refused_at_once(self):
+        for volts in ("1E+999999999999", "1E-999999999999"):
+            with self.assertRaises(ValueError):
+                microvolts_of(Decimal(volts))
+
+    def test_registers_that_are_no_voltage_have_no_volts(self):
+        part = rails()
+        part.learn(0)
+        part.check(0, "OPERATION")
+        for register in ("OPERATION", "WRITE_PROTECT"):
+            with self.assertRaisesRegex(ValueError, f"register: {register} is no voltage"):
+                part.volts(0, register)
 
     def test_limits_and_the_band(self):
         pmbus = rails()

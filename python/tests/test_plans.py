@@ -1,6 +1,7 @@
 """What an output commands, plans, surveys and the loops over them; words as in docs/: 34CDh is 3.300048 V."""
 import unittest
 from decimal import Decimal
+from unittest import mock
 
 import pmhost
 from pmhost import Band, Differs, Host, PlanOrder, PlanRefused, RailEnd, RailState, Step, Survey, Unknown
@@ -82,6 +83,18 @@ class Rails(unittest.TestCase):
         end = pmbus.apply(0, {"VOUT_MIN": 0x3400, "VOUT_COMMAND": 0x3480})
         self.assertEqual((end.kind, end.refused.letter, end.register, codes(pmbus.bus.frames)), ("refused", "L7", "VOUT_MIN", []))
 
+    def test_every_register_that_the_part_has_is_read(self):
+        pmbus = recorded(without=("VOUT_MAX",))
+        pmbus.check_all()
+        self.assertEqual([it.register for it in pmbus.known() if it.confirmed is None], ["VOUT_MAX", "VOUT_MAX", "WRITE_PROTECT"])
+
+    def test_an_output_of_avsbus_has_no_band(self):
+        pmbus = recorded()
+        pmbus.host.check(0, "OPERATION")
+        answer = bytes.fromhex("B006020001B101B0")
+        pmbus.host.got(answer[5:] + bytes([pmhost.pec(answer)]))
+        self.assertEqual((pmbus.band(0), pmbus.rail(0).band), (None, None))
+
     def test_a_survey_is_stuck_at_a_missing_margin(self):
         pmbus = recorded(limits=None)
         pmbus.order(0, "OPERATION", 0xA8)
@@ -122,6 +135,13 @@ class Plans(unittest.TestCase):
         lacking = rails(without=("VOUT_MIN",))
         with self.assertRaises(pmhost.LimitRefused):
             lacking.host.plan(0, {"VOUT_MIN": 0x3400})
+
+    def test_a_wish_stands_once_in_a_mapping(self):
+        with self.assertRaisesRegex(ValueError, "wanted: VOUT_COMMAND stands twice"):
+            recorded().apply(0, {"VOUT_COMMAND": 0x3480, 0x21: 0x3490})
+        for wanted in (None, ["VOUT_COMMAND"], 0x3480):
+            with self.subTest(wanted=wanted), self.assertRaisesRegex(TypeError, "wanted: give words by registers"):
+                recorded().apply(0, wanted)
 
     def test_what_is_no_voltage_is_no_wish(self):
         host = Host(0x58)
@@ -173,6 +193,30 @@ class Applies(unittest.TestCase):
         self.assertEqual(pmbus.apply(0, VOLTS, before_order=begun.append), REACHED)
         self.assertEqual(len(begun), 1)
 
+    def test_an_order_that_the_caller_stops_is_not_sent(self):
+        for fault in (EOFError, KeyboardInterrupt, ValueError):
+            pmbus = recorded()
+            with self.assertRaises(fault):
+                pmbus.apply(0, VOLTS, before_order=mock.Mock(side_effect=fault))
+            self.assertEqual([frame for frame in pmbus.bus.frames if frame[1] == 0x05], [])
+            self.assertIsNone(pmbus.host.sending())
+
+    def test_a_job_that_is_interrupted_before_its_first_frame_has_ended(self):
+        pmbus = recorded()
+        for job in (lambda: pmbus.order(0, "VOUT_COMMAND", 0x3480), lambda: pmbus.order_volts(0, "3.3"), lambda: pmbus.check(0),
+                    lambda: pmbus.learn(0), lambda: pmbus.clear(0), pmbus.store, pmbus.restore):
+            with mock.patch("pmhost.pmbus.Transfers", side_effect=KeyboardInterrupt), self.assertRaises(KeyboardInterrupt):
+                job()
+            self.assertIsNone(pmbus.host.sending())
+
+    def test_a_refused_call_leaves_the_callers_open_job(self):
+        pmbus = recorded()
+        pmbus.host.check(0, "VOUT_COMMAND")
+        for job in (lambda: pmbus.order(0, "VOUT_COMMAND", 0x3480), lambda: pmbus.apply(0, {"VOUT_COMMAND": "x"}), pmbus.store):
+            with self.assertRaises((pmhost.HostRefused, TypeError)):
+                job()
+        self.assertIsNotNone(pmbus.host.sending())
+
     def test_tries_bound_all_jobs(self):
         pmbus = recorded()
         self.assertEqual(pmbus.apply(0, VOLTS, tries=5), SPENT)
@@ -181,6 +225,10 @@ class Applies(unittest.TestCase):
         self.assertEqual(pmbus.apply(0, VOLTS, tries=6), RailEnd("spent", None, "VOUT_COMMAND"))
         self.assertEqual(codes(pmbus.bus.frames), [])
         self.assertEqual(pmbus.apply(0, VOLTS, tries=13), REACHED)
+
+    def test_an_apply_without_a_try_left_says_so(self):
+        with self.assertRaisesRegex(pmhost.Unknown, "none of 3 tries is left$"):
+            recorded().set_volts(0, "3.3125", tries=3)
 
     def test_volts_are_set_and_the_rail_is_told(self):
         pmbus = rails()

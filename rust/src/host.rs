@@ -218,7 +218,7 @@ pub enum Within {
     NotKnown,
 }
 
-/// What a job may want to be sent beside cells.
+/// What a host is to carry out.
 #[derive(Clone, Copy, Debug, PartialEq, Eq)]
 pub enum Job {
     /// The word is written and read back.
@@ -276,7 +276,8 @@ impl Host {
     }
 
     /// The same of a part whose outputs lack these registers: of VOUT_MAX, the margins and VOUT_MIN, since every part has the
-    /// others. A missing VOUT_MIN or VOUT_MAX cuts nothing, and a job on a missing register is refused (L7).
+    /// others: OPERATION and VOUT_COMMAND in it are ignored. A missing VOUT_MIN or VOUT_MAX cuts nothing, and a job on a missing
+    /// register is refused (L7).
     pub fn without(address: u8, outputs: u8, passes: u8, missing: &[Register]) -> Result<Host, Refusal> {
         let has = |register| u8::from(!missing.contains(&register));
         let registers = ffi::RegistersImage {

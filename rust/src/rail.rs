@@ -334,7 +334,8 @@ impl Host {
     /// output commands then: it learns the output's format where that isn't known, and goes on as `run_apply`.
     ///
     /// H5 of OPERATION, which is no voltage; N3, N4, N5 where the format has no such word; and what `run_apply` refuses, as P2
-    /// and P3 beyond the limits. Where it refuses, nothing was ordered. The answer may be outside what was wanted where another
+    /// and P3 beyond the limits. What is refused before the first order has ordered nothing; behind one, as where the part
+    /// restarted protected, an order may have gone. The answer may be outside what was wanted where another
     /// register is selected: look at its band.
     ///
     /// ```

@@ -7,7 +7,8 @@ use crate::ffi;
 /// Declares the refusals: each with its number and its name.
 macro_rules! refusals {
     ($($(#[$says:meta])* $name:ident = $number:literal),+ $(,)?) => {
-        /// Why a call is refused. A refused call changes nothing and sends nothing.
+        /// Why a call is refused. A refused call changes nothing and sends nothing, but for a bit of STATUS_CML that a part sets where
+        /// it refuses a frame, by K1 to K7.
         #[derive(Clone, Copy, Debug, PartialEq, Eq, Hash)]
         #[non_exhaustive]
         pub enum Refusal {

@@ -56,12 +56,13 @@ SAYINGS = {
 
 
 class PmhostError(Exception):
-    """Whatever this package raises beside TypeError and ValueError."""
+    """Whatever this package raises beside TypeError, ValueError, and the OSErrors NoBus and NoTransfer of a bus."""
 
 
 class Refused(PmhostError):
-    """A call that the library refused: nothing changed, and nothing was sent. `register` is the one that the refusal of a plan is
-    about, where it is about one."""
+    """A call that the library refused: it changed nothing and sent nothing, but a part that refuses a frame (K) may set a bit of
+    STATUS_CML. A call of several jobs, as `set_volts`, may have carried some out before one was refused. `register` is the one that
+    the refusal of a plan is about, where it is about one."""
 
     def __init__(self, number: int) -> None:
         self.number = number
@@ -70,6 +71,9 @@ class Refused(PmhostError):
         self.register: str | None = None
         saying = SAYINGS.get(letter)
         super().__init__(f"{name_of(number)}: {saying}" if saying else name)
+
+    def __reduce__(self) -> tuple[object, ...]:
+        return type(self), (self.number,), {**self.__dict__, "args": self.args}
 
 
 class HostRefused(Refused):
@@ -115,6 +119,9 @@ class NotDone(PmhostError):
     def __init__(self, text: str, kind: str, word: int | None = None, possible: tuple[int, ...] | None = None) -> None:
         super().__init__(text)
         self.kind, self.word, self.possible = kind, word, possible
+
+    def __reduce__(self) -> tuple[object, ...]:
+        return type(self), (str(self), self.kind, self.word, self.possible)
 
 
 class Differs(NotDone):

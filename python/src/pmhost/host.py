@@ -133,7 +133,7 @@ class Host:
     # ---- Limits ----
 
     def narrow(self, output: int, least: int, most: int) -> None:
-        """Gives an output limits in microvolts, or narrower ones. N5, L1, L6."""
+        """Gives an output limits in microvolts, or narrower ones. N5, L1, L6; H3 while an order is open that they would refuse."""
         least = whole(least, -(2**63), 2**63 - 1, "least")
         most = whole(most, -(2**63), 2**63 - 1, "most")
         accepted(library.pm_host_narrow(REFERENCE(self._image), self._there(output), least, most))
@@ -148,14 +148,16 @@ class Host:
         return Limits(found.least, found.most)
 
     def within(self, output: int) -> bool | None:
-        """Whether an output's voltage lies within its limits, by what is known: None where that doesn't tell."""
+        """Whether an output's voltage lies within its limits, by what is known: True where it has none, None where that doesn't
+        tell."""
         number = library.pm_host_within(REFERENCE(self._image), self._there(output))
         if number not in WITHIN:
             raise refusal(number)
         return WITHIN[number]
 
     def band(self, output: int) -> Band:
-        """Which voltages an output may be commanded to. H7 where its format isn't known, N5."""
+        """Which voltages an output may be commanded to. H7 where its format isn't known, NoBand where OPERATION may hand its voltage
+        to AVSBus, N5."""
         found = at.BandImage()
         accepted(library.pm_host_band(REFERENCE(self._image), self._there(output), REFERENCE(found)))
         return Band(found.least, found.greatest)
@@ -170,11 +172,12 @@ class Host:
     # ---- Plans and surveys ----
 
     def plan(self, output: int, wanted: Wanted) -> PlanOrder | None:
-        """The next order on the way to the wanted words, by what is known; None where each register has its own. H3, P1 to P7."""
+        """The next order on the way to the wanted words, by what is known; None where each register has its own. H3, L7, P1 to
+        P7."""
         return self._planned(library.pm_host_plan, output, wanted)
 
     def next(self, output: int, wanted: Wanted) -> PlanOrder | None:
-        """The same, and the order begins; None where nothing has begun. H3, P1 to P7."""
+        """The same, and the order begins; None where nothing has begun. H3, L7, P1 to P7."""
         return self._planned(library.pm_host_next, output, wanted)
 
     def _planned(self, call: Callable[..., int], output: int, wanted: Wanted) -> PlanOrder | None:
@@ -197,17 +200,17 @@ class Host:
     # ---- Jobs ----
 
     def order(self, output: int, register: str | int, word: int) -> None:
-        """Begins an order of a word. H3, L2, L3, L4, H5, L5, H6."""
+        """Begins an order of a word. H3, L7, L2, L3, L4, H5, L5, H6."""
         code, word = code_of(register), whole(word, 0, 0xFFFF, "word")
         accepted(library.pm_host_order(REFERENCE(self._image), self._there(output), code, word))
 
     def order_micro(self, output: int, register: str | int, microvolts: int) -> None:
-        """Begins an order of the word nearest to microvolts. H3, H5, H7, N5, N3, N4, L3, L4, H6."""
+        """Begins an order of the word nearest to microvolts. H3, L7, H5, H7, N5, N3, N4, L3, L4, H6."""
         code, microvolts = code_of(register), whole(microvolts, -(2**63), 2**63 - 1, "microvolts")
         accepted(library.pm_host_order_micro(REFERENCE(self._image), self._there(output), code, microvolts))
 
     def check(self, output: int, register: str | int) -> None:
-        """Begins to read a register back. H3."""
+        """Begins to read a register back. H3, L7."""
         code = code_of(register)
         accepted(library.pm_host_check(REFERENCE(self._image), self._there(output), code))
 
@@ -279,7 +282,13 @@ class Host:
 
     def run_survey(self, survey: Survey, bus: Bus, transfers: Transfers | None = None) -> RailEnd:
         """Carries a survey out over a bus, job after job, as `run` does each."""
-        return self._surveyed(survey, bus, transfers, Tries(survey.tries))
+        try:
+            return self._surveyed(survey, bus, transfers, Tries(survey.tries))
+        except (Refused, TypeError, ValueError):
+            raise
+        except BaseException:
+            self.give_up()
+            raise
 
     def _surveyed(self, survey: Survey, bus: Bus, transfers: Transfers | None, tries: Tries) -> RailEnd:
         while True:
@@ -302,8 +311,19 @@ class Host:
 
         Where nothing is due nothing is written, and what is refused before the first order has written nothing. An order that
         differs is given once again, and is the end at the second time; a register that isn't known behind an order is checked
-        first. `before_order` is told of each order before its first frame, `after_order` of how it ended."""
-        left, differed = Tries(whole(tries, 0, 0xFFFF, "tries")), set[str]()
+        first. `before_order` is told of each order before its first frame, `after_order` of how it ended. Where `before_order`
+        raises, the order isn't sent, and the host is free."""
+        try:
+            return self._applied(output, wanted, bus, Tries(whole(tries, 0, 0xFFFF, "tries")), transfers, before_order, after_order)
+        except (Refused, TypeError, ValueError):
+            raise
+        except BaseException:
+            self.give_up()
+            raise
+
+    def _applied(self, output: int, wanted: Wanted, bus: Bus, left: Tries, transfers: Transfers | None,
+                 before_order: Callable[[PlanOrder], None], after_order: Callable[[PlanOrder, Step], None]) -> RailEnd:
+        differed: set[str] = set()
         while True:
             end = self._surveyed(Survey(output, wanted, left.left), bus, transfers, left)
             if end.refused is not None and end.refused.number == MISSING_REGISTER:
@@ -329,7 +349,11 @@ class Host:
                     return RailEnd("spent", None, order.register)
                 has_ordered = True
                 left.left -= 1
-                before_order(order)
+                try:
+                    before_order(order)
+                except BaseException:
+                    self.give_up()
+                    raise
                 step = self.run(bus, transfers)
                 after_order(order, step)
                 if step.kind == "differs" and order.register in differed:
@@ -434,3 +458,6 @@ class Host:
         other._image = at.HostImage.from_buffer_copy(self._image)
         other._address, other._outputs, other._passes = self._address, self._outputs, self._passes
         return other
+
+    def __copy__(self) -> Host:
+        return self.copy()

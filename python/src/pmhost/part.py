@@ -75,6 +75,9 @@ class Part:
         other._address, other._outputs = self._address, self._outputs
         return other
 
+    def __copy__(self) -> Part:
+        return self.copy()
+
     def _asked(self, call: Callable[..., int], kind: Any, *words: int) -> int:
         """What a call of the library writes into memory of one kind."""
         found = kind()

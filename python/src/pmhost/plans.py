@@ -34,7 +34,8 @@ class Band:
 @dataclass(frozen=True)
 class RailState:
     """What an output commands, by what is known: whether it is on, None where OPERATION doesn't tell; its band, None where its
-    format isn't known or an end is beyond 10^15 microvolts; and whether that lies within its limits, None where it doesn't tell."""
+    format isn't known, where OPERATION may hand its voltage to AVSBus, or where an end is beyond 10^15 microvolts; and whether that
+    lies within its limits, True where it has none, None where it doesn't tell."""
 
     is_on: Optional[bool]
     band: Optional[Band]
@@ -70,11 +71,15 @@ class Tries:
 def wanted_image(wanted: Wanted) -> at.WantedImage:
     """The words as the library takes them."""
     image = at.WantedImage()
+    if not isinstance(wanted, Mapping):
+        raise TypeError(f'wanted: give words by registers, as {{"VOUT_COMMAND": 0x34CD}}, and not {wanted!r}')
     for register, word in wanted.items():
         name = NAMES[code_of(register)]
         wish = getattr(image, name.removeprefix("VOUT_").lower(), None)
         if wish is None:
             raise ValueError(f"wanted: {name} is no voltage of an output")
+        if wish.has:
+            raise ValueError(f"wanted: {name} stands twice")
         wish.has, wish.word = 1, whole(word, 0, 0xFFFF, f"wanted {name}")
     return image
 

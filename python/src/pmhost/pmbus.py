@@ -24,8 +24,10 @@ class Pmbus:
         for name in ("write", "read"):
             if not callable(getattr(bus, name, None)):
                 raise TypeError(f"bus: {bus!r} has no call {name}: see pmhost.Bus")
+        without = tuple(without)
         self.bus, self.host = bus, Host(address, outputs, passes, without)
         self.transfers = Transfers()
+        self.without = frozenset(NAMES[code_of(register)] for register in without)
         for output, pair in dict(limits or {}).items():
             if not isinstance(pair, (tuple, list)) or len(pair) != 2:
                 raise TypeError(f"limits of output {output}: give a least and a most, and not {pair!r}")
@@ -46,15 +48,17 @@ class Pmbus:
         return None if found is None else (volts_of(found.least), volts_of(found.most))
 
     def within(self, output: int) -> bool | None:
-        """Whether the output lies within its limits, by what is known: None where that doesn't tell."""
+        """Whether the output lies within its limits, by what is known: True where it has none, None where that
+        doesn't tell."""
         return self.host.within(output)
 
     def band(self, output: int) -> tuple[Decimal, Decimal] | None:
-        """Which volts the output may be commanded to, by what is known; None where its format isn't known."""
+        """Which volts the output may be commanded to, by what is known; None where its format isn't known, or where OPERATION
+        may hand its voltage to AVSBus."""
         try:
             found = self.host.band(output)
         except Refused as it:
-            if it.letter == "H7":
+            if it.letter == "H7" or it.name == "NoBand":
                 return None
             raise
         return volts_of(found.least), volts_of(found.greatest)
@@ -64,7 +68,10 @@ class Pmbus:
         return self.host.rail(output)
 
     def volts(self, output: int, register: str | int = "VOUT_COMMAND") -> Decimal | None:
-        """The volts of a register whose word is confirmed, rounded down to microvolts; None where none is."""
+        """The volts of a register whose word is confirmed, rounded down to microvolts; None where none is. A ValueError of a
+        register that is no voltage."""
+        if NAMES[code_of(register)] in ("OPERATION", "WRITE_PROTECT"):
+            raise ValueError(f"register: {NAMES[code_of(register)]} is no voltage")
         word, form = self.host.standing(output, register), self.host.format(output)
         return None if word is None or form is None else form.value(word)
 
@@ -79,10 +86,20 @@ class Pmbus:
         self.transfers = Transfers()
         return self.host.run(self.bus, self.transfers)
 
+    def _done(self, begin: Callable[[], None]) -> Step:
+        """Begins a job and carries it out. Whatever interrupts that, the job has ended then."""
+        try:
+            begin()
+            return self.carried_out()
+        except (Refused, TypeError, ValueError):
+            raise
+        except BaseException:
+            self.host.give_up()
+            raise
+
     def learn(self, output: int) -> str:
         """Learns the format of an output's voltages, and says it: ULINEAR16 or DIRECT."""
-        self.host.learn(output)
-        self._ended(self.carried_out(), f"learn {output}", None)
+        self._ended(self._done(lambda: self.host.learn(output)), f"learn {output}", None)
         form = self.host.format(output)
         assert form is not None
         return form.kind
@@ -97,34 +114,35 @@ class Pmbus:
 
         The output's format has to be learned first (H7). Raises a Refused before anything is sent, and Differs or
         Unknown where the word wasn't confirmed."""
-        self.host.order_micro(output, register, microvolts_of(volts))
-        self._ended(self.carried_out(), f"order {output} {volts} V", (output, register))
+        step = self._done(lambda: self.host.order_micro(output, register, microvolts_of(volts)))
+        self._ended(step, f"order {output} {volts} V", (output, register))
         found = self.volts(output, register)
         assert found is not None
         return found
 
     def order(self, output: int, register: str | int, word: int) -> None:
         """Orders a word and reads it back."""
-        self.host.order(output, register, word)
-        self._ended(self.carried_out(), f"order {output} {NAMES[code_of(register)]}", (output, register))
+        step = self._done(lambda: self.host.order(output, register, word))
+        self._ended(step, f"order {output} {NAMES[code_of(register)]}", (output, register))
 
     def check(self, output: int, register: str | int = "VOUT_COMMAND") -> int:
         """Reads a register back, and answers its word."""
-        self.host.check(output, register)
-        self._ended(self.carried_out(), f"check {output} {NAMES[code_of(register)]}", (output, register))
+        step = self._done(lambda: self.host.check(output, register))
+        self._ended(step, f"check {output} {NAMES[code_of(register)]}", (output, register))
         word = self.host.standing(output, register)
         assert word is not None
         return word
 
     def check_all(self, outputs: Iterable[int] | None = None) -> None:
-        """Reads every register of these outputs back, or of all."""
+        """Reads every register that these outputs have back, or those of all."""
         for output in range(self.host.outputs) if outputs is None else outputs:
             for register in NAMES.values():
-                if register != "WRITE_PROTECT":
+                if register != "WRITE_PROTECT" and register not in self.without:
                     self.check(output, register)
 
     def turn_on(self, output: int) -> None:
-        """Orders OPERATION 80h. L5 where the output has limits and isn't known to lie within them."""
+        """Orders OPERATION 80h. L2 where the output has limits and its format isn't known, L5 where it isn't known to lie within
+        them."""
         self.order(output, "OPERATION", 0x80)
 
     def turn_off(self, output: int) -> None:
@@ -153,26 +171,27 @@ class Pmbus:
         end = self.apply(output, {name: form.nearest(microvolts_of(volts))}, tries)
         if end.refused is not None:
             raise end.refused
+        cell = end.register or name
+        if end.kind == "spent":
+            why = self.transfers.why()
+            raise Unknown(f"set {output} {volts} V: {cell}: none of {tries} tries is left{': ' * bool(why)}{why}", "unknown", None,
+                          self.host.possible(output, cell)) from self.transfers.error
         if end.kind != "reached":
-            cell = end.register or name
             self._ended(Step("differs" if end.kind == "differs" else "unknown", end.word), f"set {output} {volts} V: {cell}",
                         (output, cell))
         return self.rail(output)
 
     def clear(self, output: int) -> None:
         """Clears the latched faults of an output: acknowledged, and no more than that."""
-        self.host.clear(output)
-        self._ended(self.carried_out(), f"clear {output}", None)
+        self._ended(self._done(lambda: self.host.clear(output)), f"clear {output}", None)
 
     def store(self) -> None:
         """Has the part store its settings: acknowledged, and no more than that."""
-        self.host.store()
-        self._ended(self.carried_out(), "store", None)
+        self._ended(self._done(self.host.store), "store", None)
 
     def restore(self) -> None:
         """Has the part bring its stored settings back: acknowledged, and no more than that."""
-        self.host.restore()
-        self._ended(self.carried_out(), "restore", None)
+        self._ended(self._done(self.host.restore), "restore", None)
 
     @property
     def restart_seen(self) -> bool:

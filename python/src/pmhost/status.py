@@ -1,5 +1,5 @@
-"""The bits of the status registers by their names in PMBus 1.3 Part II, the high one first, those of the model converter as it has
-them. STATUS_MFR_SPECIFIC has the maker's own."""
+"""The bits of the status registers by names of this package, the high one first, those of the model converter as it has them;
+`pmb decode` has the standard's. STATUS_MFR_SPECIFIC has the maker's own."""
 from __future__ import annotations
 
 BITS: dict[str, tuple[tuple[int, str], ...]] = {

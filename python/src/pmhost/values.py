@@ -61,6 +61,10 @@ def microvolts_of(volts: object, what: str = "volts") -> int:
         raise TypeError(f'{what}: give volts as text, as "3.3", or as a decimal.Decimal, and not {volts!r}')
     if not volts.is_finite():
         raise ValueError(f"{what}: {volts} is no number of volts")
+    if volts and volts.adjusted() > 9:
+        raise ValueError(f"{what}: {volts} V is beyond 10^9 V")
+    if volts and volts.adjusted() < -6:
+        raise ValueError(f"{what}: {volts} V is no whole number of microvolts")
     exact = Fraction(volts) * 1_000_000
     if exact.denominator != 1:
         raise ValueError(f"{what}: {volts} V is no whole number of microvolts")
@@ -71,7 +75,7 @@ def microvolts_of(volts: object, what: str = "volts") -> int:
 
 def volts_of(microvolts: int) -> Decimal:
     """So many microvolts in volts."""
-    return Decimal(microvolts).scaleb(-6)
+    return Decimal(f"{microvolts}E-6")
 
 
 def frame_bytes(frame: object, most: int, what: str = "bytes") -> bytes:

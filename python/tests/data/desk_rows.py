@@ -57,6 +57,10 @@ JOBS = [
     ("--plain-host order 0 OPERATION 00 + part word 0 OPERATION", 0,
      "order 0 OPERATION 00\n  B0 00 00 EA  ok: part taken, acknowledged\n  B0 01 00 FF  ok: part taken, acknowledged\n"
      "ended done\npart word 0 OPERATION\nword 00 stored 80\n" + HELD, ""),
+    ("rail 0 + plan 0 VOUT_COMMAND=1000", 1, "rail 0\nrail any\nplan 0 VOUT_COMMAND=1000\nrefused P1 FormatUnknown\n" + HELD,
+     "pmhost: desk: plan 0 VOUT_COMMAND=1000: the output's format isn't known: learn it first\n"),
+    ("rail 0", 0, "rail 0\nrail any\n" + HELD, ""),
+    ("x" * 300, 1, "x" * 300 + "\nrefused X3 TooLong\n" + HELD, f"pmhost: desk: {'x' * 300}: more than 256 bytes\n"),
     ("part foo + seen", 1, "part foo\nrefused X2 BadHex\nseen\nseen no\n" + HELD,
      "pmhost: desk: part foo: a field that is hexadecimal of a stated length isn't\n"),
 ]
@@ -71,6 +75,9 @@ REFUSED = [
     (["--passes=0", "seen"], "passes 0: give a whole number from 1 to 15"),
     (["--passes=16", "seen"], "passes 16: give a whole number from 1 to 15"),
     (["--rate=101", "seen"], "rate 101: give a whole number from 0 to 100"),
+    (["--rate=50", "seen"], "--rate is of --seed and --runs, and neither is given"),
+    (["--runs=5", "--faults=lost"], "--runs draws mishaps and tries both hosts: leave --plain-host and --faults out"),
+    (["--runs=5", "--plain-host"], "--runs draws mishaps and tries both hosts: leave --plain-host and --faults out"),
     (["--runs=0"], "runs 0: give a whole number from 1 to 999999999"),
     (["--setup=/no/such/file", "seen"], "/no/such/file: No such file or directory"),
     (["--plain-host", "check", "0", "VOUT_COMMAND"], f"check 0 VOUT_COMMAND: {BESIDE}"),

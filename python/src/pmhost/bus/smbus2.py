@@ -1,10 +1,11 @@
 """A bus of the package smbus2."""
 from __future__ import annotations
 
+import errno
 import os
 from typing import Any
 
-from .linux import Calls, Kernel, lock_address
+from .linux import Calls, Kernel, NoTransfer, lock_address
 from .ones import given
 
 
@@ -26,6 +27,7 @@ class Smbus2Bus:
         self._bus, self._message = bus, smbus2.i2c_msg
         self._kernel: Calls = kernel or Kernel()
         self._locked: set[int] = set()
+        self._is_closed = False
         self._file: int | None = None
         if not share and isinstance(getattr(bus, "fd", None), int):
             self._path = os.path.realpath(f"/proc/self/fd/{bus.fd}")
@@ -43,12 +45,15 @@ class Smbus2Bus:
         return given(bytes(list(answer)))
 
     def _lock(self, address: int) -> None:
+        if self._is_closed:
+            raise NoTransfer("the bus is closed", errno.EBADF)
         if self._file is not None and address not in self._locked:
             lock_address(self._kernel, self._file, self._path.removeprefix("/dev/i2c-"), address, self._path)
             self._locked.add(address)
 
     def close(self) -> None:
-        """Frees the addresses."""
+        """Frees the addresses; a transfer behind that is NoTransfer."""
+        self._is_closed = True
         if self._file is not None:
             self._kernel.close(self._file)
         self._file = None

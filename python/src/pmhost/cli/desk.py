@@ -51,7 +51,7 @@ def add(commands: Any) -> None:
     parser.add_argument("--faults", type=mishaps_of, default=[], metavar="LIST",
                         help="what befalls the transfers, in their order: mishaps between spaces or commas")
     parser.add_argument("--seed", type=seed_of, metavar="N", help="mishaps at random, by a seed, behind those of the list")
-    parser.add_argument("--rate", type=whole(0, 100, "rate"), default=25, metavar="N",
+    parser.add_argument("--rate", type=whole(0, 100, "rate"), metavar="N",
                         help="how many of a hundred transfers a random mishap befalls, 25 if left out")
     parser.add_argument("--passes", type=whole(1, 15, "passes"), default=3, metavar="N",
                         help="how often a job is tried, 3 if left out", dest="tries")
@@ -78,6 +78,10 @@ def judge(arguments: argparse.Namespace) -> None:
         raise BadCall(f"desk: give a job, as {EXAMPLE}, or --runs")
     if arguments.picture and (arguments.plain_host or arguments.runs is not None):
         raise BadCall("desk: --picture draws both hosts: leave --plain-host and --runs out")
+    if arguments.runs is not None and (arguments.plain_host or arguments.faults):
+        raise BadCall("desk: --runs draws mishaps and tries both hosts: leave --plain-host and --faults out")
+    if arguments.rate is not None and arguments.runs is None and arguments.seed is None:
+        raise BadCall("desk: --rate is of --seed and --runs, and neither is given")
     arguments.start = setup_in(arguments.setup)
     if arguments.picture and (len(arguments.jobs) != 1 or not desk.is_order(arguments.jobs[0], len(arguments.start.outputs))):
         raise BadCall(f"desk: --picture draws one order of a word, as {EXAMPLE}")
@@ -108,6 +112,12 @@ def setup_in(path: str | None) -> Setup:
     return read_setup(text)
 
 
+# How many of a hundred transfers a random mishap befalls, where no rate is given.
+RATE = 25
+# What X3 is of a line; in_words says what it is of a text.
+LONG = "more than 256 bytes"
+
+
 def run(arguments: argparse.Namespace) -> int:
     """Carries the jobs out, or counts over many runs."""
     try:
@@ -136,14 +146,19 @@ def indented(line: str) -> None:
 
 
 def counted(both: desk.Desk, arguments: argparse.Namespace) -> int:
-    for line in desk.figures(both, arguments.runs, arguments.seed or 0, arguments.rate):
+    for line in desk.figures(both, arguments.runs, arguments.seed or 0, rate_of(arguments)):
         streams.write(line)
     return 0
 
 
+def rate_of(arguments: argparse.Namespace) -> int:
+    """How many of a hundred transfers a random mishap befalls."""
+    return RATE if arguments.rate is None else int(arguments.rate)
+
+
 def mishaps_for(arguments: argparse.Namespace) -> list[str]:
     """The list, and behind it those that a seed draws."""
-    random_ones = [] if arguments.seed is None else desk.draw_mishaps(random.Random(arguments.seed), arguments.rate)
+    random_ones = [] if arguments.seed is None else desk.draw_mishaps(random.Random(arguments.seed), rate_of(arguments))
     return [*arguments.faults, *random_ones]
 
 
@@ -156,7 +171,8 @@ def drawn(both: desk.Desk, arguments: argparse.Namespace) -> int:
                both.story(both.plain, "A host by PAGE that believes acknowledgements", job, mishaps)]
     title = f"{' '.join(job)}; what befalls the transfers: {', '.join(mishaps) or 'nothing'}"
     svg = DeskPicture(arguments.start.address, title, stories, start, int(job[1])).svg()
-    return told([svg.removesuffix("\n")]) or int(not stories[0].is_true)
+    streams.write(svg.removesuffix("\n"))
+    return int(not stories[0].is_true)
 
 
 def carried_out(both: desk.Desk, arguments: argparse.Namespace) -> int:
@@ -171,7 +187,7 @@ def carried_out(both: desk.Desk, arguments: argparse.Namespace) -> int:
         answer, went_well = both.carry_out(host, job)
         streams.write(answer)
         if answer.startswith("refused "):
-            complain(f"desk: {' '.join(job)}: {in_words(answer)}")
+            complain(f"desk: {' '.join(job)}: {LONG if answer == 'refused X3 TooLong' else in_words(answer)}")
         is_well = is_well and went_well
     streams.write("; ".join(f"output {output} holds {word}" for output, word in enumerate(both.words())))
     return 0 if is_well else 1

@@ -13,7 +13,8 @@ from .bus import DeskBus, draw_mishaps
 from .hosts import BYTES, LineHost, PageHost, ProvedHost
 
 # How the last answer to a job begins where it went well.
-WELL = ("ended done", "ended learned", "state ", "seen ", "band ", "limits ", "narrowed", "idle", "restarted")
+WELL = ("ended done", "ended learned", "state ", "seen ", "band ", "limits ", "narrowed", "idle", "restarted",
+        "survey done", "rail ", "plan ")
 COMMAND = "VOUT_COMMAND"
 
 
