@@ -127,6 +127,12 @@ class Interruptions(unittest.TestCase):
             # The host isn't busy: what it doesn't know can be read at once.
             self.assertEqual(pmbus.check(0), 0x3400)
 
+    def test_an_interrupted_job_of_a_host_alone_ends_as_unknown(self):
+        def job(pmbus):
+            pmbus.host.check(0, "VOUT_COMMAND")
+            pmbus.host.run(pmbus.bus)
+        self.assertIsNone(self.interrupted(1, job).host.sending())
+
     def test_what_was_known_before_stays_possible(self):
         def job(pmbus):
             pmbus.check(0)
