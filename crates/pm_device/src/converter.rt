@@ -130,7 +130,8 @@ impl Converter {
 
     /// Hears the bytes of one frame, of any number, and answers: [`Heard::Silent`] where the frame is
     /// for another device, [`Heard::Taken`] for a write, [`Heard::Answer`] for a read, otherwise
-    /// [`Heard::Refused`] with the first of K1, K2, K6, K7, K4, K5 and K3 that applies. A refusal
+    /// [`Heard::Refused`] with the first of K1, K2, K6, K7, K4, K5 and K3 that applies; of a request of a code
+    /// alone K2 and K7 come before the K1 of bytes behind it. A refusal
     /// changes no setting, no word in the store and no PAGE, and sets one bit of STATUS_CML.
     #[tactic(auto, unfolding(crate::specs::Reply::reply_of, crate::specs::History::next, crate::specs::History::after))]
     pub fn hear(&mut self, bytes: &[u8], ending: Ending) -> Heard

@@ -59,7 +59,8 @@ pub fn latches_stay()
 /// What the words of the cells, the store and PAGE are after one frame: a write of a cell's code, plain
 /// or carried, reaches that cell where its page is there, WRITE_PROTECT allows the code and the cell
 /// accepts the word; a write of PAGE selects an output; STORE_USER_ALL copies the outputs' words to the
-/// store and RESTORE_USER_ALL brings them back; everything else leaves all of them.
+/// store and RESTORE_USER_ALL brings them back, each where its page is there and WRITE_PROTECT allows it;
+/// everything else leaves all of them.
 pub fn writes_reach_one_cell()
     ensures { WritesReachOneCell }
 {
@@ -78,8 +79,8 @@ pub fn reads_are_answered()
     registers_are_in_the_table();
 }
 
-/// A status register, PAGE or a reading that is read over the bus says what the call of its name
-/// answers.
+/// A status register or PAGE that is read over the bus says what the call of its name answers, and a reading is
+/// the one that the converter holds.
 pub fn registers_say_what_calls_say()
     ensures { RegistersSayWhatCallsSay }
 {}
@@ -99,7 +100,7 @@ pub fn unknown_codes_are_refused()
 }
 
 /// A code of the device, as STATUS_CML, acts and answers alike on every page that exists, and
-/// whatever PAGE is: two frames that differ in such a page alone are answered alike, and the converter
+/// whatever PAGE is: two frames that differ in such a page alone are answered alike, requests with one payload, and the converter
 /// holds the same after the one as after the other.
 pub fn device_codes_ignore_pages()
     ensures { DeviceCodesIgnorePages }

@@ -57,7 +57,7 @@ enum {
     PM_HEARD_ANSWERED = 0x83,
     PM_HEARD_K1_FRAME = 0x41,            /* a frame that is cut, too long, wrongly counted or has a wrong PEC */
     PM_HEARD_K2_UNSUPPORTED_CODE = 0x42, /* a code that isn't spoken here */
-    PM_HEARD_K3_UNSUPPORTED_DATA = 0x43, /* a word that the cell doesn't accept */
+    PM_HEARD_K3_UNSUPPORTED_DATA = 0x43, /* a word that the cell doesn't accept, or coefficients that the part doesn't have */
     PM_HEARD_K4_BAD_PAGE = 0x44,         /* a page with no output */
     PM_HEARD_K5_PROTECTED = 0x45,        /* WRITE_PROTECT doesn't let it through */
     PM_HEARD_K6_NESTED = 0x46,           /* a code that PAGE_PLUS may not carry */

@@ -18,7 +18,7 @@ pub enum FrameFault {
     #[error("{words} {0}", words = self.words())]
     Long(usize),
     /// F4: the count at this place isn't the one that the code asks for, or is too small for a page
-    /// and a code.
+    /// and a code; of a block read it is above 32.
     #[error("{words} {0}", words = self.words())]
     WrongCount(usize),
     /// F5: the last byte, at this place, isn't the packet error code (PEC) of those before it; an

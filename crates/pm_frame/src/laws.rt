@@ -34,7 +34,7 @@ pub fn answers_are_exact()
 {}
 
 /// What is cut short has a fault, and so has what its last byte betrays, alone or after the bytes
-/// of a request; so what has no fault ends in its PEC.
+/// of a request; so a write that has none ends in its PEC, and so does a request with an answer that has none.
 pub fn damage_is_refused()
     ensures { DamageIsRefused }
 {}
@@ -66,8 +66,8 @@ pub fn damage_is_betrayed()
     ensures { DamageIsBetrayed }
 {}
 
-/// When an answer to one request passes for an answer to another, as one that comes late may: exactly where the two
-/// requests have one PEC up to the read address and their answers one form. What comes back is then judged alike for both.
+/// When an answer to one request passes for an answer to another, as one that comes late may: only where the two requests
+/// have one PEC up to the read address; and where their answers have one form too, what comes back is judged alike for both.
 pub fn late_answers_pass()
     ensures { LateAnswersPass }
 {}

@@ -6,8 +6,8 @@
 //! bytes of any number, and take exactly the layouts: what they refuse has the fault that comes
 //! first, with its place. A `FrameView` borrows the bytes that were read.
 //!
-//! `read_block` and `read_plain` judge what comes back for reads that are no `Message`: a block of up to 32 bytes, and any
-//! number of bytes, of any code.
+//! `read_block` and `read_plain` judge what comes back for reads that are no `Message`: a block, and a plain read, each of up
+//! to 32 bytes of any code.
 //!
 //! The PEC betrays damage where the last byte of what was heard isn't the PEC of what stands before
 //! it: `is_betrayed` says so of bytes, and the laws say which damage it always betrays.

@@ -21,7 +21,7 @@ pub enum HostFault {
     TooUncertain,
     /// H7: the format of the output's voltages wasn't learned since the host started.
     FormatUnknown,
-    /// N3, N4 or N5: the voltage has no word in the output's format.
+    /// N3 or N4: the voltage lies outside the output's format. N5: it is beyond 10^15 microvolts in size.
     Num(NumFault),
 }
 

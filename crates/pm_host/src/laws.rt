@@ -55,7 +55,8 @@ pub fn possible_words_are_followed()
     ensures { PossibleWordsAreFollowed }
 {}
 
-/// What the calls of a host leave in its memory is a function of what the host holds: a number without a meaning is 0.
+/// What the calls of a host leave in its memory is a function of what the host holds: a number without a meaning is 0,
+/// and of a format FFh.
 pub fn images_are_meanings()
     ensures { ImagesAreMeanings }
 {}

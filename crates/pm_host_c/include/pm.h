@@ -15,8 +15,8 @@
  *
  * The library takes no memory, keeps nothing between calls, calls nothing and never blocks.
  *
- * A host lives in memory of yours, a pm_host. Any bytes may stand there: each call but pm_host_new, which
- * makes one, asks first whether it is a host, and answers PM_NO_HOST where it isn't, as for zeros and for a
+ * A host lives in memory of yours, a pm_host. Any bytes may stand there: each call but pm_host_new and
+ * pm_host_new_with, which make one, asks first whether it is a host, and answers PM_NO_HOST where it isn't, as for zeros and for a
  * host of another version. It looks at the mark, the version, the setup and the stage of the open job, 13 of
  * the 2,064 bytes, and while an order is open at what is known of its cell; at nothing else. So most damage
  * isn't noticed: of flipped bits and overwritten bytes about 0.4 %. Damaged memory that still reads as a
@@ -305,8 +305,8 @@ uint8_t pm_host_store(pm_host *host);
 PM_MUST_USE
 uint8_t pm_host_restore(pm_host *host);
 
-/* What is to be sent now. It stays the same until pm_host_finished, pm_host_got, pm_host_restart or
- * pm_host_new, and where it is PM_NOTHING until a job begins. PM_NO_HOST, and then PM_NOTHING. */
+/* What is to be sent now. It stays the same until pm_host_finished, pm_host_got, pm_host_restart, pm_host_new
+ * or pm_host_new_with, and where it is PM_NOTHING until a job begins. PM_NO_HOST, and then PM_NOTHING. */
 uint8_t pm_host_sending(const pm_host *host, pm_sending *sending);
 
 /* A write was sent; `acked` isn't 0 where every byte was acknowledged. The status of many HALs is 0 then: ask it, and don't

@@ -1,15 +1,16 @@
 -- What is known of every cell of a device, in one answer.
 use Rattle.std.specs.Prelude.{◌≡◌, ◌≤◌, ◌<◌, ◌+◌, ◌*◌, ℕ, List, [], slice_index_or, Some}
 use Rattle.pm_table.specs.declared.cell.Cell.{Cell}
-use Rattle.pm_table.specs.Cell.{cell_at, nth_cell, register_count}
+use Rattle.pm_table.specs.Cell.{cell_at, nth_cell, output_of, register_count}
 use Rattle.pm_host.specs.Image.{standing_held, words_held}
 use Rattle.pm_host.specs.Summary.{Summary, possible_at, standing_at}
 use Rattle.pm_host_c.specs.declared.known_cells.KnownCell.{KnownCell}
 use Rattle.pm_host_c.specs.declared.known_cells.KnownCells.{KnownCells}
 
--- these numbers name the cell, and say what is known of it
+-- these numbers name the cell, 0 for the output of the device's own, and say what is known of it
 pub record IsKnown (s : Summary) (of : Cell) (known : KnownCell) : Type 0 where
   pub cell : cell_at known.code known.output ≡ Some of
+  pub output : known.output ≡ output_of of
   pub standing : standing_held known.standing ≡ standing_at s of
   pub flag : known.standing.is_confirmed ≤ 1
   pub words : words_held known.words ≡ possible_at s of

@@ -1,5 +1,6 @@
 -- A packet as plain numbers, and what they mean: the message that stands in pm_frame's layouts.
-use Rattle.std.specs.Prelude.{◌≡◌, ◌+◌, ◌*◌, ℕ, nat_lt, if◌then◌else◌, ◌==◌, ◌&&◌, List, take, slice_index, Option, Some, None}
+use Rattle.std.specs.Prelude.{◌≡◌, ◌≤◌, ◌+◌, ◌*◌, ℕ, nat_lt, if◌then◌else◌, ◌==◌, ◌&&◌, List, drop, replicate, take, slice_index}
+use Rattle.std.specs.Prelude.{Option, Some, None}
 use Rattle.std.specs.Option.{option_map, option_map_or}
 use Rattle.pm_frame.specs.declared.fault.FrameFault.{FrameFault}
 use Rattle.pm_frame.specs.declared.message.Message.{Message}
@@ -70,13 +71,20 @@ answer_number address message bytes =
 abbrev pub payload_of : PayloadImage → List ℕ
 payload_of payload = take payload.length payload.bytes
 
--- A payload has the word that its first two bytes are, the low one first.
-abbrev pub HasPayload : PayloadImage → Type 0
-HasPayload payload = payload.word ≡ slice_index payload.bytes 0 + 256 * slice_index payload.bytes 1
+-- A payload's count is that of its bytes, zeros stand behind these, and it has the word that its first two are, the low one first.
+pub record HasPayload (payload : PayloadImage) : Type 0 where
+  pub count : payload.length ≤ 5
+  pub rest : drop payload.length payload.bytes ≡ drop payload.length (replicate 5 0)
+  pub word : payload.word ≡ slice_index payload.bytes 0 + 256 * slice_index payload.bytes 1
 
 -- the payload of a block read and of a plain read
 abbrev pub block_of : BlockImage → List ℕ
 block_of block = take block.length block.bytes
+
+-- its count is that of its bytes, and zeros stand behind these
+pub record HasBlock (block : BlockImage) : Type 0 where
+  pub count : block.length ≤ 32
+  pub rest : drop block.length block.bytes ≡ drop block.length (replicate 32 0)
 
 -- so many bytes of a code are read: at most 32 are asked for
 abbrev pub plain_read_number : ℕ → ℕ → ℕ → List ℕ → ℕ

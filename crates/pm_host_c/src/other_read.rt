@@ -4,7 +4,7 @@
 ghost use Rattle.std.specs.Prelude.{◌≡◌, ◌≢◌, ◌≤◌, length};
 ghost use Rattle.pm_frame.specs.BlockRead.{block_fault, IsBlockAnswer};
 ghost use Rattle.pm_frame.specs.PlainRead.{IsPlainAnswer};
-ghost use Rattle.pm_host_c.specs.Packets.{block_of, plain_read_number, read_number};
+ghost use Rattle.pm_host_c.specs.Packets.{HasBlock, block_of, plain_read_number, read_number};
 
 use crate::numbers::{ACCEPTED, NO_ADDRESS, NO_PACKET};
 use pm_frame::{MOST_READ, read_block, read_plain};
@@ -25,6 +25,7 @@ pub struct BlockImage {
 pub extern "C" fn pm_read_block(address: u8, code: u8, bytes: &[u8], block: &mut BlockImage) -> u8
     ensures number { result ≡ read_number address (block_fault address code bytes.now) }
     ensures said { result ≡ 0 → IsBlockAnswer address code (block_of block.new) bytes.now }
+    ensures block { result ≡ 0 → HasBlock block.new }
     ensures refused { result ≢ 0 → block.new ≡ block.old }
 {
     if !address_ok(address) {
@@ -51,6 +52,7 @@ pub extern "C" fn pm_read_plain(
 ) -> u8
     ensures number { result ≡ plain_read_number address code size bytes.now }
     ensures said { result ≡ 0 → IsPlainAnswer address code size (block_of block.new) bytes.now }
+    ensures block { result ≡ 0 → HasBlock block.new }
     ensures refused { result ≢ 0 → block.new ≡ block.old }
 {
     if !address_ok(address) {
@@ -73,7 +75,8 @@ impl BlockImage {
     // These bytes.
     fn of(found: &[u8]) -> BlockImage
         requires { length found.now ≤ 32 }
-        ensures { block_of result ≡ found.now }
+        ensures bytes { block_of result ≡ found.now }
+        ensures rest { HasBlock result }
     {
         let mut bytes = [0; 32];
         bytes[..found.len()].copy_from_slice(found);
