@@ -74,7 +74,7 @@ def status_faults(drawn, plain):
             if digits not in status.split() or output is not None and vout != status.split()[1]:
                 yield f"row {place}: {name} of {output} is drawn as {title}"
             names = [it for bit, it in BITS[name] if int(digits, 16) & bit]
-            if re.findall(r"[A-Z_]{2,}", "".join(rest).split(";")[0]) != names:
+            if re.findall(r"[A-Z_#]{2,}", "".join(rest).split(";")[0]) != names:
                 yield f"row {place}: the bits of {title} are {names}"
 
 

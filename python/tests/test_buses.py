@@ -61,6 +61,8 @@ class Linux(unittest.TestCase):
             bus.write(bytes.fromhex("B205040021CD34") + b"\x5a")
         with self.assertRaises(Unknown):
             Pmbus(bus, 0x59).learn(0)
+        with self.assertRaisesRegex(ValueError, "packet: give its address byte"):
+            bus.write(b"")
 
     def test_names_of_a_bus(self):
         for number in (7, "7", "i2c-7", "/dev/i2c-7"):

@@ -174,6 +174,11 @@ class Calls(unittest.TestCase):
                     self.assertEqual((found[0], found[1].splitlines()[-2:]), (0, ["ended learned", "output 0 holds 0CE4"]))
                     self.assertIn("  80 06 02 00 20 read 3  ok: part answer 81 01 40", found[1])
 
+    def test_a_setup_of_a_pipe_is_refused(self):
+        path = "/proc/self/fd/0"
+        self.assertEqual(pmhost("desk", f"--setup={path}", "learn", "0"), (
+            2, "", f"pmhost: desk: {path}: give a regular file: it is read more than once\n"))
+
     def test_the_help_has_each_mishap(self):
         status, out, _ = called("desk", "--help")
         self.assertEqual((status, [it for it in (*desk.bus.DRAWN, "false", "restart", "ok") if it not in out]), (0, []))
@@ -181,7 +186,7 @@ class Calls(unittest.TestCase):
     def test_a_missing_program_is_one_line(self):
         status, out, errors = pmhost("desk", "seen", PMBPART="/no/such/part")
         self.assertEqual((status, out, errors),
-                         (1, "", "pmhost: desk: PMBPART=/no/such/part: no program is there; name a built pmbpart\n"))
+                         (2, "", "pmhost: desk: PMBPART=/no/such/part: no program is there; name a built pmbpart\n"))
 
     @needs("pmbpart")
     def test_a_host_that_ends_or_babbles_is_one_line(self):

@@ -233,12 +233,13 @@ class ByHand(unittest.TestCase):
 class Tables(unittest.TestCase):
     """Words that stand in the package and elsewhere."""
 
-    def test_bits_are_those_of_the_converter(self):
-        text = stored(ROOT, "crates", "pm_device", "src", "status_bits.rt")
-        sets = re.findall(r"impl Status(\w+): u(?:8|16) \{(.*?)\n    \}", text, re.DOTALL)
-        found = {f"STATUS_{name.upper()}": tuple((int(bit, 16), word) for word, bit in re.findall(
-            r"const (\w+) = 0x([0-9A-F]+);", body)) for name, body in sets}
-        self.assertEqual({name: status.BITS[name] for name in found}, found)
+    def test_bits_are_those_of_decode(self):
+        text = stored(ROOT, "crates", "pm_values", "src", "status.rt")
+        sets = dict(re.findall(r"^static (\w+): \[Row; \d+\] = \[\n(.*?)^\];", text, re.DOTALL | re.MULTILINE))
+        found = {f"STATUS_{name}": tuple((int(bit, 16), word) for bit, word in re.findall(r'\(0x([0-9A-F]+), "([^"]+)"\)', body)
+                                         if not word.startswith("bit ")) for name, body in sets.items() if name != "CAPABILITY"}
+        self.assertEqual(len(found), 10)
+        self.assertEqual(status.BITS, {**found, "STATUS_BYTE": found["STATUS_WORD"][8:]})
 
     def test_each_letter_of_the_page_has_its_words(self):
         found = set(re.findall(r"^\| ([SX][1-9]) ", stored(ROOT, "docs", "refusals.md"), re.MULTILINE))

@@ -1,5 +1,6 @@
--- What stands in a host's memory, as a function of what it means: a number without a meaning is 0, and so is each
--- behind a count. Two hosts that mean the same are then equal byte for byte. This project's own choice.
+-- What stands in a host's memory, as a function of what it means: a byte of a format that isn't known is FFh, every
+-- other number without a meaning is 0, and so is each behind a count. Two hosts that mean the same are then equal byte
+-- for byte. This project's own choice.
 use Rattle.std.specs.Prelude.{◌≡◌, ℕ, ℤ, pos, negsuc, ◌-◌, true, is_some, if◌then◌else◌, List, ◌++◌, length, map, replicate, Option, Some, None, option_map}
 use Rattle.pm_num.specs.AnyFormat.{Shape, InUlinear16, InDirect}
 use Rattle.pm_table.specs.declared.cell.Cell.{Cell}

@@ -33,7 +33,8 @@ KINDS = {
     "READ_TEMPERATURE_2": Kind(0x8E, 2, "C"), "READ_TEMPERATURE_3": Kind(0x8F, 2, "C"), "READ_DUTY_CYCLE": Kind(0x94, 2, "%"),
     "READ_FREQUENCY": Kind(0x95, 2, "kHz"), "STATUS_BYTE": Kind(0x78, 1), "STATUS_WORD": Kind(0x79, 2), "STATUS_VOUT": Kind(0x7A, 1),
     "STATUS_IOUT": Kind(0x7B, 1), "STATUS_INPUT": Kind(0x7C, 1), "STATUS_TEMPERATURE": Kind(0x7D, 1), "STATUS_CML": Kind(0x7E, 1),
-    "STATUS_OTHER": Kind(0x7F, 1), "STATUS_MFR_SPECIFIC": Kind(0x80, 1),
+    "STATUS_OTHER": Kind(0x7F, 1), "STATUS_MFR_SPECIFIC": Kind(0x80, 1), "STATUS_FANS_1_2": Kind(0x81, 1),
+    "STATUS_FANS_3_4": Kind(0x82, 1),
 }
 # The reading in the format of its output's voltages.
 IN_OUTPUTS_FORMAT = "READ_VOUT"

@@ -39,17 +39,17 @@ finish ack
 exchange whole whole
 """
 IN_THREE = {"min 0.5 V, max 3.465 V", "max 3.465 V", "min 0 V, max 0.85 V", "min 0.5 V, max 6.144 V",
-            "confirmed 3.6 V", "done", "02", "OTHER_COMMUNICATION", "off"}
+            "confirmed 3.6 V", "done", "02", "COMMUNICATION", "off"}
 TOLD_OF_THREE = """line 11  deliver whole
         output 1 commands 3.3 V (3300000 uV) -> 3.465 V (3465000 uV)
         output 1 VOUT_COMMAND: the converter's word 0CE4 (3.3 V) -> 0E10 (3.6 V)
         output 1 STATUS_WORD 0000 -> 8001 (VOUT, NONE_OF_THE_ABOVE)
-        output 1 STATUS_VOUT 00 -> 08 (MAX_WARNING)
+        output 1 STATUS_VOUT 00 -> 08 (VOUT_MAX_MIN)
 line 15  deliver cut 3
         output 0 STATUS_WORD 0000 -> 0002 (CML)
         output 1 STATUS_WORD 8001 (VOUT, NONE_OF_THE_ABOVE) -> 8003 (VOUT, CML, NONE_OF_THE_ABOVE)
         output 2 STATUS_WORD 0000 -> 0002 (CML)
-        STATUS_CML 00 -> 02 (OTHER_COMMUNICATION)
+        STATUS_CML 00 -> 02 (COMMUNICATION)
 """
 EIGHT = b"""scenario 2
 address 58

@@ -2,7 +2,9 @@
 from __future__ import annotations
 
 import argparse
+import os
 import random
+import stat
 from typing import Any
 
 from .. import desk, programs
@@ -96,6 +98,8 @@ def setup_in(path: str | None) -> Setup:
         return Setup()
     try:
         with open(path, "rb") as file:
+            if not stat.S_ISREG(os.fstat(file.fileno()).st_mode):
+                raise BadCall(f"desk: {path}: give a regular file: it is read more than once")
             text = file.read(MOST_SETUP)
     except OSError as fault:
         raise BadCall(f"desk: {path}: {fault.strerror}") from None
@@ -128,7 +132,9 @@ def run(arguments: argparse.Namespace) -> int:
             return counted(both, arguments) if arguments.runs else carried_out(both, arguments)
         finally:
             both.close()
-    except (programs.Missing, programs.NoAnswer) as fault:
+    except programs.Missing as fault:
+        raise BadCall(f"desk: {fault}") from None
+    except programs.NoAnswer as fault:
         complain(f"desk: {fault}")
         return 1
     except KeyboardInterrupt:
