@@ -57,6 +57,19 @@ class Proved:
         return [*came, pec(bytes([*request, *came]))]
 
 
+class Exchanged(Proved):
+    """Another part, whose voltages have the exponent -11, stands in its place from the second time on that it is asked for an output's
+    VOUT_MODE."""
+
+    asked_for_mode = 0
+
+    def asked(self, request):
+        self.asked_for_mode += request[1:2] + request[3:5] == bytes([PAGE_PLUS_READ, 0, VOUT_MODE])
+        if self.asked_for_mode == 2:
+            self.part = Part(self.address, [Output(mode=0x15, command=0x0800) for _ in self.commands])
+        return super().asked(request)
+
+
 class Named(Proved):
     """It has MFR_ID, MFR_MODEL and MFR_REVISION, and ON_OFF_CONFIG of each output."""
 

@@ -4,6 +4,7 @@ import unittest
 from fractions import Fraction
 
 from . import kernel
+from .odd_parts import Exchanged
 from .runs import called
 
 TWO = """
@@ -116,6 +117,13 @@ class Orders(unittest.TestCase):
                 self.assertEqual(self.places(behind), [orders[number]])
                 self.assertEqual(status, 1)
                 self.assertIn("the part restarted meanwhile: nothing that was read before holds: run this again; stays changed", err)
+
+    def test_a_part_of_another_format_is_left_alone(self):
+        part, status, out, err = self.apply(TWO, part=Exchanged())
+        self.assertEqual((status, self.places(part.lines)), (1, []))
+        self.assertEqual(out.splitlines()[1], "a     VOUT_COMMAND  1800 1.5V  -          unknown")
+        self.assertIn("a: its format was ULINEAR16 -12, and is ULINEAR16 -11 now: the part is another one, or VOUT_MODE was written: "
+                      "run this again", err)
 
     def test_status_0_after_a_restart_means_that_all_is_as_wanted(self):
         """A restart in each place of the run."""

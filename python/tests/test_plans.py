@@ -6,6 +6,8 @@ from unittest import mock
 import pmhost
 from pmhost import Band, Differs, Host, PlanOrder, PlanRefused, RailEnd, RailState, Step, Survey, Unknown
 
+from pmhost.plans import Tries
+
 from .fixtures import Faulty, Recorded, rails
 
 VOLTS = {"VOUT_COMMAND": 0x3500}
@@ -240,13 +242,53 @@ class Applies(unittest.TestCase):
         with self.assertRaises(PlanRefused):
             pmbus.set_volts(0, "3.6")
         lossy = rails(Faulty, passes=1)
-        lossy.bus.fates = ["ok"] * 6 + ["acked", "ok", "acked"]
+        lossy.bus.fates = ["ok"] * 7 + ["acked", "ok", "acked"]
         with self.assertRaises(Differs) as it:
             lossy.set_volts(0, "3.25")
         self.assertEqual((it.exception.word, it.exception.possible), (0x34CD, (0x34CD,)))
         lossy.bus.fates = ["deaf"] * 999
         with self.assertRaises(Unknown):
             lossy.set_volts(0, "3.25")
+
+
+class Exchanged(Recorded):
+    """Its part is exchanged for one whose voltages have the exponent -11, behind so many reads."""
+
+    reads = -1
+
+    def read(self, request, count):
+        if self.reads == 0:
+            self.part = pmhost.Part(0x58, [pmhost.Output(mode=0x15, command=0x0800)])
+        self.reads -= 1
+        return super().read(request, count)
+
+
+class Formats(unittest.TestCase):
+    """A word is of the format that it was made by: in another one it is another voltage."""
+
+    def test_volts_are_those_of_the_part_that_is_there(self):
+        for reads in range(12):
+            with self.subTest(reads=reads):
+                pmbus = rails(Exchanged, limits=None)
+                pmbus.bus.frames.clear()
+                pmbus.bus.reads = reads
+                rail = pmbus.set_volts(0, "3.25")
+                self.assertEqual((rail.band, pmbus.bus.part.volts(0)), (Band(3250000, 3250000), Decimal("3.25")))
+                self.assertLess(pmbus.bus.reads, 0)
+                # The survey's own learn is the second read: no word of the format before is ordered behind it.
+                self.assertIn([frame[5:-1] for frame in pmbus.bus.frames if frame[1] == 0x05], (
+                    [[b"\x00\x1A"]] if reads < 2 else [[b"\x00\x34", b"\x00\x1A"], [b"\x00\x34", b"\x00\x34", b"\x00\x1A"]]))
+
+    def test_a_word_of_another_format_is_not_ordered(self):
+        pmbus = rails(Exchanged, limits=None)
+        form = pmbus.host.format(0)
+        pmbus.bus.frames.clear()
+        pmbus.bus.reads = 0
+        self.assertEqual(pmbus.host.run_apply(0, VOLTS, pmbus.bus, form=form), RailEnd("format"))
+        self.assertEqual(codes(pmbus.bus.frames), [])
+        again = Tries(40)
+        self.assertEqual(pmbus.host.run_apply(0, VOLTS, pmbus.bus, again, form=pmbus.host.format(0)), REACHED)
+        self.assertLess(again.left, 40)
 
 
 class Bounds(unittest.TestCase):

@@ -147,6 +147,11 @@ class Board:
     def format(self, rail: Rail) -> Format:
         return self.formats[rail.name]
 
+    def other_format(self, rail: Rail) -> Format | None:
+        """The format that a rail's voltages have now, where that is another one than its words were made by."""
+        form = self.on(rail).host.format(rail.output)
+        return None if form == self.format(rail) else form
+
     def of(self, rail: Rail) -> list[Setting]:
         return [it for it in self.settings if it.rail is rail]
 
@@ -187,7 +192,12 @@ class Board:
         return self.on(rail).restart_seen and rail.part not in self.had_restarted
 
     def look(self, rail: Rail) -> None:
-        """Stops where a rail's part restarted: what was read before isn't known any more."""
+        """Stops where a rail's part restarted: what was read before isn't known any more; and where its voltages have another
+        format than its words were made by."""
+        form = self.other_format(rail)
+        if form is not None:
+            raise Stopped(f"{rail.name}: its format was {probe.format_words(self.format(rail))}, and is {probe.format_words(form)} now: "
+                          "the part is another one, or VOUT_MODE was written: run this again")
         if self.has_restarted(rail):
             raise Stopped(f"{rail.part or 'the part'} restarted meanwhile: nothing that was read before holds: run this again")
 
@@ -357,9 +367,9 @@ class Board:
         return cuts(self.format(rail), margins, *(words[each] for each in BOUNDS))
 
     def take(self) -> None:
-        """What is known of each setting: the only word that is possible."""
+        """What is known of each setting: the only word that is possible, where it is of the format that the wanted ones are of."""
         for it in self.settings:
-            it.last = only_word(self.on(it.rail), it.rail.output, it.register)
+            it.last = None if self.other_format(it.rail) else only_word(self.on(it.rail), it.rail.output, it.register)
             if it.last is None:
                 it.state = "unknown" if it.is_ordered or it.rail.name in self.surveys else "not read"
             elif it.last != it.wanted:

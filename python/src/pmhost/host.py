@@ -303,18 +303,20 @@ class Host:
             tries.left -= 1
             survey.told(self.run(bus, transfers))
 
-    def run_apply(self, output: int, wanted: Wanted, bus: Bus, tries: int = APPLY_TRIES, transfers: Transfers | None = None,
+    def run_apply(self, output: int, wanted: Wanted, bus: Bus, tries: int | Tries = APPLY_TRIES, transfers: Transfers | None = None,
                   before_order: Callable[[PlanOrder], None] = lambda order: None,
-                  after_order: Callable[[PlanOrder, Step], None] = lambda order, step: None) -> RailEnd:
+                  after_order: Callable[[PlanOrder, Step], None] = lambda order, step: None, form: Format | None = None) -> RailEnd:
         """Brings an output's registers to the wanted words over a bus, by at most so many jobs: a survey for the plan, then
         order after order, and a survey again where something was ordered.
 
         Where nothing is due nothing is written, and what is refused before the first order has written nothing. An order that
         differs is given once again, and is the end at the second time; a register that isn't known behind an order is checked
         first. `before_order` is told of each order before its first frame, `after_order` of how it ended. Where `before_order`
-        raises, the order isn't sent, and the host is free."""
+        raises, the order isn't sent, and the host is free. `form` is the format by which the words were made, if one was: where a
+        survey learns another, nothing more is ordered. The tries that a `Tries` has left are taken from it."""
+        left = tries if isinstance(tries, Tries) else Tries(whole(tries, 0, 0xFFFF, "tries"))
         try:
-            return self._applied(output, wanted, bus, Tries(whole(tries, 0, 0xFFFF, "tries")), transfers, before_order, after_order)
+            return self._applied(output, wanted, bus, left, transfers, before_order, after_order, form)
         except (Refused, TypeError, ValueError):
             raise
         except BaseException:
@@ -322,7 +324,8 @@ class Host:
             raise
 
     def _applied(self, output: int, wanted: Wanted, bus: Bus, left: Tries, transfers: Transfers | None,
-                 before_order: Callable[[PlanOrder], None], after_order: Callable[[PlanOrder, Step], None]) -> RailEnd:
+                 before_order: Callable[[PlanOrder], None], after_order: Callable[[PlanOrder, Step], None],
+                 form: Format | None) -> RailEnd:
         differed: set[str] = set()
         while True:
             end = self._surveyed(Survey(output, wanted, left.left), bus, transfers, left)
@@ -330,6 +333,8 @@ class Host:
                 return self._stuck(output, wanted, end)
             if end.kind != "reached":
                 return end
+            if form is not None and self.format(output) != form:
+                return RailEnd("format")
             has_ordered = False
             while True:
                 try:

@@ -53,7 +53,8 @@ class PlanOrder:
 @dataclass(frozen=True)
 class RailEnd:
     """How a survey or an apply ended: `reached`; `refused`, with why; `differs`, with the register whose order was given twice
-    and the word that was read back last in place of its own; or `spent`, where no try was left."""
+    and the word that was read back last in place of its own; `spent`, where no try was left; or `format`, where the output's
+    voltages have another format than the words were made by."""
 
     kind: str
     refused: Optional[Refused] = None

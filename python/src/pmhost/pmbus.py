@@ -6,9 +6,9 @@ from typing import Callable, Iterable, Mapping
 
 from .errors import Differs, Refused, Unknown
 from .host import Bus, Host, Known, Step
-from .plans import APPLY_TRIES, SURVEY_TRIES, PlanOrder, RailEnd, RailState, Survey, Wanted
+from .plans import APPLY_TRIES, SURVEY_TRIES, PlanOrder, RailEnd, RailState, Survey, Tries, Wanted
 from .transfers import Transfers
-from .values import Volts, code_of, microvolts_of, volts_of, NAMES
+from .values import Volts, code_of, microvolts_of, volts_of, whole, NAMES
 
 
 class Pmbus:
@@ -162,13 +162,17 @@ class Pmbus:
         return self.host.run_apply(output, wanted, self.bus, tries, self.transfers, before_order, after_order)
 
     def set_volts(self, output: int, volts: Volts, register: str | int = "VOUT_COMMAND", tries: int = APPLY_TRIES) -> RailState:
-        """Learns the output's format where it isn't known, applies the word nearest to a voltage, and says what the output
-        commands then. Raises what refused it, and Differs or Unknown where the word isn't known to be held."""
-        if self.host.format(output) is None:
+        """Learns the output's format, applies the word nearest to a voltage in it, and says what the output commands then. Where
+        a survey meanwhile learns another format, as of a part that was exchanged, the word is made anew. Raises what refused it,
+        and Differs or Unknown where the word isn't known to be held."""
+        microvolts, name, left = microvolts_of(volts), NAMES[code_of(register)], Tries(whole(tries, 0, 0xFFFF, "tries"))
+        end = RailEnd("format")
+        while end.kind == "format":
             self.learn(output)
-        form, name = self.host.format(output), NAMES[code_of(register)]
-        assert form is not None
-        end = self.apply(output, {name: form.nearest(microvolts_of(volts))}, tries)
+            form = self.host.format(output)
+            assert form is not None
+            self.transfers = Transfers()
+            end = self.host.run_apply(output, {name: form.nearest(microvolts)}, self.bus, left, self.transfers, form=form)
         if end.refused is not None:
             raise end.refused
         cell = end.register or name
