@@ -63,8 +63,8 @@ class Setting:
 class Board:
     """The rails of a file, and the parts that have them, by their names. `described` has what a board file says of its parts; why a
     part doesn't answer is said by `unanswered`, with nothing where it answers. `accept` is how near a word has to be that a part makes
-    of an ordered one, in microvolts; `before_order` is told of each order before its first frame, `after_order` of each that is
-    confirmed, and `seen` of a rail behind each survey, and behind each order how that ended."""
+    of an ordered one, in microvolts; `before_order` is told of each order before its first frame, `after_order` behind its last
+    one whether it is confirmed, and `seen` of a rail behind each survey, and behind each order how that ended."""
 
     parts: dict[str, Pmbus]
     rails: list[Rail]
@@ -73,7 +73,7 @@ class Board:
     accept: int | None = None
     wants_store: bool = False
     before_order: Callable[[Setting], None] = lambda setting: None
-    after_order: Callable[[Setting], None] = lambda setting: None
+    after_order: Callable[[Setting, bool], None] = lambda setting, is_confirmed: None
     seen: Callable[[Rail, Setting | None, Step | None], None] = lambda rail, setting, step: None
     settings: list[Setting] = field(default_factory=list)
     # The format of each rail, which stands here since a host may forget it.
@@ -233,11 +233,10 @@ class Board:
             it.is_ordered, self.orders = True, self.orders + 1
             step = part.carried_out()
             self.seen(rail, it, step)
+            self.after_order(it, step.kind == "done")
             if step.kind == "differs":
                 self.differs(it, step.word, held[it.register], differed)
-            elif step.kind == "done":
-                self.after_order(it)
-            else:
+            elif step.kind != "done":
                 self.survey_behind(it)
         else:
             raise Stopped(f"{rail.name}: after {MOST_ORDERS} orders it isn't as wanted")
@@ -397,11 +396,11 @@ class Board:
         return (f"{name}: {said} is {'below' if bound == 'VOUT_MIN' else 'above'} {bound}, which is "
                 f"{f'to be {held}' if bound in wanted else f'{held}, and not in the file'}")
 
-    def value(self, rail: Rail, wanted: Wanted, register: str | None) -> int:
-        """The microvolts of a register as it is to be, rounded down."""
+    def value(self, rail: Rail, wanted: Wanted, register: str | None) -> int | None:
+        """The microvolts of a register as it is to be, rounded down; None where they are beyond what the library tells."""
         assert register is not None
         word = wanted.get(register, only_word(self.on(rail), rail.output, register))
-        return self.format(rail).microvolts(word or 0)
+        return self.format(rail).told(word or 0)
 
     def changed(self) -> list[str]:
         """The settings of which an order was sent."""
@@ -413,7 +412,7 @@ class Board:
 
     def shown(self, it: Setting, word: int | None) -> str:
         """A word with its volts."""
-        return "-" if word is None else f"{word:04X} {voltages.shown(self.format(it.rail).microvolts(word))}"
+        return "-" if word is None else f"{word:04X} {voltages.shown(self.format(it.rail).told(word))}"
 
     def is_outside(self, it: Setting) -> bool:
         """Whether what is known of a setting lies outside the rail's limits, as these judge an order: on a copy of the host."""

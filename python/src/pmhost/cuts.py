@@ -4,7 +4,6 @@ from __future__ import annotations
 from dataclasses import dataclass
 from typing import Mapping
 
-from .errors import NumberRefused
 from .values import Format
 
 
@@ -18,20 +17,12 @@ class Cut:
     to: int
 
 
-def told(form: Format, word: int | None) -> int | None:
-    """The microvolts of a word, rounded down; None where there is none, or they are beyond what the library tells."""
-    try:
-        return None if word is None else form.microvolts(word)
-    except NumberRefused:
-        return None
-
-
 def cuts(form: Format, margins: Mapping[str, int | None], least: int | None, most: int | None) -> list[Cut]:
     """The margins that the words of VOUT_MIN and VOUT_MAX cut by a microvolt or more. Nothing is said of a word that isn't known, and
     a bound that isn't known cuts nothing."""
-    low, high, found = told(form, least), told(form, most), list[Cut]()
+    low, high, found = form.told(least), form.told(most), list[Cut]()
     for register, word in margins.items():
-        value = told(form, word)
+        value = form.told(word)
         if word is not None and value is not None:
             raised = value if low is None else max(value, low)
             to = raised if high is None else min(raised, high)

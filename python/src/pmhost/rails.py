@@ -76,24 +76,27 @@ class Rails:
 
 
 def read(path: str) -> Rails:
-    """The rails of a file. BadRails."""
+    """The rails of a file. BadRails, in one line."""
     try:
         with open(path, "rb") as file:
             data = file.read(MOST_BYTES + 1)
+        if len(data) > MOST_BYTES:
+            raise BadRails(f"more than {MOST_BYTES} bytes")
+        # A byte-order mark, as some editors write it, is no part of the text.
+        return judged(tomllib.loads(data.decode("utf-8-sig"), parse_float=Decimal))
     except OSError as fault:
-        raise BadRails(f"{path}: {fault.strerror}") from fault
-    if len(data) > MOST_BYTES:
-        raise BadRails(f"{path}: more than {MOST_BYTES} bytes")
-    try:
-        return judged(tomllib.loads(data.decode("utf-8"), parse_float=Decimal))
+        why = str(fault.strerror)
     except UnicodeDecodeError as fault:
-        raise BadRails(f"{path}: byte {fault.start}: no UTF-8") from fault
+        why = f"byte {fault.start}: no UTF-8"
     except tomllib.TOMLDecodeError as fault:
-        raise BadRails(f"{path}: {' '.join(str(fault).split())}") from fault
-    except RecursionError as fault:
-        raise BadRails(f"{path}: it is nested too deep") from fault
+        why = " ".join(str(fault).split())
+    except RecursionError:
+        why = "it is nested too deep"
     except BadRails as fault:
-        raise BadRails(f"{path}: {fault}") from fault
+        why = str(fault)
+    except (ValueError, ArithmeticError):
+        why = "a number in it has too many digits"
+    raise BadRails("".join(it if it.isprintable() else ascii(it)[1:-1] for it in f"{path}: {why}"))
 
 
 def judged(found: dict[str, object]) -> Rails:
@@ -216,10 +219,10 @@ def judge_keys(at: str, table: dict[str, object], has_parts: bool) -> None:
 
 def microvolts(at: str, text: object) -> int:
     """A voltage in whole microvolts."""
-    if isinstance(text, (int, Decimal)) and not isinstance(text, bool) and (isinstance(text, int) or text.is_finite()):
+    if isinstance(text, Decimal) and text.is_finite() and abs(text) <= voltages.MOST or is_whole(text) and abs(text) <= voltages.MOST:
         raise BadRails(f"{at}: {text}: give a text with its unit{quoted(text)}")
     if not isinstance(text, str):
-        raise BadRails(f'{at}: {text}: give a voltage with its unit, as "3.3V"')
+        raise BadRails(f'{at}: {str(text)[:40]}: give a voltage with its unit, as "3.3V"')
     try:
         found = voltages.microvolts(text, "")
     except ValueError as fault:

@@ -11,7 +11,7 @@ from decimal import Decimal
 from .host import Bus
 from .reads import Read, Reads
 from .status import BITS, names_of
-from .values import LINEAR11, Format
+from .values import LINEAR11, Format, volts_of
 
 # The side of COEFFICIENTS that is for what is read.
 OF_READING = 0x01
@@ -66,7 +66,8 @@ class Reading:
 
 
 def read(bus: Bus, address: int, output: int | None, name: str, form: Format | None) -> Reading:
-    """A reading of an output, or of the device. `form` is the learned format of the output's voltages; None is none."""
+    """A reading of an output, or of the device. `form` is the learned format of the output's voltages; None is none. READ_VOUT of no
+    output has its word alone, since the part's PAGE decides whose it is."""
     reads, kind = Reads(bus, address), KINDS[name]
     answer = reads.code(kind.code, kind.size, output)
     if answer.payload is None:
@@ -74,8 +75,9 @@ def read(bus: Bus, address: int, output: int | None, name: str, form: Format | N
     word = int.from_bytes(answer.payload, "little")
     if name in BITS:
         return Reading(name, word, bits=names_of(name, word))
-    found = format_of(reads, name, form)
-    return Reading(name, word, None if found is None else found.value(word))
+    found = None if output is None and name == IN_OUTPUTS_FORMAT else format_of(reads, name, form)
+    micro = None if found is None else found.told(word)
+    return Reading(name, word, None if micro is None else volts_of(micro))
 
 
 def format_of(reads: Reads, name: str, form: Format | None) -> Format | None:

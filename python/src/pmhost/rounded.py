@@ -16,4 +16,5 @@ def is_near(part: Pmbus, output: int, register: str, wanted: int, accept: int, h
         part.host.copy().order(output, register, word)
     except Refused:
         return False
-    return abs(form.microvolts(word) - wanted) <= accept
+    micro = form.told(word)
+    return micro is not None and abs(micro - wanted) <= accept

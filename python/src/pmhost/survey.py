@@ -78,7 +78,7 @@ def commanded(part: Pmbus, output: int) -> Commanded:
         found.least, found.greatest = state.band.least, state.band.greatest
     if chosen is not None:
         found.selected, word = chosen[0], only_word(part, output, chosen[0])
-        found.value = None if word is None or form is None else form.microvolts(word)
+        found.value = None if form is None else form.told(word)
     return found
 
 

@@ -9,7 +9,7 @@ from fractions import Fraction
 from typing import Callable, Union
 
 from ._library import FormatImage, library
-from .errors import accepted
+from .errors import NumberRefused, accepted
 
 Volts = Union[str, Decimal]
 
@@ -124,6 +124,13 @@ class Format:
         found = ctypes.c_int64()
         accepted(library.pm_microvolts(self.image(), whole(word, 0, 0xFFFF, "word"), ctypes.byref(found)))
         return found.value
+
+    def told(self, word: int | None) -> int | None:
+        """The same; None of no word, and where the value is beyond the 10^15 microvolts that the library tells."""
+        try:
+            return None if word is None else self.microvolts(word)
+        except NumberRefused:
+            return None
 
     def value(self, word: int) -> Decimal:
         """A word's value, in volts or the unit of a reading, rounded down to millionths."""

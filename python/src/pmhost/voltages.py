@@ -8,10 +8,14 @@ WITH_UNIT = re.compile(r"(-?[0-9]+(?:\.[0-9]+)?) ?(V|mV|uV)\Z")
 BARE = re.compile(r"-?[0-9]+(?:[.,][0-9]+)?\Z")
 MICRO = {"V": 1_000_000, "mV": 1_000, "uV": 1}
 MOST, MOST_LIMIT = 10**15, 10**9
+# How long the text of a voltage may be. A Decimal keeps 28 digits.
+LONGEST = 28
 
 
 def microvolts(word: str, what: str = "voltage ") -> int:
     """The microvolts of a voltage with its unit, exactly. A ValueError says what is wrong and what to give."""
+    if len(word) > LONGEST:
+        raise ValueError(f"{what}{word[:LONGEST]!r}..: give a number of fewer digits and its unit, as 3.3V")
     found = WITH_UNIT.match(word)
     if found is None:
         if BARE.match(word):
@@ -33,6 +37,6 @@ def readings(word: str) -> str:
     return f"give its unit: {number}V, or {number}uV, which is {shown(int(number))}"
 
 
-def shown(micro: int) -> str:
-    """Microvolts as volts."""
-    return f"{Decimal(micro).scaleb(-6).normalize():f}V"
+def shown(micro: int | None) -> str:
+    """Microvolts as volts; None are those that the library doesn't tell."""
+    return "beyond 10^9 V" if micro is None else f"{Decimal(micro).scaleb(-6).normalize():f}V"

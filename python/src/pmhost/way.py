@@ -1,13 +1,11 @@
 """The way of rails under `apply`: what the host knows of each at its start, and behind each order. Nothing is sent for it."""
 from __future__ import annotations
 
-import contextlib
 from dataclasses import dataclass
 from typing import Mapping
 
 from . import voltages
 from .apply import Board, Setting
-from .errors import NumberRefused
 from .host import Step
 from .packets import pec, read_write
 from .parts import BoardPart
@@ -49,11 +47,8 @@ def known_of(part: Pmbus, output: int, without: tuple[str, ...] = ()) -> Knowled
     """What is known of an output of a part that lacks these registers."""
     state, form, bounds = part.host.rail(output), part.host.format(output), dict[str, int | None]()
     for key in (it for it in BOUNDS if SETTINGS[it] not in without):
-        bounds[key], word = None, only_word(part, output, SETTINGS[key])
-        if word is not None and form is not None:
-            # What the library can't tell in microvolts is beyond every scale.
-            with contextlib.suppress(NumberRefused):
-                bounds[key] = form.microvolts(word)
+        # What the library can't tell in microvolts is beyond every scale.
+        bounds[key] = None if form is None else form.told(only_word(part, output, SETTINGS[key]))
     return Knowledge(state.is_on, None if state.band is None else (state.band.least, state.band.greatest), bounds)
 
 
@@ -97,7 +92,7 @@ class Way:
     def ordered(self, rail: Rail, it: Setting, step: Step) -> None:
         """An order of a setting, and how it ended."""
         words, part = self.order_words(it), self.board.on(rail)
-        end = {"done": "done", "differs": f"differs: {self.word_words(it, step.word)}"}.get(step.kind, "no good answer")
+        end = {"done": "done", "differs": f"differs: {self.board.shown(it, step.word)}"}.get(step.kind, "no good answer")
         is_again = any(row.words == words for row in self.rows[rail.name])
         self.rows[rail.name].append(WayRow(words, step.kind, f"given again: {end}" if is_again else end, self.known(rail, part)))
 
@@ -116,11 +111,4 @@ class Way:
 
     def order_words(self, it: Setting) -> str:
         """An order in words: the register, and the volts of its word."""
-        return f"{it.register} {voltages.shown(self.board.format(it.rail).microvolts(it.wanted))}"
-
-    def word_words(self, it: Setting, word: int | None) -> str:
-        """A word that was read back, with its volts where the library tells them."""
-        try:
-            return self.board.shown(it, word)
-        except NumberRefused:
-            return f"{word:04X}"
+        return f"{it.register} {voltages.shown(self.board.format(it.rail).told(it.wanted))}"

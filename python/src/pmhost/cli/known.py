@@ -45,7 +45,7 @@ def volts_of(part: Pmbus, it: Known) -> int | None:
     form = None if it.output is None else part.host.format(it.output)
     if form is None or it.confirmed is None or it.register not in VOLTAGES:
         return None
-    return form.microvolts(it.confirmed)
+    return form.told(it.confirmed)
 
 
 def words_of(part: Pmbus, it: Known) -> str:

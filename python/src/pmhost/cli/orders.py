@@ -307,7 +307,7 @@ def word(arguments: argparse.Namespace) -> int:
     wanted, word = None, int(arguments.digits, 16)
     if arguments.accept is not None and learned(part, arguments.output):
         form = part.host.format(arguments.output)
-        wanted = None if form is None else form.microvolts(word)
+        wanted = None if form is None else form.told(word)
     return carried_out(arguments, register, lambda: part.host.order(arguments.output or 0, register, word), wanted)
 
 

@@ -31,7 +31,7 @@ def cell_words(arguments: argparse.Namespace, part: Pmbus, register: str, word: 
     elif register != DEVICE:
         form = part.host.format(output)
         if form is not None:
-            words += f" {voltages.shown(form.microvolts(word))}"
+            words += f" {voltages.shown(form.told(word))}"
     return words
 
 
@@ -46,7 +46,7 @@ def answer_of(arguments: argparse.Namespace, part: Pmbus, register: str | None, 
         found.word, found.possible = part.host.standing(*cell), part.host.possible(*cell)
         form = None if arguments.output is None else part.host.format(arguments.output)
         if found.word is not None and form is not None and register in VOLTAGES:
-            found.microvolts = form.microvolts(found.word)
+            found.microvolts = form.told(found.word)
     return found
 
 

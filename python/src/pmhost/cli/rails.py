@@ -67,8 +67,9 @@ def board_of(arguments: argparse.Namespace) -> Board:
     def before(it: Setting) -> None:
         call.maybe = f"{output_of(it.rail)} {it.register} may hold the old or the ordered word{written(it)}"
 
-    def after(it: Setting) -> None:
-        call.maybe, call.settled = "", f"written and confirmed: {', '.join(board.changed())}"
+    def after(it: Setting, is_confirmed: bool) -> None:
+        call.settled = f"written and confirmed: {', '.join(board.changed())}" if is_confirmed else call.maybe
+        call.maybe = ""
 
     def written(it: Setting) -> str:
         others = [name for name in board.changed() if name != it.name]
@@ -193,8 +194,9 @@ def rail_lines(board: Board, rail: Rail, are_wanted: bool) -> list[str]:
 
 
 def volts(board: Board, it: Setting, word: int | None) -> float | None:
-    """A word's volts."""
-    return None if word is None else number(board.format(it.rail).microvolts(word))
+    """A word's volts, where the library tells them."""
+    micro = board.format(it.rail).told(word)
+    return None if micro is None else number(micro)
 
 
 def rows(board: Board, is_dry: bool, are_wanted: bool) -> list[dict[str, object]]:
