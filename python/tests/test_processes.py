@@ -50,6 +50,9 @@ ROWS = [
     ("frobnicate", "2>&-", "", "", "", 2),
     ("frobnicate", "2> /dev/full", "", "", "", 2),
     (f"{ORDER} + read 1 OPERATION", "| true; exit ${PIPESTATUS[0]}", "", "", f"pmhost: standard output: Broken pipe; {UNSAID}", 2),
+    ("--help", "> /dev/full", "", "", "pmhost: standard output: No space left on device\n", 2),
+    ("--version", "> /dev/full", "", "", "pmhost: standard output: No space left on device\n", 2),
+    ("set --help", "| true; exit ${PIPESTATUS[0]}", "", "", "", 1),
     (f"--trace /dev/full {ORDER} + read 1 OPERATION", "", "", DONE, "pmhost: /dev/full: No space left on device\n", 2),
     (f"--trace=/dev/full {PROBE}", "", "", PROBED, f"{PROBING}pmhost: /dev/full: No space left on device\n", 2),
 ]

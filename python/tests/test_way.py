@@ -215,9 +215,10 @@ class Ways(unittest.TestCase):
         self.assertEqual([*rails["core"].drawn.boxes("url(#unknown)", None)], [[0]])
 
     def test_a_file_that_fails_is_a_line_and_status_2(self):
-        nowhere = os.path.join(self.picture, "it")
+        nowhere, pipe = os.path.join(self.picture, "it"), self.picture + ".pipe"
+        os.mkfifo(pipe)
         for path, said in ((os.path.dirname(self.picture), "Is a directory"), (nowhere, "No such file or directory"),
-                           (self.rails, "the rails stand in this file")):
+                           (self.rails, "the rails stand in this file"), (pipe, "it is a pipe: give a file")):
             (*found, why), frames = self.called(UP, "--picture", path)
             self.assertEqual((found, frames, why), ([2, ""], [], f"pmhost: --picture {path}: {said}\n"))
         if os.path.exists("/dev/full"):
@@ -235,6 +236,22 @@ class Ways(unittest.TestCase):
             self.assertEqual(os.path.exists(self.picture), stands)
         with open(self.picture, encoding="utf-8") as file:
             self.assertEqual(file.read(), "it")
+
+    def test_a_call_that_is_refused_makes_no_file_that_a_link_names(self):
+        link, target = self.picture + ".link", self.picture + ".target"
+        os.symlink(target, link)
+        self.assertEqual(self.called(UP, "--picture", link, "+", "apply", self.rails, "--picture", os.path.dirname(link))[0][0], 2)
+        self.assertEqual((os.path.islink(link), os.path.exists(target)), (True, False))
+
+    def test_frames_go_into_no_file_of_the_command(self):
+        link = self.rails + ".link"
+        os.symlink(self.rails, link)
+        for trace, more, said in ((link, (), "the rails stand in this file"),
+                                  (self.picture, ("--picture", self.picture), "the picture goes into this file")):
+            (*found, why), frames = self.called(UP, *more, "--trace", trace)
+            self.assertEqual((found, frames, why), ([2, ""], [], f"pmhost: --trace {trace}: {said}\n"))
+        with open(self.rails, encoding="utf-8") as file:
+            self.assertEqual(file.read(), UP)
 
 
 if __name__ == "__main__":

@@ -174,6 +174,8 @@ class Board:
         self.look(rail)
         for register, why in found.missing.items():
             raise Stopped(f"{self.name_of(rail, register)}: no good answer{': ' * bool(why)}{why}", rail.part, rail.output)
+        if found.unended:
+            raise Stopped(f"{rail.name}: {found.unended}", rail.part, rail.output)
 
     def read_margins(self, rail: Rail) -> None:
         """Reads each margin of a rail that isn't in the file, nor selected, whatever comes: bounds may cut it. Stops where a restart

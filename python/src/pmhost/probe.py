@@ -69,10 +69,12 @@ class Found:
 
 
 class Probe:
-    """The questions to the part at an address: those of `run` are reads alone, `write` sends CLEAR_FAULTS."""
+    """The questions to the part at an address: those of `run` are reads alone, `write` sends CLEAR_FAULTS. `without` names registers
+    that the part doesn't have: it isn't asked for them."""
 
-    def __init__(self, bus: Bus, address: int, outputs: int | None = None) -> None:
+    def __init__(self, bus: Bus, address: int, outputs: int | None = None, without: tuple[str, ...] = ()) -> None:
         self.reads, self.address, self.given = Reads(bus, address), address, outputs
+        self.registers = [each for each in REGISTERS if each not in without]
         self.host, self.found = Host(address, MOST_OUTPUTS, TRIES), Found()
 
     def run(self) -> Found:
@@ -149,7 +151,7 @@ class Probe:
         if form is None and mode_of(transfers, number) is None:
             return None, transfers
         output = FoundOutput(number, unspoken_words(transfers, number) if form is None else format_words(form), form is not None)
-        for register in REGISTERS:
+        for register in self.registers:
             word, why = self._word(number, register)
             if word is None:
                 output.missing[register] = why

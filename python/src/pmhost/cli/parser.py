@@ -9,6 +9,7 @@ from typing import Any, Callable, NoReturn
 
 from .. import parts, voltages
 from ..parts import DESK, MISSABLE
+from . import streams
 from .completion import FILES, completed_by
 
 BUS = re.compile(r"(?:/dev/i2c-|i2c-)?([0-9]{1,9})\Z")
@@ -29,6 +30,16 @@ class Parser(argparse.ArgumentParser):
 
     def error(self, message: str) -> NoReturn:
         raise BadCall(line_of(message, self.prog))
+
+    def _print_message(self, message: str, file: object = None) -> None:
+        """A help or a version goes to standard output; argparse itself passes over a stream that fails. One whose reader left ends
+        the call without a word."""
+        try:
+            streams.write(message.removesuffix("\n"))
+        except streams.NoStream as fault:
+            if isinstance(fault.__cause__, BrokenPipeError):
+                self.exit(1)
+            raise
 
 
 # How what is missing is called, by its place in a command.
@@ -142,7 +153,7 @@ OPTIONS: dict[str, tuple[tuple[str, ...], dict[str, Any]]] = {
     "without": (("--without",), {"type": without_of, "metavar": "REG,..", "help": "registers that the part doesn't have, as VOUT_MIN"}),
     "limit": (("--limit",), {"type": limit_of, "metavar": "O:LEAST:MOST",
                              "help": f"the limits of an output, as {LIMIT_EXAMPLE}: no order beyond them is sent"}),
-    "no_limit": (("--no-limit",), {"const": True, "help": "orders without limits"}),
+    "no_limit": (("--no-limit",), {"const": True, "help": "orders outputs without limits that no --limit names"}),
     "passes": (("--passes",), {"type": whole(1, 15, "passes"), "metavar": "N", "help": "how often a job is tried, 3 if left out"}),
     "trace": (("--trace",), {"type": file_of, "metavar": "FILE", "help": "appends what went over the wire, for pmb decode"}),
     "json": (("--json",), {"const": True, "help": "one object a command"}),

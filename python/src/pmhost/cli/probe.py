@@ -32,12 +32,12 @@ def run(arguments: argparse.Namespace) -> int:
     # Its own tries wait for a busy part. A question behind a write could change STATUS_CML, which it reads.
     bus = call.patient(0)
     complain(f"{said(arguments)}: {MAY_NOTE}{f'; {CLEARS}' if arguments.writes else ''}")
-    probe = Probe(bus, call.address or DESK_ADDRESS, call.outputs)
+    probe = Probe(bus, call.address or DESK_ADDRESS, call.outputs, call.without)
     found = probe.run()
     if arguments.writes and found.outputs:
         call.settled = MAY_BE_CLEARED
         probe.write()
-    lines, give = lines_of(found), give_of(call, found) if found.is_fit else None
+    lines, give = lines_of(found, arguments.writes), give_of(call, found) if found.is_fit else None
     if not call.is_json:
         call.say_lines([*(f"probe: {line}" for line in lines), *([give] if give else [])])
     told = [*(row_of(each) for each in found.outputs), device_row(found, lines, give)]
@@ -48,12 +48,15 @@ def give_of(call: Call, found: Found) -> str:
     """The command line for this part, but for its commands and the limits of its outputs."""
     place = [DESK] if call.bus == DESK else [str(call.bus), "-a", f"{call.address:02X}"]
     limits = (f"--limit {each.number}:LEAST:MOST" for each in found.outputs)
-    lacked = ",".join(name for name in MISSABLE if all(name in each.missing for each in found.outputs))
-    return " ".join(["pmhost", "-b", *place, *(["--force"] if call.is_forced else []), "--outputs", str(len(found.outputs)),
-                     *(["--without", lacked] if lacked else []), *limits])
+    lacked = ",".join(name for name in MISSABLE if name in call.without or all(name in each.missing for each in found.outputs))
+    reached = [*(["--force"] if call.is_forced else []), *(["--share-bus"] if call.is_shared else []),
+               *(["--settle", str(call.settle)] if call.settle else []),
+               *([] if call.patience is None else ["--patience", str(call.patience)])]
+    return " ".join(["pmhost", "-b", *place, *reached, "--outputs", str(len(found.outputs)), *(["--without", lacked] if lacked else []),
+                     *limits])
 
 
-def lines_of(found: Found) -> list[str]:
+def lines_of(found: Found, wants_writes: bool) -> list[str]:
     """What is so, a line each."""
     lines = []
     if found.outputs:
@@ -68,6 +71,8 @@ def lines_of(found: Found) -> list[str]:
     lines += [f"a write {name}: {words}" for name, words in found.writes.items()]
     if found.outputs and not found.writes:
         lines.append("whether the part refuses a write without a PEC, or with a wrong one, wasn't tried: probe --writes tries it")
+    if wants_writes and not found.outputs:
+        lines.append("CLEAR_FAULTS wasn't sent, since no output was found")
     if found.late or found.high:
         lines.append(busy_words(found))
     if found.missing:

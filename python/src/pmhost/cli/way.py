@@ -4,6 +4,7 @@ from __future__ import annotations
 import argparse
 import contextlib
 import os
+import stat
 from typing import Any, Callable, Iterator
 
 from ..apply import Board
@@ -33,19 +34,38 @@ def add(parser: argparse.ArgumentParser) -> None:
 
 def judge(arguments: argparse.Namespace) -> None:
     """The file can be written: it is opened once, before anything is sent, and stays as it was. BadCall."""
+    judge_trace(arguments)
     path = arguments.picture
     if path is None:
         return
-    was_there = os.path.lexists(path)
+    real = os.path.realpath(path)
+    was_there = os.path.exists(real)
     try:
-        if os.path.exists(path) and os.path.samefile(path, arguments.file):
+        if is_same(path, arguments.file):
             raise BadCall(f"--picture {shown(path)}: the rails stand in this file")
-        with open(path, "a", encoding="utf-8"):
+        if was_there and stat.S_ISFIFO(os.stat(real).st_mode):
+            raise BadCall(f"--picture {shown(path)}: it is a pipe: give a file")
+        with open(real, "a", encoding="utf-8"):
             pass
         if not was_there:
-            os.remove(path)
+            os.remove(real)
     except OSError as fault:
         raise BadCall(f"--picture {shown(path)}: {fault.strerror}") from None
+
+
+def judge_trace(arguments: argparse.Namespace) -> None:
+    """The frames go into no file that the command reads or draws. BadCall."""
+    trace: str | None = arguments.call.trace_path
+    for path, what in (arguments.file, "the rails stand in this file"), (arguments.picture, "the picture goes into this file"):
+        if trace is not None and path is not None and is_same(trace, path):
+            raise BadCall(f"--trace {shown(trace)}: {what}")
+
+
+def is_same(path: str, other: str) -> bool:
+    """Whether two paths are of one file, which needn't be there."""
+    if os.path.exists(path) and os.path.exists(other):
+        return os.path.samefile(path, other)
+    return os.path.realpath(path) == os.path.realpath(other)
 
 
 class WayFile:
