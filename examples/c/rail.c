@@ -11,7 +11,8 @@
 typedef struct {
     pm_part part;
     unsigned faults;    /* 0 none; 1 random ones; 2 every write is acknowledged and lost; 3 nobody is there; 4 one write is
-                         * heard, and neither its acknowledgement nor an answer comes back before the next write or check */
+                         * heard, and neither its acknowledgement nor an answer comes back before the next write or check;
+                         * 5 a bit of each answer's packet error code is another one; 6 so from the next write on */
     unsigned is_told;   /* each write is printed */
     unsigned writes, reads; /* how many were sent */
     unsigned lost;      /* how many answers are still lost */
@@ -51,6 +52,8 @@ static uint8_t put(void *context, const uint8_t *bytes, uint64_t count) {
         return PM_ACKED;
     if (on->faults == 4)
         on->lost = 2;
+    if (on->faults == 6)
+        on->faults = 5;
     if (fate > 0) /* 1: cut; 2: heard twice */
         taken = pm_part_hear(&on->part, bytes, fate == 1 ? count - 1 : count, 0, &reply) == PM_HEARD_TAKEN;
     if (fate == 2)
@@ -74,6 +77,8 @@ static uint64_t ask(void *context, const uint8_t *request, uint64_t count, uint8
         came = room;
     if (fate == 0)
         reply.bytes[1 + draw((unsigned)came)] ^= 0x10;
+    if (on->faults == 5)
+        reply.bytes[came] ^= 0x10;
     memcpy(answer, reply.bytes + 1, (size_t)came);
     look(on);
     if (on->lost != 0) {
@@ -117,6 +122,8 @@ static void tell(const char *what, pm_rail_end end) {
         printf(" %02Xh", end.code);
     if (end.kind == PM_STILL_DIFFERS)
         printf(", %04X", end.word);
+    if (end.kind == PM_SPENT && end.word != 0 && pm_refusal_name((uint8_t)end.word, &name) == PM_OK)
+        printf(", the last answer had %s", name.text);
     printf("\n");
 }
 
@@ -176,7 +183,13 @@ static void story(void) {
     tell("apply 3 V, writes are lost", pm_host_run_apply(&host, 0, &volts, 40, put, ask, &on));
     on.faults = 3;
     tell("apply 3 V, nobody is there", pm_host_run_apply(&host, 0, &volts, 40, put, ask, &on));
+    on.faults = 5;
+    tell("apply 3 V, answers are damaged", pm_host_run_apply(&host, 0, &volts, 40, put, ask, &on));
+    on.faults = 6;
+    volts.command.word = 0x3400;
+    tell("apply 3.25 V, answers behind the order are damaged", pm_host_run_apply(&host, 0, &volts, 40, put, ask, &on));
     on.faults = 0;
+    volts.command.word = 0x3000;
     if (pm_host_order(&host, 0, PM_WRITE_PROTECT, 0x80) != PM_OK || pm_host_run(&host, put, ask, &on).kind != PM_DONE)
         exit(1);
     tell("apply 3 V, protected", pm_host_run_apply(&host, 0, &volts, 40, put, ask, &on));

@@ -494,7 +494,8 @@ enum {
     PM_REACHED = 1,       /* a survey: all that it is for is known; an apply: each wanted word is held, as its last survey says */
     PM_REFUSED = 2,       /* a call was refused: `number` says why, and `code` which register that is about, or 0 */
     PM_STILL_DIFFERS = 3, /* the order of the register `code` was given twice, and `word` was read back last in place of its own */
-    PM_SPENT = 4          /* no try is left */
+    PM_SPENT = 4          /* no try is left: `word` says what was wrong with the last answer of the last job that ended as
+                             PM_UNKNOWN, as PM_F5_WRONG_PEC, and is 0 where none came, or no job ended so */
 };
 typedef struct {
     uint8_t kind;
@@ -513,16 +514,16 @@ static inline pm_rail_end pm_ended(uint8_t kind, uint8_t number, uint8_t code, u
     return end;
 }
 
-/* Carries a survey out, and takes a try of `left` for each of its jobs. */
-static inline pm_rail_end pm_run_jobs_of(pm_host *host, pm_survey *survey, uint16_t *left, pm_write write, pm_read read,
-                                         void *context) {
+/* Carries a survey out, and takes a try of `left` for each of its jobs. `fault` is what was wrong last. */
+static inline pm_rail_end pm_run_jobs_of(pm_host *host, pm_survey *survey, uint16_t *left, uint16_t *fault, pm_write write,
+                                         pm_read read, void *context) {
     for (;;) {
         pm_step step;
         uint8_t number = pm_host_survey(host, survey);
         if (number == PM_SURVEY_DONE)
             return pm_ended(PM_REACHED, 0, 0, 0);
         if (number == PM_SURVEY_SPENT)
-            return pm_ended(PM_SPENT, 0, 0, 0);
+            return pm_ended(PM_SPENT, 0, 0, *fault);
         if (number == PM_SURVEY_STUCK)
             return pm_ended(PM_REFUSED, PM_L7_MISSING_REGISTER, 0, 0);
         if (number != PM_OK)
@@ -531,6 +532,8 @@ static inline pm_rail_end pm_run_jobs_of(pm_host *host, pm_survey *survey, uint1
         step = pm_host_run(host, write, read, context);
         if (step.kind > PM_LEARNED)
             return pm_ended(PM_REFUSED, (uint8_t)step.kind, 0, 0);
+        if (step.kind == PM_UNKNOWN)
+            *fault = step.word;
         number = pm_survey_told(survey, step.kind);
         if (number != PM_OK)
             return pm_ended(PM_REFUSED, number, 0, 0);
@@ -542,8 +545,8 @@ static inline pm_rail_end pm_run_jobs_of(pm_host *host, pm_survey *survey, uint1
  * is what the library says. */
 PM_MUST_USE
 static inline pm_rail_end pm_host_run_survey(pm_host *host, pm_survey *survey, pm_write write, pm_read read, void *context) {
-    uint16_t left = 0xFFFF;
-    return pm_run_jobs_of(host, survey, &left, write, read, context);
+    uint16_t left = 0xFFFF, fault = 0;
+    return pm_run_jobs_of(host, survey, &left, &fault, write, read, context);
 }
 
 /* Brings an output's registers to the wanted words by at most this many jobs: a survey for the plan, then order after order,
@@ -553,7 +556,7 @@ static inline pm_rail_end pm_host_run_survey(pm_host *host, pm_survey *survey, p
 PM_MUST_USE
 static inline pm_rail_end pm_host_run_apply(pm_host *host, uint8_t output, const pm_wanted *wanted, uint16_t tries,
                                             pm_write write, pm_read read, void *context) {
-    uint16_t left = tries;
+    uint16_t left = tries, fault = 0;
     unsigned differed = 0; /* a bit for each register whose order has differed, by the lower digit of its code */
     for (;;) {
         int has_ordered = 0;
@@ -563,7 +566,7 @@ static inline pm_rail_end pm_host_run_apply(pm_host *host, uint8_t output, const
         uint8_t number = pm_survey_for(&survey, output, wanted, left);
         if (number != PM_OK)
             return pm_ended(PM_REFUSED, number, 0, 0);
-        end = pm_run_jobs_of(host, &survey, &left, write, read, context);
+        end = pm_run_jobs_of(host, &survey, &left, &fault, write, read, context);
         if (end.number == PM_L7_MISSING_REGISTER) { /* the plan says which */
             number = pm_host_plan(host, output, wanted, &next);
             return pm_ended(PM_REFUSED, number == PM_OK || number == PM_PLAN_DONE ? end.number : number, next.code, 0);
@@ -579,7 +582,7 @@ static inline pm_rail_end pm_host_run_apply(pm_host *host, uint8_t output, const
             if (number != PM_OK && number != PM_P4_NOT_KNOWN)
                 return pm_ended(PM_REFUSED, number, next.code, 0);
             if (left == 0)
-                return pm_ended(PM_SPENT, 0, next.code, 0);
+                return pm_ended(PM_SPENT, 0, next.code, fault);
             if (number == PM_OK)
                 has_ordered = 1;
             else if ((number = pm_host_check(host, output, next.code)) != PM_OK)
@@ -588,6 +591,8 @@ static inline pm_rail_end pm_host_run_apply(pm_host *host, uint8_t output, const
             step = pm_host_run(host, write, read, context);
             if (step.kind > PM_LEARNED)
                 return pm_ended(PM_REFUSED, (uint8_t)step.kind, 0, 0);
+            if (step.kind == PM_UNKNOWN)
+                fault = step.word;
             if (step.kind != PM_DIFFERS)
                 continue;
             bit = 1u << (next.code & 15);
