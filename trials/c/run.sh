@@ -70,81 +70,88 @@ bound() {
 # status, and what is written on standard output and on standard error.
 bus_rows() {
     cat << 'END'
-lost ok ok lost ok ok|/dev/i2c-1 58 0 3300000|0|ended done, confirmed 34CD, 3300048 uV|
-|/dev/i2c-1 0x58 0 3300000|0|ended done, confirmed 34CD, 3300048 uV|
-|/dev/i2c-1 58 0 0|0|ended done, confirmed 0000, 0 uV|
+lost ok ok lost ok ok|--no-limit /dev/i2c-1 58 0 3300000|0|ended done, confirmed 34CD, 3300048 uV|
+|--no-limit /dev/i2c-1 0x58 0 3300000|0|ended done, confirmed 34CD, 3300048 uV|
+|--no-limit /dev/i2c-1 58 0 0|0|ended done, confirmed 0000, 0 uV|
 ||2||give BUS ADDRESS OUTPUT MICROVOLTS, as /dev/i2c-1 58 0 3300000, or BUS ADDRESS store
 |/dev/i2c-1 58 0|2||give BUS ADDRESS OUTPUT MICROVOLTS, as /dev/i2c-1 58 0 3300000, or BUS ADDRESS store
-|/dev/i2c-1 58 0 3.3|2||microvolts '3.3': give a whole number, as 3300000 for 3.3 V
-|/dev/i2c-1 58 0 3,3|2||microvolts '3,3': give a whole number, as 3300000 for 3.3 V
-|/dev/i2c-1 58 0 abc|2||microvolts 'abc': give a whole number, as 3300000 for 3.3 V
-|/dev/i2c-1 58 0 3300mV|2||microvolts '3300mV': give a whole number, as 3300000 for 3.3 V
-|/dev/i2c-1 58 0 ''|2||microvolts '': give a whole number, as 3300000 for 3.3 V
-|/dev/i2c-1 58 0 ' 5'|2||microvolts ' 5': give a whole number, as 3300000 for 3.3 V
-|/dev/i2c-1 58 0 '5 '|2||microvolts '5 ': give a whole number, as 3300000 for 3.3 V
-|/dev/i2c-1 58 0 +5|2||microvolts '+5': give a whole number, as 3300000 for 3.3 V
-|/dev/i2c-1 58 0 9223372036854775808|2||microvolts '9223372036854775808': give a whole number, as 3300000 for 3.3 V
-|/dev/i2c-1 78 0 3300000|2||address '78': give 08 to 77, in hexadecimal
-|/dev/i2c-1 07 0 3300000|2||address '07': give 08 to 77, in hexadecimal
-|/dev/i2c-1 158 0 3300000|2||address '158': give 08 to 77, in hexadecimal
-|/dev/i2c-1 5G 0 3300000|2||address '5G': give 08 to 77, in hexadecimal
-|/dev/i2c-1 -58 0 3300000|2||address '-58': give 08 to 77, in hexadecimal
-|/dev/i2c-1 '' 0 3300000|2||address '': give 08 to 77, in hexadecimal
-|/dev/i2c-1 58 9 3300000|2||output '9': give 0 to 7
-|/dev/i2c-1 58 -1 3300000|2||output '-1': give 0 to 7
-|/dev/i2c-1 58 256 3300000|2||output '256': give 0 to 7
-|/dev/i2c-1 58 0x 3300000|2||output '0x': give 0 to 7
-|/dev/i2c-2 58 0 3300000|2||/dev/i2c-2, address 58: Device or resource busy: unbind its driver, echo 2-0058 > /sys/bus/i2c/devices/2-0058/driver/unbind
-|/dev/i2c-3 58 0 3300000|2||/dev/i2c-3, address 58: Permission denied
-|/dev/i2c-4 58 0 3300000|2||/dev/i2c-4, address 58: Inappropriate ioctl for device
-|/dev/i2c-9 58 0 3300000|2||/dev/i2c-9, address 58: No such file or directory
-|/dev/i2c-5 58 0 3300000|2||another program drives 5-0058: fuser /dev/i2c-5 names who has the bus open
+|--no-limit /dev/i2c-1 58 0 3.3|2||microvolts '3.3': give a whole number, as 3300000 for 3.3 V
+|--no-limit /dev/i2c-1 58 0 3,3|2||microvolts '3,3': give a whole number, as 3300000 for 3.3 V
+|--no-limit /dev/i2c-1 58 0 abc|2||microvolts 'abc': give a whole number, as 3300000 for 3.3 V
+|--no-limit /dev/i2c-1 58 0 3300mV|2||microvolts '3300mV': give a whole number, as 3300000 for 3.3 V
+|--no-limit /dev/i2c-1 58 0 ''|2||microvolts '': give a whole number, as 3300000 for 3.3 V
+|--no-limit /dev/i2c-1 58 0 ' 5'|2||microvolts ' 5': give a whole number, as 3300000 for 3.3 V
+|--no-limit /dev/i2c-1 58 0 '5 '|2||microvolts '5 ': give a whole number, as 3300000 for 3.3 V
+|--no-limit /dev/i2c-1 58 0 +5|2||microvolts '+5': give a whole number, as 3300000 for 3.3 V
+|--no-limit /dev/i2c-1 58 0 9223372036854775808|2||microvolts '9223372036854775808': give a whole number, as 3300000 for 3.3 V
+|--no-limit /dev/i2c-1 78 0 3300000|2||address '78': give 08 to 77, in hexadecimal
+|--no-limit /dev/i2c-1 07 0 3300000|2||address '07': give 08 to 77, in hexadecimal
+|--no-limit /dev/i2c-1 158 0 3300000|2||address '158': give 08 to 77, in hexadecimal
+|--no-limit /dev/i2c-1 5G 0 3300000|2||address '5G': give 08 to 77, in hexadecimal
+|--no-limit /dev/i2c-1 -58 0 3300000|2||address '-58': give 08 to 77, in hexadecimal
+|--no-limit /dev/i2c-1 '' 0 3300000|2||address '': give 08 to 77, in hexadecimal
+|--no-limit /dev/i2c-1 58 9 3300000|2||output '9': give 0 to 7
+|--no-limit /dev/i2c-1 58 -1 3300000|2||output '-1': give 0 to 7
+|--no-limit /dev/i2c-1 58 256 3300000|2||output '256': give 0 to 7
+|--no-limit /dev/i2c-1 58 0x 3300000|2||output '0x': give 0 to 7
+|--no-limit /dev/i2c-2 58 0 3300000|2||/dev/i2c-2, address 58: Device or resource busy: unbind its driver, echo 2-0058 > /sys/bus/i2c/devices/2-0058/driver/unbind
+|--no-limit /dev/i2c-3 58 0 3300000|2||/dev/i2c-3, address 58: Permission denied
+|--no-limit /dev/i2c-4 58 0 3300000|2||/dev/i2c-4, address 58: Inappropriate ioctl for device
+|--no-limit /dev/i2c-9 58 0 3300000|2||/dev/i2c-9, address 58: No such file or directory
+|--no-limit /dev/i2c-5 58 0 3300000|2||another program drives 5-0058: fuser /dev/i2c-5 names who has the bus open
 |/dev/i2c-5 0x58 store|2||another program drives 5-0058: fuser /dev/i2c-5 names who has the bus open
-count|--share-bus /dev/i2c-5 58 0 3300000|0|ended done, confirmed 34CD, 3300048 uV\n4 transfers, 0 ms|
-|/dev/i2c-5 59 0 3300000|1||learn: 3 of 3 transfers failed, the last: Remote I/O error
-|/dev/i2c-5 57 0 3300000|1||learn: 3 of 3 transfers failed, the last: Remote I/O error
-|/dev/i2c-6 58 0 3300000|2||a line is held low: address 02, which no part may have, acknowledges
+count|--no-limit --share-bus /dev/i2c-5 58 0 3300000|0|ended done, confirmed 34CD, 3300048 uV\n4 transfers, 0 ms|
+|--no-limit /dev/i2c-5 59 0 3300000|1||learn: 3 of 3 transfers failed, the last: Remote I/O error
+|--no-limit /dev/i2c-5 57 0 3300000|1||learn: 3 of 3 transfers failed, the last: Remote I/O error
+|--no-limit /dev/i2c-6 58 0 3300000|2||a line is held low: address 02, which no part may have, acknowledges
 |/dev/i2c-6 58 store|2||a line is held low: address 02, which no part may have, acknowledges
-|--patience=x /dev/i2c-1 58 0 3300000|2||patience 'x': give milliseconds, 0 to 60000
-|--patience=-1 /dev/i2c-1 58 0 3300000|2||patience '-1': give milliseconds, 0 to 60000
-count ok ok deaf*40|/dev/i2c-1 58 0 3300000|0|ended done, confirmed 34CD, 3300048 uV\n43 transfers, 195 ms|
-count ok ok ones*40|/dev/i2c-1 58 0 3300000|0|ended done, confirmed 34CD, 3300048 uV\n43 transfers, 195 ms|
-count ok ok nacked*3|/dev/i2c-1 58 0 3300000|0|ended done, confirmed 34CD, 3300048 uV\n7 transfers, 15 ms|
-count ok deaf*40 deaf ones*2|/dev/i2c-1 58 0 3300000|0|ended done, confirmed 34CD, 3300048 uV\n46 transfers, 195 ms|
-count ok deaf|/dev/i2c-1 58 0 3300000|0|ended done, confirmed 34CD, 3300048 uV\n5 transfers, 5 ms|
-count ok nacked ok ok|/dev/i2c-1 58 0 3300000|0|ended done, confirmed 34CD, 3300048 uV\n7 transfers, 0 ms|
-count|--patience=0 /dev/i2c-1 58 0 3300000|0|ended done, confirmed 34CD, 3300048 uV\n3 transfers, 0 ms|
-count ok deaf ok deaf ok deaf|--patience=0 /dev/i2c-1 58 0 3300000|1|ended differs, confirmed 1000, 1000000 uV\n7 transfers, 0 ms|order: 3 of 6 transfers failed, the last: No such device or address; the write was lost, or the part refused, limited or rounded the word
-count ok ok deaf*8|--patience=30 /dev/i2c-1 58 0 3300000|0|ended done, confirmed 34CD, 3300048 uV\n13 transfers, 30 ms|
-ok ok ones*3 ok ones ok ok ones ok ok ones|/dev/i2c-1 58 0 3300000|1|ended unknown, the output may hold the old or the ordered word|order: 3 of 6 transfers failed, the last: nothing but FFh; no answer was good
-ones*3|/dev/i2c-1 58 0 3300000|1||learn: 3 of 3 transfers failed, the last: nothing but FFh
+|--no-limit --patience=x /dev/i2c-1 58 0 3300000|2||patience 'x': give milliseconds, 0 to 60000
+|--no-limit --patience=-1 /dev/i2c-1 58 0 3300000|2||patience '-1': give milliseconds, 0 to 60000
+|/dev/i2c-1 58 0 3300000|2||give what the load tolerates, as --limit=3135000:3465000 in microvolts, or --no-limit
+|--limit=3135000:3465000 /dev/i2c-1 58 0 3300000|0|ended done, confirmed 34CD, 3300048 uV|
+|--limit=3135000:3465000 /dev/i2c-1 58 0 3500000|1||refused: L4 AboveLimit: above the output's limits
+|--limit=3135000:3465000 /dev/i2c-1 58 0 3100000|1||refused: L3 BelowLimit: below the output's limits
+|--limit=3465000:3135000 /dev/i2c-1 58 0 3300000|2||limit '3465000:3135000': give LEAST:MOST in microvolts, as 3135000:3465000
+|--limit=3.1V:3.5V /dev/i2c-1 58 0 3300000|2||limit '3.1V:3.5V': give LEAST:MOST in microvolts, as 3135000:3465000
+|--limit=3300000 /dev/i2c-1 58 0 3300000|2||limit '3300000': give LEAST:MOST in microvolts, as 3135000:3465000
+count ok ok deaf*40|--no-limit /dev/i2c-1 58 0 3300000|0|ended done, confirmed 34CD, 3300048 uV\n43 transfers, 195 ms|
+count ok ok ones*40|--no-limit /dev/i2c-1 58 0 3300000|0|ended done, confirmed 34CD, 3300048 uV\n43 transfers, 195 ms|
+count ok ok nacked*3|--no-limit /dev/i2c-1 58 0 3300000|0|ended done, confirmed 34CD, 3300048 uV\n7 transfers, 15 ms|
+count ok deaf*40 deaf ones*2|--no-limit /dev/i2c-1 58 0 3300000|0|ended done, confirmed 34CD, 3300048 uV\n46 transfers, 195 ms|
+count ok deaf|--no-limit /dev/i2c-1 58 0 3300000|0|ended done, confirmed 34CD, 3300048 uV\n5 transfers, 5 ms|
+count ok nacked ok ok|--no-limit /dev/i2c-1 58 0 3300000|0|ended done, confirmed 34CD, 3300048 uV\n7 transfers, 0 ms|
+count|--no-limit --patience=0 /dev/i2c-1 58 0 3300000|0|ended done, confirmed 34CD, 3300048 uV\n3 transfers, 0 ms|
+count ok deaf ok deaf ok deaf|--no-limit --patience=0 /dev/i2c-1 58 0 3300000|1|ended differs, confirmed 1000, 1000000 uV\n7 transfers, 0 ms|order: 3 of 6 transfers failed, the last: No such device or address; the write was lost, or the part refused, limited or rounded the word
+count ok ok deaf*8|--no-limit --patience=30 /dev/i2c-1 58 0 3300000|0|ended done, confirmed 34CD, 3300048 uV\n13 transfers, 30 ms|
+ok ok ones*3 ok ones ok ok ones ok ok ones|--no-limit /dev/i2c-1 58 0 3300000|1|ended unknown, the output may hold the old or the ordered word|order: 3 of 6 transfers failed, the last: nothing but FFh; no answer was good
+ones*3|--no-limit /dev/i2c-1 58 0 3300000|1||learn: 3 of 3 transfers failed, the last: nothing but FFh
 count|/dev/i2c-1 58 store|0|store acknowledged\n2 transfers, 0 ms|
 count ok deaf*300|/dev/i2c-1 58 store|0|store acknowledged\n201 transfers, 995 ms|
 count deaf|/dev/i2c-1 58 store|1|store unknown\n2 transfers, 0 ms|store: 1 of 1 transfers failed, the last: No such device or address
 count nacked ones*2|/dev/i2c-1 58 store|1|store unknown\n4 transfers, 10 ms|store: 1 of 1 transfers failed, the last: Remote I/O error
-deaf deaf deaf|/dev/i2c-1 58 0 3300000|1||learn: 3 of 3 transfers failed, the last: No such device or address
-|/dev/i2c-1 59 0 3300000|1||learn: 3 of 3 transfers failed, the last: Remote I/O error
-|/dev/i2c-1 58 1 3300000|1||learn: 3 of 3 transfers failed, the last: Remote I/O error
-damaged empty damaged|/dev/i2c-1 58 0 3300000|1||learn: the last answer: F4 WrongCount
-damaged deaf damaged|/dev/i2c-1 58 0 3300000|1||learn: 1 of 3 transfers failed, the last: No such device or address; the last answer: F4 WrongCount
-damaged damaged deaf|/dev/i2c-1 58 0 3300000|1||learn: 1 of 3 transfers failed, the last: No such device or address; no answer was good, or its format is neither ULINEAR16 nor DIRECT
-short0 short1 short0|/dev/i2c-1 58 0 3300000|1||learn: 3 of 3 transfers failed, the last: 0 of 2 messages went
-short0 short0 short1|/dev/i2c-1 58 0 3300000|1||learn: 3 of 3 transfers failed, the last: 1 of 2 messages went
-|/dev/i2c-1 58 0 99000000|1||refused: N4 AboveGreatest: above all values of the format
-|/dev/i2c-1 58 0 -1|1||refused: N3 BelowLeast: below all values of the format
-|/dev/i2c-1 58 0 9223372036854775807|1||refused: N5 TooLarge: beyond 10^15 microvolts
-ok short0 ok short0h ok|/dev/i2c-1 58 0 3300000|0|ended done, confirmed 34CD, 3300048 uV|
-ok short0 ok short0 ok short0|--patience=0 /dev/i2c-1 58 0 3300000|1|ended differs, confirmed 1000, 1000000 uV|order: 3 of 6 transfers failed, the last: 0 of 1 message went; the write was lost, or the part refused, limited or rounded the word
-ok false ok false ok false|--patience=0 /dev/i2c-1 58 0 3300000|1|ended differs, confirmed 1000, 1000000 uV|order: the write was lost, or the part refused, limited or rounded the word
-ok int|/dev/i2c-1 58 0 3300000|130|transfer 2 went on|
-ok ok term|/dev/i2c-1 58 0 3300000|143|transfer 3 went on|
-quit|/dev/i2c-1 58 0 3300000|131|transfer 1 went on|
-ok hup|/dev/i2c-1 58 0 3300000|129|transfer 2 went on|
-ok ok int|/dev/i2c-1 58 0 3300000|130|transfer 3 went on|
-ok short0 short1 short0 short0 short0 short1|--patience=0 /dev/i2c-1 58 0 3300000|1|ended unknown, the output may hold the old or the ordered word|order: 6 of 6 transfers failed, the last: 1 of 2 messages went
-ok false ok false ok false empty|--patience=0 /dev/i2c-1 58 0 3300000|1|ended unknown, the output may hold the old or the ordered word|order: the last answer: F4 WrongCount
-ok ok deaf ok damaged ok deaf|--patience=0 /dev/i2c-1 58 0 3300000|1|ended unknown, the output may hold the old or the ordered word|order: 2 of 6 transfers failed, the last: No such device or address; no answer was good
-ok ok empty ok empty ok damaged|--patience=0 /dev/i2c-1 58 0 3300000|1|ended unknown, the output may hold the old or the ordered word|order: the last answer: F4 WrongCount
+deaf deaf deaf|--no-limit /dev/i2c-1 58 0 3300000|1||learn: 3 of 3 transfers failed, the last: No such device or address
+|--no-limit /dev/i2c-1 59 0 3300000|1||learn: 3 of 3 transfers failed, the last: Remote I/O error
+|--no-limit /dev/i2c-1 58 1 3300000|1||learn: 3 of 3 transfers failed, the last: Remote I/O error
+damaged empty damaged|--no-limit /dev/i2c-1 58 0 3300000|1||learn: the last answer: F4 WrongCount
+damaged deaf damaged|--no-limit /dev/i2c-1 58 0 3300000|1||learn: 1 of 3 transfers failed, the last: No such device or address; the last answer: F4 WrongCount
+damaged damaged deaf|--no-limit /dev/i2c-1 58 0 3300000|1||learn: 1 of 3 transfers failed, the last: No such device or address; no answer was good, or its format is neither ULINEAR16 nor DIRECT
+short0 short1 short0|--no-limit /dev/i2c-1 58 0 3300000|1||learn: 3 of 3 transfers failed, the last: 0 of 2 messages went
+short0 short0 short1|--no-limit /dev/i2c-1 58 0 3300000|1||learn: 3 of 3 transfers failed, the last: 1 of 2 messages went
+|--no-limit /dev/i2c-1 58 0 99000000|1||refused: N4 AboveGreatest: above all values of the output's format
+|--no-limit /dev/i2c-1 58 0 -1|1||refused: N3 BelowLeast: below all values of the output's format
+|--no-limit /dev/i2c-1 58 0 9223372036854775807|1||refused: N5 TooLarge: beyond 10^15 microvolts
+ok short0 ok short0h ok|--no-limit /dev/i2c-1 58 0 3300000|0|ended done, confirmed 34CD, 3300048 uV|
+ok short0 ok short0 ok short0|--no-limit --patience=0 /dev/i2c-1 58 0 3300000|1|ended differs, confirmed 1000, 1000000 uV|order: 3 of 6 transfers failed, the last: 0 of 1 message went; the write was lost, or the part refused, limited or rounded the word
+ok false ok false ok false|--no-limit --patience=0 /dev/i2c-1 58 0 3300000|1|ended differs, confirmed 1000, 1000000 uV|order: the write was lost, or the part refused, limited or rounded the word
+ok int|--no-limit /dev/i2c-1 58 0 3300000|130|transfer 2 went on|
+ok ok term|--no-limit /dev/i2c-1 58 0 3300000|143|transfer 3 went on|
+quit|--no-limit /dev/i2c-1 58 0 3300000|131|transfer 1 went on|
+ok hup|--no-limit /dev/i2c-1 58 0 3300000|129|transfer 2 went on|
+ok ok int|--no-limit /dev/i2c-1 58 0 3300000|130|transfer 3 went on|
+ok short0 short1 short0 short0 short0 short1|--no-limit --patience=0 /dev/i2c-1 58 0 3300000|1|ended unknown, the output may hold the old or the ordered word|order: 6 of 6 transfers failed, the last: 1 of 2 messages went
+ok false ok false ok false empty|--no-limit --patience=0 /dev/i2c-1 58 0 3300000|1|ended unknown, the output may hold the old or the ordered word|order: the last answer: F4 WrongCount
+ok ok deaf ok damaged ok deaf|--no-limit --patience=0 /dev/i2c-1 58 0 3300000|1|ended unknown, the output may hold the old or the ordered word|order: 2 of 6 transfers failed, the last: No such device or address; no answer was good
+ok ok empty ok empty ok damaged|--no-limit --patience=0 /dev/i2c-1 58 0 3300000|1|ended unknown, the output may hold the old or the ordered word|order: the last answer: F4 WrongCount
 END
 }
 
@@ -190,7 +197,7 @@ rows() {
 # bus_program NAME COMPILER: the order over the Linux bus, and each row of it
 bus_program() {
     program "$1 Linux bus" examples/c/i2c_dev.expected "$2 $strict $wraps" examples/c/i2c_dev.c examples/c/stand_in.c \
-        -- /dev/i2c-1 58 0 3300000
+        -- --no-limit /dev/i2c-1 58 0 3300000
     bus_rows > "$folder/rows"
     rows "$1 Linux bus" i2c_dev "$folder/program" < "$folder/rows"
     locked "$1 Linux bus" "$folder/program"
@@ -201,7 +208,7 @@ locked() {
     command -v python3 > /dev/null || { echo "$1, locks: no python3 here"; return; }
     : > "$folder/locks"
     echo 'i2c_dev: another program drives 1-0058: fuser /dev/i2c-1 names who has the bus open' > "$folder/wanted"
-    python3 -B - "$folder/locks" $2 /dev/i2c-1 58 0 3300000 > "$folder/out" 2> "$folder/log" << 'END'
+    python3 -B - "$folder/locks" $2 --no-limit /dev/i2c-1 58 0 3300000 > "$folder/out" 2> "$folder/log" << 'END'
 import fcntl, os, struct, subprocess, sys
 
 def run(place):

@@ -66,7 +66,7 @@ class Example:
     def __init__(self, bench, program, part, *options, address="58"):
         bench.put(part)
         self.bench, self.is_patient, self.unknown, self.done, self.faults = bench, not options, 0, 0, []
-        self.words = [program, *options, f"/dev/i2c-{bench.number}", address]
+        self.words = [program, "--no-limit", *options, f"/dev/i2c-{bench.number}", address]
         for output, word in zip(OUTPUTS, WORDS):
             self.order(output, word)
         self.store()

@@ -18,6 +18,8 @@ extern "C" {
 
 /* Milliseconds: between two questions; of patience behind a write; behind a store and a restore. */
 enum { PM_STEP = 5, PM_PATIENCE = 200, PM_LONG_PATIENCE = 1000 };
+/* No patience: nothing is asked behind a write. */
+enum { PM_NO_PATIENCE = -1 };
 
 /* A bus of yours, a clock of yours, and how patient to be with the part. */
 typedef struct {
@@ -26,8 +28,8 @@ typedef struct {
     void *context; /* what each of the four calls is handed */
     uint32_t (*now)(void *context);                   /* milliseconds of a clock that nobody sets; it may wrap round */
     void (*wait)(void *context, uint32_t milliseconds);
-    int32_t patience;   /* milliseconds behind each write, 0 to ask nothing; below 0 PM_PATIENCE, and PM_LONG_PATIENCE behind a
-                         * store and a restore */
+    int32_t patience;   /* milliseconds behind each write; 0 for PM_PATIENCE, and PM_LONG_PATIENCE behind a store and a restore;
+                         * PM_NO_PATIENCE, or another number below 0, to ask nothing */
     uint8_t has_stored; /* of pm_patient_run: a store was sent in this job */
 } pm_patient;
 
@@ -42,7 +44,9 @@ static inline int pm_is_ones(const uint8_t *bytes, uint64_t count) {
 /* The milliseconds of patience behind a packet. */
 static inline uint32_t pm_patience(const pm_patient *bus, const uint8_t *bytes, uint64_t count) {
     int is_long = count == 3 && (bytes[1] == 0x15 || bytes[1] == 0x16); /* STORE_USER_ALL, RESTORE_USER_ALL */
-    return bus->patience >= 0 ? (uint32_t)bus->patience : (uint32_t)(is_long ? PM_LONG_PATIENCE : PM_PATIENCE);
+    if (bus->patience < 0)
+        return 0;
+    return bus->patience > 0 ? (uint32_t)bus->patience : (uint32_t)(is_long ? PM_LONG_PATIENCE : PM_PATIENCE);
 }
 
 /* Waits for a further try. Whether that begins within the patience. */
