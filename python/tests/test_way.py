@@ -243,6 +243,11 @@ class Ways(unittest.TestCase):
         self.assertEqual(self.called(UP, "--picture", link, "+", "apply", self.rails, "--picture", os.path.dirname(link))[0][0], 2)
         self.assertEqual((os.path.islink(link), os.path.exists(target)), (True, False))
 
+    def test_two_pictures_of_a_call_are_two_files(self):
+        (*found, why), frames = self.called(UP, "--picture", self.picture, "+", "apply", self.rails, "--picture", self.picture)
+        self.assertEqual((found, frames, why), (
+            [2, ""], [], f"pmhost: --picture {self.picture}: another command of this call draws into this file\n"))
+
     def test_frames_go_into_no_file_of_the_command(self):
         link = self.rails + ".link"
         os.symlink(self.rails, link)

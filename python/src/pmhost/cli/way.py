@@ -43,6 +43,8 @@ def judge(arguments: argparse.Namespace) -> None:
     try:
         if is_same(path, arguments.file):
             raise BadCall(f"--picture {shown(path)}: the rails stand in this file")
+        if any(is_same(path, other) for other in pictures_beside(arguments)):
+            raise BadCall(f"--picture {shown(path)}: another command of this call draws into this file")
         if was_there and stat.S_ISFIFO(os.stat(real).st_mode):
             raise BadCall(f"--picture {shown(path)}: it is a pipe: give a file")
         with open(real, "a", encoding="utf-8"):
@@ -59,6 +61,11 @@ def judge_trace(arguments: argparse.Namespace) -> None:
     for path, what in (arguments.file, "the rails stand in this file"), (arguments.picture, "the picture goes into this file"):
         if trace is not None and path is not None and is_same(trace, path):
             raise BadCall(f"--trace {shown(trace)}: {what}")
+
+
+def pictures_beside(arguments: argparse.Namespace) -> list[str]:
+    """What the other commands of the call draw into."""
+    return [each.picture for each in arguments.call.commands if each is not arguments and getattr(each, "picture", None) is not None]
 
 
 def is_same(path: str, other: str) -> bool:
