@@ -248,6 +248,10 @@ class Tables(unittest.TestCase):
             self.assertRegex(stored(ROOT, "docs", "refusals.md"), rf"\| {letter} [^|]*\| {re.escape(words)} \|")
         self.assertEqual(OF_TEXTS.keys() & SAYINGS.keys(), set())
 
+    def test_each_refusal_of_the_library_has_its_words(self):
+        rows = [line.split(" ", 1) for line in stored(ROOT, "python", "tests", "data", "sayings.txt").splitlines()]
+        self.assertEqual(SAYINGS, dict(rows))
+
 
 class Calls(unittest.TestCase):
     """What the two commands say, and their statuses."""
