@@ -29,6 +29,7 @@ STRUCTS = {
     "wish": ("WishImage", "pm_host_c/src/wanted_image.rt"), "wanted": ("WantedImage", "pm_host_c/src/wanted_image.rt"),
     "format": ("FormatNumbers", "pm_host_c/src/format_numbers.rt"), "name": ("NameImage", "pm_host_c/src/name_image.rt"),
     "packet": ("Packet", "pm_host_c/src/packet.rt"), "payload": ("PayloadImage", "pm_host_c/src/answer.rt"),
+    "block": ("BlockImage", "pm_host_c/src/other_read.rt"),
     "part_output": ("OutputImage", "pm_device/src/image.rt"), "part_config": ("ConfigImage", "pm_device/src/image.rt"),
     "part_reply": ("ReplyImage", "pm_device_c/src/reply_image.rt"),
 }

@@ -1,4 +1,4 @@
-"""tools/check_sources.py finds nothing in this tree; and its rules find what is planted."""
+"""tools/check_sources.py and tools/compare_layers.py find nothing in this tree; and the rules of the first find what is planted."""
 import os
 import subprocess
 import sys
@@ -24,6 +24,11 @@ class Sources(unittest.TestCase):
     def test_nothing_is_found(self):
         ran = subprocess.run([sys.executable, "-B", CHECK], cwd=ROOT, capture_output=True, text=True, check=False)
         self.assertEqual((ran.stdout, ran.stderr, ran.returncode), ("", "", 0))
+
+    def test_headers_and_packages_say_what_the_types_say(self):
+        ran = subprocess.run([sys.executable, "-B", os.path.join(TOOLS, "compare_layers.py")], cwd=ROOT, capture_output=True, text=True,
+                             check=False)
+        self.assertRegex(ran.stdout, r"\A[1-9][0-9]* passed, 0 failed\n\Z", ran.stderr)
 
     def test_a_path_of_a_folder_that_is_gone_is_one(self):
         for folder in ("tools", "scripts", "attacks", "docs"):
