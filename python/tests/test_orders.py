@@ -118,6 +118,15 @@ class Orders(unittest.TestCase):
                 self.assertEqual(status, 1)
                 self.assertIn("the part restarted meanwhile: nothing that was read before holds: run this again; stays changed", err)
 
+    def test_a_restart_seen_behind_an_order_without_a_good_answer_is_told(self):
+        text = TWO.partition("max =")[0]
+        first = next(place for place, line in enumerate(self.apply(text)[0].lines) if line.startswith(WRITE))
+        part = kernel.Part()
+        part.converter.set((0, 0x21), 0x1900)
+        _, status, _, err = self.apply(text, ["ok"] * first + ["ok", "lost"] * 3 + ["ok", "restart"], part)
+        self.assertEqual(status, 1)
+        self.assertIn("the part restarted meanwhile: nothing that was read before holds: run this again; stays changed, or may be: a.volts", err)
+
     def test_a_part_of_another_format_is_left_alone(self):
         part, status, out, err = self.apply(TWO, part=Exchanged())
         self.assertEqual((status, self.places(part.lines)), (1, []))

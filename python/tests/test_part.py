@@ -13,6 +13,22 @@ CARRIED = bytes.fromhex("B005040021CD345A")  # the same by PAGE_PLUS, for output
 STORE = bytes.fromhex("B01524")
 
 
+class Made(unittest.TestCase):
+    def test_numbers_that_its_memory_cannot_hold_are_refused(self):
+        """A field would keep another number without a word."""
+        for place, least, most in ((0, -2**15, 2**15 - 1), (1, -2**15, 2**15 - 1), (2, -12, 12)):
+            for number in (least, most):
+                coefficients = [1, 0, 0]
+                coefficients[place] = number
+                self.assertEqual(Part(ADDRESS, [Output(mode=0x40)], tuple(coefficients)).outputs, 1)
+        for place, numbers in enumerate(((-2**15 - 1, 2**15), (-2**15 - 1, 2**15), (-2**7 - 1, 2**7))):
+            for number in numbers:
+                coefficients = [1, 0, 0]
+                coefficients[place] = number
+                with self.assertRaises(ValueError):
+                    Part(ADDRESS, [Output(mode=0x40)], tuple(coefficients))
+
+
 class Heard(unittest.TestCase):
     def setUp(self):
         self.part = Part(ADDRESS, (Output(), Output()))

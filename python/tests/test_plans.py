@@ -6,6 +6,7 @@ from unittest import mock
 import pmhost
 from pmhost import Band, Differs, Host, PlanOrder, PlanRefused, RailEnd, RailState, Step, Survey, Unknown
 
+from pmhost.cuts import cuts
 from pmhost.plans import Tries
 
 from .fixtures import Faulty, Recorded, rails
@@ -292,6 +293,12 @@ class Formats(unittest.TestCase):
 
 
 class Bounds(unittest.TestCase):
+    def test_of_a_margin_beyond_what_is_told_nothing_is_said(self):
+        form = pmhost.Format("ULINEAR16", 15)
+        self.assertEqual((form.told(None), form.told(0xFFFF), form.told(1)), (None, None, 32768 * 10**6))
+        self.assertEqual(cuts(form, {"VOUT_MARGIN_HIGH": 0xFFFF, "VOUT_MARGIN_LOW": None}, 1, 2), [])
+        self.assertEqual([it.to for it in cuts(form, {"VOUT_MARGIN_HIGH": 3}, 1, 2)], [form.told(2)])
+
     def test_a_bound_is_rounded_to_its_side(self):
         form = pmhost.Format("ULINEAR16", -12)
         self.assertEqual((form.at_most(3300000), form.nearest(3300000), form.at_least(3300000)), (0x34CC, 0x34CD, 0x34CD))

@@ -1,6 +1,7 @@
 """Readings and status registers: what `read` tells of them, and what is told behind a job that ended badly."""
 import unittest
 from decimal import Decimal
+from unittest import mock
 
 from pmhost import (Format, FrameRefused, MemoryRefused, Output, Part, PartBus, Pmbus, code_request, pec, read_block, read_plain, readings)
 from pmhost.readings import KINDS, Reading
@@ -130,11 +131,28 @@ class OtherReads(unittest.TestCase):
             with self.subTest(data), self.assertRaises(FrameRefused) as it:
                 read_plain(0x58, 0x79, size, bytes.fromhex(data))
             self.assertEqual(it.exception.letter, letter)
-        for call in (lambda: read_plain(0x58, 0x79, 33, b""), lambda: code_request(0x78, 0), lambda: code_request(0x58, 256)):
+        self.assertEqual((code_request(0x08, 0), code_request(0x77, 255)), (b"\x10\x00", b"\xEE\xFF"))
+        for call in (lambda: read_plain(0x58, 0x79, 33, b""), lambda: code_request(0x78, 0), lambda: code_request(0x07, 0),
+                     lambda: code_request(0x58, 256), lambda: read_block(256, 0, b""), lambda: read_block(0x58, 256, b""),
+                     lambda: read_plain(256, 0, 1, b""), lambda: read_plain(0x58, 256, 1, b"")):
             with self.assertRaises(ValueError):
                 call()
+        for address, code in ((0x58, 0), (0x58, 255), (0x77, 1)):
+            with self.assertRaises(FrameRefused):
+                read_block(address, code, b"")
         with self.assertRaises(MemoryRefused):
             read_block(0x78, 0x99, b"")
+
+    def test_bytes_of_a_page(self):
+        """An answer by PAGE_PLUS to a code outside the command table, which Python judges."""
+        part = Telemetry()
+        for cut, why in ((0, ""), (1, "F2 Short"), (2, "F2 Short")):
+            with self.subTest(cut=cut), mock.patch.object(part, "answer", lambda request, payload: Telemetry.answer(
+                    part, request, payload)[:5 - 1 - cut]):
+                self.assertEqual(Reads(Odd(part), 0x58).of_page(0, 0x7B, 1).why, why)
+        for wrong, why in (([2, 0xA0], "F4 WrongCount"), ([1, 0xA1], "")):
+            with self.subTest(wrong=wrong), mock.patch.object(part, "answer", lambda request, payload: Telemetry.answer(part, request, wrong)):
+                self.assertEqual(Reads(Odd(part), 0x58).of_page(0, 0x7B, 1).why, why)
 
     def test_a_block_is_cut_at_its_end(self):
         """An adapter reads 34 bytes: what stands behind a block's packet error code is nothing."""

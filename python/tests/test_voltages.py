@@ -25,6 +25,11 @@ class Voltages(unittest.TestCase):
                 self.assertEqual(microvolts(f"{Decimal(micro) / factor:f}{unit}"), micro)
             self.assertEqual(microvolts(shown(micro)), micro)
 
+    def test_a_text_of_more_digits_than_are_kept_is_refused(self):
+        self.assertEqual(microvolts("3.3V".rjust(28, "0")), 3_300_000)
+        with self.assertRaisesRegex(ValueError, "give a number of fewer digits and its unit"):
+            microvolts("3.3V".rjust(29, "0"))
+
     def test_a_bare_number_is_refused_with_both_readings(self):
         for word, said in (("3.3", "voltage 3.3: give its unit, V, mV or uV, as 3.3V"), ("3,3", "voltage 3,3: give its unit, V, mV or uV, as 3.3V"),
                            ("3300000", "voltage 3300000: give its unit: 3300000V, or 3300000uV, which is 3.3V")):
