@@ -201,6 +201,7 @@ STREAMS = [
     ("| true; exit ${PIPESTATUS[0]}", ["capture", "i2ctransfer", "7"], 2, "pmhost: standard output: Broken pipe\n"),
     ("> /dev/full", ["capture", "linux"], 1, "pmhost: standard output: No space left on device\n"),
     ("<&-", ["capture", "linux"], 2, "pmhost: standard input is closed\n"),
+    ("0> /dev/null", ["capture", "linux"], 1, "pmhost: standard input: Bad file descriptor\n"),
     (">&-", ["capture", "linux"], 2, "pmhost: standard output is closed: nothing was sent\n"),
 ]
 # Answers as i2ctransfer does, by what a `pmbpart` says that runs behind two named pipes.
