@@ -18,6 +18,8 @@ typedef struct {
     unsigned lost;      /* how many answers are still lost */
     int64_t old, wanted; /* what the output commanded first, and what it is to command */
     unsigned others;    /* after how many frames it commanded anything else */
+    pm_part other;      /* another part, which stands in the place of this one from this read on, where it isn't 0 */
+    unsigned exchange;
 } bus;
 
 static uint64_t seed = 1;
@@ -70,6 +72,8 @@ static uint64_t ask(void *context, const uint8_t *request, uint64_t count, uint8
     unsigned fate = on->faults == 1 ? draw(6) : 5;
     uint64_t came;
     on->reads++;
+    if (on->exchange != 0 && --on->exchange == 0)
+        on->part = on->other;
     if (on->faults == 3 || pm_part_hear(&on->part, request, count, 1, &reply) != PM_HEARD_ANSWERED)
         return 0;
     came = (uint64_t)reply.length - 1;
@@ -89,7 +93,7 @@ static uint64_t ask(void *context, const uint8_t *request, uint64_t count, uint8
     return fate == 1 ? 0 : fate == 2 ? came - 1 : came;
 }
 
-static bus new_bus(uint16_t operation, uint16_t command, uint16_t max, uint16_t high, uint16_t low, uint16_t min) {
+static bus new_bus_of(uint8_t mode, uint16_t operation, uint16_t command, uint16_t max, uint16_t high, uint16_t low, uint16_t min) {
     bus on;
     pm_part_config config;
     pm_part_output output;
@@ -98,7 +102,7 @@ static bus new_bus(uint16_t operation, uint16_t command, uint16_t max, uint16_t 
     memset(&output, 0, sizeof output);
     config.address = 0x58;
     config.outputs = 1;
-    output.mode = 0x14; /* ULINEAR16, 2^-12 V */
+    output.mode = mode;
     output.operation = operation;
     output.command = command;
     output.max = max;
@@ -110,6 +114,10 @@ static bus new_bus(uint16_t operation, uint16_t command, uint16_t max, uint16_t 
         exit(1);
     on.old = on.wanted = commanded(&on.part);
     return on;
+}
+
+static bus new_bus(uint16_t operation, uint16_t command, uint16_t max, uint16_t high, uint16_t low, uint16_t min) {
+    return new_bus_of(0x14, operation, command, max, high, low, min); /* ULINEAR16, 2^-12 V */
 }
 
 static void tell(const char *what, pm_rail_end end) {
@@ -196,6 +204,37 @@ static void story(void) {
     tell_rail(&host);
 }
 
+/* The same by voltages. */
+static void voltages(void) {
+    pm_host host = new_host();
+    bus on = new_bus(0x80, 0x1000, 0x4000, 0x1800, 0x1000, 0x0800);
+    on.is_told = 1;
+    tell("set 3.3 V", pm_host_run_set(&host, 0, PM_VOUT_COMMAND, 3300000, 40, put, ask, &on));
+    tell_rail(&host);
+    tell("set VOUT_MAX to 3.5 V", pm_host_run_set(&host, 0, PM_VOUT_MAX, 3500000, 40, put, ask, &on));
+    tell("set the margins to 3.4 V", pm_host_run_set(&host, 0, PM_VOUT_MARGIN_HIGH, 3400000, 40, put, ask, &on));
+    tell("and to 3 V", pm_host_run_set(&host, 0, PM_VOUT_MARGIN_LOW, 3000000, 40, put, ask, &on));
+    tell("set VOUT_MIN to 2.5 V", pm_host_run_set(&host, 0, PM_VOUT_MIN, 2500000, 40, put, ask, &on));
+    tell("set 4 V", pm_host_run_set(&host, 0, PM_VOUT_COMMAND, 4000000, 40, put, ask, &on));
+    tell("set 20 V", pm_host_run_set(&host, 0, PM_VOUT_COMMAND, 20000000, 40, put, ask, &on));
+    tell("set OPERATION", pm_host_run_set(&host, 0, PM_OPERATION, 3300000, 40, put, ask, &on));
+    on.reads = 0;
+    tell("set 3.25 V without a try", pm_host_run_set(&host, 0, PM_VOUT_COMMAND, 3250000, 0, put, ask, &on));
+    tell("set 3.25 V with one", pm_host_run_set(&host, 0, PM_VOUT_COMMAND, 3250000, 1, put, ask, &on));
+    on.faults = 5;
+    tell("set 3.25 V, answers are damaged", pm_host_run_set(&host, 0, PM_VOUT_COMMAND, 3250000, 2, put, ask, &on));
+    printf("  %u reads\n", on.reads);
+    on.faults = 0;
+    on.other = new_bus_of(0x15, 0x80, 0x0800, 0x4000, 0x0C00, 0x0800, 0x0400).part; /* 2^-11 V */
+    on.exchange = 2;
+    tell("set 3.25 V, the part is exchanged behind the learn",
+         pm_host_run_set(&host, 0, PM_VOUT_COMMAND, 3250000, 40, put, ask, &on));
+    on.other = new_bus(0x80, 0x1000, 0x4000, 0x1800, 0x1000, 0x0800).part;
+    on.exchange = 1;
+    tell("set 3.25 V, the part was exchanged before", pm_host_run_set(&host, 0, PM_VOUT_COMMAND, 3250000, 40, put, ask, &on));
+    tell_rail(&host);
+}
+
 /* A word that a part holds. */
 static uint16_t held(const bus *on, uint8_t code) {
     uint16_t word = 0;
@@ -258,6 +297,7 @@ int main(int count, char **words) {
     if (pm_survey_size() != sizeof(pm_survey) || pm_survey_version() != PM_SURVEY_VERSION)
         return 1;
     story();
+    voltages();
     random_rails(count > 1 ? (unsigned)atol(words[1]) : 3000);
     return 0;
 }

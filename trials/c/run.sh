@@ -294,6 +294,7 @@ pm_survey_for(&survey, 0, &wanted, 8)
 pm_host_survey(&host, &survey)
 pm_host_run_survey(&host, &survey, 0, 0, 0).kind
 pm_host_run_apply(&host, 0, &wanted, 8, 0, 0, 0).kind
+pm_host_run_set(&host, 0, PM_VOUT_COMMAND, 3300000, 8, 0, 0, 0).kind
 END
 }
 

@@ -30,6 +30,7 @@
 #ifndef PM_H
 #define PM_H
 
+#include <stddef.h>
 #include <stdint.h>
 
 /* Before each call whose answer must be asked, since nothing was sent where it is a refusal: a compiler warns where the
@@ -489,7 +490,7 @@ static inline pm_step pm_host_run(pm_host *host, pm_write write, pm_read read, v
     return step;
 }
 
-/* How the two loops below end. */
+/* How the loops below end. */
 enum {
     PM_REACHED = 1,       /* a survey: all that it is for is known; an apply: each wanted word is held, as its last survey says */
     PM_REFUSED = 2,       /* a call was refused: `number` says why, and `code` which register that is about, or 0 */
@@ -541,12 +542,73 @@ static inline pm_rail_end pm_run_jobs_of(pm_host *host, pm_survey *survey, uint1
 }
 
 /* Carries a survey out, job after job, until it ends by its own rule, has no tries left or is refused. This loop and the
- * next are C of the header too: tried under faults (examples/c/rail.c), and not proved. Which job, order or end comes next
+ * next ones are C of the header too: tried under faults (examples/c/rail.c), and not proved. Which job, order or end comes next
  * is what the library says. */
 PM_MUST_USE
 static inline pm_rail_end pm_host_run_survey(pm_host *host, pm_survey *survey, pm_write write, pm_read read, void *context) {
     uint16_t left = 0xFFFF, fault = 0;
     return pm_run_jobs_of(host, survey, &left, &fault, write, read, context);
+}
+
+/* Whether the format of an output is known, and is another one than this. */
+static inline int pm_is_other_format(const pm_host *host, uint8_t output, const pm_format *form) {
+    pm_format now = {0, 0, 0, 0};
+    return pm_host_format(host, output, &now) == PM_OK &&
+           (now.kind != form->kind || now.exponent != form->exponent || now.m != form->m || now.b != form->b);
+}
+
+/* pm_host_run_apply, whose tries and last fault are the caller's. Where the words were made by a format, and a survey learns
+ * another one, the end is of the kind 0, and nothing more is ordered. */
+static inline pm_rail_end pm_run_plan(pm_host *host, uint8_t output, const pm_wanted *wanted, const pm_format *form, uint16_t *left,
+                                      uint16_t *fault, pm_write write, pm_read read, void *context) {
+    unsigned differed = 0; /* a bit for each register whose order has differed, by the lower digit of its code */
+    for (;;) {
+        int has_ordered = 0;
+        pm_survey survey;
+        pm_plan_order next;
+        pm_rail_end end;
+        uint8_t number = pm_survey_for(&survey, output, wanted, *left);
+        if (number != PM_OK)
+            return pm_ended(PM_REFUSED, number, 0, 0);
+        end = pm_run_jobs_of(host, &survey, left, fault, write, read, context);
+        if (end.number == PM_L7_MISSING_REGISTER) { /* the plan says which */
+            number = pm_host_plan(host, output, wanted, &next);
+            return pm_ended(PM_REFUSED, number == PM_OK || number == PM_PLAN_DONE ? end.number : number, next.code, 0);
+        }
+        if (end.kind != PM_REACHED)
+            return end;
+        if (form != NULL && pm_is_other_format(host, output, form))
+            return pm_ended(0, 0, 0, 0);
+        for (;;) {
+            pm_step step;
+            unsigned bit;
+            number = *left == 0 ? pm_host_plan(host, output, wanted, &next) : pm_host_next(host, output, wanted, &next);
+            if (number == PM_PLAN_DONE)
+                break;
+            if (number != PM_OK && number != PM_P4_NOT_KNOWN)
+                return pm_ended(PM_REFUSED, number, next.code, 0);
+            if (*left == 0)
+                return pm_ended(PM_SPENT, 0, next.code, *fault);
+            if (number == PM_OK)
+                has_ordered = 1;
+            else if ((number = pm_host_check(host, output, next.code)) != PM_OK)
+                return pm_ended(PM_REFUSED, number, next.code, 0);
+            *left = (uint16_t)(*left - 1);
+            step = pm_host_run(host, write, read, context);
+            if (step.kind > PM_LEARNED)
+                return pm_ended(PM_REFUSED, (uint8_t)step.kind, 0, 0);
+            if (step.kind == PM_UNKNOWN)
+                *fault = step.word;
+            if (step.kind != PM_DIFFERS)
+                continue;
+            bit = 1u << (next.code & 15);
+            if (differed & bit)
+                return pm_ended(PM_STILL_DIFFERS, 0, next.code, step.word);
+            differed |= bit;
+        }
+        if (!has_ordered)
+            return pm_ended(PM_REACHED, 0, 0, 0);
+    }
 }
 
 /* Brings an output's registers to the wanted words by at most this many jobs: a survey for the plan, then order after order,
@@ -557,51 +619,51 @@ PM_MUST_USE
 static inline pm_rail_end pm_host_run_apply(pm_host *host, uint8_t output, const pm_wanted *wanted, uint16_t tries,
                                             pm_write write, pm_read read, void *context) {
     uint16_t left = tries, fault = 0;
-    unsigned differed = 0; /* a bit for each register whose order has differed, by the lower digit of its code */
+    return pm_run_plan(host, output, wanted, NULL, &left, &fault, write, read, context);
+}
+
+/* The wish of a voltage's register, NULL of another one. */
+static inline pm_wish *pm_wish_of(pm_wanted *wanted, uint8_t code) {
+    return code == PM_VOUT_COMMAND ? &wanted->command : code == PM_VOUT_MAX ? &wanted->max
+           : code == PM_VOUT_MARGIN_HIGH ? &wanted->margin_high : code == PM_VOUT_MARGIN_LOW ? &wanted->margin_low
+           : code == PM_VOUT_MIN ? &wanted->min : NULL;
+}
+
+/* Brings a voltage of an output to the word nearest to microvolts by at most this many jobs: it learns the output's format,
+ * makes the word in it, and goes on as pm_host_run_apply. Where a survey learns another format, as of a part that was exchanged,
+ * it begins again. PM_REFUSED with `code` where it is no voltage (H5) or the format has no such word (N3, N4, N5), too. */
+PM_MUST_USE
+static inline pm_rail_end pm_host_run_set(pm_host *host, uint8_t output, uint8_t code, int64_t microvolts, uint16_t tries,
+                                          pm_write write, pm_read read, void *context) {
+    uint16_t left = tries, fault = 0;
     for (;;) {
-        int has_ordered = 0;
-        pm_survey survey;
-        pm_plan_order next;
+        pm_wanted wanted = {{0, 0}, {0, 0}, {0, 0}, {0, 0}, {0, 0}};
+        pm_wish *wish = pm_wish_of(&wanted, code);
+        pm_format form;
+        pm_step step;
         pm_rail_end end;
-        uint8_t number = pm_survey_for(&survey, output, wanted, left);
+        uint8_t number = wish == NULL ? (uint8_t)PM_H5_BAD_WORD : left == 0 ? (uint8_t)PM_OK : pm_host_learn(host, output);
         if (number != PM_OK)
-            return pm_ended(PM_REFUSED, number, 0, 0);
-        end = pm_run_jobs_of(host, &survey, &left, &fault, write, read, context);
-        if (end.number == PM_L7_MISSING_REGISTER) { /* the plan says which */
-            number = pm_host_plan(host, output, wanted, &next);
-            return pm_ended(PM_REFUSED, number == PM_OK || number == PM_PLAN_DONE ? end.number : number, next.code, 0);
+            return pm_ended(PM_REFUSED, number, code, 0);
+        if (left == 0)
+            return pm_ended(PM_SPENT, 0, 0, fault);
+        left = (uint16_t)(left - 1);
+        step = pm_host_run(host, write, read, context);
+        if (step.kind > PM_LEARNED)
+            return pm_ended(PM_REFUSED, (uint8_t)step.kind, 0, 0);
+        if (step.kind != PM_LEARNED) {
+            fault = step.word;
+            continue;
         }
-        if (end.kind != PM_REACHED)
+        number = pm_host_format(host, output, &form);
+        if (number == PM_OK)
+            number = pm_nearest_word(&form, microvolts, &wish->word);
+        if (number != PM_OK)
+            return pm_ended(PM_REFUSED, number, code, 0);
+        wish->has = 1;
+        end = pm_run_plan(host, output, &wanted, &form, &left, &fault, write, read, context);
+        if (end.kind != 0)
             return end;
-        for (;;) {
-            pm_step step;
-            unsigned bit;
-            number = left == 0 ? pm_host_plan(host, output, wanted, &next) : pm_host_next(host, output, wanted, &next);
-            if (number == PM_PLAN_DONE)
-                break;
-            if (number != PM_OK && number != PM_P4_NOT_KNOWN)
-                return pm_ended(PM_REFUSED, number, next.code, 0);
-            if (left == 0)
-                return pm_ended(PM_SPENT, 0, next.code, fault);
-            if (number == PM_OK)
-                has_ordered = 1;
-            else if ((number = pm_host_check(host, output, next.code)) != PM_OK)
-                return pm_ended(PM_REFUSED, number, next.code, 0);
-            left = (uint16_t)(left - 1);
-            step = pm_host_run(host, write, read, context);
-            if (step.kind > PM_LEARNED)
-                return pm_ended(PM_REFUSED, (uint8_t)step.kind, 0, 0);
-            if (step.kind == PM_UNKNOWN)
-                fault = step.word;
-            if (step.kind != PM_DIFFERS)
-                continue;
-            bit = 1u << (next.code & 15);
-            if (differed & bit)
-                return pm_ended(PM_STILL_DIFFERS, 0, next.code, step.word);
-            differed |= bit;
-        }
-        if (!has_ordered)
-            return pm_ended(PM_REACHED, 0, 0, 0);
     }
 }
 #endif
