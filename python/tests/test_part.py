@@ -14,6 +14,9 @@ STORE = bytes.fromhex("B01524")
 
 
 class Made(unittest.TestCase):
+    def test_coefficients_that_are_left_out_are_those_of_millivolts(self):
+        self.assertEqual(Part(ADDRESS, [Output(mode=0x40, command=3300)]).volts(0), Decimal("3.3"))
+
     def test_numbers_that_its_memory_cannot_hold_are_refused(self):
         """A field would keep another number without a word."""
         for place, least, most in ((0, -2**15, 2**15 - 1), (1, -2**15, 2**15 - 1), (2, -12, 12)):

@@ -144,5 +144,19 @@ class Busy(unittest.TestCase):
         self.assertEqual((found.late, slept.call_count), (0, 8))
 
 
+class WritesWithAFault(unittest.TestCase):
+    def test_two_tries_of_three_have_to_say_the_same(self):
+        taken, refused, unknown = (True, "taken"), (False, "not taken"), (None, "not known, STATUS_CML 80")
+        for tries, found in (((taken, taken), (False, "taken")), ((refused, unknown, refused), (True, "not taken")),
+                             ((taken, refused, unknown), (False, "not known, it was taken in one try and not in another")),
+                             ((refused, unknown, taken), (False, "not known, it was taken in one try and not in another")),
+                             ((unknown, unknown, taken), (False, "not known, two tries of three failed; in the other: taken")),
+                             ((unknown, taken, unknown), (False, "not known, STATUS_CML 80")),
+                             ((unknown, unknown, unknown), (False, "not known, STATUS_CML 80"))):
+            probe = Probe(None, 0x58)
+            with self.subTest(tries=tries), mock.patch.object(probe, "_tried", side_effect=tries):
+                self.assertEqual(probe._became_of(b""), found)
+
+
 if __name__ == "__main__":
     unittest.main()
