@@ -48,6 +48,7 @@ impl Counted {
         match end {
             NotDone::Refused(refusal) => parts.push(format!("refused: {refusal}")),
             NotDone::Unknown { fault: Some(fault), .. } => parts.push(format!("the last answer: {fault}")),
+            NotDone::NoFormat => parts.push(end.to_string()),
             _ if self.failed < self.tried => parts.push(otherwise.into()),
             _ => {}
         }
@@ -73,7 +74,7 @@ fn order(bus: &mut Counted, address: u8, output: u8, microvolts: i64) -> Result<
     let mut host = Host::new(address, output + 1, 3)?;
     let cell = Cell::Output(output, Register::VoutCommand);
     if let Err(end) = bus.carry_out(&mut host, Job::Learn(output)) {
-        bus.say_why("learn", &end, "no answer was good, or its format is neither ULINEAR16 nor DIRECT");
+        bus.say_why("learn", &end, "no answer was good");
         return Ok(ExitCode::from(1));
     }
     let end = bus.carry_out(&mut host, Job::OrderMicro(cell, microvolts));
@@ -84,7 +85,7 @@ fn order(bus: &mut Counted, address: u8, output: u8, microvolts: i64) -> Result<
         }
         Ok(_) => "done",
         Err(NotDone::Differs { .. }) => "differs",
-        Err(NotDone::Unknown { .. }) => "unknown",
+        Err(NotDone::Unknown { .. } | NotDone::NoFormat) => "unknown",
     };
     match (host.standing(cell)?, host.format(output)?) {
         (Some(word), Some(format)) => println!("ended {said}, confirmed {word:04X}, {} uV", format.microvolts(word)?),

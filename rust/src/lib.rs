@@ -24,7 +24,7 @@ pub use number::Format;
 pub use packet::{pec, Block, Bytes, Data, Packet};
 pub use part::{Heard, NoAnswer, Output, Part, Reading};
 pub use patient::{Clock, NotHeard, Patient, Unheard};
-pub use rail::{NotPlanned, NotReached, PlanOrder, Power, Rail, Survey, Surveyed, Wanted};
+pub use rail::{NotPlanned, NotReached, PlanOrder, Power, Rail, Survey, Surveyed, Wanted, APPLY_TRIES, SURVEY_TRIES};
 pub use refusal::Refusal;
 
 /// The name of how a job stands, by the number that the library gives it.

@@ -3,10 +3,16 @@
 use core::{error, fmt};
 
 use crate::bus::Bus;
+use crate::done::{write_why, NO_FORMAT};
 use crate::ffi;
-use crate::host::{within_of, Band, Cell, Host, Register, Step, Within};
+use crate::host::{within_of, Band, Cell, Failures, Host, Register, Step, Within};
+use crate::number::Format;
 use crate::refusal::{accepted, Refusal};
 
+/// So many jobs are ample for a survey, where a caller has no number of his own.
+pub const SURVEY_TRIES: u16 = 32;
+/// The same of an apply, and of a voltage that is set.
+pub const APPLY_TRIES: u16 = 64;
 const PLAN_DONE: u8 = 0x94;
 
 /// Whether an output is on, by the bytes that its OPERATION may be.
@@ -184,11 +190,17 @@ pub enum NotReached<E> {
         /// The word that was read back last.
         word: u16,
     },
-    /// No try is left.
+    /// No try is left. Both fields are of all jobs of the call, and both are `None` only where no transaction failed and each
+    /// answer was good.
     Spent {
         /// What the bus said of the last transaction that failed, where one did.
         error: Option<E>,
+        /// What was wrong with the last answer that wasn't good, F1 to F5, where there was one.
+        fault: Option<Refusal>,
     },
+    /// A learn had good answers, and they name no format that this host has, as VOUT_MODE 21h, which is VID. No further job
+    /// was begun.
+    NoFormat,
 }
 
 impl<E> From<NotPlanned> for NotReached<E> {
@@ -211,7 +223,11 @@ impl<E> fmt::Display for NotReached<E> {
             NotReached::Differs { register, word } => {
                 write!(to, "{register:?} holds {word:04X} after two orders: they were lost, refused, limited or rounded")
             }
-            NotReached::Spent { .. } => to.write_str("no try is left, and not all is known"),
+            NotReached::Spent { error, fault } => {
+                to.write_str("no try is left, and not all is known")?;
+                write_why(to, "the last bad answer", *fault, error.is_some())
+            }
+            NotReached::NoFormat => to.write_str(NO_FORMAT),
         }
     }
 }
@@ -219,9 +235,25 @@ impl<E> fmt::Display for NotReached<E> {
 impl<E: error::Error + 'static> error::Error for NotReached<E> {
     fn source(&self) -> Option<&(dyn error::Error + 'static)> {
         match self {
-            NotReached::Spent { error: Some(error) } => Some(error),
+            NotReached::Spent { error: Some(error), .. } => Some(error),
             _ => None,
         }
+    }
+}
+
+/// How many jobs a call may still begin, and what failed in those that it carried out.
+struct Tries<E> {
+    left: u16,
+    failures: Failures<E>,
+}
+
+impl<E> Tries<E> {
+    fn new(left: u16) -> Tries<E> {
+        Tries { left, failures: Failures::default() }
+    }
+
+    fn spent(&mut self) -> NotReached<E> {
+        NotReached::Spent { error: self.failures.error.take(), fault: self.failures.fault }
     }
 }
 
@@ -267,22 +299,31 @@ impl Host {
 
     /// Carries a survey out over a bus, job after job.
     pub fn run_survey<B: Bus>(&mut self, survey: &mut Survey, bus: &mut B) -> Result<(), NotReached<B::Error>> {
-        let mut left = u16::MAX; // the survey counts its own
-        self.surveyed(survey, bus, &mut left)
+        self.surveyed(survey, bus, &mut Tries::new(u16::MAX)) // the survey counts its own
     }
 
-    fn surveyed<B: Bus>(&mut self, survey: &mut Survey, bus: &mut B, left: &mut u16) -> Result<(), NotReached<B::Error>> {
-        let mut error = None;
+    fn surveyed<B: Bus>(
+        &mut self,
+        survey: &mut Survey,
+        bus: &mut B,
+        tries: &mut Tries<B::Error>,
+    ) -> Result<(), NotReached<B::Error>> {
         loop {
             match self.survey(survey)? {
-                Surveyed::Begun => {}
+                Surveyed::Begun => survey.told(self.tried(bus, tries)?)?,
                 Surveyed::Done => return Ok(()),
-                Surveyed::Spent => return Err(NotReached::Spent { error }),
+                Surveyed::Spent => return Err(tries.spent()),
                 Surveyed::Stuck => return Err(Refusal::L7MissingRegister.into()),
             }
-            *left = left.saturating_sub(1);
-            let step = self.run_to_end(bus, &mut error)?;
-            survey.told(step)?;
+        }
+    }
+
+    /// Carries the open job out, which takes a try.
+    fn tried<B: Bus>(&mut self, bus: &mut B, tries: &mut Tries<B::Error>) -> Result<Step, NotReached<B::Error>> {
+        tries.left = tries.left.saturating_sub(1);
+        match self.run_to_end(bus, &mut tries.failures)? {
+            Step::Unknown { .. } if tries.failures.is_answered => Err(NotReached::NoFormat),
+            step => Ok(step),
         }
     }
 
@@ -312,10 +353,23 @@ impl Host {
         tries: u16,
         bus: &mut B,
     ) -> Result<(), NotReached<B::Error>> {
-        let (mut left, mut differed) = (tries, [false; Register::ALL.len()]);
+        self.applied(output, wanted, None, bus, &mut Tries::new(tries)).map(|_| ())
+    }
+
+    /// The body of `run_apply`. Where the words were made by a format, each survey has to find that one: it answers false, and
+    /// has ordered nothing behind the survey, where it found another.
+    fn applied<B: Bus>(
+        &mut self,
+        output: u8,
+        wanted: &Wanted,
+        format: Option<Format>,
+        bus: &mut B,
+        tries: &mut Tries<B::Error>,
+    ) -> Result<bool, NotReached<B::Error>> {
+        let mut differed = [false; Register::ALL.len()];
         loop {
-            let mut survey = Survey::of_plan(output, wanted, left)?;
-            if let Err(why) = self.surveyed(&mut survey, bus, &mut left) {
+            let mut survey = Survey::of_plan(output, wanted, tries.left)?;
+            if let Err(why) = self.surveyed(&mut survey, bus, tries) {
                 return Err(match why {
                     NotReached::Refused(NotPlanned { refusal: Refusal::L7MissingRegister, .. }) => {
                         self.plan(output, wanted).map_or_else(NotReached::from, |_| why)
@@ -324,17 +378,22 @@ impl Host {
                     _ => why,
                 });
             }
-            if !self.ordered(output, wanted, &mut left, &mut differed, bus)? {
-                return Ok(());
+            if format.is_some() && self.format(output)? != format {
+                return Ok(false);
+            }
+            if !self.ordered(output, wanted, &mut differed, bus, tries)? {
+                return Ok(true);
             }
         }
     }
 
     /// Brings a voltage of an output to the word nearest to microvolts over a bus, by at most so many jobs, and says what the
-    /// output commands then: it learns the output's format where that isn't known, and goes on as `run_apply`.
+    /// output commands then: it learns the output's format first, whatever is known, and goes on as `run_apply`. Where a survey
+    /// finds another format than the word was made by, as of a part that was exchanged, nothing is ordered by that word: it begins
+    /// again with the learn, within the same tries.
     ///
-    /// H5 of OPERATION, which is no voltage; N3, N4, N5 where the format has no such word; and what `run_apply` refuses, as P2
-    /// and P3 beyond the limits. What is refused before the first order has ordered nothing; behind one, as where the part
+    /// `NoFormat` where the output's format is none that this host has. H5 of OPERATION, which is no voltage; N3, N4, N5 where the
+    /// format has no such word; and what `run_apply` refuses, as P2 and P3 beyond the limits. What is refused before the first order has ordered nothing; behind one, as where the part
     /// restarted protected, an order may have gone. The answer may be outside what was wanted where another
     /// register is selected: look at its band.
     ///
@@ -358,21 +417,25 @@ impl Host {
         tries: u16,
         bus: &mut B,
     ) -> Result<Rail, NotReached<B::Error>> {
-        let (mut left, mut error) = (tries, None);
-        let format = loop {
-            if let Some(format) = self.format(output)? {
-                break format;
+        let mut tries = Tries::new(tries);
+        loop {
+            let format = self.learned(output, bus, &mut tries)?;
+            let wanted = Wanted::one(register, format.nearest_word(microvolts)?).ok_or(Refusal::H5BadWord)?;
+            if self.applied(output, &wanted, Some(format), bus, &mut tries)? {
+                return Ok(self.rail(output)?);
             }
-            if left == 0 {
-                return Err(NotReached::Spent { error });
-            }
-            left -= 1;
+        }
+    }
+
+    /// Learns a format, whatever is known of it.
+    fn learned<B: Bus>(&mut self, output: u8, bus: &mut B, tries: &mut Tries<B::Error>) -> Result<Format, NotReached<B::Error>> {
+        while tries.left > 0 {
             self.learn(output)?;
-            let _ = self.run_to_end(bus, &mut error)?; // (the format says whether it was learned)
-        };
-        let wanted = Wanted::one(register, format.nearest_word(microvolts)?).ok_or(Refusal::H5BadWord)?;
-        self.run_apply(output, &wanted, left, bus)?;
-        Ok(self.rail(output)?)
+            if let (Step::Learned, Some(format)) = (self.tried(bus, tries)?, self.format(output)?) {
+                return Ok(format);
+            }
+        }
+        Err(tries.spent())
     }
 
     /// Gives the orders of a plan until none is left, and says whether there was one.
@@ -380,29 +443,26 @@ impl Host {
         &mut self,
         output: u8,
         wanted: &Wanted,
-        left: &mut u16,
         differed: &mut [bool; Register::ALL.len()],
         bus: &mut B,
+        tries: &mut Tries<B::Error>,
     ) -> Result<bool, NotReached<B::Error>> {
-        let (mut has_ordered, mut error) = (false, None);
+        let mut has_ordered = false;
         loop {
-            let planned = if *left == 0 { self.plan(output, wanted) } else { self.next(output, wanted) };
+            let planned = if tries.left == 0 { self.plan(output, wanted) } else { self.next(output, wanted) };
             let order = match planned {
                 Ok(None) => return Ok(has_ordered),
+                Ok(Some(_)) if tries.left == 0 => return Err(tries.spent()),
                 Ok(order) => order,
-                Err(NotPlanned { refusal: Refusal::P4NotKnown, cell: Some(_) }) if *left == 0 => None,
+                Err(NotPlanned { refusal: Refusal::P4NotKnown, cell: Some(_) }) if tries.left == 0 => return Err(tries.spent()),
                 Err(NotPlanned { refusal: Refusal::P4NotKnown, cell: Some(cell) }) => {
                     self.check(cell)?;
                     None
                 }
                 Err(why) => return Err(why.into()),
             };
-            if *left == 0 {
-                return Err(NotReached::Spent { error });
-            }
-            *left -= 1;
             has_ordered |= order.is_some();
-            let step = self.run_to_end(bus, &mut error)?;
+            let step = self.tried(bus, tries)?;
             if let (Some(PlanOrder { register, .. }), Step::Differs(word)) = (order, step) {
                 let place = &mut differed[register as usize];
                 if *place {

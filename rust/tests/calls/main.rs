@@ -1,6 +1,7 @@
 //! Each call on its good path, and refusals; over the model part, whole and with faults.
 
 mod ends;
+mod formats;
 #[cfg(target_os = "linux")]
 mod other_library;
 mod patience;
@@ -9,6 +10,10 @@ mod rails;
 use pm_host::*;
 
 const COMMAND: Cell = Cell::Output(0, Register::VoutCommand);
+
+fn framed(address: u8, bytes: &[u8]) -> Vec<u8> {
+    [&[address << 1], bytes].concat()
+}
 
 fn part() -> Part {
     Part::new(0x58, &[Output { command: 0x34CD, ..Output::default() }, Output::default()], (1, 0, 3)).unwrap()
