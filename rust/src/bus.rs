@@ -45,3 +45,11 @@ pub trait Bus {
     /// itself, so this call mustn't; nor may it leave an older answer in the buffer, which is zeros before.
     fn transaction(&mut self, address: u8, operations: &mut [Operation<'_>]) -> Result<(), Self::Error>;
 }
+
+impl<B: Bus + ?Sized> Bus for &mut B {
+    type Error = B::Error;
+
+    fn transaction(&mut self, address: u8, operations: &mut [Operation<'_>]) -> Result<(), B::Error> {
+        (**self).transaction(address, operations)
+    }
+}

@@ -121,15 +121,30 @@ pub enum Step {
     Learned,
 }
 
-impl fmt::Display for Step {
-    fn fmt(&self, to: &mut fmt::Formatter<'_>) -> fmt::Result {
+impl Step {
+    /// Its number, as the header has it.
+    pub(crate) const fn kind(self) -> u16 {
         match self {
-            Step::Next => to.write_str("next"),
-            Step::Done => to.write_str("done"),
-            Step::Differs(word) => write!(to, "differs {word:04X}"),
-            Step::Unknown { fault: None } => to.write_str("unknown"),
-            Step::Unknown { fault: Some(fault) } => write!(to, "unknown, the last answer: {fault}"),
-            Step::Learned => to.write_str("learned"),
+            Step::Next => 0,
+            Step::Done => 1,
+            Step::Differs(_) => 2,
+            Step::Unknown { .. } => 3,
+            Step::Learned => 4,
+        }
+    }
+}
+
+impl fmt::Display for Step {
+    /// The name that the library has for it, with the word or the fault.
+    fn fmt(&self, to: &mut fmt::Formatter<'_>) -> fmt::Result {
+        let mut name = ffi::NameImage::default();
+        // SAFETY: the reference is valid and overlaps nothing.
+        unsafe { ffi::pm_end_name(self.kind(), &mut name) };
+        to.write_str(name.as_str())?;
+        match self {
+            Step::Differs(word) => write!(to, " {word:04X}"),
+            Step::Unknown { fault: Some(fault) } => write!(to, ", the last answer: {fault}"),
+            _ => Ok(()),
         }
     }
 }
@@ -282,11 +297,32 @@ pub enum Job {
 #[derive(Clone)]
 pub struct Host {
     pub(crate) image: ffi::HostImage,
+    address: u8,
+    outputs: u8,
+    passes: u8,
 }
 
 impl fmt::Debug for Host {
+    /// What it was made with, and each word that is confirmed, in hexadecimal.
     fn fmt(&self, to: &mut fmt::Formatter<'_>) -> fmt::Result {
-        to.debug_struct("Host").finish_non_exhaustive()
+        let mut host = to.debug_struct("Host");
+        host.field("address", &format_args!("0x{:02X}", self.address));
+        host.field("outputs", &self.outputs).field("passes", &self.passes);
+        host.field("confirmed", &Confirmed(self)).finish_non_exhaustive()
+    }
+}
+
+struct Confirmed<'a>(&'a Host);
+
+impl fmt::Debug for Confirmed<'_> {
+    fn fmt(&self, to: &mut fmt::Formatter<'_>) -> fmt::Result {
+        let mut words = to.debug_map();
+        for Known { cell, confirmed, .. } in self.0.known() {
+            if let Some(word) = confirmed {
+                words.entry(&cell, &format_args!("0x{word:04X}"));
+            }
+        }
+        words.finish()
     }
 }
 
@@ -298,7 +334,7 @@ impl Host {
     pub fn new(address: u8, outputs: u8, passes: u8) -> Result<Host, Refusal> {
         let mut image = Host::blank()?;
         accepted(unsafe { ffi::pm_host_new(&mut image, address, outputs, passes) })?;
-        Ok(Host { image })
+        Ok(Host { image, address, outputs, passes })
     }
 
     /// The same of a part whose outputs lack these registers: of VOUT_MAX, the margins and VOUT_MIN, since every part has the
@@ -314,7 +350,25 @@ impl Host {
         };
         let mut image = Host::blank()?;
         accepted(unsafe { ffi::pm_host_new_with(&mut image, address, outputs, passes, &registers) })?;
-        Ok(Host { image })
+        Ok(Host { image, address, outputs, passes })
+    }
+
+    /// The address of its device, 08h to 77h.
+    #[must_use]
+    pub fn address(&self) -> u8 {
+        self.address
+    }
+
+    /// How many outputs the device has, 1 to 8.
+    #[must_use]
+    pub fn outputs(&self) -> u8 {
+        self.outputs
+    }
+
+    /// How many passes a job has at most, 1 to 15.
+    #[must_use]
+    pub fn passes(&self) -> u8 {
+        self.passes
     }
 
     fn blank() -> Result<ffi::HostImage, Refusal> {
@@ -326,8 +380,9 @@ impl Host {
         Ok(ffi::HostImage { held: [0; ffi::HOST_SIZE / 8] })
     }
 
-    /// Gives an output limits, or narrower ones. H4, N5, L1, L6, H3 where an order of the output is open that these would
-    /// refuse.
+    /// Gives an output limits, or narrower ones. They hold for words as the format has them that the last learn found: where the part
+    /// may be another one, or VOUT_MODE may have been written, learn again before an order. H4, N5, L1, L6, H3 where an order of the
+    /// output is open that these would refuse.
     pub fn narrow(&mut self, output: u8, limits: Limits) -> Result<(), Refusal> {
         accepted(unsafe { ffi::pm_host_narrow(&mut self.image, output, limits.least, limits.most) })
     }
@@ -395,7 +450,8 @@ impl Host {
         accepted(unsafe { ffi::pm_host_clear(&mut self.image, output) })
     }
 
-    /// Begins a store of the outputs' settings. H3.
+    /// Begins a store of the outputs' settings, which wears the part's memory: `run` sends its frame once, and a loop of one's own
+    /// that sends what `sending` says sends it in each of `passes` until it is acknowledged. H3.
     pub fn store(&mut self) -> Result<(), Refusal> {
         accepted(unsafe { ffi::pm_host_store(&mut self.image) })
     }

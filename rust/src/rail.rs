@@ -9,9 +9,9 @@ use crate::host::{within_of, Band, Cell, Failures, Host, Register, Step, Within}
 use crate::number::Format;
 use crate::refusal::{accepted, Refusal};
 
-/// So many jobs are ample for a survey, where a caller has no number of his own.
+/// How many jobs a survey may have, where a caller has no number of his own.
 pub const SURVEY_TRIES: u16 = 32;
-/// The same of an apply, and of a voltage that is set.
+/// How many jobs an apply may have, and a voltage that is set, where a caller has no number of his own.
 pub const APPLY_TRIES: u16 = 64;
 const PLAN_DONE: u8 = 0x94;
 
@@ -167,14 +167,7 @@ impl Survey {
 
     /// How the job ended that it asked for: the last step of that job. NoEnd where it goes on.
     pub fn told(&mut self, step: Step) -> Result<(), Refusal> {
-        let kind = match step {
-            Step::Next => 0,
-            Step::Done => 1,
-            Step::Differs(_) => 2,
-            Step::Unknown { .. } => 3,
-            Step::Learned => 4,
-        };
-        accepted(unsafe { ffi::pm_survey_told(&mut self.image, kind) })
+        accepted(unsafe { ffi::pm_survey_told(&mut self.image, step.kind()) })
     }
 }
 
@@ -332,15 +325,16 @@ impl Host {
     ///
     /// Where nothing is due nothing is written, and what is refused before the first order has written nothing. An order that
     /// differs is given once again, and is the end at the second time; a register that isn't known behind an order is checked
-    /// first.
+    /// first. Each learn, check and order is a try; where none is left it ends as `Spent`, which may be behind an order that was
+    /// sent, and before the survey that would have confirmed it.
     ///
     /// ```
-    /// use pm_host::{Band, Host, Output, Part, Power, Wanted, Within};
+    /// use pm_host::{Band, Host, Output, Part, Power, Wanted, Within, APPLY_TRIES};
     ///
     /// let mut bus = Part::new(0x58, &[Output::default()], (1, 0, 3))?;
     /// let mut host = Host::new(0x58, 1, 3)?;
     /// let wanted = Wanted { command: Some(0x34CD), ..Wanted::default() }; // 3.3 V
-    /// host.run_apply(0, &wanted, 40, &mut bus)?;
+    /// host.run_apply(0, &wanted, APPLY_TRIES, &mut bus)?;
     /// let rail = host.rail(0)?;
     /// assert_eq!((rail.power, rail.within), (Power::On, Within::Yes));
     /// assert_eq!(rail.band, Ok(Band { least: 3_300_048, greatest: 3_300_049 }));
@@ -398,14 +392,14 @@ impl Host {
     /// register is selected: look at its band.
     ///
     /// ```
-    /// use pm_host::{Band, Host, Limits, NotPlanned, NotReached, Output, Part, Refusal, Register, Within};
+    /// use pm_host::{Band, Host, Limits, NotPlanned, NotReached, Output, Part, Refusal, Register, Within, APPLY_TRIES};
     ///
     /// let mut bus = Part::new(0x58, &[Output::default()], (1, 0, 3))?;
     /// let mut host = Host::new(0x58, 1, 3)?;
     /// host.narrow(0, Limits { least: 3_200_000, most: 3_465_000 })?;
-    /// let rail = host.set_micro(0, Register::VoutCommand, 3_300_000, 64, &mut bus)?;
+    /// let rail = host.set_micro(0, Register::VoutCommand, 3_300_000, APPLY_TRIES, &mut bus)?;
     /// assert_eq!((rail.band, rail.within), (Ok(Band { least: 3_300_048, greatest: 3_300_049 }), Within::Yes));
-    /// let twelve_volts = host.set_micro(0, Register::VoutCommand, 12_000_000, 64, &mut bus);
+    /// let twelve_volts = host.set_micro(0, Register::VoutCommand, 12_000_000, APPLY_TRIES, &mut bus);
     /// assert!(matches!(twelve_volts, Err(NotReached::Refused(NotPlanned { refusal: Refusal::P3AboveLimit, .. }))));
     /// # Ok::<(), Box<dyn core::error::Error>>(())
     /// ```
