@@ -7,6 +7,8 @@ mod done;
 mod ffi;
 mod host;
 #[cfg(feature = "linux")]
+mod kernel;
+#[cfg(feature = "linux")]
 mod linux;
 mod number;
 mod packet;
