@@ -6,10 +6,12 @@ mod bus;
 mod done;
 mod ffi;
 mod host;
+mod jobs;
 #[cfg(feature = "linux")]
 mod kernel;
 #[cfg(feature = "linux")]
 mod linux;
+mod loops;
 mod number;
 mod packet;
 mod part;
@@ -19,12 +21,14 @@ mod refusal;
 
 pub use bus::{Bus, Operation};
 pub use done::{Done, NotDone};
-pub use host::{Band, Cell, Host, Job, Known, Limits, Possible, Register, Sending, Step, Within};
+pub use host::{Band, Cell, Host, Known, Limits, Possible, Register, Sending, Step, Within};
+pub use jobs::Job;
 #[cfg(feature = "linux")]
 pub use linux::{LinuxBus, NoBus, NoTransfer, SystemClock};
+pub use loops::{NotReached, APPLY_TRIES, SURVEY_TRIES};
 pub use number::Format;
 pub use packet::{pec, Block, Bytes, Data, Packet};
 pub use part::{Heard, NoAnswer, Output, Part, Reading};
 pub use patient::{Clock, NotHeard, Patient, Unheard};
-pub use rail::{NotPlanned, NotReached, PlanOrder, Power, Rail, Survey, Surveyed, Wanted, APPLY_TRIES, SURVEY_TRIES};
+pub use rail::{NotPlanned, PlanOrder, Power, Rail, Survey, Surveyed, Wanted};
 pub use refusal::Refusal;
