@@ -174,6 +174,15 @@ mod tests {
         fs::remove_file(&path).unwrap();
     }
 
+    #[test]
+    fn another_file_is_no_bus() {
+        let null = OpenOptions::new().read(true).write(true).open("/dev/null").unwrap();
+        let went = transfer(&null, &mut [Message::of(0x58, &mut Operation::Write(&[0x10])).unwrap()]);
+        for error in [functions(&null).unwrap_err(), claim(&null, 0x58).unwrap_err(), went.unwrap_err()] {
+            assert_eq!(error.raw_os_error(), Some(25)); // ENOTTY
+        }
+    }
+
     /// The signals up to 31 that wait in this thread now.
     fn waiting() -> Vec<u32> {
         let mut now = Signals([0; 16]);

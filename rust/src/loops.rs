@@ -89,6 +89,14 @@ impl<E> Tries<E> {
         Tries { left, failures: Failures::default() }
     }
 
+    /// Whether the job that ended so wasn't a learn whose good answers name no format.
+    fn has_format(&self, step: Step) -> Result<(), NotReached<E>> {
+        match step {
+            Step::Unknown { .. } if self.failures.is_answered => Err(NotReached::NoFormat),
+            _ => Ok(()),
+        }
+    }
+
     fn spent(&mut self) -> NotReached<E> {
         NotReached::Spent { error: self.failures.error.take(), fault: self.failures.fault }
     }
@@ -108,7 +116,11 @@ impl Host {
     ) -> Result<(), NotReached<B::Error>> {
         loop {
             match self.survey(survey)? {
-                Surveyed::Begun => survey.told(self.tried(bus, tries)?)?,
+                Surveyed::Begun => {
+                    let step = self.tried(bus, tries)?;
+                    survey.told(step)?;
+                    tries.has_format(step)?;
+                }
                 Surveyed::Done => return Ok(()),
                 Surveyed::Spent => return Err(tries.spent()),
                 Surveyed::Stuck => return Err(Refusal::L7MissingRegister.into()),
@@ -117,12 +129,9 @@ impl Host {
     }
 
     /// Carries the open job out, which takes a try.
-    fn tried<B: Bus>(&mut self, bus: &mut B, tries: &mut Tries<B::Error>) -> Result<Step, NotReached<B::Error>> {
+    fn tried<B: Bus>(&mut self, bus: &mut B, tries: &mut Tries<B::Error>) -> Result<Step, Refusal> {
         tries.left = tries.left.saturating_sub(1);
-        match self.run_to_end(bus, &mut tries.failures)? {
-            Step::Unknown { .. } if tries.failures.is_answered => Err(NotReached::NoFormat),
-            step => Ok(step),
-        }
+        self.run_to_end(bus, &mut tries.failures)
     }
 
     /// Brings an output's registers to the wanted words over a bus, by at most so many jobs: a survey for the plan, then order
@@ -228,7 +237,9 @@ impl Host {
     fn learned<B: Bus>(&mut self, output: u8, bus: &mut B, tries: &mut Tries<B::Error>) -> Result<Format, NotReached<B::Error>> {
         while tries.left > 0 {
             self.learn(output)?;
-            if let (Step::Learned, Some(format)) = (self.tried(bus, tries)?, self.format(output)?) {
+            let step = self.tried(bus, tries)?;
+            tries.has_format(step)?;
+            if let (Step::Learned, Some(format)) = (step, self.format(output)?) {
                 return Ok(format);
             }
         }

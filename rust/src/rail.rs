@@ -135,8 +135,8 @@ pub enum Surveyed {
 
 // SAFETY of each call of the library: references are valid and aligned, and the one that is written overlaps nothing.
 impl Survey {
-    /// A survey of what the output commands, of at most so many jobs. H4 above 7; NoSurvey where the library is of another
-    /// version.
+    /// A survey of what the output commands, of at most so many jobs, as [`SURVEY_TRIES`](crate::SURVEY_TRIES). H4 above 7;
+    /// NoSurvey where the library is of another version.
     pub fn new(output: u8, tries: u16) -> Result<Survey, Refusal> {
         let mut image = Survey::blank()?;
         accepted(unsafe { ffi::pm_survey_new(&mut image, output, tries) })?;

@@ -124,6 +124,12 @@ fn a_format_that_no_host_has_ends_a_loop() {
     let end = host.set_micro(0, SET, MICROVOLTS, APPLY_TRIES, &mut bus);
     assert_eq!((end, bus.modes, bus.part.register(0, SET)), (Err(NotReached::NoFormat), 2, Ok(0x1000)));
     assert_eq!((host.sending(), host.format(0)), (Sending::Nothing, Ok(Some(Format::Ulinear16(-12)))));
+    // A survey that ended so may be run once more; it has been told, and counts its jobs: a learn and a second one with four checks.
+    let mut survey = Survey::new(0, 6).unwrap();
+    (bus.from, bus.modes) = (0, 0);
+    assert_eq!((host.run_survey(&mut survey, &mut bus), bus.modes), (Err(NotReached::NoFormat), 1));
+    bus.from = usize::MAX;
+    assert_eq!((host.run_survey(&mut survey, &mut bus), bus.modes), (Ok(()), 2));
 }
 
 /// A part whose transaction of this number from 0 fails, or has a wrong answer where it is a read.
