@@ -1,7 +1,7 @@
 //! An order over a bus of Linux, within limits: `i2c_dev /dev/i2c-1 58 0 3300000 3135000 3465000` orders 3.3 V of output 0 at address
 //! 58, whose load tolerates 3.135 V to 3.465 V. It learns the output's format first. The status is 0 where the ordered word was read
-//! back, 1 where it wasn't or was refused, 2 where an argument is none or the bus can't be used. `examples/c/i2c_dev.c` is the same
-//! without limits.
+//! back, 1 where it wasn't or was refused, 2 where an argument is none or the bus can't be used. Its sibling in C is
+//! `examples/c/i2c_dev.c`.
 //!
 //! ```text
 //! i2c_dev [--share-bus] [--patience=MS] BUS ADDRESS OUTPUT MICROVOLTS LEAST MOST

@@ -196,7 +196,8 @@ impl Host {
     /// Brings a voltage of an output to the word nearest to microvolts over a bus, by at most so many jobs, and says what the
     /// output commands then: it learns the output's format first, whatever is known, and goes on as `run_apply`. Where a survey
     /// finds another format than the word was made by, as of a part that was exchanged, nothing is ordered by that word: it begins
-    /// again with the learn, within the same tries.
+    /// again with the learn, within the same tries. An exchange behind a survey's learn is found by the next survey, which comes
+    /// behind each order.
     ///
     /// `NoFormat` where the output's format is none that this host has. H5 of OPERATION, which is no voltage; N3, N4, N5 where the
     /// format has no such word; and what `run_apply` refuses, as P2 and P3 beyond the limits. What is refused before the first order has ordered nothing; behind one, as where the part

@@ -85,6 +85,12 @@ fn a_part_that_is_exchanged_while_a_voltage_is_set() {
         assert_eq!(rail.band, Ok(Band { least: 3_299_804, greatest: 3_299_805 }), "{at}");
         assert_eq!((bus.parts[1].commanded(0), bus.words), (COMMANDED[1], [WORDS[..sent].to_vec(), vec![WORDS[1]]]), "{at}");
     }
+    // Behind the learn of the first survey the word of the other part may be sent; the next survey finds that.
+    for at in 2..=8 {
+        let (mut host, mut bus) = (Host::new(0x58, 1, 3).unwrap(), Exchanged::new(at));
+        let rail = host.set_micro(0, SET, MICROVOLTS, APPLY_TRIES, &mut bus).unwrap();
+        assert_eq!((rail.band, bus.parts[1].commanded(0)), (Ok(Band { least: 3_299_804, greatest: 3_299_805 }), COMMANDED[1]));
+    }
 }
 
 /// A part whose VOUT_MODE says VID, as a good answer, from a read of it on, by its number from 0.
@@ -124,7 +130,7 @@ fn a_format_that_no_host_has_ends_a_loop() {
     let end = host.set_micro(0, SET, MICROVOLTS, APPLY_TRIES, &mut bus);
     assert_eq!((end, bus.modes, bus.part.register(0, SET)), (Err(NotReached::NoFormat), 2, Ok(0x1000)));
     assert_eq!((host.sending(), host.format(0)), (Sending::Nothing, Ok(Some(Format::Ulinear16(-12)))));
-    // A survey that ended so may be run once more; it has been told, and counts its jobs: a learn and a second one with four checks.
+    // A survey that ended so may be run once more, and counts its jobs: a learn, and a second one with four checks.
     let mut survey = Survey::new(0, 6).unwrap();
     (bus.from, bus.modes) = (0, 0);
     assert_eq!((host.run_survey(&mut survey, &mut bus), bus.modes), (Err(NotReached::NoFormat), 1));
