@@ -1,28 +1,29 @@
-//! An order over a bus of Linux, as `examples/c/i2c_dev.c` has it: `i2c_dev /dev/i2c-1 58 0 3300000` orders 3.3 V of output 0 at
-//! address 58. It learns the output's format first. The status is 0 where the ordered word was read back, 1 where it wasn't, 2
-//! where an argument is none or the bus can't be used.
+//! An order over a bus of Linux, within limits: `i2c_dev /dev/i2c-1 58 0 3300000 3135000 3465000` orders 3.3 V of output 0 at address
+//! 58, whose load tolerates 3.135 V to 3.465 V. It learns the output's format first. The status is 0 where the ordered word was read
+//! back, 1 where it wasn't or was refused, 2 where an argument is none or the bus can't be used. Its sibling in C is
+//! `examples/c/i2c_dev.c`.
 //!
 //! ```text
-//! i2c_dev [--share-bus] [--patience=MS] BUS ADDRESS OUTPUT MICROVOLTS
+//! i2c_dev [--share-bus] [--patience=MS] BUS ADDRESS OUTPUT MICROVOLTS LEAST MOST
 //! i2c_dev [--share-bus] [--patience=MS] BUS ADDRESS store
 //! ```
 
-use pm_host::{Bus, Cell, Done, Host, Job, LinuxBus, NotDone, NotHeard, Operation, Patient, Register, SystemClock};
+use pm_host::{Bus, Cell, Done, Host, Job, Limits, LinuxBus, NotDone, Operation, Patient, Register, SystemClock};
 use std::error::Error;
 use std::process::ExitCode;
 
-/// A patient bus, and what became of the frames of the last job.
-struct Counted {
-    bus: Patient<LinuxBus, SystemClock>,
+/// A bus, and what became of the frames of the last job.
+struct Counted<B> {
+    bus: B,
     tried: usize,
     failed: usize,
     why: String,
 }
 
-impl Bus for Counted {
-    type Error = NotHeard<pm_host::NoTransfer>;
+impl<B: Bus<Error: Error>> Bus for Counted<B> {
+    type Error = B::Error;
 
-    fn transaction(&mut self, address: u8, operations: &mut [Operation<'_>]) -> Result<(), Self::Error> {
+    fn transaction(&mut self, address: u8, operations: &mut [Operation<'_>]) -> Result<(), B::Error> {
         let ended = self.bus.transaction(address, operations);
         self.tried += 1;
         if let Err(why) = &ended {
@@ -33,14 +34,18 @@ impl Bus for Counted {
     }
 }
 
-impl Counted {
-    fn carry_out(&mut self, host: &mut Host, job: Job) -> Result<Done, NotDone<<Counted as Bus>::Error>> {
+impl<B: Bus<Error: Error>> Counted<B> {
+    fn new(bus: B) -> Counted<B> {
+        Counted { bus, tried: 0, failed: 0, why: String::new() }
+    }
+
+    fn carry_out(&mut self, host: &mut Host, job: Job) -> Result<Done, NotDone<B::Error>> {
         (self.tried, self.failed) = (0, 0);
         host.carry_out(job, self)
     }
 
     /// Why a job didn't end well: which transfers failed, what the last answer had, or what else it means.
-    fn say_why(&self, job: &str, end: &NotDone<<Counted as Bus>::Error>, otherwise: &str) {
+    fn say_why(&self, job: &str, end: &NotDone<B::Error>, otherwise: &str) {
         let mut parts = Vec::new();
         if self.failed > 0 {
             parts.push(format!("{} of {} transfers failed, the last: {}", self.failed, self.tried, self.why));
@@ -48,6 +53,7 @@ impl Counted {
         match end {
             NotDone::Refused(refusal) => parts.push(format!("refused: {refusal}")),
             NotDone::Unknown { fault: Some(fault), .. } => parts.push(format!("the last answer: {fault}")),
+            NotDone::NoFormat => parts.push("the output's format is neither ULINEAR16 nor DIRECT".into()),
             _ if self.failed < self.tried => parts.push(otherwise.into()),
             _ => {}
         }
@@ -55,25 +61,42 @@ impl Counted {
     }
 }
 
-fn bad(what: &str, word: &str, give: &str) -> ExitCode {
-    eprintln!("i2c_dev: {what} '{word}': give {give}");
-    ExitCode::from(2)
+const GIVE: &str =
+    "give BUS ADDRESS OUTPUT MICROVOLTS LEAST MOST, as /dev/i2c-1 58 0 3300000 3135000 3465000 for 3.3 V where the load \
+                    tolerates 3.135 V to 3.465 V, or BUS ADDRESS store";
+
+type Board = Patient<LinuxBus, SystemClock>;
+
+/// What the command line asks for.
+struct Asked {
+    bus: u32,
+    address: u8,
+    voltage: Option<Voltage>,
+    is_shared: bool,
+    patience: Option<u32>,
+}
+
+/// A voltage of an output, and what its load tolerates.
+struct Voltage {
+    output: u8,
+    microvolts: i64,
+    limits: Limits,
 }
 
 /// The status 2 where a line is held low, since nobody is behind an acknowledgement then.
-fn held_low(bus: &Counted) -> Option<ExitCode> {
-    bus.bus.bus().is_held_low().then(|| {
-        eprintln!("i2c_dev: a line is held low: address 02, which no part may have, acknowledges");
-        ExitCode::from(2)
-    })
+fn held_low(bus: &Counted<Board>) -> Option<ExitCode> {
+    let is_low = bus.bus.bus().is_held_low();
+    is_low.then(|| unusable("a line is held low: address 02, which no part may have, acknowledges"))
 }
 
-/// Orders a voltage of an output, whose format is learned first.
-fn order(bus: &mut Counted, address: u8, output: u8, microvolts: i64) -> Result<ExitCode, pm_host::Refusal> {
+/// Orders a voltage of an output within its limits. Its format is learned first.
+fn order<B: Bus<Error: Error>>(bus: &mut Counted<B>, address: u8, voltage: &Voltage) -> Result<ExitCode, pm_host::Refusal> {
+    let Voltage { output, microvolts, limits } = *voltage;
     let mut host = Host::new(address, output + 1, 3)?;
+    host.narrow(output, limits)?;
     let cell = Cell::Output(output, Register::VoutCommand);
     if let Err(end) = bus.carry_out(&mut host, Job::Learn(output)) {
-        bus.say_why("learn", &end, "no answer was good, or its format is neither ULINEAR16 nor DIRECT");
+        bus.say_why("learn", &end, "no answer was good");
         return Ok(ExitCode::from(1));
     }
     let end = bus.carry_out(&mut host, Job::OrderMicro(cell, microvolts));
@@ -84,7 +107,7 @@ fn order(bus: &mut Counted, address: u8, output: u8, microvolts: i64) -> Result<
         }
         Ok(_) => "done",
         Err(NotDone::Differs { .. }) => "differs",
-        Err(NotDone::Unknown { .. }) => "unknown",
+        Err(NotDone::Unknown { .. } | NotDone::NoFormat) => "unknown",
     };
     match (host.standing(cell)?, host.format(output)?) {
         (Some(word), Some(format)) => println!("ended {said}, confirmed {word:04X}, {} uV", format.microvolts(word)?),
@@ -101,7 +124,7 @@ fn order(bus: &mut Counted, address: u8, output: u8, microvolts: i64) -> Result<
 }
 
 /// Sends STORE_USER_ALL, once.
-fn store(bus: &mut Counted, address: u8) -> Result<ExitCode, pm_host::Refusal> {
+fn store(bus: &mut Counted<Board>, address: u8) -> Result<ExitCode, pm_host::Refusal> {
     let end = bus.carry_out(&mut Host::new(address, 1, 3)?, Job::Store);
     if let Some(status) = held_low(bus) {
         return Ok(status);
@@ -116,70 +139,104 @@ fn store(bus: &mut Counted, address: u8) -> Result<ExitCode, pm_host::Refusal> {
     })
 }
 
-/// A whole number without a `+`.
-fn whole(word: &str, base: u32) -> Option<i64> {
-    i64::from_str_radix(word, base).ok().filter(|_| !word.starts_with('+'))
+/// A whole number without a `+`, where it is in this range.
+fn whole(what: &str, word: &str, base: u32, range: std::ops::RangeInclusive<i64>, give: &str) -> Result<i64, String> {
+    let found = i64::from_str_radix(word, base).ok().filter(|it| !word.starts_with('+') && range.contains(it));
+    found.ok_or_else(|| format!("{what} '{word}': give {give}"))
 }
 
-fn main() -> ExitCode {
-    let (mut is_shared, mut patience, mut words) = (false, None, Vec::new());
-    for word in std::env::args().skip(1) {
+fn microvolts(what: &str, word: &str) -> Result<i64, String> {
+    whole(what, word, 10, i64::MIN..=i64::MAX, "a whole number, as 3300000 for 3.3 V")
+}
+
+fn asked(words: impl Iterator<Item = String>) -> Result<Asked, String> {
+    let (mut is_shared, mut patience, mut rest) = (false, None, Vec::new());
+    for word in words {
         if word == "--share-bus" {
             is_shared = true;
         } else if let Some(given) = word.strip_prefix("--patience=") {
-            match whole(given, 10).filter(|it| (0..=60_000).contains(it)) {
-                Some(milliseconds) => patience = Some(milliseconds as u32),
-                None => return bad("patience", given, "milliseconds, 0 to 60000"),
-            }
+            patience = Some(whole("patience", given, 10, 0..=60_000, "milliseconds, 0 to 60000")? as u32);
         } else {
-            words.push(word);
+            rest.push(word);
         }
     }
-    let words: Vec<&str> = words.iter().map(String::as_str).collect();
-    let (path, address, rest) = match words[..] {
+    let rest: Vec<&str> = rest.iter().map(String::as_str).collect();
+    let (path, address, voltage) = match rest[..] {
         [path, address, "store"] => (path, address, None),
-        [path, address, output, microvolts] => (path, address, Some((output, microvolts))),
-        _ => {
-            eprintln!("i2c_dev: give BUS ADDRESS OUTPUT MICROVOLTS, as /dev/i2c-1 58 0 3300000, or BUS ADDRESS store");
-            return ExitCode::from(2);
-        }
+        [path, address, output, volts, least, most] => (path, address, Some([output, volts, least, most])),
+        _ => return Err(GIVE.into()),
     };
-    let Some(number) = path.strip_prefix("/dev/i2c-").and_then(|it| it.parse().ok()) else {
-        return bad("bus", path, "/dev/i2c-N");
-    };
+    let bus = path.strip_prefix("/dev/i2c-").and_then(|it| it.parse().ok());
+    let bus = bus.ok_or_else(|| format!("bus '{path}': give /dev/i2c-N"))?;
     let digits = address.strip_prefix("0x").unwrap_or(address);
-    let Some(at) = whole(digits, 16).filter(|it| (0x08..=0x77).contains(it)).map(|it| it as u8) else {
-        return bad("address", address, "08 to 77, in hexadecimal");
+    let address = whole("address", digits, 16, 0x08..=0x77, "08 to 77, in hexadecimal")? as u8;
+    let voltage = voltage.map(voltage_of).transpose()?;
+    Ok(Asked { bus, address, voltage, is_shared, patience })
+}
+
+fn voltage_of([output, volts, least, most]: [&str; 4]) -> Result<Voltage, String> {
+    Ok(Voltage {
+        output: whole("output", output, 10, 0..=7, "0 to 7")? as u8,
+        microvolts: microvolts("microvolts", volts)?,
+        limits: Limits { least: microvolts("least", least)?, most: microvolts("most", most)? },
+    })
+}
+
+/// A line that says why nothing was sent.
+fn unusable(why: impl std::fmt::Display) -> ExitCode {
+    eprintln!("i2c_dev: {why}");
+    ExitCode::from(2)
+}
+
+fn main() -> ExitCode {
+    let asked = match asked(std::env::args().skip(1)) {
+        Ok(asked) => asked,
+        Err(why) => return unusable(why),
     };
-    let mut wanted = None;
-    if let Some((output, microvolts)) = rest {
-        let Some(place) = whole(output, 10).filter(|it| (0..8).contains(it)) else {
-            return bad("output", output, "0 to 7");
-        };
-        let Some(given) = whole(microvolts, 10) else {
-            return bad("microvolts", microvolts, "a whole number, as 3300000 for 3.3 V");
-        };
-        wanted = Some((place as u8, given));
-    }
-    let opened = if is_shared { LinuxBus::shared(number, at) } else { LinuxBus::open(number, at) };
-    let bus = match opened {
+    let open = if asked.is_shared { LinuxBus::shared } else { LinuxBus::open };
+    let bus = match open(asked.bus, asked.address) {
         Ok(bus) => Patient::new(bus, SystemClock::default()),
-        Err(why) => {
-            eprintln!("i2c_dev: {why}");
-            return ExitCode::from(2);
-        }
+        Err(why) => return unusable(why),
     };
-    let bus = if let Some(milliseconds) = patience { bus.with_patience(milliseconds) } else { bus };
-    let mut bus = Counted { bus, tried: 0, failed: 0, why: String::new() };
+    let bus = if let Some(milliseconds) = asked.patience { bus.with_patience(milliseconds) } else { bus };
+    let mut bus = Counted::new(bus);
     if let Some(status) = held_low(&bus) {
         return status;
     }
-    let ended = match wanted {
-        Some((output, microvolts)) => order(&mut bus, at, output, microvolts),
-        None => store(&mut bus, at),
+    let ended = match &asked.voltage {
+        Some(voltage) => order(&mut bus, asked.address, voltage),
+        None => store(&mut bus, asked.address),
     };
     ended.unwrap_or_else(|refusal| {
         eprintln!("i2c_dev: refused: {refusal}");
         ExitCode::from(1)
     })
+}
+
+#[cfg(test)]
+mod tests {
+    use super::*;
+    use pm_host::{Output, Part};
+
+    fn words(line: &str) -> Result<Asked, String> {
+        asked(line.split(' ').map(String::from))
+    }
+
+    #[test]
+    fn an_order_without_limits_says_what_to_give() {
+        assert_eq!(words("/dev/i2c-1 58 0 3300000").err().as_deref(), Some(GIVE));
+        assert_eq!(words("/dev/i2c-1 58 0 3300000 3135000").err().as_deref(), Some(GIVE));
+        assert!(words("/dev/i2c-1 58 store").is_ok_and(|it| it.voltage.is_none()));
+    }
+
+    #[test]
+    fn an_order_beyond_its_limits_is_not_sent() {
+        for (given, commanded) in [("12000000", 1_000_000), ("3300000", 3_300_048)] {
+            let asked = words(&format!("/dev/i2c-1 0x58 0 {given} 3135000 3465000 --share-bus --patience=5")).unwrap();
+            assert_eq!((asked.bus, asked.address, asked.is_shared, asked.patience), (1, 0x58, true, Some(5)));
+            let mut bus = Counted::new(Part::new(0x58, &[Output::default()], (1, 0, 3)).unwrap());
+            order(&mut bus, 0x58, &asked.voltage.unwrap()).unwrap();
+            assert_eq!(bus.bus.commanded(0), Ok(commanded));
+        }
+    }
 }

@@ -9,22 +9,37 @@ pub enum Operation<'a> {
     Write(&'a [u8]),
 }
 
-/// A bus. A board's own type over embedded-hal is a few lines:
+/// A bus. A board's own type over embedded-hal is a few lines, with an error that [`Patient`](crate::Patient) asks whether anybody
+/// heard, and that is an error of `core`, so that `?` hands it on:
 ///
 /// ```
 /// # mod embedded_hal { pub mod i2c {
 /// #     pub enum Operation<'a> { Read(&'a mut [u8]), Write(&'a [u8]) }
-/// #     pub trait I2c { type Error; fn transaction(&mut self, address: u8, operations: &mut [Operation<'_>]) -> Result<(), Self::Error>; }
+/// #     #[derive(Clone, Copy, Debug, PartialEq)] pub enum NoAcknowledgeSource { Address, Data }
+/// #     #[derive(Clone, Copy, Debug, PartialEq)] pub enum ErrorKind { Bus, NoAcknowledge(NoAcknowledgeSource) }
+/// #     impl core::fmt::Display for ErrorKind {
+/// #         fn fmt(&self, to: &mut core::fmt::Formatter<'_>) -> core::fmt::Result { write!(to, "{self:?}") }
+/// #     }
+/// #     pub trait Error: core::fmt::Debug { fn kind(&self) -> ErrorKind; }
+/// #     impl Error for ErrorKind { fn kind(&self) -> ErrorKind { *self } }
+/// #     pub trait ErrorType { type Error: Error; }
+/// #     pub trait I2c: ErrorType {
+/// #         fn transaction(&mut self, address: u8, operations: &mut [Operation<'_>]) -> Result<(), Self::Error>;
+/// #     }
 /// # } }
-/// use pm_host::{Bus, Operation};
+/// use core::{error, fmt};
+/// use embedded_hal::i2c::{Error, ErrorKind, I2c, NoAcknowledgeSource, Operation as Hal};
+/// use pm_host::{Bus, Operation, Unheard};
 ///
 /// struct Board<I>(I);
 ///
-/// impl<I: embedded_hal::i2c::I2c> Bus for Board<I> {
-///     type Error = I::Error;
+/// #[derive(Debug)]
+/// struct BoardError<E>(E);
 ///
-///     fn transaction(&mut self, address: u8, operations: &mut [Operation<'_>]) -> Result<(), I::Error> {
-///         use embedded_hal::i2c::Operation as Hal;
+/// impl<I: I2c> Bus for Board<I> {
+///     type Error = BoardError<I::Error>;
+///
+///     fn transaction(&mut self, address: u8, operations: &mut [Operation<'_>]) -> Result<(), BoardError<I::Error>> {
 ///         match operations {
 ///             [Operation::Write(bytes)] => self.0.transaction(address, &mut [Hal::Write(bytes)]),
 ///             [Operation::Write(bytes), Operation::Read(answer)] => {
@@ -32,8 +47,43 @@ pub enum Operation<'a> {
 ///             }
 ///             _ => unreachable!("a host asks for no other transaction"),
 ///         }
+///         .map_err(BoardError)
 ///     }
 /// }
+///
+/// impl<E: Error> Unheard for BoardError<E> {
+///     fn is_unheard(&self) -> bool {
+///         self.0.kind() == ErrorKind::NoAcknowledge(NoAcknowledgeSource::Address)
+///     }
+/// }
+///
+/// impl<E: Error> fmt::Display for BoardError<E> {
+///     fn fmt(&self, to: &mut fmt::Formatter<'_>) -> fmt::Result {
+///         write!(to, "{}", self.0.kind())
+///     }
+/// }
+///
+/// impl<E: Error> error::Error for BoardError<E> {}
+///
+/// # struct Dead;
+/// # impl embedded_hal::i2c::ErrorType for Dead { type Error = ErrorKind; }
+/// # impl I2c for Dead {
+/// #     fn transaction(&mut self, _: u8, _: &mut [Hal<'_>]) -> Result<(), ErrorKind> {
+/// #         Err(ErrorKind::NoAcknowledge(NoAcknowledgeSource::Address))
+/// #     }
+/// # }
+/// # #[derive(Default)]
+/// # struct Ticks(u32);
+/// # impl pm_host::Clock for Ticks {
+/// #     fn now(&mut self) -> u32 { self.0 }
+/// #     fn wait(&mut self, milliseconds: u32) { self.0 += milliseconds; }
+/// # }
+/// use pm_host::{Clock, Done, Host, Job, Patient};
+///
+/// fn learn(i2c: impl I2c<Error: 'static>, clock: impl Clock) -> Result<Done, Box<dyn error::Error>> {
+///     Ok(Host::new(0x58, 1, 3)?.carry_out(Job::Learn(0), &mut Patient::new(Board(i2c), clock))?)
+/// }
+/// # assert!(learn(Dead, Ticks::default()).unwrap_err().to_string().ends_with("a transfer failed"));
 /// ```
 pub trait Bus {
     /// Why a transaction failed. The last one is handed on by `NotDone::Unknown`, as its source where this type is an
@@ -44,4 +94,12 @@ pub trait Bus {
     /// and a read. The packet error code is among the bytes. An error is a frame that failed: the host tries again by
     /// itself, so this call mustn't; nor may it leave an older answer in the buffer, which is zeros before.
     fn transaction(&mut self, address: u8, operations: &mut [Operation<'_>]) -> Result<(), Self::Error>;
+}
+
+impl<B: Bus + ?Sized> Bus for &mut B {
+    type Error = B::Error;
+
+    fn transaction(&mut self, address: u8, operations: &mut [Operation<'_>]) -> Result<(), B::Error> {
+        (**self).transaction(address, operations)
+    }
 }

@@ -33,16 +33,29 @@ pub enum NotDone<E> {
     Unknown {
         /// What the bus said of the last transaction that failed, where one did.
         error: Option<E>,
-        /// What was wrong with the answer of the last request, F1 to F5; `None` where it didn't come, or where it was good
-        /// and names no format.
+        /// What was wrong with the answer of the last request, F1 to F5; `None` where it didn't come.
         fault: Option<Refusal>,
     },
+    /// A learn had good answers, and they name no format that this host has, as VOUT_MODE 21h, which is VID. Until VOUT_MODE is
+    /// written another learn finds the same.
+    NoFormat,
 }
 
 impl<E> From<Refusal> for NotDone<E> {
     fn from(refusal: Refusal) -> NotDone<E> {
         NotDone::Refused(refusal)
     }
+}
+
+/// What is said where a learn's good answers name no format.
+pub(crate) const NO_FORMAT: &str = "the output's voltages have a format that this host doesn't have";
+
+/// Goes on with what was wrong with an answer, and whether a transfer failed.
+pub(crate) fn write_why(to: &mut fmt::Formatter<'_>, answer: &str, fault: Option<Refusal>, has_failed: bool) -> fmt::Result {
+    if let Some(fault) = fault {
+        write!(to, "; {answer}: {fault}")?;
+    }
+    to.write_str(if has_failed { "; a transfer failed" } else { "" })
 }
 
 impl<E> fmt::Display for NotDone<E> {
@@ -55,14 +68,9 @@ impl<E> fmt::Display for NotDone<E> {
             }
             NotDone::Unknown { error, fault } => {
                 to.write_str("it isn't known what became of the job: no good answer or acknowledgement came")?;
-                if let Some(fault) = fault {
-                    write!(to, "; the last answer: {fault}")?;
-                }
-                if error.is_some() {
-                    to.write_str("; a transfer failed")?;
-                }
-                Ok(())
+                write_why(to, "the last answer", *fault, error.is_some())
             }
+            NotDone::NoFormat => to.write_str(NO_FORMAT),
         }
     }
 }

@@ -141,6 +141,14 @@ pub struct NameImage {
     pub text: [u8; 32],
 }
 
+impl NameImage {
+    /// The characters in front of the zeros.
+    pub fn as_str(&self) -> &str {
+        let count = self.text.iter().position(|byte| *byte == 0).unwrap_or(self.text.len());
+        core::str::from_utf8(&self.text[..count]).unwrap_or_default()
+    }
+}
+
 #[repr(C)]
 #[derive(Clone, Copy, Default)]
 pub struct PacketImage {

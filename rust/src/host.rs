@@ -2,12 +2,9 @@
 
 use core::fmt;
 
-use crate::bus::{Bus, Operation};
-use crate::done::{Done, NotDone};
 use crate::ffi;
 use crate::number::Format;
 use crate::packet::Bytes;
-use crate::patient::STORE_USER_ALL;
 use crate::refusal::{accepted, Refusal};
 
 /// A register of an output.
@@ -121,15 +118,30 @@ pub enum Step {
     Learned,
 }
 
-impl fmt::Display for Step {
-    fn fmt(&self, to: &mut fmt::Formatter<'_>) -> fmt::Result {
+impl Step {
+    /// Its number, as the header has it.
+    pub(crate) const fn kind(self) -> u16 {
         match self {
-            Step::Next => to.write_str("next"),
-            Step::Done => to.write_str("done"),
-            Step::Differs(word) => write!(to, "differs {word:04X}"),
-            Step::Unknown { fault: None } => to.write_str("unknown"),
-            Step::Unknown { fault: Some(fault) } => write!(to, "unknown, the last answer: {fault}"),
-            Step::Learned => to.write_str("learned"),
+            Step::Next => 0,
+            Step::Done => 1,
+            Step::Differs(_) => 2,
+            Step::Unknown { .. } => 3,
+            Step::Learned => 4,
+        }
+    }
+}
+
+impl fmt::Display for Step {
+    /// The name that the library has for it, with the word or the fault.
+    fn fmt(&self, to: &mut fmt::Formatter<'_>) -> fmt::Result {
+        let mut name = ffi::NameImage::default();
+        // SAFETY: the reference is valid and overlaps nothing.
+        unsafe { ffi::pm_end_name(self.kind(), &mut name) };
+        to.write_str(name.as_str())?;
+        match self {
+            Step::Differs(word) => write!(to, " {word:04X}"),
+            Step::Unknown { fault: Some(fault) } => write!(to, ", the last answer: {fault}"),
+            _ => Ok(()),
         }
     }
 }
@@ -218,25 +230,6 @@ pub enum Within {
     NotKnown,
 }
 
-/// What a host is to carry out.
-#[derive(Clone, Copy, Debug, PartialEq, Eq)]
-pub enum Job {
-    /// The word is written and read back.
-    Order(Cell, u16),
-    /// The same of the word nearest to microvolts.
-    OrderMicro(Cell, i64),
-    /// The cell is read.
-    Check(Cell),
-    /// The format of an output's voltages is learned.
-    Learn(u8),
-    /// CLEAR_FAULTS goes to an output.
-    Clear(u8),
-    /// STORE_USER_ALL.
-    Store,
-    /// RESTORE_USER_ALL.
-    Restore,
-}
-
 /// A host for one device: it says what to send, and is told what came of it. It takes no memory beside its own, and may
 /// be copied.
 ///
@@ -256,11 +249,32 @@ pub enum Job {
 #[derive(Clone)]
 pub struct Host {
     pub(crate) image: ffi::HostImage,
+    address: u8,
+    outputs: u8,
+    passes: u8,
 }
 
 impl fmt::Debug for Host {
+    /// What it was made with, and each word that is confirmed, in hexadecimal.
     fn fmt(&self, to: &mut fmt::Formatter<'_>) -> fmt::Result {
-        to.debug_struct("Host").finish_non_exhaustive()
+        let mut host = to.debug_struct("Host");
+        host.field("address", &format_args!("0x{:02X}", self.address));
+        host.field("outputs", &self.outputs).field("passes", &self.passes);
+        host.field("confirmed", &Confirmed(self)).finish_non_exhaustive()
+    }
+}
+
+struct Confirmed<'a>(&'a Host);
+
+impl fmt::Debug for Confirmed<'_> {
+    fn fmt(&self, to: &mut fmt::Formatter<'_>) -> fmt::Result {
+        let mut words = to.debug_map();
+        for Known { cell, confirmed, .. } in self.0.known() {
+            if let Some(word) = confirmed {
+                words.entry(&cell, &format_args!("0x{word:04X}"));
+            }
+        }
+        words.finish()
     }
 }
 
@@ -272,7 +286,7 @@ impl Host {
     pub fn new(address: u8, outputs: u8, passes: u8) -> Result<Host, Refusal> {
         let mut image = Host::blank()?;
         accepted(unsafe { ffi::pm_host_new(&mut image, address, outputs, passes) })?;
-        Ok(Host { image })
+        Ok(Host { image, address, outputs, passes })
     }
 
     /// The same of a part whose outputs lack these registers: of VOUT_MAX, the margins and VOUT_MIN, since every part has the
@@ -288,7 +302,25 @@ impl Host {
         };
         let mut image = Host::blank()?;
         accepted(unsafe { ffi::pm_host_new_with(&mut image, address, outputs, passes, &registers) })?;
-        Ok(Host { image })
+        Ok(Host { image, address, outputs, passes })
+    }
+
+    /// The address of its device, 08h to 77h.
+    #[must_use]
+    pub fn address(&self) -> u8 {
+        self.address
+    }
+
+    /// How many outputs the device has, 1 to 8.
+    #[must_use]
+    pub fn outputs(&self) -> u8 {
+        self.outputs
+    }
+
+    /// How many passes a job has at most, 1 to 15.
+    #[must_use]
+    pub fn passes(&self) -> u8 {
+        self.passes
     }
 
     fn blank() -> Result<ffi::HostImage, Refusal> {
@@ -300,8 +332,9 @@ impl Host {
         Ok(ffi::HostImage { held: [0; ffi::HOST_SIZE / 8] })
     }
 
-    /// Gives an output limits, or narrower ones. H4, N5, L1, L6, H3 where an order of the output is open that these would
-    /// refuse.
+    /// Gives an output limits, or narrower ones. They hold for words as the format has them that the last learn found: where the part
+    /// may be another one, or VOUT_MODE may have been written, learn again before an order. H4, N5, L1, L6, H3 where an order of the
+    /// output is open that these would refuse.
     pub fn narrow(&mut self, output: u8, limits: Limits) -> Result<(), Refusal> {
         accepted(unsafe { ffi::pm_host_narrow(&mut self.image, output, limits.least, limits.most) })
     }
@@ -326,19 +359,6 @@ impl Host {
         let mut found = ffi::BandImage::default();
         accepted(unsafe { ffi::pm_host_band(&self.image, output, &mut found) })?;
         Ok(Band { least: found.least, greatest: found.greatest })
-    }
-
-    /// Begins a job, as the call of its kind does.
-    pub fn begin(&mut self, job: Job) -> Result<(), Refusal> {
-        match job {
-            Job::Order(cell, word) => self.order(cell, word),
-            Job::OrderMicro(cell, microvolts) => self.order_micro(cell, microvolts),
-            Job::Check(cell) => self.check(cell),
-            Job::Learn(output) => self.learn(output),
-            Job::Clear(output) => self.clear(output),
-            Job::Store => self.store(),
-            Job::Restore => self.restore(),
-        }
     }
 
     /// Begins an order of a word. H3, H4, L7, L2, L3, L4, H5, L5, H6.
@@ -369,7 +389,8 @@ impl Host {
         accepted(unsafe { ffi::pm_host_clear(&mut self.image, output) })
     }
 
-    /// Begins a store of the outputs' settings. H3.
+    /// Begins a store of the outputs' settings, which wears the part's memory: `run` sends its frame once, and a loop of one's own
+    /// that sends what `sending` says sends it in each of `passes` until it is acknowledged. H3.
     pub fn store(&mut self) -> Result<(), Refusal> {
         accepted(unsafe { ffi::pm_host_store(&mut self.image) })
     }
@@ -402,78 +423,7 @@ impl Host {
         step_of(unsafe { ffi::pm_host_got(&mut self.image, bytes.as_ptr(), bytes.len() as u64) })
     }
 
-    /// Carries the open job out over a bus. `Refused(OtherFrame)` where none is open. A transaction that failed is tried
-    /// again by the host itself, and the last one's error is that of `Unknown`. A store, which wears the part's memory, is sent
-    /// once: its later passes are told as not acknowledged, unsent.
-    pub fn run<B: Bus>(&mut self, bus: &mut B) -> Result<(), NotDone<B::Error>> {
-        let mut error = None;
-        match self.run_to_end(bus, &mut error)? {
-            Step::Next => Err(NotDone::Refused(Refusal::NoEnd)),
-            Step::Done | Step::Learned => Ok(()),
-            Step::Differs(word) => Err(NotDone::Differs { word }),
-            Step::Unknown { fault } => Err(NotDone::Unknown { error, fault }),
-        }
-    }
-
-    /// The same, with the step at which the job ended, and the last transaction's error in its place.
-    pub(crate) fn run_to_end<B: Bus>(&mut self, bus: &mut B, error: &mut Option<B::Error>) -> Result<Step, Refusal> {
-        let mut has_stored = false;
-        loop {
-            let step = match self.sending() {
-                Sending::Nothing => return Err(Refusal::OtherFrame),
-                Sending::Write(_) if has_stored => self.finished(false)?,
-                Sending::Write(frame) => {
-                    has_stored = frame[1..frame.len() - 1] == [STORE_USER_ALL];
-                    self.written(bus, &frame, error)?
-                }
-                Sending::Request { frame, answer } => self.asked(bus, &frame, answer, error)?,
-            };
-            if step != Step::Next {
-                return Ok(step);
-            }
-        }
-    }
-
-    fn written<B: Bus>(&mut self, bus: &mut B, frame: &[u8], error: &mut Option<B::Error>) -> Result<Step, Refusal> {
-        match bus.transaction(frame[0] >> 1, &mut [Operation::Write(&frame[1..])]) {
-            Ok(()) => self.finished(true),
-            Err(why) => {
-                *error = Some(why);
-                self.finished(false)
-            }
-        }
-    }
-
-    fn asked<B: Bus>(&mut self, bus: &mut B, frame: &[u8], answer: usize, error: &mut Option<B::Error>) -> Result<Step, Refusal> {
-        let mut bytes = [0; 8];
-        let came = &mut bytes[..answer.min(8)];
-        let mut operations = [Operation::Write(&frame[1..]), Operation::Read(&mut came[1..])];
-        match bus.transaction(frame[0] >> 1, &mut operations) {
-            Ok(()) => {
-                came[0] = frame[0] | 1;
-                self.got(came)
-            }
-            Err(why) => {
-                *error = Some(why);
-                self.got(&[])
-            }
-        }
-    }
-
-    /// Begins a job and carries it out over a bus: what it is worth where it was done, and why where it wasn't.
-    pub fn carry_out<B: Bus>(&mut self, job: Job, bus: &mut B) -> Result<Done, NotDone<B::Error>> {
-        self.begin(job)?;
-        self.run(bus)?;
-        let found = match job {
-            Job::Order(cell, _) | Job::OrderMicro(cell, _) | Job::Check(cell) => self.standing(cell)?.map(Done::Word),
-            Job::Learn(output) => self.format(output)?.map(Done::Learned),
-            Job::Clear(_) | Job::Store | Job::Restore => Some(Done::Acknowledged),
-        };
-        // A word that was read is confirmed, and a format that was learned is known.
-        found.ok_or(NotDone::Unknown { error: None, fault: None })
-    }
-
-    /// Drops the open job and all that is known; the limits stay.
+    /// Drops the open job and all that is known; the limits stay. `give_up` ends a job and keeps what is known.
     pub fn restart(&mut self) {
         unsafe { ffi::pm_host_restart(&mut self.image) };
     }

@@ -130,10 +130,28 @@ impl Packet {
     /// Its bytes for the device at an address, the address byte first; a write ends with its packet error code. NoAddress,
     /// NoPacket where the code doesn't have this layout.
     pub fn bytes(self, address: u8) -> Result<Bytes, Refusal> {
+        let frame = self.frame(address)?;
+        Ok(Bytes::of(frame.length, frame.bytes))
+    }
+
+    /// How many bytes to read behind the read address of this request, its packet error code among them; 0 of a write. NoPacket
+    /// where the code doesn't have this layout.
+    ///
+    /// ```
+    /// use pm_host::{Packet, Refusal};
+    /// assert_eq!(Packet::PagePlusRead { page: 0, code: 0x21 }.answer(), Ok(4)); // a count, a word and the packet error code
+    /// assert_eq!(Packet::SendByte { code: 0x03 }.answer(), Ok(0));
+    /// assert_eq!(Packet::Read { code: 0x03 }.answer(), Err(Refusal::NoPacket)); // CLEAR_FAULTS isn't read
+    /// ```
+    pub fn answer(self) -> Result<usize, Refusal> {
+        Ok(usize::from(self.frame(0x58)?.answer.saturating_sub(1))) // the same at any address
+    }
+
+    fn frame(self, address: u8) -> Result<ffi::SendingImage, Refusal> {
         let mut frame = ffi::SendingImage::default();
         // SAFETY: the references are valid, and the one that is written overlaps nothing.
         accepted(unsafe { ffi::pm_packet_write(address, &self.image(), &mut frame) })?;
-        Ok(Bytes::of(frame.length, frame.bytes))
+        Ok(frame)
     }
 
     /// What the bytes of a write say. NoAddress, F1 to F8.

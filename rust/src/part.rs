@@ -6,6 +6,7 @@ use crate::bus::{Bus, Operation};
 use crate::ffi;
 use crate::host::{Cell, Register};
 use crate::packet::Bytes;
+use crate::patient::Unheard;
 use crate::refusal::{accepted, Refusal};
 
 /// An output as it starts.
@@ -220,6 +221,13 @@ impl fmt::Display for NoAnswer {
 }
 
 impl core::error::Error for NoAnswer {}
+
+impl Unheard for NoAnswer {
+    /// It never says so: a part that refuses a frame has heard it, and has the same error.
+    fn is_unheard(&self) -> bool {
+        false
+    }
+}
 
 impl Bus for Part {
     type Error = NoAnswer;

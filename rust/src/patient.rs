@@ -21,7 +21,9 @@ pub trait Unheard {
 
 /// A clock of the board's own.
 pub trait Clock {
-    /// Milliseconds of a clock that nobody sets. It may wrap round.
+    /// Milliseconds of a clock that nobody sets. It may wrap round to 0 behind 4,294,967,295, and nowhere else: where a clock of 16
+    /// bits, or of milliseconds that are counted from 32 bits of microseconds, starts anew, the patience ends early. So it does
+    /// where a clock steps back.
     fn now(&mut self) -> u32;
 
     /// Waits for so many milliseconds.
@@ -90,9 +92,19 @@ where
         &self.bus
     }
 
+    /// The same, to be written to. A write that is sent by it isn't waited for.
+    pub fn bus_mut(&mut self) -> &mut B {
+        &mut self.bus
+    }
+
+    /// Gives the bus below back.
+    pub fn into_inner(self) -> B {
+        self.bus
+    }
+
     /// Waits for a further try. Whether that begins within the patience.
     fn has_waited(&mut self, begun: u32, patience: u32) -> bool {
-        if self.clock.now().wrapping_sub(begun) + STEP >= patience {
+        if self.clock.now().wrapping_sub(begun).saturating_add(STEP) >= patience {
             return false;
         }
         self.clock.wait(STEP);

@@ -2,7 +2,6 @@
 
 use core::{error, fmt};
 
-use crate::bus::Bus;
 use crate::ffi;
 use crate::host::{within_of, Band, Cell, Host, Register, Step, Within};
 use crate::refusal::{accepted, Refusal};
@@ -50,7 +49,7 @@ pub struct Wanted {
 
 impl Wanted {
     /// This word of a register alone; `None` of OPERATION, which no plan orders.
-    fn one(register: Register, word: u16) -> Option<Wanted> {
+    pub(crate) fn one(register: Register, word: u16) -> Option<Wanted> {
         let (mut wanted, word) = (Wanted::default(), Some(word));
         match register {
             Register::Operation => return None,
@@ -136,8 +135,8 @@ pub enum Surveyed {
 
 // SAFETY of each call of the library: references are valid and aligned, and the one that is written overlaps nothing.
 impl Survey {
-    /// A survey of what the output commands, of at most so many jobs. H4 above 7; NoSurvey where the library is of another
-    /// version.
+    /// A survey of what the output commands, of at most so many jobs, as [`SURVEY_TRIES`](crate::SURVEY_TRIES). H4 above 7;
+    /// NoSurvey where the library is of another version.
     pub fn new(output: u8, tries: u16) -> Result<Survey, Refusal> {
         let mut image = Survey::blank()?;
         accepted(unsafe { ffi::pm_survey_new(&mut image, output, tries) })?;
@@ -161,67 +160,7 @@ impl Survey {
 
     /// How the job ended that it asked for: the last step of that job. NoEnd where it goes on.
     pub fn told(&mut self, step: Step) -> Result<(), Refusal> {
-        let kind = match step {
-            Step::Next => 0,
-            Step::Done => 1,
-            Step::Differs(_) => 2,
-            Step::Unknown { .. } => 3,
-            Step::Learned => 4,
-        };
-        accepted(unsafe { ffi::pm_survey_told(&mut self.image, kind) })
-    }
-}
-
-/// Why a survey or an apply didn't come to its end. `E` is the error of the bus.
-#[derive(Clone, Copy, Debug, PartialEq, Eq)]
-pub enum NotReached<E> {
-    /// A call was refused, and this cell is what that is about, where it is about one.
-    Refused(NotPlanned),
-    /// The order of a register was given twice, and another word was read back each time.
-    Differs {
-        /// The register.
-        register: Register,
-        /// The word that was read back last.
-        word: u16,
-    },
-    /// No try is left.
-    Spent {
-        /// What the bus said of the last transaction that failed, where one did.
-        error: Option<E>,
-    },
-}
-
-impl<E> From<NotPlanned> for NotReached<E> {
-    fn from(why: NotPlanned) -> NotReached<E> {
-        NotReached::Refused(why)
-    }
-}
-
-impl<E> From<Refusal> for NotReached<E> {
-    fn from(refusal: Refusal) -> NotReached<E> {
-        NotReached::Refused(NotPlanned { refusal, cell: None })
-    }
-}
-
-impl<E> fmt::Display for NotReached<E> {
-    /// One line, without what the bus said, which is the source.
-    fn fmt(&self, to: &mut fmt::Formatter<'_>) -> fmt::Result {
-        match self {
-            NotReached::Refused(why) => write!(to, "refused: {why}"),
-            NotReached::Differs { register, word } => {
-                write!(to, "{register:?} holds {word:04X} after two orders: they were lost, refused, limited or rounded")
-            }
-            NotReached::Spent { .. } => to.write_str("no try is left, and not all is known"),
-        }
-    }
-}
-
-impl<E: error::Error + 'static> error::Error for NotReached<E> {
-    fn source(&self) -> Option<&(dyn error::Error + 'static)> {
-        match self {
-            NotReached::Spent { error: Some(error) } => Some(error),
-            _ => None,
-        }
+        accepted(unsafe { ffi::pm_survey_told(&mut self.image, step.kind()) })
     }
 }
 
@@ -262,154 +201,6 @@ impl Host {
             0x96 => Ok(Surveyed::Spent),
             0x97 => Ok(Surveyed::Stuck),
             number => Err(Refusal::of(number)),
-        }
-    }
-
-    /// Carries a survey out over a bus, job after job.
-    pub fn run_survey<B: Bus>(&mut self, survey: &mut Survey, bus: &mut B) -> Result<(), NotReached<B::Error>> {
-        let mut left = u16::MAX; // the survey counts its own
-        self.surveyed(survey, bus, &mut left)
-    }
-
-    fn surveyed<B: Bus>(&mut self, survey: &mut Survey, bus: &mut B, left: &mut u16) -> Result<(), NotReached<B::Error>> {
-        let mut error = None;
-        loop {
-            match self.survey(survey)? {
-                Surveyed::Begun => {}
-                Surveyed::Done => return Ok(()),
-                Surveyed::Spent => return Err(NotReached::Spent { error }),
-                Surveyed::Stuck => return Err(Refusal::L7MissingRegister.into()),
-            }
-            *left = left.saturating_sub(1);
-            let step = self.run_to_end(bus, &mut error)?;
-            survey.told(step)?;
-        }
-    }
-
-    /// Brings an output's registers to the wanted words over a bus, by at most so many jobs: a survey for the plan, then order
-    /// after order, and a survey again where something was ordered.
-    ///
-    /// Where nothing is due nothing is written, and what is refused before the first order has written nothing. An order that
-    /// differs is given once again, and is the end at the second time; a register that isn't known behind an order is checked
-    /// first.
-    ///
-    /// ```
-    /// use pm_host::{Band, Host, Output, Part, Power, Wanted, Within};
-    ///
-    /// let mut bus = Part::new(0x58, &[Output::default()], (1, 0, 3))?;
-    /// let mut host = Host::new(0x58, 1, 3)?;
-    /// let wanted = Wanted { command: Some(0x34CD), ..Wanted::default() }; // 3.3 V
-    /// host.run_apply(0, &wanted, 40, &mut bus)?;
-    /// let rail = host.rail(0)?;
-    /// assert_eq!((rail.power, rail.within), (Power::On, Within::Yes));
-    /// assert_eq!(rail.band, Ok(Band { least: 3_300_048, greatest: 3_300_049 }));
-    /// # Ok::<(), Box<dyn core::error::Error>>(())
-    /// ```
-    pub fn run_apply<B: Bus>(
-        &mut self,
-        output: u8,
-        wanted: &Wanted,
-        tries: u16,
-        bus: &mut B,
-    ) -> Result<(), NotReached<B::Error>> {
-        let (mut left, mut differed) = (tries, [false; Register::ALL.len()]);
-        loop {
-            let mut survey = Survey::of_plan(output, wanted, left)?;
-            if let Err(why) = self.surveyed(&mut survey, bus, &mut left) {
-                return Err(match why {
-                    NotReached::Refused(NotPlanned { refusal: Refusal::L7MissingRegister, .. }) => {
-                        self.plan(output, wanted).map_or_else(NotReached::from, |_| why)
-                        // it says which
-                    }
-                    _ => why,
-                });
-            }
-            if !self.ordered(output, wanted, &mut left, &mut differed, bus)? {
-                return Ok(());
-            }
-        }
-    }
-
-    /// Brings a voltage of an output to the word nearest to microvolts over a bus, by at most so many jobs, and says what the
-    /// output commands then: it learns the output's format where that isn't known, and goes on as `run_apply`.
-    ///
-    /// H5 of OPERATION, which is no voltage; N3, N4, N5 where the format has no such word; and what `run_apply` refuses, as P2
-    /// and P3 beyond the limits. What is refused before the first order has ordered nothing; behind one, as where the part
-    /// restarted protected, an order may have gone. The answer may be outside what was wanted where another
-    /// register is selected: look at its band.
-    ///
-    /// ```
-    /// use pm_host::{Band, Host, Limits, NotPlanned, NotReached, Output, Part, Refusal, Register, Within};
-    ///
-    /// let mut bus = Part::new(0x58, &[Output::default()], (1, 0, 3))?;
-    /// let mut host = Host::new(0x58, 1, 3)?;
-    /// host.narrow(0, Limits { least: 3_200_000, most: 3_465_000 })?;
-    /// let rail = host.set_micro(0, Register::VoutCommand, 3_300_000, 64, &mut bus)?;
-    /// assert_eq!((rail.band, rail.within), (Ok(Band { least: 3_300_048, greatest: 3_300_049 }), Within::Yes));
-    /// let twelve_volts = host.set_micro(0, Register::VoutCommand, 12_000_000, 64, &mut bus);
-    /// assert!(matches!(twelve_volts, Err(NotReached::Refused(NotPlanned { refusal: Refusal::P3AboveLimit, .. }))));
-    /// # Ok::<(), Box<dyn core::error::Error>>(())
-    /// ```
-    pub fn set_micro<B: Bus>(
-        &mut self,
-        output: u8,
-        register: Register,
-        microvolts: i64,
-        tries: u16,
-        bus: &mut B,
-    ) -> Result<Rail, NotReached<B::Error>> {
-        let (mut left, mut error) = (tries, None);
-        let format = loop {
-            if let Some(format) = self.format(output)? {
-                break format;
-            }
-            if left == 0 {
-                return Err(NotReached::Spent { error });
-            }
-            left -= 1;
-            self.learn(output)?;
-            let _ = self.run_to_end(bus, &mut error)?; // (the format says whether it was learned)
-        };
-        let wanted = Wanted::one(register, format.nearest_word(microvolts)?).ok_or(Refusal::H5BadWord)?;
-        self.run_apply(output, &wanted, left, bus)?;
-        Ok(self.rail(output)?)
-    }
-
-    /// Gives the orders of a plan until none is left, and says whether there was one.
-    fn ordered<B: Bus>(
-        &mut self,
-        output: u8,
-        wanted: &Wanted,
-        left: &mut u16,
-        differed: &mut [bool; Register::ALL.len()],
-        bus: &mut B,
-    ) -> Result<bool, NotReached<B::Error>> {
-        let (mut has_ordered, mut error) = (false, None);
-        loop {
-            let planned = if *left == 0 { self.plan(output, wanted) } else { self.next(output, wanted) };
-            let order = match planned {
-                Ok(None) => return Ok(has_ordered),
-                Ok(order) => order,
-                Err(NotPlanned { refusal: Refusal::P4NotKnown, cell: Some(_) }) if *left == 0 => None,
-                Err(NotPlanned { refusal: Refusal::P4NotKnown, cell: Some(cell) }) => {
-                    self.check(cell)?;
-                    None
-                }
-                Err(why) => return Err(why.into()),
-            };
-            if *left == 0 {
-                return Err(NotReached::Spent { error });
-            }
-            *left -= 1;
-            has_ordered |= order.is_some();
-            let step = self.run_to_end(bus, &mut error)?;
-            if let (Some(PlanOrder { register, .. }), Step::Differs(word)) = (order, step) {
-                let place = &mut differed[register as usize];
-                if *place {
-                    return Err(NotReached::Differs { register, word });
-                }
-                *place = true;
-            }
         }
     }
 }

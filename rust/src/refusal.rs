@@ -143,7 +143,8 @@ refusals! {
     NoAddress = 0xE3,
     /// No packet has these numbers.
     NoPacket = 0xE4,
-    /// The memory holds no part, or the library's are of another size.
+    /// The memory holds no part. Of a part that is made: the linked library's have another size in bytes than this crate's; its
+    /// version isn't compared.
     NoPart = 0xE5,
     /// The output has no limits.
     NoLimits = 0xE6,
@@ -164,11 +165,10 @@ impl fmt::Display for Refusal {
     fn fmt(&self, to: &mut fmt::Formatter<'_>) -> fmt::Result {
         let mut name = ffi::NameImage::default();
         // SAFETY: the reference is valid and overlaps nothing.
-        if unsafe { ffi::pm_refusal_name(self.number(), &mut name) } != 0 {
-            return write!(to, "number {:02X}h", self.number());
+        match unsafe { ffi::pm_refusal_name(self.number(), &mut name) } {
+            0 => to.write_str(name.as_str()),
+            _ => write!(to, "number {:02X}h", self.number()),
         }
-        let count = name.text.iter().position(|byte| *byte == 0).unwrap_or(name.text.len());
-        to.write_str(core::str::from_utf8(&name.text[..count]).unwrap_or("a refusal"))
     }
 }
 

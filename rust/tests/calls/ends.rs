@@ -3,7 +3,7 @@
 use core::fmt;
 use std::error::Error;
 
-use super::{learned, part, COMMAND};
+use super::{framed, learned, part, COMMAND};
 use pm_host::*;
 
 /// A transaction that failed, by its number from 1.
@@ -37,10 +37,6 @@ impl Scripted {
     fn new(script: &'static [Does]) -> Scripted {
         Scripted { script, frames: Vec::new() }
     }
-}
-
-fn framed(address: u8, bytes: &[u8]) -> Vec<u8> {
-    [&[address << 1], bytes].concat()
 }
 
 impl Bus for Scripted {
@@ -136,17 +132,14 @@ fn what_a_failed_transaction_left_is_no_answer() {
 
 #[test]
 fn unknown_says_what_the_bus_and_the_last_answer_had() {
-    // VOUT_MODE 60h is no format; its answer is good.
-    const NO_FORMAT: &[u8] = &[0x01, 0x60, 0x05];
     let wrong_pec = Some(Refusal::F5WrongPec);
-    let (check, order, learn) = (Job::Check(COMMAND), Job::Order(COMMAND, 1), Job::Learn(0));
-    let rows: [(Job, &[Does], _); 6] = [
+    let (check, order) = (Job::Check(COMMAND), Job::Order(COMMAND, 1));
+    let rows: [(Job, &[Does], _); 5] = [
         (check, &[Answers(DAMAGED)], (None, wrong_pec)),
         (check, &[Answers(&[])], (None, Some(Refusal::F4WrongCount))),
         (check, &[Fails(&[]), Answers(DAMAGED)], (Some(Broken(1)), wrong_pec)),
         (check, &[Answers(DAMAGED), Fails(&[])], (Some(Broken(3)), None)),
         (order, &[Fails(&[]), Answers(DAMAGED)], (Some(Broken(1)), wrong_pec)),
-        (learn, &[Answers(DAMAGED), Answers(NO_FORMAT)], (None, None)),
     ];
     for (job, script, (error, fault)) in rows {
         let end = host().carry_out(job, &mut Scripted::new(script));
@@ -154,6 +147,41 @@ fn unknown_says_what_the_bus_and_the_last_answer_had() {
         let source = end.unwrap_err().source().map(ToString::to_string);
         assert_eq!(source, error.map(|it| it.to_string()), "{job:?} {script:?}");
     }
+}
+
+#[test]
+fn a_format_that_no_host_has_is_told() {
+    // VOUT_MODE 60h is no format; its answer is good.
+    const NO_FORMAT: &[u8] = &[0x01, 0x60, 0x05];
+    let unknown = |error| NotDone::Unknown { error, fault: None };
+    let rows: [(&[Does], _); 4] = [
+        (&[Answers(NO_FORMAT)], NotDone::NoFormat),
+        (&[Answers(DAMAGED), Answers(NO_FORMAT)], NotDone::NoFormat),
+        (&[Fails(&[]), Answers(NO_FORMAT)], NotDone::NoFormat),
+        (&[Fails(NO_FORMAT)], unknown(Some(Broken(3)))),
+    ];
+    for (script, end) in rows {
+        assert_eq!(host().carry_out(Job::Learn(0), &mut Scripted::new(script)), Err(end), "{script:?}");
+    }
+}
+
+#[test]
+fn a_job_that_is_given_up_leaves_what_is_true() {
+    let mut given_up = host();
+    given_up.give_up(); // no job is open
+    given_up.carry_out(Job::Check(COMMAND), &mut Scripted::new(&[Answers(ANSWER)])).unwrap();
+    // Before the first frame, and behind a write that was acknowledged: the word may be the old one or the new one.
+    for is_sent in [false, true] {
+        given_up.order(COMMAND, 0x3400).unwrap();
+        if is_sent {
+            assert_eq!(given_up.finished(true), Ok(Step::Next));
+        }
+        given_up.give_up();
+        assert_eq!((given_up.sending(), given_up.standing(COMMAND)), (Sending::Nothing, Ok(None)));
+        let possible = given_up.possible(COMMAND).unwrap();
+        assert_eq!((possible.words().map(<[u16]>::len), possible.allows(0x34CD), possible.allows(0x3400)), (Some(2), true, true));
+    }
+    assert_eq!(given_up.check(COMMAND), Ok(()));
 }
 
 #[test]
@@ -248,6 +276,7 @@ fn an_error_is_one_line() {
     let unknown = |error, fault| NotDone::Unknown { error, fault };
     for (end, line) in [
         (NotDone::Refused(Refusal::L4AboveLimit), "refused: L4 AboveLimit"),
+        (NotDone::NoFormat, "the output's voltages have a format that this host doesn't have"),
         (NotDone::Differs { word: 0x34C8 }, "the part holds 34C8: the order was lost, refused, limited or rounded"),
         (unknown(None, None), "it isn't known what became of the job: no good answer or acknowledgement came"),
         (

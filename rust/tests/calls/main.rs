@@ -1,6 +1,7 @@
 //! Each call on its good path, and refusals; over the model part, whole and with faults.
 
 mod ends;
+mod formats;
 #[cfg(target_os = "linux")]
 mod other_library;
 mod patience;
@@ -9,6 +10,10 @@ mod rails;
 use pm_host::*;
 
 const COMMAND: Cell = Cell::Output(0, Register::VoutCommand);
+
+fn framed(address: u8, bytes: &[u8]) -> Vec<u8> {
+    [&[address << 1], bytes].concat()
+}
 
 fn part() -> Part {
     Part::new(0x58, &[Output { command: 0x34CD, ..Output::default() }, Output::default()], (1, 0, 3)).unwrap()
@@ -77,6 +82,11 @@ fn what_is_known_of_every_cell() {
     for it in &known {
         assert_eq!((host.standing(it.cell), host.possible(it.cell)), (Ok(it.confirmed), Ok(it.possible)));
     }
+    assert_eq!((host.address(), host.outputs(), host.passes()), (0x58, 2, 3));
+    let confirmed = "confirmed: {Output(0, VoutCommand): 0x34CD}";
+    assert_eq!(format!("{host:?}"), format!("Host {{ address: 0x58, outputs: 2, passes: 3, {confirmed}, .. }}"));
+    let lacking = Host::without(0x08, 8, 15, &[Register::VoutMin]).unwrap();
+    assert_eq!(format!("{lacking:?}"), "Host { address: 0x08, outputs: 8, passes: 15, confirmed: {}, .. }");
     assert!(!host.restart_seen());
     part.restart();
     let write = Packet::WriteWord { code: 0x21, word: 7 }.bytes(0x58).unwrap();
@@ -95,11 +105,16 @@ fn a_refusal_has_its_letter_and_its_name() {
         // The name of the variant is the letter and the name that the library says.
         assert_eq!(refusal.to_string().replace(' ', ""), format!("{refusal:?}"));
     }
-    let names: Vec<String> = (0..6).filter_map(|kind| end_name(kind).map(|name| name.to_string())).collect();
-    assert_eq!(names, ["next", "done", "differs", "unknown", "learned"]);
-    assert_eq!(Step::Differs(0x34CD).to_string(), "differs 34CD");
-    assert_eq!(Step::Unknown { fault: None }.to_string(), "unknown");
-    assert_eq!(Step::Unknown { fault: Some(Refusal::F2Short) }.to_string(), "unknown, the last answer: F2 Short");
+    for (step, words) in [
+        (Step::Next, "next"),
+        (Step::Done, "done"),
+        (Step::Differs(0x34CD), "differs 34CD"),
+        (Step::Unknown { fault: None }, "unknown"),
+        (Step::Unknown { fault: Some(Refusal::F2Short) }, "unknown, the last answer: F2 Short"),
+        (Step::Learned, "learned"),
+    ] {
+        assert_eq!(step.to_string(), words);
+    }
     for (number, made) in [(0, Host::new(0x58, 0, 1)), (1, Host::new(0x58, 1, 16)), (2, Host::new(0x78, 1, 1))] {
         let wanted = [Refusal::H1OutputCount, Refusal::H2Passes, Refusal::NoAddress][number];
         assert_eq!(made.err(), Some(wanted));
@@ -130,12 +145,19 @@ fn packets_stand_alone() {
         Packet::PagePlusWrite { page: 1, code: 0x01, data: Data::Byte(0x40) },
     ] {
         assert_eq!(Packet::read_write(0x58, &packet.bytes(0x58).unwrap()), Ok(packet));
+        assert_eq!(packet.answer(), Ok(0));
     }
-    for packet in
-        [Packet::Read { code: 0x88 }, Packet::PagePlusRead { page: 1, code: 0x20 }, Packet::Coefficients { code: 0x21, side: 0 }]
-    {
+    for (packet, answer) in [
+        (Packet::Read { code: 0x19 }, 2),
+        (Packet::Read { code: 0x88 }, 3),
+        (Packet::PagePlusRead { page: 1, code: 0x20 }, 3),
+        (Packet::PagePlusRead { page: 1, code: 0x21 }, 4),
+        (Packet::Coefficients { code: 0x21, side: 0 }, 7),
+    ] {
         assert_eq!(Packet::read_request(0x58, &packet.bytes(0x58).unwrap()), Ok(packet));
+        assert_eq!(packet.answer(), Ok(answer), "{packet:?}");
     }
+    assert_eq!(Packet::Read { code: 0x03 }.answer(), Err(Refusal::NoPacket));
     assert_eq!(Packet::WriteByte { code: 0x21, byte: 1 }.bytes(0x58), Err(Refusal::NoPacket));
     assert_eq!(write.read_answer(0x58, &[0xB1]), Err(Refusal::NoPacket));
     assert_eq!(Format::Direct { m: 0, b: 0, r: 0 }.microvolts(1), Err(Refusal::H7FormatUnknown));

@@ -83,6 +83,41 @@ const ORDER: Job = Job::Order(WORD, 0x34CD);
 const CHECK: Job = Job::Check(WORD);
 const BEGIN: u32 = 10_u32.wrapping_neg(); // The clock wraps round after 10 ms.
 
+/// A clock that steps back by a millisecond each time that it is looked at.
+struct Back(u32);
+
+impl Clock for Back {
+    fn now(&mut self) -> u32 {
+        self.0 -= 1;
+        self.0
+    }
+
+    fn wait(&mut self, _: u32) {}
+}
+
+#[test]
+fn a_clock_that_steps_back_ends_the_patience() {
+    let below = Scripted { does: b"uuuu", time: Time(Rc::new(Kept::new(0))), calls: String::new(), last: 0 };
+    let mut bus = Patient::new(below, Back(50));
+    assert!(Host::new(0x58, 1, 1).unwrap().carry_out(ORDER, &mut bus).is_err());
+    assert_eq!(bus.into_inner().calls, "WQR");
+}
+
+#[test]
+fn a_bus_may_be_borrowed_and_is_given_back() {
+    let clock = || Time(Rc::new(Kept::new(0)));
+    let mut part = Part::new(0x58, &[Output::default()], (1, 0, 3)).unwrap();
+    let mut host = Host::new(0x58, 1, 1).unwrap();
+    let mut bus = Patient::new(&mut part, clock());
+    assert_eq!(host.carry_out(ORDER, &mut bus), Ok(Done::Word(0x34CD)));
+    bus.bus_mut().restart();
+    assert_eq!(bus.into_inner().word(WORD), Ok(0x1000));
+    assert!(!NoAnswer.is_unheard());
+    // A bus whose type isn't known.
+    let mut any: &mut dyn Bus<Error = NoAnswer> = &mut part;
+    assert_eq!(host.carry_out(CHECK, &mut any), Ok(Done::Word(0x1000)));
+}
+
 /// How a job ends, the calls that the bus below saw, and how many milliseconds behind the first one the last came.
 fn carried_out(
     job: Job,

@@ -113,7 +113,7 @@ fn a_voltage_that_is_not_set_says_why() {
     host.narrow(0, Limits { least: 3_200_000, most: 3_600_000 }).unwrap();
     let mut set = |register, microvolts, tries| host.set_micro(0, register, microvolts, tries, &mut bus);
     let refused = |refusal, cell| Err(NotReached::Refused(NotPlanned { refusal, cell }));
-    assert_eq!(set(Register::VoutCommand, 3_300_000, 0), Err(NotReached::Spent { error: None }));
+    assert_eq!(set(Register::VoutCommand, 3_300_000, 0), Err(NotReached::Spent { error: None, fault: None }));
     assert_eq!(set(Register::Operation, 3_300_000, 20), refused(Refusal::H5BadWord, None));
     assert_eq!(set(Register::VoutCommand, 16_000_000, 20), refused(Refusal::N4AboveGreatest, None));
     let cell = Some(Cell::Output(0, Register::VoutCommand));
@@ -136,7 +136,7 @@ fn a_format_that_is_not_learned_ends_a_set() {
     }
     let (mut host, mut bus) = (Host::new(0x58, 1, 1).unwrap(), Dead(0));
     let end = host.set_micro(0, Register::VoutCommand, 3_300_000, 4, &mut bus);
-    assert_eq!((end, bus.0), (Err(NotReached::Spent { error: Some(NoAnswer) }), 4));
+    assert_eq!((end, bus.0), (Err(NotReached::Spent { error: Some(NoAnswer), fault: None }), 4));
 }
 
 #[test]
