@@ -12,7 +12,9 @@ from crate_copy import read, write
 from program import ROOT
 
 # The tests that stand in rust/src.
-UNITS = {"an_address_is_locked_for_one_open_file", "enxio_alone_is_unheard", "ones_of_the_kernel_are_no_answer"}
+UNITS = {"a_bus_that_is_not_there_says_what_to_do", "a_transfer_holds_all_signals_back", "an_address_is_locked_for_one_open_file",
+         "enxio_alone_is_unheard", "ones_of_the_kernel_are_no_answer", "what_the_kernel_does_not_take_is_an_error",
+         "what_the_kernel_says_is_the_error"}
 
 
 class Copy:

@@ -1,10 +1,10 @@
-//! An order over a bus of Linux, within limits: `i2c_dev /dev/i2c-1 58 0 3300000 3135000 3465000` orders 3.3 V of output 0 at address
-//! 58, whose load tolerates 3.135 V to 3.465 V. It learns the output's format first. The status is 0 where the ordered word was read
+//! An order over a bus of Linux, within limits: `i2c_dev --limit=3135000:3465000 /dev/i2c-1 58 0 3300000` orders 3.3 V of output 0 at
+//! address 58, whose load tolerates 3.135 V to 3.465 V. It learns the output's format first. The status is 0 where the ordered word was read
 //! back, 1 where it wasn't or was refused, 2 where an argument is none or the bus can't be used. Its sibling in C is
 //! `examples/c/i2c_dev.c`.
 //!
 //! ```text
-//! i2c_dev [--share-bus] [--patience=MS] BUS ADDRESS OUTPUT MICROVOLTS LEAST MOST
+//! i2c_dev --limit=LEAST:MOST|--no-limit [--share-bus] [--patience=MS] BUS ADDRESS OUTPUT MICROVOLTS
 //! i2c_dev [--share-bus] [--patience=MS] BUS ADDRESS store
 //! ```
 
@@ -61,9 +61,8 @@ impl<B: Bus<Error: Error>> Counted<B> {
     }
 }
 
-const GIVE: &str =
-    "give BUS ADDRESS OUTPUT MICROVOLTS LEAST MOST, as /dev/i2c-1 58 0 3300000 3135000 3465000 for 3.3 V where the load \
-                    tolerates 3.135 V to 3.465 V, or BUS ADDRESS store";
+const GIVE: &str = "give BUS ADDRESS OUTPUT MICROVOLTS, as /dev/i2c-1 58 0 3300000, or BUS ADDRESS store";
+const GIVE_LIMITS: &str = "give what the load tolerates, as --limit=3135000:3465000 in microvolts, or --no-limit";
 
 type Board = Patient<LinuxBus, SystemClock>;
 
@@ -76,11 +75,11 @@ struct Asked {
     patience: Option<u32>,
 }
 
-/// A voltage of an output, and what its load tolerates.
+/// A voltage of an output, and what its load tolerates, where that is given.
 struct Voltage {
     output: u8,
     microvolts: i64,
-    limits: Limits,
+    limits: Option<Limits>,
 }
 
 /// The status 2 where a line is held low, since nobody is behind an acknowledgement then.
@@ -89,14 +88,16 @@ fn held_low(bus: &Counted<Board>) -> Option<ExitCode> {
     is_low.then(|| unusable("a line is held low: address 02, which no part may have, acknowledges"))
 }
 
-/// Orders a voltage of an output within its limits. Its format is learned first.
+/// Orders a voltage of an output within its limits, where it has some. Its format is learned first.
 fn order<B: Bus<Error: Error>>(bus: &mut Counted<B>, address: u8, voltage: &Voltage) -> Result<ExitCode, pm_host::Refusal> {
     let Voltage { output, microvolts, limits } = *voltage;
     let mut host = Host::new(address, output + 1, 3)?;
-    host.narrow(output, limits)?;
+    if let Some(limits) = limits {
+        host.narrow(output, limits)?;
+    }
     let cell = Cell::Output(output, Register::VoutCommand);
     if let Err(end) = bus.carry_out(&mut host, Job::Learn(output)) {
-        bus.say_why("learn", &end, "no answer was good");
+        bus.say_why("learn", &end, "no answer was good, or its format is neither ULINEAR16 nor DIRECT");
         return Ok(ExitCode::from(1));
     }
     let end = bus.carry_out(&mut host, Job::OrderMicro(cell, microvolts));
@@ -145,15 +146,28 @@ fn whole(what: &str, word: &str, base: u32, range: std::ops::RangeInclusive<i64>
     found.ok_or_else(|| format!("{what} '{word}': give {give}"))
 }
 
-fn microvolts(what: &str, word: &str) -> Result<i64, String> {
-    whole(what, word, 10, i64::MIN..=i64::MAX, "a whole number, as 3300000 for 3.3 V")
+/// Limits in microvolts, as LEAST:MOST, within 1000 V.
+fn limits_of(word: &str) -> Result<Limits, String> {
+    let wrong = || format!("limit '{word}': give LEAST:MOST in microvolts, as 3135000:3465000");
+    let (least, most) = word.split_once(':').ok_or_else(wrong)?;
+    let number = |word| whole("limit", word, 10, -1_000_000_000..=1_000_000_000, "").map_err(|_| wrong());
+    let limits = Limits { least: number(least)?, most: number(most)? };
+    if limits.least > limits.most {
+        Err(wrong())
+    } else {
+        Ok(limits)
+    }
 }
 
 fn asked(words: impl Iterator<Item = String>) -> Result<Asked, String> {
-    let (mut is_shared, mut patience, mut rest) = (false, None, Vec::new());
+    let (mut is_shared, mut is_unlimited, mut limits, mut patience, mut rest) = (false, false, None, None, Vec::new());
     for word in words {
         if word == "--share-bus" {
             is_shared = true;
+        } else if word == "--no-limit" {
+            is_unlimited = true;
+        } else if let Some(given) = word.strip_prefix("--limit=") {
+            limits = Some(limits_of(given)?);
         } else if let Some(given) = word.strip_prefix("--patience=") {
             patience = Some(whole("patience", given, 10, 0..=60_000, "milliseconds, 0 to 60000")? as u32);
         } else {
@@ -163,23 +177,24 @@ fn asked(words: impl Iterator<Item = String>) -> Result<Asked, String> {
     let rest: Vec<&str> = rest.iter().map(String::as_str).collect();
     let (path, address, voltage) = match rest[..] {
         [path, address, "store"] => (path, address, None),
-        [path, address, output, volts, least, most] => (path, address, Some([output, volts, least, most])),
+        [path, address, output, volts] => (path, address, Some((output, volts))),
         _ => return Err(GIVE.into()),
     };
     let bus = path.strip_prefix("/dev/i2c-").and_then(|it| it.parse().ok());
     let bus = bus.ok_or_else(|| format!("bus '{path}': give /dev/i2c-N"))?;
     let digits = address.strip_prefix("0x").unwrap_or(address);
     let address = whole("address", digits, 16, 0x08..=0x77, "08 to 77, in hexadecimal")? as u8;
-    let voltage = voltage.map(voltage_of).transpose()?;
+    let voltage = voltage.map(|(output, volts)| voltage_of(output, volts, limits)).transpose()?;
+    if voltage.is_some() && limits.is_none() && !is_unlimited {
+        return Err(GIVE_LIMITS.into());
+    }
     Ok(Asked { bus, address, voltage, is_shared, patience })
 }
 
-fn voltage_of([output, volts, least, most]: [&str; 4]) -> Result<Voltage, String> {
-    Ok(Voltage {
-        output: whole("output", output, 10, 0..=7, "0 to 7")? as u8,
-        microvolts: microvolts("microvolts", volts)?,
-        limits: Limits { least: microvolts("least", least)?, most: microvolts("most", most)? },
-    })
+fn voltage_of(output: &str, volts: &str, limits: Option<Limits>) -> Result<Voltage, String> {
+    let output = whole("output", output, 10, 0..=7, "0 to 7")? as u8;
+    let microvolts = whole("microvolts", volts, 10, i64::MIN..=i64::MAX, "a whole number, as 3300000 for 3.3 V")?;
+    Ok(Voltage { output, microvolts, limits })
 }
 
 /// A line that says why nothing was sent.
@@ -224,15 +239,20 @@ mod tests {
 
     #[test]
     fn an_order_without_limits_says_what_to_give() {
-        assert_eq!(words("/dev/i2c-1 58 0 3300000").err().as_deref(), Some(GIVE));
-        assert_eq!(words("/dev/i2c-1 58 0 3300000 3135000").err().as_deref(), Some(GIVE));
+        assert_eq!(words("/dev/i2c-1 58 0 3300000").err().as_deref(), Some(GIVE_LIMITS));
+        assert_eq!(words("--no-limit /dev/i2c-1 58 0 3300000 3135000").err().as_deref(), Some(GIVE));
+        for wrong in ["3300000", "3.1:3.5", "3465000:3135000", "3135000:", "-1000000001:0"] {
+            let said = format!("limit '{wrong}': give LEAST:MOST in microvolts, as 3135000:3465000");
+            assert_eq!(words(&format!("--limit={wrong} /dev/i2c-1 58 0 3300000")).err(), Some(said));
+        }
+        assert!(words("--no-limit /dev/i2c-1 58 0 3300000").is_ok_and(|it| it.voltage.is_some_and(|it| it.limits.is_none())));
         assert!(words("/dev/i2c-1 58 store").is_ok_and(|it| it.voltage.is_none()));
     }
 
     #[test]
     fn an_order_beyond_its_limits_is_not_sent() {
         for (given, commanded) in [("12000000", 1_000_000), ("3300000", 3_300_048)] {
-            let asked = words(&format!("/dev/i2c-1 0x58 0 {given} 3135000 3465000 --share-bus --patience=5")).unwrap();
+            let asked = words(&format!("/dev/i2c-1 0x58 0 {given} --limit=3135000:3465000 --share-bus --patience=5")).unwrap();
             assert_eq!((asked.bus, asked.address, asked.is_shared, asked.patience), (1, 0x58, true, Some(5)));
             let mut bus = Counted::new(Part::new(0x58, &[Output::default()], (1, 0, 3)).unwrap());
             order(&mut bus, 0x58, &asked.voltage.unwrap()).unwrap();
