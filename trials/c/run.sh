@@ -94,10 +94,10 @@ lost ok ok lost ok ok|--no-limit /dev/i2c-1 58 0 3300000|0|ended done, confirmed
 |--no-limit /dev/i2c-1 58 -1 3300000|2||output '-1': give 0 to 7
 |--no-limit /dev/i2c-1 58 256 3300000|2||output '256': give 0 to 7
 |--no-limit /dev/i2c-1 58 0x 3300000|2||output '0x': give 0 to 7
-|--no-limit /dev/i2c-2 58 0 3300000|2||/dev/i2c-2, address 58: Device or resource busy: unbind its driver, echo 2-0058 > /sys/bus/i2c/devices/2-0058/driver/unbind
-|--no-limit /dev/i2c-3 58 0 3300000|2||/dev/i2c-3, address 58: Permission denied
-|--no-limit /dev/i2c-4 58 0 3300000|2||/dev/i2c-4, address 58: Inappropriate ioctl for device
-|--no-limit /dev/i2c-9 58 0 3300000|2||/dev/i2c-9, address 58: No such file or directory
+|--no-limit /dev/i2c-2 58 0 3300000|2||2-0058 is held by a driver of the kernel: unbind it, echo 2-0058 > /sys/bus/i2c/devices/2-0058/driver/unbind
+|--no-limit /dev/i2c-3 58 0 3300000|2||/dev/i2c-3: Permission denied: be root, or ask for leave to open it (ls -l /dev/i2c-3)
+|--no-limit /dev/i2c-4 58 0 3300000|2||/dev/i2c-4: Inappropriate ioctl for device: it is no I2C bus
+|--no-limit /dev/i2c-9 58 0 3300000|2||/dev/i2c-9: No such file or directory: load i2c-dev (modprobe i2c-dev), and look for the bus (ls /dev/i2c-*)
 |--no-limit /dev/i2c-5 58 0 3300000|2||another program drives 5-0058: fuser /dev/i2c-5 names who has the bus open
 |/dev/i2c-5 0x58 store|2||another program drives 5-0058: fuser /dev/i2c-5 names who has the bus open
 count|--no-limit --share-bus /dev/i2c-5 58 0 3300000|0|ended done, confirmed 34CD, 3300048 uV\n4 transfers, 0 ms|
