@@ -21,9 +21,9 @@ def needed():
 def kept_files():
     """The repository's files from its top: those that git knows, or, where this tree is no repository, those that stand there."""
     if os.path.exists(os.path.join(ROOT, ".git")):
-        listed = subprocess.run(["git", "ls-files"], cwd=ROOT, capture_output=True, text=True)
+        listed = subprocess.run(["git", "ls-files", "-z"], cwd=ROOT, capture_output=True, text=True)
         if listed.returncode == 0:
-            return listed.stdout.splitlines()
+            return listed.stdout.split("\0")[:-1]
     return sorted(found_files())
 
 
