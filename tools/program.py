@@ -79,16 +79,38 @@ def number(text):
     return int(text)
 
 
+def count(text):
+    """A whole number from 1 on."""
+    if not number(text):
+        raise ValueError(text)
+    return int(text)
+
+
+def a_file(text):
+    """The path of a file that is there."""
+    if not os.path.isfile(text):
+        raise argparse.ArgumentTypeError(f"no file at {text}")
+    return os.path.abspath(text)
+
+
+def a_program(text):
+    """The path of a program that is there."""
+    found = shutil.which(text)
+    if not found:
+        raise argparse.ArgumentTypeError(f"no program at {text}")
+    return os.path.abspath(found)
+
+
 def no_words(text):
     """Ends the script with one line where it is given a word; --help prints its text."""
     Words(text, "no word").read()
 
 
-def seed_and_count(text, count):
+def seed_and_count(text, default):
     """The two numbers that the arguments may name, 1 and this count where they don't."""
     words = Words(text, "[SEED [COUNT]], two numbers")
     words.add_argument("seed", type=number, nargs="?", default=1)
-    words.add_argument("count", type=number, nargs="?", default=count)
+    words.add_argument("count", type=count, nargs="?", default=default)
     given = words.read()
     return given.seed, given.count
 
