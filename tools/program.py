@@ -115,17 +115,5 @@ def seed_and_count(text, default):
     return given.seed, given.count
 
 
-def one_file(text):
-    """The bytes of the one file that the arguments name."""
-    words = Words(text, "one file")
-    words.add_argument("file")
-    given = words.read()
-    try:
-        with open(given.file, "rb") as file:
-            return file.read()
-    except OSError as fault:
-        words.error(f"{given.file}: {fault.strerror}")
-
-
 if __name__ == "__main__":
     main()

@@ -250,13 +250,13 @@ def script_faults(shell):
             yield f"{path} --help has status {ran.returncode} and says {ran.stderr!r}"
         if "variable PMB" not in ran.stdout or path == "tools/program.py":
             continue
-        ran = shell.run(f"PMB=/nowhere {path} examples/one-order.scenario")
+        ran = shell.run(f"PMB=/nowhere {path}")
         if ran.returncode != 1 or ran.stdout or not re.fullmatch(r"no program at /nowhere: .*\n", ran.stderr):
             yield f"{path} with no program has status {ran.returncode} and says {ran.stderr!r}"
 
 
 def main():
-    program.answer_help(__doc__)
+    program.no_words(__doc__)
     faults, count = [], 0
     with tempfile.TemporaryDirectory() as folder:
         shell = Shell(program.needed(), folder)
