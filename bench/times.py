@@ -9,7 +9,6 @@ alternates with a plain Rust program too (bench/plain.rs), which stands in the c
 It runs the built program, or the one that the environment variable PMB names. System calls are counted by strace.
 """
 import os
-import re
 import shutil
 import statistics
 import subprocess
