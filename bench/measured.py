@@ -85,7 +85,7 @@ def for_one(command, folder):
 def over_archive(archive, made):
     """Builds the program of bench/c_order.c over a static library of crates/pm_host_c."""
     include, source = (os.path.join(program.ROOT, path) for path in ("crates/pm_host_c/include", "bench/c_order.c"))
-    subprocess.run(["gcc", "-O2", f"-I{include}", source, archive, "-o", made], check=True)
+    subprocess.run(["gcc", "-O2", "-Wno-unused-result", f"-I{include}", source, archive, "-o", made], check=True)
     return made
 
 
