@@ -6,13 +6,17 @@
 #   bench/c_order.sh [--archive FILE]
 set -eu
 case " $* " in *" --help "* | *" -h "*) sed -n '2,/^[^#]/s/^# \{0,1\}//p' "$0"; exit 0 ;; esac
+case "$#${1-}" in
+    0) archive='' ;;
+    2--archive)
+        [ -f "$2" ] || { echo "c_order.sh: no file at $2: give --archive FILE, a libpm_host_c.a" >&2; exit 2; }
+        archive=$(realpath "$2") ;;
+    *) echo "c_order.sh: '$*': give --archive FILE, a libpm_host_c.a, or nothing" >&2; exit 2 ;;
+esac
 cd "$(dirname "$0")/.."
 folder=$(mktemp -d)
 trap 'rm -rf "$folder"' EXIT
-if [ "${1-}" = --archive ]; then
-    archive=${2-}
-    [ -f "$archive" ] || { echo "c_order.sh: no archive at '$archive': give --archive FILE, a libpm_host_c.a" >&2; exit 2; }
-else
+if [ -z "$archive" ]; then
     (cd crates/pm_host_c && rt lib --backend rattle > "$folder/log" 2>&1) || { tail -20 "$folder/log"; exit 1; }
     grep -o 'frame-bytes=[0-9]* stack-bytes=[0-9]*' "$folder/log"
     archive=crates/pm_host_c/out/libpm_host_c.a

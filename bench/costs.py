@@ -10,7 +10,7 @@ and a band for each word that the output's registers list. Limits and bands are 
 `--driver` and `--bands` are the programs orders and bands that bench/driver/build.sh makes, and `--archive` is the static
 library of crates/pm_host_c. What isn't given is proved and built first, which takes many minutes from nothing. A bus for
 pm_driver has a converter at its other end: what that takes of an order is counted alone and taken off, which leaves orders
-over a bus of no cost. It needs valgrind and gcc.
+over a bus of no cost. It needs valgrind and gcc. The last line says how many bounds held and how many didn't.
 """
 import os
 import shutil
@@ -74,21 +74,24 @@ def program_of(name, folder):
 
 
 def main():
-    program.answer_help(__doc__)
-    for tool in "valgrind", "gcc":
-        if not shutil.which(tool):
-            measured.lacks(tool, "what the driver and limits cost")
-            return
+    words = program.Words(__doc__, "[--driver FILE] [--bands FILE] [--archive FILE]")
+    for option in "driver", "bands", "archive":
+        words.add_argument(f"--{option}", type=program.a_file)
+    given, tally = words.read(), Tally()
+    lacking = [tool for tool in ("valgrind", "gcc") if not shutil.which(tool)]
+    for tool in lacking:
+        measured.lacks(tool, "what the driver and limits cost")
+    if lacking:
+        return tally.end()
     with tempfile.TemporaryDirectory() as folder:
-        driver, bands = (measured.value_behind(word) or program_of(name, folder) for word, name in (("--driver", "orders"), ("--bands", "bands")))
+        driver, bands = given.driver or program_of("orders", folder), given.bands or program_of("bands", folder)
         library = os.path.join(program.ROOT, "crates/pm_host_c/out/libpm_host_c.a")
-        archive = measured.value_behind("--archive") or built(["rt", "lib", "--backend", "rattle"], "crates/pm_host_c", library)
+        archive = given.archive or built(["rt", "lib", "--backend", "rattle"], "crates/pm_host_c", library)
         print("| what | instructions | beside | ratio | at most |\n|---|---|---|---|---|")
         checks = [*over_driver(driver, bands, folder), *over_pm_c(archive, folder)]
-    tally = Tally()
     for name, is_within in checks:
         tally.tell(name, [] if is_within else ["above its bound"])
-    sys.exit(tally.end())
+    return tally.end()
 
 
-main()
+sys.exit(main())

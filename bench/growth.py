@@ -75,8 +75,9 @@ def best_time(pmb, command, path, rounds):
 
 
 def main():
-    program.answer_help(__doc__)
-    pmb, rounds = program.needed(), int(measured.value_behind("--rounds") or 5)
+    words = program.Words(__doc__, "[--rounds N]")
+    words.add_argument("--rounds", type=program.count, default=5)
+    rounds, pmb = words.read().rounds, program.needed()
     has_time = os.access("/usr/bin/time", os.X_OK)
     print("| text | ms at 1/4, 1/2 and 1 MiB | times | peak at 1 MiB, KiB |\n|---|---|---|---|")
     with tempfile.TemporaryDirectory() as folder:

@@ -20,8 +20,7 @@ import measured
 import program
 
 
-def texts(folder, listed):
-    programs = measured.programs()
+def texts(programs, folder, listed):
     for command in measured.COMMANDS:
         text, counts = measured.usual_text(command), {}
         for name, pmb in programs.items():
@@ -44,30 +43,33 @@ OVER_C = {"loop": "an order over pm_host_c", "guard": "one within limits", "plan
           "asked": "a plan that is asked for its next order"}
 
 
-def c_orders(folder):
-    """The programs of bench/c_order.c over the archives that the arguments name."""
-    archives = {"this": measured.value_behind("--archive"), "earlier": measured.value_behind("--earlier-archive")}
+def c_orders(archives, folder):
+    """The programs of bench/c_order.c over archives."""
     return {which: measured.over_archive(path, os.path.join(folder, which)) for which, path in archives.items() if path}
 
 
 def main():
-    program.answer_help(__doc__)
-    program.needed()
+    words = program.Words(__doc__, "[--earlier PMB] [--archive FILE] [--earlier-archive FILE] [--driver FILE] [--by COMMAND]")
+    words.add_argument("--earlier", type=program.a_program)
+    for option in "archive", "earlier-archive", "driver":
+        words.add_argument(f"--{option}", type=program.a_file)
+    words.add_argument("--by", choices=measured.COMMANDS)
+    given = words.read()
+    programs = measured.programs(given.earlier)
     if not shutil.which("valgrind"):
         measured.lacks("valgrind", "no instruction")
         return
     with tempfile.TemporaryDirectory() as folder:
-        texts(folder, measured.value_behind("--by"))
-        if measured.value_behind("--archive"):
+        texts(programs, folder, given.by)
+        if given.archive:
             if shutil.which("gcc"):
-                programs = c_orders(folder)
+                orders = c_orders({"this": given.archive, "earlier": given.earlier_archive}, folder)
                 for kind, name in OVER_C.items():
-                    an_order(name, {which: [path, kind, "linear"] for which, path in programs.items()}, folder)
+                    an_order(name, {which: [path, kind, "linear"] for which, path in orders.items()}, folder)
             else:
                 measured.lacks("gcc", "an order over pm_host_c")
-        driver = measured.value_behind("--driver")
-        if driver:
-            an_order("an order over pm_driver and the model converter", {"this": [driver, "driver", "linear"]}, folder)
+        if given.driver:
+            an_order("an order over pm_driver and the model converter", {"this": [given.driver, "driver", "linear"]}, folder)
 
 
 main()

@@ -2,7 +2,6 @@
 import os
 import random
 import re
-import shutil
 import subprocess
 import sys
 
@@ -60,26 +59,9 @@ def usual_text(command, limit=SIZE):
         lines.append(line)
 
 
-def value_behind(word):
-    """The argument behind this one, or None where it isn't there."""
-    words = sys.argv[1:]
-    if word not in words:
-        return None
-    at = words.index(word) + 1
-    if at == len(words):
-        sys.exit(f"{word} needs what it names behind it")
-    return words[at]
-
-
-def programs():
-    """The built program, and beside it the one that `--earlier` names, by what they are called in a table."""
-    found = {"this": program.needed()}
-    earlier = value_behind("--earlier")
-    if earlier:
-        if not shutil.which(earlier):
-            sys.exit(f"--earlier: no program at {earlier}")
-        found["earlier"] = os.path.abspath(earlier)
-    return found
+def programs(earlier):
+    """The built program, and beside it an earlier one where there is one, by what they are called in a table."""
+    return {"this": program.needed(), **({"earlier": earlier} if earlier else {})}
 
 
 def counted(command, folder, text=b""):
@@ -103,7 +85,7 @@ def for_one(command, folder):
 def over_archive(archive, made):
     """Builds the program of bench/c_order.c over a static library of crates/pm_host_c."""
     include, source = (os.path.join(program.ROOT, path) for path in ("crates/pm_host_c/include", "bench/c_order.c"))
-    subprocess.run(["gcc", "-O2", f"-I{include}", source, archive, "-o", made], check=True)
+    subprocess.run(["gcc", "-O2", "-Wno-unused-result", f"-I{include}", source, archive, "-o", made], check=True)
     return made
 
 

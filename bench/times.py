@@ -2,14 +2,13 @@
 """How long `pmb` takes for three texts of 1 MiB, to a pipe, to a file and to nothing, and its page faults and system
 calls. The time is the median and, in brackets, the best of many runs; where `--earlier` names another program, the runs of
 the two alternate, so that what else the machine does falls on both. The ratio is that of the medians. Where rustc is there, `decode`
-alternates with a plain Rust program too (bench/decode/plain.rs), which stands in the column of the earlier one.
+alternates with a plain Rust program too (bench/plain.rs), which stands in the column of the earlier one.
 
     bench/times.py [--earlier PMB] [--rounds N]
 
 It runs the built program, or the one that the environment variable PMB names. System calls are counted by strace.
 """
 import os
-import re
 import shutil
 import statistics
 import subprocess
@@ -69,7 +68,7 @@ def beside_plain(pmb, path, out, rounds):
         measured.lacks("rustc", "a plain Rust program")
         return
     plain = out + ".plain"
-    subprocess.run(["rustc", "--edition", "2021", "-O", "-o", plain, os.path.join(program.ROOT, "bench/decode/plain.rs")], check=True)
+    subprocess.run(["rustc", "--edition", "2021", "-O", "-o", plain, os.path.join(program.ROOT, "bench/plain.rs")], check=True)
     with open(path, "rb") as text:
         told = text.read()
     said = [subprocess.run([each, "decode"], input=told, capture_output=True, check=True).stdout for each in (pmb, plain)]
@@ -80,8 +79,11 @@ def beside_plain(pmb, path, out, rounds):
 
 
 def main():
-    program.answer_help(__doc__)
-    programs, rounds = measured.programs(), int(measured.value_behind("--rounds") or 15)
+    words = program.Words(__doc__, "[--earlier PMB] [--rounds N]")
+    words.add_argument("--earlier", type=program.a_program)
+    words.add_argument("--rounds", type=program.count, default=15)
+    given = words.read()
+    programs, rounds = measured.programs(given.earlier), given.rounds
     with tempfile.TemporaryDirectory() as folder:
         path, out = os.path.join(folder, "text"), os.path.join(folder, "out")
         for command in measured.COMMANDS:

@@ -11,7 +11,8 @@
 # that is named '' is left out. The archives are libpm_host_c.a and libpm_device_c.a of FOLDER, or those in crates/*/out. CC is the
 # compiler that makes the shared objects, cc if it isn't set; DESTDIR stands before PREFIX where files are put, and in no file.
 # COMPLETION is a file for pmhost's completion, where its library is made for another machine. Nothing is built but the shared
-# objects. Root without DESTDIR has ldconfig told. --uninstall takes away what the last install put below PREFIX, and just that.
+# objects. Root without DESTDIR has ldconfig told. --uninstall takes away what the last install put below PREFIX, and just that, also
+# where that install was stopped.
 set -eu
 case " $* " in *" --help "* | *" -h "*) sed -n '2,/^[^#]/s/^# \{0,1\}//p' "$0"; exit 0 ;; esac
 root=$(cd "$(dirname "$0")/.." && pwd)
@@ -36,13 +37,11 @@ told() { if [ "$(id -u)" = 0 ] && [ -z "${DESTDIR-}" ] && command -v ldconfig > 
 
 # removed: what the list names is gone, and the folders that it made where they are empty
 removed() {
+    local each folders
     sed -n 's/^file //p' "$list" | while IFS= read -r each; do rm -f "$to/$each"; done
-    sed -n 's/^folder //p' "$list" > "$list.folders"
+    folders=$(sed -n 's/^folder //p' "$list" | sort -r)
     rm -f "$list"
-    sort -r "$list.folders" > "${TMPDIR-/tmp}/pm-host-folders.$$"
-    rm -f "$list.folders"
-    while IFS= read -r each; do rmdir "$to/$each" 2> /dev/null || true; done < "${TMPDIR-/tmp}/pm-host-folders.$$"
-    rm -f "${TMPDIR-/tmp}/pm-host-folders.$$"
+    while IFS= read -r each; do rmdir "$to/$each" 2> /dev/null || true; done <<< "$folders"
 }
 
 if [ -n "$uninstall" ]; then
@@ -78,20 +77,20 @@ work=$(mktemp -d)
 trap 'rm -rf "$work"' EXIT
 mkdir -p "$to"
 [ ! -f "$list" ] || removed
-: > "$work/list"
 
 # made FOLDER: it is there, and each part that wasn't stands in the list
 made() {
-    local each=$1
-    while [ "$each" != . ] && [ ! -d "$to/$each" ]; do echo "folder $each" >> "$work/list"; each=$(dirname "$each"); done
+    local each=$1 new=''
+    while [ "$each" != . ] && [ ! -d "$to/$each" ]; do new+="folder $each"$'\n'; each=$(dirname "$each"); done
     mkdir -p "$to/$1"
+    printf '%s' "$new" >> "$list"
 }
 
-# put MODE FILE PLACE
-put() { made "$(dirname "$3")"; install -m "$1" "$2" "$to/$3"; echo "file $3" >> "$work/list"; }
+# put MODE FILE PLACE: the list has it first, so that a stopped install leaves nothing that isn't listed
+put() { made "$(dirname "$3")"; echo "file $3" >> "$list"; install -m "$1" "$2" "$to/$3"; }
 
 # linked TARGET PLACE
-linked() { ln -sf "$1" "$to/$2"; echo "file $2" >> "$work/list"; }
+linked() { echo "file $2" >> "$list"; ln -sf "$1" "$to/$2"; }
 
 # shared OUT NAME ARCHIVE ..: a shared object of archives
 shared() {
@@ -132,7 +131,7 @@ package() {
     put 755 "$root/packaging/pmhost" bin/pmhost
     put 644 "$root/docs/pmhost.1" share/man/man1/pmhost.1
     [ -n "${COMPLETION-}" ] || python3 -B "$to/bin/pmhost" --completion > "$work/completion"
-    put 644 "${COMPLETION-$work/completion}" share/bash-completion/completions/pmhost
+    put 644 "${COMPLETION:-$work/completion}" share/bash-completion/completions/pmhost
 }
 
 # wheel: the package as pip takes it, where it is made for this machine
@@ -143,12 +142,16 @@ wheel() {
     put 644 "$work/wheel"/*.whl "share/pm-host/$(basename "$work/wheel"/*.whl)"
 }
 
-# pages: README, docs and examples
+# pages: README, docs and examples, those that git knows where the tree is a repository of its own
 pages() {
-    (cd "$root" && git ls-files README.md CHANGELOG.md docs examples 2> /dev/null || find README.md CHANGELOG.md docs examples -type f) > "$work/pages"
+    (
+        cd "$root"
+        { [ -e .git ] && git ls-files README.md CHANGELOG.md docs examples 2> /dev/null; } || find README.md CHANGELOG.md docs examples -type f
+    ) > "$work/pages"
     while IFS= read -r each; do put 644 "$root/$each" "share/doc/pm-host/$each"; done < "$work/pages"
 }
 
+made share/pm-host
 library pm_host_c pm_host pm.h "A PMBus host core that sets supply voltages, proved"
 put 644 "$root/crates/pm_host_c/include/pm_patient.h" include/pm_patient.h
 library pm_device_c pm_device pm_part.h "A model of a PMBus power converter to try firmware against, proved"
@@ -163,8 +166,6 @@ if [ -z "$library" ]; then
         put 644 "$root/packaging/completions/$each.bash" "share/bash-completion/completions/$each"
     done
 fi
-made share/pm-host
-sort -u "$work/list" > "$list"
 told
 echo "installed below $to: libpm_host and libpm_device for C${library:-, pmhost, pmb, pmbhost and pmbpart with manual pages and completions, README, docs and examples}" | sed 's/Cyes$/C/'
 echo "next: cc -I$prefix/include examples/c/order.c $prefix/lib/libpm_host.a"

@@ -1,6 +1,6 @@
 #!/usr/bin/env bash
 # Makes what can be handed to a machine without the toolchain, from a built tree: a tarball and a .deb (by dpkg-deb) of
-# what packaging/install.sh installs, for x86-64 and, where --aarch64 is given, for 64-bit ARM; SHA256SUMS over them; and
+# what packaging/install.sh installs, for x86-64 and, where --aarch64 is given, for 64-bit ARM; SHA256SUMS over these; and
 # FACTS, a line for each: the processor, the tree's commit and its date, whether the programs are in it, and of each archive
 # its sum and what it says of itself: the compiler, and the stack of its deepest call.
 #
@@ -24,7 +24,19 @@ while [ $# -gt 0 ]; do
     shift
 done
 [ -n "$out" ] || die "give a folder, as packaging/release.sh release"
-for each in dpkg-deb sha256sum tar; do command -v $each > /dev/null || die "no $each on this machine"; done
+lacking=()
+for each in git dpkg-deb sha256sum tar gzip readelf "${STRIP-strip}" ${aarch64:+aarch64-linux-gnu-gcc aarch64-linux-gnu-strip}; do
+    command -v "$each" > /dev/null || lacking+=("$each")
+done
+for each in pm_host_c pm_device_c; do
+    for path in "${archives:-$root/crates/$each/out}/lib$each.a" ${aarch64:+"$aarch64/lib$each.a"}; do
+        [ -f "$path" ] || lacking+=("$path")
+    done
+done
+if [ ${#lacking[@]} != 0 ]; then
+    printf -v lacking ', %s' "${lacking[@]}"
+    die "this machine lacks ${lacking#, }: archives are built by (cd crates/NAME && rt lib), those for ARM by trials/c/targets.sh --out"
+fi
 mkdir -p "$out"
 out=$(cd "$out" && pwd)
 folder=$(mktemp -d)
@@ -37,13 +49,12 @@ if [ -z "$archives" ]; then
     archives=$folder/archives
     mkdir "$archives"
     for each in pm_host_c pm_device_c; do
-        [ -f "$root/crates/$each/out/lib$each.a" ] || die "no lib$each.a in crates/$each/out: build it by (cd crates/$each && rt lib), or give --archives FOLDER"
         cp "$root/crates/$each/out/lib$each.a" "$archives/"
     done
 fi
 maintainer=$(git -C "$root" log -1 --format='%an <%ae>')
 version=$(sed -n 's/^pub const VERSION: &str = "\(.*\)";$/\1/p' "$root/crates/pm_console/src/options.rt")
-name=pm-host
+name=pm-host made=()
 
 # says ARCHIVE: what it says of itself
 says() { readelf -p .comment "$1" 2> /dev/null | grep -ao 'built: backend=[a-z]*\|stack-bytes=[0-9]*\|code=[a-z0-9-]*' | tr '\n' ' '; }
@@ -58,6 +69,7 @@ packed() {
         gzip -n > "$out/$name-$version-$arch.tar.gz"
     debian "$tree" "$deb"
     dpkg-deb --root-owner-group --build "$tree" "$out/${name}_${version}_$deb.deb" > /dev/null
+    made+=("./$name-$version-$arch.tar.gz" "./${name}_${version}_$deb.deb")
     echo "$arch commit=$commit date=$date programs=$([ -z "$mode" ] && echo yes || echo no)" \
         "libpm_host_c.a sha256=$(sha256sum < "$from/libpm_host_c.a" | cut -c1-64) $(says "$from/libpm_host_c.a")" \
         "libpm_device_c.a sha256=$(sha256sum < "$from/libpm_device_c.a" | cut -c1-64) $(says "$from/libpm_device_c.a")" >> "$out/FACTS"
@@ -98,11 +110,7 @@ END
 packed x86_64 amd64 "$archives" "$library"
 [ -n "$library" ] || export COMPLETION=$folder/x86_64/usr/share/bash-completion/completions/pmhost
 if [ -n "$aarch64" ]; then
-    for each in pm_host_c pm_device_c; do
-        [ -f "$aarch64/lib$each.a" ] || die "no lib$each.a in $aarch64: trials/c/targets.sh --out leaves one"
-    done
     export CC=aarch64-linux-gnu-gcc STRIP=aarch64-linux-gnu-strip
-    command -v $CC > /dev/null || die "no $CC on this machine (Debian: gcc-aarch64-linux-gnu)"
     mode=--library
     if [ -z "$library" ] && [ -x "$aarch64/pmb" ] && [ -x "$aarch64/pmbhost" ]; then
         mode='' PMB=$aarch64/pmb PMBHOST=$aarch64/pmbhost PMBPART=''
@@ -111,5 +119,5 @@ if [ -n "$aarch64" ]; then
     fi
     packed aarch64 arm64 "$aarch64" "$mode"
 fi
-(cd "$out" && sha256sum ./*.tar.gz ./*.deb > SHA256SUMS)
+(cd "$out" && sha256sum "${made[@]}" > SHA256SUMS)
 cat "$out/FACTS"

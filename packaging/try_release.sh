@@ -12,18 +12,27 @@
 set -u
 case " $* " in *" --help "* | *" -h "*) sed -n '2,/^[^#]/s/^# \{0,1\}//p' "$0"; exit 0 ;; esac
 [ $# = 2 ] || { echo "try_release.sh: give RELEASE ROOT; --help says more" >&2; exit 2; }
+release=$(realpath -m "$1") root=$(realpath -m "$2")
 cd "$(dirname "$0")/.."
-release=$1 root=$2
+for each in "$release"/*x86_64.tar.gz "$release"/*amd64.deb; do
+    [ -f "$each" ] || { echo "try_release.sh: no $each: give the folder that packaging/release.sh made" >&2; exit 2; }
+done
 [ -x "$root/usr/bin/dpkg" ] || { echo "try_release.sh: $root is no Debian root: --help says how one is made" >&2; exit 2; }
 [ "$(id -u)" = 0 ] || { echo "try_release.sh: be root, since it goes into the root by chroot" >&2; exit 2; }
 . tools/tally.sh
-work=/tmp/pm-host-trial
+work=/tmp/pm-host-trial is_installed=''
+before=$(mktemp) after=$(mktemp) unpacked=$(mktemp -d)
+# ended: nothing of the trial stays, here or in the root, also where it is interrupted
+ended() {
+    [ -z "$is_installed" ] || chroot "$root" dpkg -P pm-host > /dev/null 2>&1
+    rm -rf "$before" "$after" "$unpacked" "${root:?}$work"
+}
+trap ended EXIT
+trap 'exit 130' INT TERM HUP
 rm -rf "${root:?}$work"
 mkdir -p "$root$work"
 cp "$release"/*x86_64.tar.gz "$release"/*amd64.deb "$root$work/"
 chroot "$root" sh -c 'id trial > /dev/null 2>&1 || useradd -m trial' && chroot "$root" chown -R trial "$work"
-before=$(mktemp) after=$(mktemp)
-trap 'rm -f "$before" "$after"' EXIT
 all() { find "$root"/usr "$root"/etc "$root"/opt -not -name '*.pyc' -not -name __pycache__ -not -path '*/ld.so.cache' | sort; }
 
 # step NAME COMMANDS, asked NAME COMMANDS: they run in the root, by a shell, with no network of their own; asked: as an ordinary user
@@ -42,6 +51,7 @@ ran() {
 doc=/usr/share/doc/pm-host
 step "no toolchain is there" '! command -v rt && ! command -v rattle'
 all > "$before"
+is_installed=yes
 step ".deb" 'dpkg -i *.deb'
 asked "its command" 'pmhost -b desk --outputs 2 --limit 0:3.135V:3.465V set 0 3.3V | grep "the output commands 3.300048V, within"'
 asked "a file of rails" 'printf "[rails.core]\noutput = 0\nvolts = \"0.9V\"\nlimits = [\"0.85V\", \"0.95V\"]\n" > rails.toml && pmhost -b desk apply rails.toml'
@@ -64,9 +74,6 @@ cmp -s "$before" "$after"
 status=$?
 tell $status
 [ $status = 0 ] && echo "nothing is left: ok" || { echo "nothing is left: FAILED"; diff "$before" "$after" | head -5; }
-rm -rf "${root:?}$work"
-unpacked=$(mktemp -d)
-trap 'rm -rf "$before" "$after" "$unpacked"' EXIT
 tar -C "$unpacked" --strip-components=1 -xf "$release"/*x86_64.tar.gz
 if packaging/try_uninstall.sh "$unpacked" > "$after"; then
     tell 0; echo "uninstalled: ok"

@@ -3,7 +3,8 @@
 
     tools/check_sources.py [--places] [CRATE ..]
 
-It prints a line for each finding, and has status 1 if there is one. With --places it lists where X6 arises instead.
+It prints a line for each finding, and has status 1 if there is one; of some crates it looks at these alone. With --places it lists
+where X6 arises instead. Without git the files are those that stand in the tree.
 
     memory     a line of code makes a want of memory (AllocError, TextFault::Memory, OutOfMemory) outside the one `From` of
                its crate, or could hide one; tools/try_sources.py plants such lines
@@ -28,14 +29,13 @@ Tests are left out.
 import glob
 import os
 import re
-import subprocess
 import sys
 
 import house
 import planted
 import refusals
 from crate_copy import crates_below, read
-from program import answer_help
+from program import ROOT, Words, kept_files
 
 REGISTERS = ("Operation", "VoutCommand", "VoutMax", "MarginHigh", "MarginLow", "VoutMin")
 REGISTER = re.compile(r"\b(?:%s)\b" % "|".join(REGISTERS))
@@ -261,8 +261,7 @@ PLACE = re.compile(r"(?<![\w./$}~-])((?:crates|tools|trials|packaging|python|rus
 
 def lost_paths():
     """Paths that a page, a script or a source names, and that aren't there: from the top, or from where the file stands."""
-    names = subprocess.run(["git", "ls-files"], capture_output=True, text=True).stdout.split("\n")
-    for name in names:
+    for name in kept_files():
         if not NAMING.match(name) or UNNAMING.search(name) or not os.path.isfile(name):
             continue
         with open(name, encoding="utf-8", errors="replace") as file:
@@ -280,7 +279,7 @@ TALLY = re.compile(r"\b(?:print|echo|printf)\b\W+f?[\"'](?:%d|\$\w+|\$?\{[^}]*\}
 
 def scripts():
     """The scripts of Python and bash: by their names' ends, or by the first line of a file without one."""
-    for name in subprocess.run(["git", "ls-files"], capture_output=True, text=True).stdout.split("\n"):
+    for name in kept_files():
         if name.endswith((".py", ".sh")):
             yield name
         elif "." not in os.path.basename(name) and os.path.isfile(name):
@@ -374,19 +373,24 @@ def findings(crates):
 
 
 def main():
-    answer_help(__doc__)
-    words = [word for word in sys.argv[1:] if word != "--places"]
-    if any(word.startswith("-") for word in words):
-        sys.exit(__doc__)
-    crates = words or [name for name in crates_below() if not name.endswith("_tests") and name != "pm_test_streams"]
-    if "--places" in sys.argv[1:]:
-        print("\n".join(places(crates)))
-        sys.exit(0)
+    words = Words(__doc__, "[--places] [CRATE ..]")
+    words.add_argument("--places", action="store_true")
+    words.add_argument("crates", nargs="*")
+    given = words.read()
+    os.chdir(ROOT)
+    unknown = [name for name in given.crates if not os.path.isdir(os.path.join("crates", name))]
+    if unknown:
+        words.error(f"no crate has the name {', '.join(unknown)}")
+    crates = given.crates or [name for name in crates_below() if not name.endswith("_tests") and name != "pm_test_streams"]
+    if given.places:
+        for line in places(crates):
+            print(line)
+        return 0
     found = list(findings(crates))
     for path, number, kind, line in found:
         print("%s:%d: %s: %s" % (path, number, kind, line[:120]))
-    sys.exit(1 if found else 0)
+    return 1 if found else 0
 
 
 if __name__ == "__main__":
-    main()
+    sys.exit(main())

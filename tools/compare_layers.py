@@ -13,7 +13,7 @@ import sys
 
 sys.dont_write_bytecode = True
 
-from program import ROOT, answer_help  # noqa: E402
+from program import ROOT, no_words  # noqa: E402
 from tally import Tally  # noqa: E402
 
 WIDTHS = {"uint8_t": "u8", "int8_t": "i8", "uint16_t": "u16", "int16_t": "i16", "int64_t": "i64", "uint64_t": "u64", "char": "u8",
@@ -236,7 +236,7 @@ def structs():
 
 
 def main():
-    answer_help(__doc__)
+    no_words(__doc__)
     tally = Tally()
     for what, types, layers in [*versions(), *calls(), *refusals(), *letters(), *sizes(), *structs()]:
         if not types:

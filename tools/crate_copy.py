@@ -25,16 +25,6 @@ def write(path, text):
         f.write(text)
 
 
-def taken(words, flag):
-    """Takes a flag and the word after it from the words, and gives that word."""
-    if flag not in words:
-        return None
-    at = words.index(flag)
-    word = words[at + 1]
-    del words[at:at + 2]
-    return word
-
-
 def crates_below():
     """Each crate of crates.txt, with the names of those that it stands on."""
     uses = {}
@@ -58,14 +48,16 @@ def all_below(uses, crate):
 
 class CrateCopy:
     """The copy, its crate's folder, and the crates whose tests are its: its own, the one of its name, and each test
-    crate that stands on it, also by others: the name of a frame's fault is seen in texts alone."""
+    crate that stands on it, also by others: the name of a frame's fault is seen in texts alone. The copy goes with the process at
+    the latest."""
 
     def __init__(self, crate, jobs):
         uses = crates_below()
         self.crate, self.jobs = crate, jobs
         above = [name for name in uses if name.endswith("_tests") and crate in all_below(uses, name)]
         self.tests = [crate, *sorted(above, key=lambda name: name != crate + "_tests")]
-        self.top = tempfile.mkdtemp(prefix="copy-")
+        self.folder = tempfile.TemporaryDirectory(prefix="copy-", ignore_cleanup_errors=True)
+        self.top = self.folder.name
         self.home = os.path.join(self.top, "crates", crate)
         checked = {crate} | all_below(uses, crate)
         for name in uses:
@@ -74,7 +66,6 @@ class CrateCopy:
             try:
                 shutil.copytree(folder, os.path.join(self.top, folder), symlinks=True, ignore=out)
             except shutil.Error:
-                self.drop()
                 sys.exit("files of %s went away while they were copied: where `rt ci` runs, try it in a clone" % folder)
         shutil.rmtree(os.path.join(self.home, "must-fail"), ignore_errors=True)
         for name in ("crates.txt", "HANDLES"):
@@ -82,7 +73,7 @@ class CrateCopy:
                 shutil.copy(name, self.top)
 
     def drop(self):
-        shutil.rmtree(self.top, ignore_errors=True)
+        self.folder.cleanup()
 
     def write(self, texts):
         """Writes these texts of the crate's files, and gives what stood there."""

@@ -142,17 +142,18 @@ def noticed(copy, edit):
 
 
 class Told:
-    """Prints a line for each edit, and counts them."""
+    """Prints a line for each edit, and counts those that something refuses or notices, and those that nothing does. An edit that
+    stays proved where no test is run is neither."""
 
     def __init__(self, copy, tests):
         self.copy, self.tests, self.passed, self.failed = copy, tests, 0, 0
 
     def edit(self, edit, verdict, note, seconds):
-        if verdict == "PROVED" and self.tests:
-            note = noticed(self.copy, edit)
-        is_unnoticed = verdict == "broken" or note.startswith("NO TEST")
+        if verdict == "PROVED":
+            note = noticed(self.copy, edit) if self.tests else "no test was run"
+        is_unnoticed = verdict in ("broken", "renamed") or note.startswith("NO TEST")
         self.failed += is_unnoticed
-        self.passed += not is_unnoticed
+        self.passed += not is_unnoticed and (verdict != "PROVED" or self.tests)
         print("%-8s %-55s %3d s  %s" % (verdict, edit.name, seconds, note[:200]), flush=True)
 
 
@@ -238,12 +239,9 @@ def compile_crates(crates, jobs):
 
 
 def try_crate(crate, names, how):
-    """Tries a crate's bugs, all or those that are named; how many passed, and how many are broken. Those of a definition and its
+    """Tries a crate's bugs, all or those that are named; how many passed, and how many failed. Those of a definition and its
     code are tried one by one."""
     edits = [*edits_of(crate), *(kept_edits(crate) if how.kept else ())]
-    unknown = set(names) - {edit.name for edit in edits}
-    if unknown:
-        sys.exit("no planted bug has the name %s" % ", ".join(sorted(unknown)))
     copy = CrateCopy(crate, str(how.jobs))
     told = Told(copy, not how.no_tests)
     chosen = sound([edit for edit in edits if not names or edit.name in names], told)

@@ -9,15 +9,15 @@ What isn't needed is found on a copy, by a check with no answers at all: a funct
 no file of answers, and an answer to a goal that isn't left open needn't stand. Half the search's limits must do
 (`--margin`), and a check without them confirms it. A file stays whose first line says that it spares the search: some
 goals are found in a quarter of a minute, which every check would pay. Then come lemmas that nothing cites any more, in no
-crate, and again those that only they cited. Run it at the top of the repository after an `rt check` of the crate.
+crate, and again those that only they cited. Run it after an `rt check` of the crate.
 """
 import glob
 import os
 import re
 import sys
 
-from crate_copy import CrateCopy, read, taken, why_not, write
-from program import answer_help
+from crate_copy import CrateCopy, read, why_not, write
+from program import ROOT, Words, number
 from proof_text import Lemma, files_of, lemmas_of, over, without, wrapped
 
 LEFT = re.compile(r"fn [^ ]+: no proof: expected answers in \./(proofs/[^ ]+); `search` did not prove (.*)")
@@ -215,24 +215,25 @@ def rules(crate):
 
 
 def main():
-    answer_help(__doc__)
-    words = sys.argv[1:]
-    jobs = taken(words, "--jobs") or "1"
-    flags = {word for word in words if word.startswith("--")}
-    words = [word for word in words if not word.startswith("--")]
-    if len(words) != 1 or len(flags) > 1 or flags - {"--apply", "--rules", "--wrap"}:
-        sys.exit(__doc__)
-    home = os.path.join("crates", words[0])
+    words = Words(__doc__, "CRATE [--apply | --rules | --wrap] [--jobs N]")
+    words.add_argument("crate")
+    words.add_argument("--jobs", type=number, default=1)
+    one = words.add_mutually_exclusive_group()
+    for flag in "apply", "rules", "wrap":
+        one.add_argument(f"--{flag}", action="store_true")
+    given = words.read()
+    os.chdir(ROOT)
+    home = os.path.join("crates", given.crate)
     if not os.path.isdir(home):
-        sys.exit("no %s here: run it at the top of the repository" % home)
-    if "--rules" in flags:
-        rules(words[0])
-    elif "--wrap" in flags:
+        words.error(f"no crate has the name {given.crate}")
+    if given.rules:
+        rules(given.crate)
+    elif given.wrap:
         for folder in ("proofs", "specs"):
             for path in glob.glob(os.path.join(home, folder, "**", "*.antt"), recursive=True):
                 write(path, wrapped(read(path)))
     else:
-        diet(words[0], jobs, "--apply" in flags)
+        diet(given.crate, str(given.jobs), given.apply)
 
 
 if __name__ == "__main__":

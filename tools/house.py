@@ -5,16 +5,15 @@
     tools/house --pairs    the laws that are stated twice and the lemmas that are proved twice, a pair a line
     tools/house --middles  the comments of proofs that begin in the middle of a sentence
 
-Run it at the top of the repository. It reads files, and changes nothing.
+It reads files, and changes nothing.
 """
 import collections
 import glob
 import os
 import re
-import sys
 
 from crate_copy import crates_below, read
-from program import answer_help
+from program import ROOT, Words
 from proof_text import files_of, lemmas_of, over
 
 # A comment that begins so hangs on the line before it.
@@ -156,15 +155,19 @@ def long_lines():
 
 
 def main():
-    answer_help(__doc__)
+    words = Words(__doc__, "--pairs, --middles or nothing")
+    for flag in "pairs", "middles":
+        words.add_argument(f"--{flag}", action="store_true")
+    given = words.read()
+    os.chdir(ROOT)
     crates = own_crates()
-    if "--pairs" in sys.argv[1:]:
+    if given.pairs:
         for _, those in doubled_laws(crates):
             print(" ~ ".join("%s %s" % it for it in those))
         for _, those in doubled_lemmas(crates):
             print(" ~ ".join("%s:%d %s" % it for it in those))
         return
-    if "--middles" in sys.argv[1:]:
+    if given.middles:
         for it in middles(crates):
             print("%s:%d: %s" % it)
         return

@@ -9,30 +9,30 @@
 # where `rt ci` has just passed, and nothing was edited since. With --built the archives of that folder are taken:
 # libpm_host_c.a and libpm_device_c.a. With neither, `rt lib` makes them over what it kept.
 #
-# A tool that isn't on this machine is named in a line; it is a failure where PACKAGES_REQUIRED=1 is set. The last line says
-# how many tests passed and failed.
+# A tool that isn't on this machine is named in a line; it is a failure where PACKAGES_REQUIRED=1 is set. Where none of a part's
+# tests passed, that is a failure too. The last line says how many tests passed and failed.
 set -u
 case " $* " in *" --help "* | *" -h "*) sed -n '2,/^[^#]/s/^# \{0,1\}//p' "$0"; exit 0 ;; esac
-cd "$(dirname "$0")/.."
 built='' after_ci=''
-case ${1-} in
-    '') ;;
-    --after-ci) after_ci=yes ;;
-    --built) [ -d "${2-}" ] || { echo "packages.sh: '${2-}' is no folder: give --built FOLDER, from where the repository stands" >&2; exit 2; }
-        built=$(realpath "$2") ;;
-    *) echo "packages.sh: '$1': give --after-ci, --built FOLDER, or nothing" >&2; exit 2 ;;
+case "$#${1-}" in
+    0) ;;
+    1--after-ci) after_ci=yes ;;
+    2--built)
+        built=$(realpath -m "${2:-/}")
+        [ -f "$built/libpm_host_c.a" ] && [ -f "$built/libpm_device_c.a" ] ||
+            { echo "packages.sh: give --built FOLDER, one with libpm_host_c.a and libpm_device_c.a" >&2; exit 2; } ;;
+    *) echo "packages.sh: '$*': give --after-ci, --built FOLDER, or nothing" >&2; exit 2 ;;
 esac
+cd "$(dirname "$0")/.."
 folder=$(mktemp -d)
 trap 'rm -rf "$folder"' EXIT
 . tools/tally.sh
-for each in ${built:+pm_host_c pm_device_c}; do
-    [ -f "$built/lib$each.a" ] || { echo "packages.sh: no lib$each.a in $built" >&2; exit 2; }
-done
 
-# counted NAME PASSED FAILED STATUS: a part's tests; one that ends badly without a test that failed has failed once
+# counted NAME PASSED FAILED STATUS: a part's tests; one that ends badly without a test that failed has failed once, and so has
+# one of whose tests none passed
 counted() {
     local bad=$3
-    if [ "$4" != 0 ] && [ "$bad" = 0 ]; then bad=1; fi
+    if [ "$bad" = 0 ] && { [ "$4" != 0 ] || [ "$2" = 0 ]; }; then bad=1; fi
     passed=$((passed + $2)) failed=$((failed + bad))
     echo "$1: $2 passed, $bad failed"
     [ "$bad" = 0 ] || tail -40 "$folder/log"

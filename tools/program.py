@@ -1,4 +1,5 @@
-"""The built program `pmb`, and what scripts say where it is missing."""
+"""The built program `pmb`, what scripts say where it is missing, and how they read their words."""
+import argparse
 import os
 import shutil
 import subprocess
@@ -17,13 +18,29 @@ def needed():
     return os.path.abspath(found)
 
 
+def kept_files():
+    """The repository's files from its top: those that git knows, or, where this tree is no repository, those that stand there."""
+    if os.path.exists(os.path.join(ROOT, ".git")):
+        listed = subprocess.run(["git", "ls-files", "-z"], cwd=ROOT, capture_output=True, text=True)
+        if listed.returncode == 0:
+            return listed.stdout.split("\0")[:-1]
+    return sorted(found_files())
+
+
+def found_files():
+    """The files of the tree, without what builds leave."""
+    for top, folders, names in os.walk(ROOT, followlinks=True):
+        folders[:] = [it for it in folders if it not in (".git", "out", "target", "__pycache__")]
+        yield from (os.path.relpath(os.path.join(top, name), ROOT) for name in names)
+
+
 def has_options(option="--values"):
     """Whether the program's `decode` has options, and this one among them."""
     return subprocess.run([needed(), "decode", option], stdin=subprocess.DEVNULL, capture_output=True).returncode == 0
 
 
 def main():
-    answer_help("Prints where the built program stands, or the one that the environment variable PMB names.")
+    no_words("Prints where the built program stands, or the one that the environment variable PMB names.")
     print(needed())
 
 
@@ -39,25 +56,63 @@ def answer_help(text):
         sys.exit(0)
 
 
-def seed_and_count(text, count):
-    """The two numbers that the arguments may name, 1 and this count where they don't; otherwise the script ends with its usage."""
-    answer_help(text)
-    words = sys.argv[1:]
-    if len(words) > 2 or not all(word.isdigit() for word in words):
-        sys.exit(text.strip())
-    return [int(word) for word in [*words, *["1", str(count)][len(words):]]]
+class Words(argparse.ArgumentParser):
+    """Reads the words of a script. --help prints its own text; wrong words get one line that says what to give, and status 2."""
+
+    def __init__(self, text, give):
+        super().__init__(add_help=False, allow_abbrev=False)
+        self.text, self.give = text, give
+
+    def read(self):
+        answer_help(self.text)
+        return self.parse_intermixed_args()
+
+    def error(self, message):
+        print(f"{self.prog}: {message}: give {self.give}; --help says more", file=sys.stderr)
+        sys.exit(2)
 
 
-def one_file(text):
-    """The bytes of the one file that the arguments name; otherwise the script ends with its usage."""
-    answer_help(text)
-    if len(sys.argv) != 2:
-        sys.exit(text.strip())
-    try:
-        with open(sys.argv[1], "rb") as file:
-            return file.read()
-    except OSError as fault:
-        sys.exit(f"{sys.argv[1]}: {fault.strerror}")
+def number(text):
+    """A whole number from 0 on, as Words takes it."""
+    if not text.isdecimal():
+        raise ValueError(text)
+    return int(text)
+
+
+def count(text):
+    """A whole number from 1 on."""
+    if not number(text):
+        raise ValueError(text)
+    return int(text)
+
+
+def a_file(text):
+    """The path of a file that is there."""
+    if not os.path.isfile(text):
+        raise argparse.ArgumentTypeError(f"no file at {text}")
+    return os.path.abspath(text)
+
+
+def a_program(text):
+    """The path of a program that is there."""
+    found = shutil.which(text)
+    if not found:
+        raise argparse.ArgumentTypeError(f"no program at {text}")
+    return os.path.abspath(found)
+
+
+def no_words(text):
+    """Ends the script with one line where it is given a word; --help prints its text."""
+    Words(text, "no word").read()
+
+
+def seed_and_count(text, default):
+    """The two numbers that the arguments may name, 1 and this count where they don't."""
+    words = Words(text, "[SEED [COUNT]], two numbers")
+    words.add_argument("seed", type=number, nargs="?", default=1)
+    words.add_argument("count", type=count, nargs="?", default=default)
+    given = words.read()
+    return given.seed, given.count
 
 
 if __name__ == "__main__":

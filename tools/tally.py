@@ -22,6 +22,6 @@ class Tally:
             print(said, flush=True)
 
     def end(self):
-        """The last line, and the status."""
+        """The last line, and the status: 1 where something failed or nothing was tried."""
         print(f"{self.passed} passed, {self.failed} failed", flush=True)
         return 1 if self.failed or not self.passed else 0

@@ -13,6 +13,7 @@ PMHOST_LIBRARY names where it isn't built in place.
 import glob
 import os
 import re
+import shlex
 import shutil
 import subprocess
 import sys
@@ -58,12 +59,13 @@ class Shell:
         self.pmb = pmb
         os.symlink(pmb, os.path.join(folder, "pmb"))
         with open(os.path.join(folder, "pmhost"), "w", encoding="utf-8") as file:
-            file.write(f'#!/bin/sh\nPYTHONPATH={program.ROOT}/python/src exec {sys.executable} -m pmhost "$@"\n')
+            source, python = shlex.quote(f"{program.ROOT}/python/src"), shlex.quote(sys.executable)
+            file.write(f'#!/bin/sh\nPYTHONPATH={source} exec {python} -m pmhost "$@"\n')
         os.chmod(os.path.join(folder, "pmhost"), 0o755)
         self.around = {**os.environ, "PMB": pmb, "PATH": folder + os.pathsep + os.environ["PATH"], "LC_ALL": "C.UTF-8"}
 
     def run(self, command):
-        words = command.replace(BUILT, self.pmb)
+        words = command.replace(BUILT, shlex.quote(self.pmb))
         return subprocess.run(["bash", "-c", words], cwd=program.ROOT, env=self.around, capture_output=True, text=True)
 
 
@@ -250,13 +252,13 @@ def script_faults(shell):
             yield f"{path} --help has status {ran.returncode} and says {ran.stderr!r}"
         if "variable PMB" not in ran.stdout or path == "tools/program.py":
             continue
-        ran = shell.run(f"PMB=/nowhere {path} examples/one-order.scenario")
+        ran = shell.run(f"PMB=/nowhere {path}")
         if ran.returncode != 1 or ran.stdout or not re.fullmatch(r"no program at /nowhere: .*\n", ran.stderr):
             yield f"{path} with no program has status {ran.returncode} and says {ran.stderr!r}"
 
 
 def main():
-    program.answer_help(__doc__)
+    program.no_words(__doc__)
     faults, count = [], 0
     with tempfile.TemporaryDirectory() as folder:
         shell = Shell(program.needed(), folder)

@@ -4,15 +4,16 @@ of another crate's proofs, and asks tools/check_sources.py whether it sees them.
 
     tools/try_sources.py
 
-It prints each form that isn't seen, and has status 1 if there is one. The last line counts.
+It prints each form that isn't seen, and each that is right and seen. The last line says how many passed and failed.
 """
 import sys
 
 import check_sources
 import house
 import mutant_file
-from program import answer_help
+from program import no_words
 from proof_text import lemmas_of
+from tally import Tally
 
 # Each is a body, or what stands beside one.
 FORMS = [
@@ -92,17 +93,15 @@ def is_seen(form):
 
 
 def main():
-    answer_help(__doc__)
-    missed = [form for form in FORMS if not is_seen(form)] + [it for it in EDITS[:3] if not is_misplaced(it)]
-    missed += [it for it in LEMMAS[:2] if not is_twin(it)] + [it for it in LINES[:2] if not is_foreign(it)]
-    blamed = [form for form in RIGHT if is_seen(form)] + [it for it in EDITS[3:] if is_misplaced(it)]
-    blamed += [it for it in LEMMAS[2:] if is_twin(it)] + [it for it in LINES[2:] if is_foreign(it)]
-    for form in missed:
-        print("not seen: %s" % form.strip())
-    for form in blamed:
-        print("seen, and right: %s" % form.strip())
-    print("%d forms, %d not seen; %d that are right, %d seen" % (len(FORMS) + 7, len(missed), len(RIGHT) + 3, len(blamed)))
-    return 1 if missed or blamed else 0
+    no_words(__doc__)
+    tally = Tally()
+    for finds, wrong, right in ((is_seen, FORMS, RIGHT), (is_misplaced, EDITS[:3], EDITS[3:]), (is_twin, LEMMAS[:2], LEMMAS[2:]),
+                                (is_foreign, LINES[:2], LINES[2:])):
+        for form in wrong:
+            tally.tell(form.strip(), [] if finds(form) else ["not seen"])
+        for form in right:
+            tally.tell(form.strip(), ["seen, and right"] if finds(form) else [])
+    return tally.end()
 
 
 if __name__ == "__main__":

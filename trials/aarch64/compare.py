@@ -20,6 +20,7 @@ ROOT = os.path.dirname(os.path.dirname(os.path.dirname(os.path.abspath(__file__)
 sys.path.insert(0, os.path.join(ROOT, "trials"))
 
 import paths  # noqa: E402, F401
+from program import Words, number  # noqa: E402
 from tally import Tally  # noqa: E402
 
 COMMANDS = {"hear": "*.frames", "replay": "*.scenario", "decode": "*.trace"}
@@ -96,14 +97,15 @@ def examples():
 
 
 def main():
-    if {"-h", "--help"} & set(sys.argv) or len(sys.argv) < 2:
-        print(__doc__.strip())
-        return
+    words = Words(__doc__, "FOLDER [TEXTS [LINES]]")
+    words.add_argument("folder")
+    words.add_argument("texts", type=number, nargs="?", default=1000)
+    words.add_argument("lines", type=number, nargs="?", default=10000)
+    given = words.read()
     if not shutil.which("qemu-aarch64"):
         sys.exit("qemu-aarch64: not on this machine: qemu-user")
-    both = programs(sys.argv[1])
-    count, lines = (int(given) if given else left for given, left in zip((sys.argv[2:] + ["", ""])[:2], (1000, 10000)))
-    rows = [("pmb", it) for it in examples()] + [("pmb", it) for it in texts(count)] + [("pmbhost", it) for it in sessions(lines)]
+    both = programs(given.folder)
+    rows = [("pmb", it) for it in examples()] + [("pmb", it) for it in texts(given.texts)] + [("pmbhost", it) for it in sessions(given.lines)]
     with ThreadPoolExecutor(os.cpu_count()) as pool:
         ends = list(pool.map(lambda row: same(both[row[0]], row[1][1], row[1][2]), rows))
     kinds, tally = {}, Tally()

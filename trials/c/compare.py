@@ -7,7 +7,7 @@ Lives of random jobs, refusals, lost, cut and damaged answers and restarts of ei
 say the same of the frame that is sent, the end of a job, each refusal, the restart that was seen, and of a cell what
 is said of it and which words it may hold, and of an output its limits and its band; limits are narrowed meanwhile. After a
 life so for every cell, with each format. A plain converter answers.
-Writes a line for the first difference, and the status is then 1. Without --archive it takes the archive that
+Writes a line for the first difference, and the last line says how many events passed and failed. Without --archive it takes the archive that
 `rt lib` left in crates/pm_host_c/out. EVENTS is 100000 if left out.
 """
 import ctypes
@@ -18,8 +18,8 @@ from math import ceil, floor
 sys.dont_write_bytecode = True
 sys.path.insert(0, os.path.dirname(os.path.dirname(os.path.abspath(__file__))))
 
-import lives  # noqa: E402
 import paths  # noqa: E402, F401
+import lives  # noqa: E402
 from plain import limits  # noqa: E402
 from plain.converter import PROTECT, REGISTERS, Converter  # noqa: E402
 from plain.host import ANY, Host  # noqa: E402
@@ -271,4 +271,4 @@ class Life:
 
 
 if __name__ == "__main__":
-    sys.exit(lives.compare(__doc__, "pm_host_c", declare, Life, sys.argv[1:]))
+    sys.exit(lives.compare(__doc__, "pm_host_c", declare, Life))

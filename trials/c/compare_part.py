@@ -7,7 +7,7 @@ Lives of random parts: plain packets and PAGE_PLUS packets of every code, whole,
 as requests, stores, restores, restarts and readings. After each event the two say the same of what was made of it and
 of its answer, of a cell and its word in the store, of PAGE, of what an output commands and of its status; after a life
 so for every cell and output. Configurations with every fault are refused by both alike, and what a refused call wrote
-is compared. Writes a line for the first difference, and the status is then 1. Without --archive it takes the archive
+is compared. Writes a line for the first difference, and the last line says how many events passed and failed. Without --archive it takes the archive
 that `rt lib` left in crates/pm_device_c/out. EVENTS is 100000 if left out.
 """
 import ctypes
@@ -18,8 +18,8 @@ from fractions import Fraction
 sys.dont_write_bytecode = True
 sys.path.insert(0, os.path.dirname(os.path.dirname(os.path.abspath(__file__))))
 
-import lives  # noqa: E402
 import paths  # noqa: E402, F401
+import lives  # noqa: E402
 from plain.converter import PROTECT, REGISTERS, Converter, setup_fault  # noqa: E402
 from plain.packets import CODES, pec  # noqa: E402
 
@@ -229,4 +229,4 @@ class Life:
 
 
 if __name__ == "__main__":
-    sys.exit(lives.compare(__doc__, "pm_device_c", declare, Life, sys.argv[1:]))
+    sys.exit(lives.compare(__doc__, "pm_device_c", declare, Life))

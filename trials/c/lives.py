@@ -8,7 +8,8 @@ import sys
 import tempfile
 from collections import Counter
 
-ROOT = os.path.dirname(os.path.dirname(os.path.dirname(os.path.abspath(__file__))))
+from program import ROOT, Words, a_file, count, number
+from tally import Tally
 
 
 class Different(Exception):
@@ -29,29 +30,26 @@ def loaded_archive(archive, crate, folder):
     return ctypes.CDLL(shared)
 
 
-def compare(doc, crate, declare, life, arguments):
+def compare(doc, crate, declare, life):
     """Lives of random length, up to so many events: `declare` says what the library's calls answer, and `life` makes one
-    of the library, a source of random numbers, and a Counter of what was seen. The status of the script."""
-    if {"--help", "-h"} & set(arguments):
-        print(doc)
-        return 0
-    archive = os.path.join(ROOT, f"crates/{crate}/out/lib{crate}.a")
-    if arguments[:1] == ["--archive"]:
-        archive, arguments = arguments[1], arguments[2:]
-    seed, events = [int(it) for it in arguments] + [1, 100000][len(arguments):]
-    draw, seen, lived = random.Random(seed), Counter(), 0
+    of the library, a source of random numbers, and a Counter of what was seen. An event passed where both say the same. The
+    status of the script."""
+    words = Words(doc, "[--archive FILE] [SEED [EVENTS]]")
+    words.add_argument("--archive", type=a_file)
+    words.add_argument("seed", type=number, nargs="?", default=1)
+    words.add_argument("events", type=count, nargs="?", default=100000)
+    given, seen, tally = words.read(), Counter(), Tally()
+    draw = random.Random(given.seed)
     with tempfile.TemporaryDirectory() as folder:
-        loaded = loaded_archive(archive, crate, folder)
+        loaded = loaded_archive(given.archive or os.path.join(ROOT, f"crates/{crate}/out/lib{crate}.a"), crate, folder)
         declare(loaded)
-        while lived < events:
+        while tally.passed < given.events and not tally.failed:
             length = draw.choice((40, 80, 160))
             try:
                 life(loaded, draw, seen).live(length)
+                tally.passed += length
             except Different as it:
-                print(f"after {lived} events, seed {seed}: {it}")
-                return 1
-            lived += length
-    for name, count in sorted(seen.items()):
-        print(f"{count:8} {name}")
-    print(f"{lived} events, no difference")
-    return 0
+                tally.tell(f"after {tally.passed} events, seed {given.seed}", [it])
+    for name, often in sorted(seen.items()):
+        print(f"{often:8} {name}")
+    return tally.end()

@@ -6,8 +6,8 @@
 #   trials/c/run.sh [--built FOLDER] [--gcc]
 #
 # With --built the archives of that folder are taken, and nothing is built: libpm_host_c.a and libpm_device_c.a of Rattle's own
-# compiler, and llvm_pm_c.a and llvm_pm_part.a of LLVM, if they are there. With --gcc only the programs run, built by gcc:
-# no other compiler, no sanitizer, no package, and not the command pmhost.
+# compiler, and llvm_pm_host_c.a and llvm_pm_device_c.a of LLVM, if they are there. Without it they are those of `rt lib`. With
+# --gcc only the programs run, built by gcc: no other compiler, no sanitizer, no package, and not the command pmhost.
 #
 # The examples build with no warning. A program that drops an answer that must be asked builds with one. Random calls of every
 # export (trials/c/same.c) over the archives of Rattle's own compiler and over LLVM's answer and write the same. Programs
@@ -17,20 +17,25 @@
 # machine, and last how many passed and failed.
 set -u
 case " $* " in *" --help "* | *" -h "*) sed -n '2,/^[^#]/s/^# \{0,1\}//p' "$0"; exit 0 ;; esac
-cd "$(dirname "$0")/../.."
-ulimit -c 0
 built='' only_gcc=''
 while [ $# != 0 ]; do
     case $1 in
-        --built) built=$(realpath "${2-}") || exit 2; shift 2 ;;
+        --built)
+            built=$(realpath -m "${2:-/}")
+            [ -f "$built/libpm_host_c.a" ] && [ -f "$built/libpm_device_c.a" ] ||
+                { echo "run.sh: give --built FOLDER, one with libpm_host_c.a and libpm_device_c.a" >&2; exit 2; }
+            shift 2 ;;
         --gcc) only_gcc=yes; shift ;;
         *) echo "run.sh: '$1': give --built FOLDER, --gcc, or nothing" >&2; exit 2 ;;
     esac
 done
+cd "$(dirname "$0")/../.."
+ulimit -c 0
 folder=$(mktemp -d)
 trap 'rm -rf "$folder"' EXIT
+llvm_wanted=''
 if [ -z "$built" ]; then
-    built=$folder/built
+    built=$folder/built llvm_wanted=yes
     mkdir "$built"
     for each in pm_host_c pm_device_c; do
         (cd crates/$each && rt lib --backend llvm > "$folder/log" 2>&1) || { tail -20 "$folder/log"; exit 1; }
@@ -41,7 +46,7 @@ if [ -z "$built" ]; then
     done
 fi
 archives=("$built/libpm_host_c.a" "$built/libpm_device_c.a") llvm=()
-[ -f "$built/llvm_pm_c.a" ] && [ -f "$built/llvm_pm_part.a" ] && llvm=("$built/llvm_pm_c.a" "$built/llvm_pm_part.a")
+[ -f "$built/llvm_pm_host_c.a" ] && [ -f "$built/llvm_pm_device_c.a" ] && llvm=("$built/llvm_pm_host_c.a" "$built/llvm_pm_device_c.a")
 . tools/tally.sh
 
 # told NAME STATUS: the line of a program, whose output is in $folder/out and wanted in $folder/wanted
@@ -175,23 +180,24 @@ count ok ok deaf*40|-b 1 -a 58 --outputs 1 clear 0|0|clear 0: acknowledged\n43 t
 END
 }
 
-# rows NAME PREFIX PROGRAM: runs a program on each row of standard input; PREFIX begins what it says on standard error
+# rows NAME PREFIX PROGRAM ..: runs a program on each row of standard input; PREFIX begins what it says on standard error
 rows() {
-    local row=0 mishaps arguments status out err ended
+    local name=$1 prefix=$2 row=0 mishaps arguments status out err ended
+    shift 2
     while IFS='|' read -r mishaps arguments status out err; do
         row=$((row + 1))
-        printf '%b' "${out:+$out\n}${err:+$2: $err\n}" > "$folder/wanted"
+        printf '%b' "${out:+$out\n}${err:+$prefix: $err\n}" > "$folder/wanted"
         # (what the shell itself says of a program that a signal ended is not heard)
-        { (eval "MISHAPS=\$mishaps exec timeout 60 $3 $arguments" > "$folder/out" 2> "$folder/log" < /dev/null); } 2> /dev/null
+        { (eval "MISHAPS=\$mishaps exec timeout 60 \"\$@\" $arguments" > "$folder/out" 2> "$folder/log" < /dev/null); } 2> /dev/null
         ended=$?
         cat "$folder/log" >> "$folder/out"
         if [ "$ended" = "$status" ] && cmp -s "$folder/wanted" "$folder/out"; then
             tell 0
         else
-            tell 1; echo "$1, $arguments with '$mishaps': FAILED (status $ended)"; cat "$folder/out"
+            tell 1; echo "$name, $arguments with '$mishaps': FAILED (status $ended)"; cat "$folder/out"
         fi
     done
-    echo "$1: $row rows"
+    echo "$name: $row rows"
 }
 
 # bus_program NAME COMPILER: the order over the Linux bus, and each row of it
@@ -203,12 +209,13 @@ bus_program() {
     locked "$1 Linux bus" "$folder/program"
 }
 
-# locked NAME PROGRAM: the kernel's own lock, over a plain file: another program has locked the byte of an address
+# locked NAME PROGRAM ..: the kernel's own lock, over a plain file: another program has locked the byte of an address
 locked() {
-    command -v python3 > /dev/null || { echo "$1, locks: no python3 here"; return; }
+    local name=$1; shift
+    command -v python3 > /dev/null || { echo "$name, locks: no python3 here"; return; }
     : > "$folder/locks"
     echo 'i2c_dev: another program drives 1-0058: fuser /dev/i2c-1 names who has the bus open' > "$folder/wanted"
-    python3 -B - "$folder/locks" $2 --no-limit /dev/i2c-1 58 0 3300000 > "$folder/out" 2> "$folder/log" << 'END'
+    python3 -B - "$folder/locks" "$@" --no-limit /dev/i2c-1 58 0 3300000 > "$folder/out" 2> "$folder/log" << 'END'
 import fcntl, os, struct, subprocess, sys
 
 def run(place):
@@ -226,7 +233,7 @@ said, status = run(0x58)
 print(said, end="")
 sys.exit(status != 2)
 END
-    told "$1, locks" $?
+    told "$name, locks" $?
 }
 
 # preloaded: the stand-in as a shared object for programs that are there already, where gcc is
@@ -245,8 +252,8 @@ bus_command() {
         told pmhost build; return
     fi
     command_rows > "$folder/rows"
-    rows pmhost pmhost "env PMHOST_LIBRARY=$folder/libpmhost.so PYTHONPATH=$PWD/python/src LD_PRELOAD=$folder/preload.so python3 -m pmhost" \
-        < "$folder/rows"
+    rows pmhost pmhost env "PMHOST_LIBRARY=$folder/libpmhost.so" "PYTHONPATH=$PWD/python/src" "LD_PRELOAD=$folder/preload.so" \
+        python3 -m pmhost < "$folder/rows"
 }
 
 # rust_bus: the order of the Rust crate over the stand-in; why the host refuses stands in the C program in more words
@@ -256,8 +263,9 @@ rust_bus() {
         told "Rust Linux bus" build; return
     fi
     bus_rows | grep -v '|refused: ' > "$folder/rows"
-    rows "Rust Linux bus" i2c_dev "env LD_PRELOAD=$folder/preload.so $CARGO_TARGET_DIR/debug/examples/i2c_dev" < "$folder/rows"
-    locked "Rust Linux bus" "env LD_PRELOAD=$folder/preload.so $CARGO_TARGET_DIR/debug/examples/i2c_dev"
+    local order=(env "LD_PRELOAD=$folder/preload.so" "$CARGO_TARGET_DIR/debug/examples/i2c_dev")
+    rows "Rust Linux bus" i2c_dev "${order[@]}" < "$folder/rows"
+    locked "Rust Linux bus" "${order[@]}"
 }
 
 # program NAME WANTED COMPILER SOURCES .. -- ARGUMENTS ..
@@ -347,7 +355,13 @@ done
 headers="-Icrates/pm_host_c/include -Icrates/pm_device_c/include"
 for object in "$folder"/objects/*; do bound "$object"; done
 [ -n "$only_gcc" ] || bus_command
-[ -n "$only_gcc" ] || [ ${#llvm[@]} != 0 ] || echo "LLVM's archives: --built FOLDER has none to compare"
+if [ ${#llvm[@]} = 0 ]; then
+    if [ -n "$llvm_wanted" ]; then
+        tell 1; echo "LLVM's archives: FAILED, rt lib left none to compare"
+    elif [ -z "$only_gcc" ]; then
+        echo "LLVM's archives: --built FOLDER has none to compare"
+    fi
+fi
 printf 'first' > "$folder/same.wanted"
 wraps="-Wl,--wrap=open,--wrap=ioctl,--wrap=close,--wrap=fcntl,--wrap=clock_gettime,--wrap=nanosleep"
 strict="-Wconversion -Wpedantic"

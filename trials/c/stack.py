@@ -10,8 +10,15 @@ and then what that one takes, in one line. What the functions of the C library t
 (memcpy, a division) isn't in it. A cycle of calls, a frame that isn't fixed, a function with no frame and an EXPORT that
 the module doesn't have are refused.
 """
+import os
 import re
 import sys
+
+sys.dont_write_bytecode = True
+sys.path.insert(1, os.path.dirname(os.path.dirname(os.path.abspath(__file__))))
+
+import paths  # noqa: E402, F401
+from program import Words, a_file, number  # noqa: E402
 
 CALLS = re.compile(r'\bcall\b[^@]*@("[^"]+"|[\w.$]+)\(')
 DEFINES = re.compile(r'define (.*?)@("[^"]+"|[\w.$]+)\(')
@@ -52,13 +59,14 @@ def deepest(name, calls, frames, each, above=()):
 
 
 def main():
-    if {"-h", "--help"} & set(sys.argv):
-        print(__doc__.strip())
-        return
-    if len(sys.argv) < 3:
-        sys.exit("stack.py: give MODULE FRAMES [BYTES [EXPORT ..]]; --help says more")
-    frames, (calls, exports) = read_frames(sys.argv[2]), read_calls(sys.argv[1])
-    each, apart = int(sys.argv[3]) if len(sys.argv) > 3 else 0, sys.argv[4:]
+    words = Words(__doc__, "MODULE FRAMES [BYTES [EXPORT ..]]")
+    words.add_argument("module", type=a_file)
+    words.add_argument("frames", type=a_file)
+    words.add_argument("each", type=number, nargs="?", default=0)
+    words.add_argument("apart", nargs="*")
+    given = words.read()
+    frames, (calls, exports) = read_frames(given.frames), read_calls(given.module)
+    each, apart = given.each, given.apart
     for name in apart:
         if name not in exports:
             sys.exit(f"stack.py: no export {name}")

@@ -13,20 +13,21 @@
 # each comparison, what isn't on this machine, and last how many passed and failed.
 set -u
 case " $* " in *" --help "* | *" -h "*) sed -n '2,/^[^#]/s/^# \{0,1\}//p' "$0"; exit 0 ;; esac
-cd "$(dirname "$0")/../.."
-. trials/c/targets_of.sh
+. "$(dirname "$0")/targets_of.sh"
 out='' built='' seeds=11
 while case ${1-} in --*) true ;; *) false ;; esac; do
     case "$1 ${2:+.}" in
         "--out ." | "--built .") mkdir -p "$2"; declare "${1#--}=$(realpath "$2")" ;;
-        "--seeds .") seeds=$2 ;;
+        "--seeds .") seeds=${2//[!0-9]/x} ;;
         *) echo "targets.sh: $1: give --out FOLDER, --built FOLDER, --seeds N and names of targets" >&2; exit 2 ;;
     esac
     shift 2
 done
+case $seeds in *x* | 0) echo "targets.sh: --seeds: give a number, from 1 on" >&2; exit 2 ;; esac
 for each in "$@"; do
     case " $names " in *" $each "*) ;; *) echo "targets.sh: no target $each: give some of $names" >&2; exit 2 ;; esac
 done
+cd "$(dirname "$0")/../.."
 command -v rt > /dev/null || { echo "targets.sh: the toolchain's rt isn't on this machine" >&2; exit 1; }
 kit=$(dirname "$(dirname "$(realpath "$(command -v rt)")")")
 clang=$kit/toolchain/bin/clang
@@ -74,7 +75,8 @@ prove() {
             cp "$folder/module.bc" "$kept.bc"
             cp "$folder/module.words" "$kept.words"
         fi
-        cp crates/$crate/out/lib$crate.a "$kept.a"
+        # (an archive that stays there is taken for x86-64's)
+        mv crates/$crate/out/lib$crate.a "$kept.a"
     done
 }
 

@@ -10,6 +10,7 @@ sys.dont_write_bytecode = True
 sys.path.insert(1, os.path.dirname(os.path.dirname(os.path.abspath(__file__))))
 
 import paths  # noqa: E402, F401
+from program import no_words  # noqa: E402
 from retarget import Refused, processor, rewritten  # noqa: E402
 from tally import Tally  # noqa: E402
 
@@ -120,9 +121,7 @@ def refusal(module, like):
 
 
 def main():
-    if {"-h", "--help"} & set(sys.argv):
-        print(__doc__.strip())
-        return 0
+    no_words(__doc__)
     tally, text = Tally(), rewritten(MODULE, processor(LIKE), 4)
     for what, wanted in REWRITTEN:
         tally.tell(what, [] if text.count(wanted) == 1 else [f"{text.count(wanted)} times"])

@@ -9,7 +9,7 @@
 # bits by itself, so pm_pec is made to answer twice its answer first, which does: widened it is only another answer.
 set -u
 case " $* " in *" --help "* | *" -h "*) sed -n '2,/^[^#]/s/^# \{0,1\}//p' "$0"; exit 0 ;; esac
-[ -f "${1-}/x86-64.part.a" ] && [ -f "$1/x86-64-llvm.part.bc" ] || { echo "try_same.sh: give the folder that targets.sh --built left" >&2; exit 2; }
+[ $# = 1 ] && [ -f "$1/x86-64.part.a" ] && [ -f "$1/x86-64-llvm.part.bc" ] || { echo "try_same.sh: give the folder that targets.sh --built left" >&2; exit 2; }
 built=$(realpath "$1")
 cd "$(dirname "$0")/../.."
 . trials/c/targets_of.sh

@@ -13,6 +13,9 @@ case " $* " in *" --help "* | *" -h "*) sed -n '2,/^[^#]/s/^# \{0,1\}//p' "$0"; 
 here=$(cd "$(dirname "$0")" && pwd)
 folder=$(realpath -m "$1"); shift
 trial=$(IFS=,; echo "$*")
+case $here$folder$CACHE$PMB$PMBHOST$PMHOST_LIBRARY in
+    *[[:space:],]*) echo "boot.sh: the kernel's command line takes no path with a blank or a comma: $here, $folder, $CACHE, $PMB, $PMBHOST, $PMHOST_LIBRARY" >&2; exit 2 ;;
+esac
 mkdir -p "$folder" || exit 2
 rm -f "$folder"/{i2c.sock,wire.sock,held,said,ended}
 PLAIN_PART=${PLAIN_PART-} python3 "$here/bench.py" "$folder" ${VCD:+--vcd} > "$folder/bench" 2>&1 &

@@ -4,7 +4,6 @@ same packets of both. They stay in FOLDER, and so does the waveform of the bit-b
 Over an adapter that stands on another the events of both are there, which --bus takes apart. Where the kernel repeats a
 transfer by itself, the tracepoints of its bus show it once, and those of the adapter below twice.
 """
-import os
 import subprocess
 import sys
 

@@ -1,7 +1,7 @@
 #!/usr/bin/env bash
 # Plants bugs into copies of the package and of the C example, each of which a trial over a whole Linux must find: a short
 # count that is taken for success, once in each of the three programs that make transfers; an address that is another
-# part's; and answers of ones that are believed. Prints what found them.
+# part's; and answers of ones that are believed. Each trial has to pass without the bug first. Prints what found them.
 #
 #   trials/linux/must_fail.sh [OPTIONS]
 #
@@ -25,13 +25,27 @@ open(path, "w", encoding="utf-8").write(text.replace(old, new))
 sys.exit(text.count(old) != 1)
 END
 }
-# tried NAME TRIAL BUS [WORD ..]: the trial on the copy.
-tried() {
-    local name=$1; shift
+# begun TREE GUEST TRIAL BUS [WORD ..]: the trial on a tree; what its guest leaves stands in GUEST, and what boot.sh says in GUEST.boot.
+begun() {
+    local tree=$1 guest=$2; shift 2
     while [ "$(jobs -rp | wc -l)" -ge "$at_once" ]; do wait -n; done
-    "$work/$name/tree/trials/linux/boot.sh" "$work/$name/guest" "$@" > "$work/$name/boot" 2>&1 &
+    "$tree/trials/linux/boot.sh" "$guest" "$@" > "$guest.boot" 2>&1 &
     guests+=($!)
 }
+# tried NAME TRIAL BUS [WORD ..]: the trial without the bug, over the programs that $sound names, and on the copy.
+tried() {
+    local name=$1; shift
+    CACHE=$sound begun "$root" "$work/$name/sound" "$@"
+    begun "$work/$name/tree" "$work/$name/guest" "$@"
+}
+# cache NAME TREE: a folder of kernel, modules and library with the C example of a tree
+cache() {
+    mkdir "$work/$1"
+    ln -s "$built/kernel" "$built/modules" "$built/libpmhost.so" "$work/$1"
+    gcc -I"$root/crates/pm_host_c/include" "$2/examples/c/i2c_dev.c" "$archive" -o "$work/$1/i2c_dev" || refuse "examples/c/i2c_dev.c doesn't build"
+}
+cache sound "$root"
+sound=$work/sound
 plant package python/src/pmhost/bus/linux.py "if went != len(messages):" "if went < 0:"
 tried package rows 0
 plant frames python/src/pmhost/capture/i2ctransfer.py "if ran.returncode or ran.stderr or len(back) != wanted or BYTES.sub(\"\", ran.stdout).strip():" \
@@ -43,20 +57,19 @@ plant ones python/src/pmhost/bus/linux.py "return given(answer)" "return answer"
 tried ones ones 0
 names="package frames address ones"
 plant program examples/c/linux_bus.h "return went == count;" "return went >= 0;"
-mkdir "$work/cache"
-ln -s "$built/kernel" "$built/modules" "$built/libpmhost.so" "$work/cache"
-gcc -I"$root/crates/pm_host_c/include" "$work/program/tree/examples/c/i2c_dev.c" "$archive" -o "$work/cache/i2c_dev" ||
-    refuse "examples/c/i2c_dev.c doesn't build"
-CACHE=$work/cache tried program programs 0
+cache planted "$work/program/tree"
+CACHE=$work/planted tried program programs 0
 names="$names program"
 wait
 . "$root/tools/tally.sh"
 for name in $names; do
-    if grep -qE ' passed, [1-9][0-9]* failed$' "$work/$name/guest/said" 2> /dev/null; then
+    if [ "$(cat "$work/$name/sound/ended" 2> /dev/null)" != "status 0" ]; then
+        tell 1; echo "$name: NOT TRIED, the trial fails without the bug:"; tail -n 5 "$work/$name/sound.boot" "$work/$name/sound/said"
+    elif grep -qE ' passed, [1-9][0-9]* failed$' "$work/$name/guest/said" 2> /dev/null; then
         tell 0; echo "$name: found"
         sed "s/^/    /; s/\(.\{150\}\).*/\1 ../" "$work/$name/guest/said"
     else
-        tell 1; echo "$name: NOT FOUND"; tail -n 5 "$work/$name/boot" "$work/$name/guest/said"
+        tell 1; echo "$name: NOT FOUND"; tail -n 5 "$work/$name/guest.boot" "$work/$name/guest/said"
     fi
 done
 end_tally

@@ -6,8 +6,9 @@
 #   trials/linux/two_hosts.sh [OPTIONS]
 #
 # The options are those of run.sh, and so is KEEP. The part is a model of two outputs with the registers that the driver asks for, and
-# the faults are chosen: these are no failure rates of boards. The last line tells how many lines of the table and of the
-# listing are as trials/linux/results/two_hosts.txt has them.
+# the faults are chosen: these are no failure rates of boards. The lines of the table and of the listing have to be those of
+# trials/linux/results/two_hosts.txt: the last line tells how many are. A line that is new, one that lacks, and a guest that didn't
+# end well failed.
 set -u
 case " $* " in *" --help "* | *" -h "*) sed -n '2,/^[^#]/s/^# \{0,1\}//p' "$0"; exit 0 ;; esac
 here=$(cd "$(dirname "$0")" && pwd)
@@ -37,12 +38,18 @@ told() {
     grep -v passed "$work/sharpest/said"
 } > "$work/table"
 cat "$work/table"
-for each in limit regulator polled ours sharpest; do
-    [ "$(cat "$work/$each/ended" 2> /dev/null)" = "status 0" ] || why $each
-done
 [ -z "${KEEP-}" ] || cp -r "$work" "$KEEP"
-sed 's/^/not as before: /' <(grep -vxFf "$here/results/two_hosts.txt" "$work/table") | tee "$work/others"
 . "$root/tools/tally.sh"
-failed=$(wc -l < "$work/others") passed=$(wc -l < "$work/table")
-passed=$((passed - failed))
+for each in limit regulator polled ours sharpest; do
+    ended=$(cat "$work/$each/ended" 2> /dev/null)
+    [ "$ended" = "status 0" ] || { tell 1; echo "$each: FAILED (${ended:-no end})"; why $each; }
+done
+# differing WORDS FILE OTHER: the lines of a file that the other one lacks
+differing() {
+    local line
+    while IFS= read -r line; do tell 1; echo "$1: $line"; done < <(grep -vxFf "$3" "$2")
+}
+differing "not as before" "$work/table" "$here/results/two_hosts.txt"
+differing "no longer there" "$here/results/two_hosts.txt" "$work/table"
+passed=$(grep -cxFf "$here/results/two_hosts.txt" "$work/table")
 end_tally

@@ -15,7 +15,7 @@ sys.path[:0] = [HERE, os.path.dirname(HERE)]
 
 import paths  # noqa: E402, F401
 from pmhost.capture import trace  # noqa: E402
-from program import answer_help  # noqa: E402
+from program import Words  # noqa: E402
 from tally import Tally  # noqa: E402
 
 OPTIONS = "i2c:scl=SCL:sda=SDA:address_format=unshifted"
@@ -42,13 +42,15 @@ def faults_of(wire, sent):
 
 
 def main():
-    answer_help(__doc__)
-    if len(sys.argv) != 2:
-        sys.exit(__doc__.strip())
-    folder, tool, tally = sys.argv[1], shutil.which("sigrok-cli"), Tally()
+    words = Words(__doc__, "the FOLDER of the trial captures 5")
+    words.add_argument("folder")
+    folder, tool, tally = words.read().folder, shutil.which("sigrok-cli"), Tally()
+    for name in ("wire.vcd", "captured.bus"):
+        if not os.path.isfile(os.path.join(folder, name)):
+            words.error(f"no {name} in {folder}")
     if not tool:
         print("no sigrok-cli: the waveform isn't compared; install sigrok-cli")
-        return 0
+        return tally.end()
     ran = subprocess.run([tool, "-I", "vcd", "-i", os.path.join(folder, "wire.vcd"), "-P", OPTIONS, "-A", "i2c=addr-data"],
                          capture_output=True, text=True)
     with open(os.path.join(folder, "captured.sigrok"), "w", encoding="ascii") as file:

@@ -10,9 +10,8 @@ trials/ is held by its parse alone, since it takes many minutes: the crate is th
 --help. --minutes runs `rt try` and `tools/test quick` too. What no test runs (a board's own tools) has to stand on its page in a line
 that begins with "No test runs". Lines that begin with `$` are those of tools/try_pages.py, which compares what they print.
 
-Each page counts once; the last line is `N passed, M failed`.
+Each page of which a command was tried counts once, and so does the package's install; the last line is `N passed, M failed`.
 """
-import argparse
 import glob
 import os
 import re
@@ -25,7 +24,7 @@ sys.dont_write_bytecode = True
 sys.path.insert(0, os.path.dirname(os.path.dirname(os.path.abspath(__file__))))
 
 import paths  # noqa: E402, F401
-from program import ROOT  # noqa: E402
+from program import ROOT, Words, kept_files  # noqa: E402
 from tally import Tally  # noqa: E402
 
 ORDINARY = 65534
@@ -39,9 +38,13 @@ UNLIKE = re.compile(r" verify | survey | margin | on |VOUT_MARGIN")
 SECONDS = 600
 
 
-def pages(chosen):
-    names = ["README.md", *sorted(glob.glob("docs/**/*.md", root_dir=ROOT, recursive=True)), "examples/README.md"]
-    return [name for name in names if not chosen or name in chosen]
+def pages():
+    return ["README.md", *sorted(glob.glob("docs/**/*.md", root_dir=ROOT, recursive=True)), "examples/README.md"]
+
+
+def text_of(name):
+    with open(os.path.join(ROOT, name), encoding="utf-8") as file:
+        return file.read()
 
 
 def lines_of(text):
@@ -67,8 +70,7 @@ class Place:
     def __init__(self, folder, built):
         self.home, self.tree = os.path.join(folder, "home"), os.path.join(folder, "home", "tree")
         os.makedirs(self.tree)
-        names = subprocess.run(["git", "ls-files", "-z"], cwd=ROOT, capture_output=True, text=True, check=True).stdout.split("\0")
-        for name in filter(None, names):
+        for name in kept_files():
             path = os.path.join(self.tree, name)
             os.makedirs(os.path.dirname(path), exist_ok=True)
             shutil.copy2(os.path.join(ROOT, name), path, follow_symlinks=False)
@@ -119,13 +121,12 @@ def parsed(place, line, has_minutes):
 
 
 def faults(place, name, has_minutes):
-    """What is wrong with a page's commands; the others are counted."""
-    with open(os.path.join(ROOT, name), encoding="utf-8") as file:
-        text = file.read()
+    """What is wrong with a page's commands, and how many were tried."""
+    text = text_of(name)
     script, said = ["set -e", "shopt -s expand_aliases", "PATH=$PWD/crates/pmb/out:$PWD/crates/pmbhost/out:$PWD/crates/pmbpart/out:$PATH"], " ".join(re.findall(r"^No test runs .*?(?:\n\n|\Z)", text, re.M | re.S))
     if os.path.exists(os.path.join(place.home, "v/bin")):
         script.append(". ~/v/bin/activate")
-    count = 0
+    found, count, held = [], 0, 0
     for kind, line, rest in lines_of(text):
         if kind == "file":
             place.write(line, rest)
@@ -133,15 +134,17 @@ def faults(place, name, has_minutes):
         if NOT_RUN.search(line):
             tool = NOT_RUN.search(line)[0].strip().split("/")[0]
             if tool not in said and NOT_RUN.search(line)[0] not in said:
-                yield f"no test runs it, and the page doesn't say so: {line}"
+                found.append(f"no test runs it, and the page doesn't say so: {line}")
             continue
         if line.startswith("cargo ") and place.shell("cargo --version").returncode:
             print(f"{name}: this user has no cargo: not run: {line}")
             continue
         wrong = parsed(place, line, has_minutes)
         if wrong:
-            yield f"{line}: {wrong}"
-        if wrong is None:
+            found.append(f"{line}: {wrong}")
+        if wrong is not None:
+            held += 1
+        else:
             line, count = over_a_model(line), count + 1
             script.append(f"echo '== {count}'")
             script.append(f"{line} || [ $? = 1 ]" if UNLIKE.search(line) else line)
@@ -149,24 +152,33 @@ def faults(place, name, has_minutes):
         ran = place.shell("\n".join(script))
         if ran.returncode or "Traceback" in ran.stderr:
             at = re.findall(r"^== (\d+)$", ran.stdout, re.M)
-            yield f"command {at[-1] if at else 0} of {count} ends with {ran.returncode}: {script[4 + 2 * int(at[-1] if at else 1):][:1]} {ran.stderr[-300:]}"
-    print(f"{name}: {count} commands run", flush=True)
+            found.append(f"command {at[-1] if at else 0} of {count} ends with {ran.returncode}: {script[4 + 2 * int(at[-1] if at else 1):][:1]} {ran.stderr[-300:]}")
+    if count or held:
+        print(f"{name}: {count} commands run", flush=True)
+    return found, count + held
 
 
 def main():
-    reader = argparse.ArgumentParser(description=__doc__, formatter_class=argparse.RawDescriptionHelpFormatter)
-    reader.add_argument("--built", required=True, metavar="FOLDER")
-    reader.add_argument("--minutes", action="store_true")
-    reader.add_argument("pages", nargs="*", metavar="PAGE")
-    how = reader.parse_args()
-    tally = Tally()
+    words = Words(__doc__, "--built FOLDER [--minutes] [PAGE ..]")
+    words.add_argument("--built", required=True)
+    words.add_argument("--minutes", action="store_true")
+    words.add_argument("pages", nargs="*")
+    how, tally = words.read(), Tally()
+    unknown = [name for name in how.pages if name not in pages()]
+    if unknown:
+        words.error(f"no page {', '.join(unknown)}: README.md, examples/README.md and those of docs/ are pages")
+    lacking = [file for file in (*(f"lib{it}.a" for it in LIBRARIES), *PROGRAMS) if not os.path.isfile(os.path.join(how.built, file))]
+    if lacking:
+        words.error(f"no {', '.join(lacking)} in {how.built}")
     with tempfile.TemporaryDirectory() as folder:
         os.chmod(folder, 0o755)
         place = Place(folder, how.built)
         made = place.shell("python3 -m venv ~/v && ~/v/bin/pip install --quiet ./python")
         tally.tell("pip install ./python", [made.stderr[-300:]] if made.returncode else [])
-        for name in pages(how.pages):
-            tally.tell(name, faults(place, name, how.minutes))
+        for name in how.pages or pages():
+            found, tried = faults(place, name, how.minutes)
+            if found or tried:
+                tally.tell(name, found)
     return tally.end()
 
 

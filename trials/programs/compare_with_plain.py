@@ -11,7 +11,6 @@ ones at every place.
 It runs the built program, or the one that the environment variable PMB names. With --beside another program, as that of
 an earlier commit, has to say the same.
 """
-import argparse
 import functools
 import json
 import os
@@ -175,14 +174,13 @@ def compare_numbers(dice, count, seen):
 
 
 def main():
-    program.answer_help(__doc__)
+    words = program.Words(__doc__, "[--beside PROGRAM] [SEED [TEXTS [COMMAND ..]]]")
+    words.add_argument("--beside", type=program.a_program)
+    words.add_argument("seed", type=program.number, nargs="?", default=1)
+    words.add_argument("texts", type=program.count, nargs="?", default=10000)
+    words.add_argument("commands", nargs="*", choices=[*TEXTS, TOLD, SETS, "number", []])
+    given = words.read()
     program.needed()
-    reader = argparse.ArgumentParser(add_help=False)
-    reader.add_argument("--beside")
-    reader.add_argument("seed", type=int, nargs="?", default=1)
-    reader.add_argument("texts", type=int, nargs="?", default=10000)
-    reader.add_argument("commands", nargs="*", metavar="COMMAND", choices=[*TEXTS, TOLD, SETS, "number", []])
-    given = reader.parse_args()
     OTHER.extend([given.beside] if given.beside else [])
     chosen = given.commands or [*TEXTS, TOLD, "number"]
     if not program.has_options():

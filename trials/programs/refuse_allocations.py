@@ -3,7 +3,8 @@
 
 What comes of it must be `pmb: X6 Memory` alone, with status 1 and nothing written (by `decode`, which
 writes line by line, a first part of the text), or the very result of the run in which no allocation fails,
-where that one could be done without. Anything else is printed, and the status is then 1.
+where that one could be done without. Anything else is printed; the last line says how many
+refusals passed and failed.
 
     trials/programs/refuse_allocations.py
 
@@ -21,6 +22,7 @@ sys.path.insert(0, os.path.dirname(os.path.dirname(os.path.abspath(__file__))))
 import paths  # noqa: E402, F401
 import program  # noqa: E402
 import refuser  # noqa: E402
+from tally import Tally  # noqa: E402
 
 HEAD = b"scenario 1\naddress 58\npasses 2\nprotect 00\ncoefficients 1 0 0\n"
 OUTPUT = b"output 14 80 1000 4000 1100 0F00\n"
@@ -155,9 +157,9 @@ def result_of(shared, arguments, text, number=0):
 
 
 def main():
-    program.answer_help(__doc__)
+    program.no_words(__doc__)
     program.needed()
-    faults = seen = 0
+    tally, seen = Tally(), 0
     with tempfile.TemporaryDirectory() as folder:
         shared = refuser.built_in(folder)
         for arguments, text in RUNS:
@@ -169,15 +171,12 @@ def main():
                 is_wanting = wants_memory(arguments, found, whole)
                 wanting += is_wanting
                 unneeded += found == whole
-                if not is_wanting and found != whole:
-                    faults += 1
-                    print(f"allocation {refused} refused: {found}")
+                tally.tell(f"allocation {refused} refused", [] if is_wanting or found == whole else [found])
             shown = text[:24].decode() + (" .." if len(text) > 24 else "")
             print(f"{arguments[:4]} {shown!r}: {made} allocations, {wanting} wanted, {unneeded} done without")
     if not seen:
         sys.exit("no allocation was seen: the program takes its memory elsewhere, as one of `rt try` does")
-    print("each refusal is X6, or changes nothing" if not faults else f"{faults} faults")
-    return 1 if faults else 0
+    return tally.end()
 
 
 sys.exit(main())

@@ -25,7 +25,8 @@ sys.path.insert(0, os.path.dirname(os.path.dirname(os.path.abspath(__file__))))
 
 import paths  # noqa: E402, F401
 import refuser  # noqa: E402
-from program import ROOT, answer_help  # noqa: E402
+from program import ROOT, no_words  # noqa: E402
+from tally import Tally  # noqa: E402
 
 CRATE = os.path.join(ROOT, "crates/pm_text_engine_tests")
 MOST, FIRST = 2000, 500
@@ -99,16 +100,15 @@ def tried(shared, tests, name):
 
 
 def main():
-    answer_help(__doc__)
-    if len(sys.argv) > 1:
-        sys.exit(__doc__.strip())
-    tests = built()
+    no_words(__doc__)
+    tests, tally = built(), Tally()
     with tempfile.TemporaryDirectory() as folder:
         shared = refuser.built_in(folder)
         names = tests_of(tests)
-        faults = sum(tried(shared, tests, name) for name in names)
-    print(f"{len(names)} tests, {faults} faults")
-    return 1 if faults or not names else 0
+        for name in names:
+            faults = tried(shared, tests, name)
+            tally.tell(name, [f"{faults} faults"] if faults else [])
+    return tally.end()
 
 
 if __name__ == "__main__":

@@ -3,7 +3,8 @@
 entries, and makes the retelling of each combination of their possible words, up to 24 of each: a
 list of events without a restart, in a new world, which has the same transcript and leaves these words in
 their cells. It is run, and compared. And for each combination with one word that isn't possible the
-retelling has to fail. What is wrong is printed, and the status is then 1; at the end stands how many there were.
+retelling has to fail. What is wrong is printed; at the end stands how many there were,
+and how many setups passed and failed.
 
     trials/programs/retell.py [SEED [TRANSCRIPTS]]
 
@@ -20,6 +21,7 @@ sys.path.insert(0, os.path.dirname(os.path.dirname(os.path.abspath(__file__))))
 
 import paths  # noqa: E402, F401
 import program  # noqa: E402
+from tally import Tally  # noqa: E402
 from plain.converter import OPERATION, PROTECT, REGISTERS, accepts  # noqa: E402
 from plain.draw_scenarios import chance, draw_events, draw_setup, draw_uncertain, event_words, setup_lines  # noqa: E402
 from plain.host import ANY, Host  # noqa: E402
@@ -225,20 +227,16 @@ def tried(dice, seen, with_program):
 
 
 def main():
-    program.answer_help(__doc__)
-    seed = int(sys.argv[1]) if len(sys.argv) > 1 else 1
-    wanted = int(sys.argv[2]) if len(sys.argv) > 2 else 20000
-    dice, seen, faults = random.Random(seed), {}, 0
+    seed, wanted = program.seed_and_count(__doc__, 20000)
+    dice, seen, tally = random.Random(seed), {}, Tally()
     with_program = bool(os.environ.get("PMB"))
     while seen.get("transcripts", 0) < wanted:
-        for found in tried(dice, seen, with_program):
-            faults += 1
-            print(*found, sep="\n  ")
+        tally.tell("a setup", ("\n  ".join(map(str, found)) for found in tried(dice, seen, with_program)))
     for kind in sorted(seen):
         print(f"{seen[kind]:8} {kind}")
     print(f"{seen['transcripts']} transcripts, {seen['combinations']} combinations retold,"
-          f" {seen['impossible']} that aren't possible refused, {faults} wrong")
-    return 1 if faults else 0
+          f" {seen['impossible']} that aren't possible refused")
+    return tally.end()
 
 
 if __name__ == "__main__":

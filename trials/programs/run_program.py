@@ -1,8 +1,8 @@
 #!/usr/bin/env python3
 """Runs the built program `pmb` on all of examples/ and on a table of command lines and inputs, and
 compares its status and what it wrote on both streams: each status, each kind of line on standard error,
-a full output and closed streams; the examples also byte by byte. What differs is printed, and the status
-is then 1.
+a full output and closed streams; the examples also byte by byte. What differs is printed; the last
+line says how many runs passed and failed.
 
 It runs the built program, or the one that the environment variable PMB names: trials/programs/run_program.py
 """
@@ -18,6 +18,7 @@ import paths  # noqa: E402, F401
 import program  # noqa: E402
 from plain.restart_rows import RESTARTS  # noqa: E402
 from program import ROOT  # noqa: E402
+from tally import Tally  # noqa: E402
 
 PROGRAM = program.PROGRAM
 
@@ -309,28 +310,23 @@ def is_as_wanted(found, wanted):
 
 
 def main():
-    program.answer_help(__doc__)
+    program.no_words(__doc__)
     program.needed()
-    faults, runs = 0, [*RUNS, *examples()]
+    tally, runs = Tally(), [*RUNS, *examples()]
     for arguments, text, status, output, errors in runs:
         ran = subprocess.run([PROGRAM, *arguments], input=text, capture_output=True)
         good = ran.returncode == status
         good = good and is_as_wanted(ran.stdout, output) and is_as_wanted(ran.stderr, errors)
-        if not good:
-            faults += 1
-            print(f"{arguments} on {text[:24]!r}: {ran.returncode}, {ran.stdout!r}, {ran.stderr!r}")
+        tally.tell(f"{arguments} on {text[:24]!r}", [] if good else [f"{ran.returncode}, {ran.stdout!r}, {ran.stderr!r}"])
     for arguments, text, status, output, _ in examples():
-        if ran_by_bytes(arguments, text) != (output, status):
-            faults += 1
-            print(f"{arguments} on {text[:24]!r}, byte by byte: not as whole")
+        is_same = ran_by_bytes(arguments, text) == (output, status)
+        tally.tell(f"{arguments} on {text[:24]!r}, byte by byte", [] if is_same else ["not as whole"])
     for streams, arguments, status, errors in STREAMS:
         command = f'"$0" "$@" {streams}'
         ran = subprocess.run(["sh", "-c", command, PROGRAM, *arguments], input=FRAME, capture_output=True)
-        if (ran.returncode, ran.stderr) != (status, errors):
-            faults += 1
-            print(f"{arguments} {streams}: {ran.returncode}, {ran.stderr!r}")
-    print(f"{len(runs) + len(list(examples())) + len(STREAMS)} runs, {faults} faults")
-    return 1 if faults else 0
+        good = (ran.returncode, ran.stderr) == (status, errors)
+        tally.tell(f"{arguments} {streams}", [] if good else [f"{ran.returncode}, {ran.stderr!r}"])
+    return tally.end()
 
 
 sys.exit(main())

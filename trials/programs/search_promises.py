@@ -5,8 +5,8 @@ python/tests/plain to every promise after each event, and the program's report t
 promises on its own. A host that keeps limits takes the same events, and the model is held to what limits and
 bands promise, to what may move at each moment, and to what a bus that is good again ends; and to what the end of a
 job says it is held in a world of its own. Two prefixes of each tenth list are run by the program too. Some lists have
-a faulty setup, of which the program must say the fault, and nothing else. What is broken is printed, and the status is
-then 1; at the end stands how many lists met what.
+a faulty setup, of which the program must say the fault, and nothing else. What is broken is printed; at the end
+stands how many lists met what, and how many passed and failed.
 
     trials/programs/search_promises.py [SEED [LISTS]]
 
@@ -23,6 +23,7 @@ sys.path.insert(0, os.path.dirname(os.path.dirname(os.path.abspath(__file__))))
 
 import paths  # noqa: E402, F401
 import program  # noqa: E402
+from tally import Tally  # noqa: E402
 import refusals  # noqa: E402
 from plain.draw_faulty_setups import draw_faulty  # noqa: E402
 from plain.draw_scenarios import chance, draw_events, draw_setup, draw_uncertain, event_words, setup_lines  # noqa: E402
@@ -164,24 +165,19 @@ def searched(dice, is_tenth):
 
 
 def main():
-    program.answer_help(__doc__)
+    seed, lists = program.seed_and_count(__doc__, 10000)
     if program.PROGRAM:
         program.needed()
-    seed = int(sys.argv[1]) if len(sys.argv) > 1 else 1
-    lists = int(sys.argv[2]) if len(sys.argv) > 2 else 10000
-    dice, last, faults = random.Random(seed), tuple(figures()), 0
+    dice, last, tally = random.Random(seed), tuple(figures()), Tally()
     reached = dict.fromkeys(last, 0)
     for number in range(lists):
         text, broken, met = searched(dice, number % 10 == 9)
         for kind in met:
             reached[kind] = reached.get(kind, 0) + 1
-        if broken:
-            faults += 1
-            print(f"broken: {sorted(set(broken))}\n{text.decode()}", flush=True)
+        tally.tell("broken", [f"{sorted(set(broken))}\n{text.decode()}"] if broken else [])
     for kind in [*sorted({*reached} - {*last}), *last]:
         print(f"{reached[kind]:7} {kind}")
-    print(f"{lists} lists, {faults} break a promise")
-    return 1 if faults else 0
+    return tally.end()
 
 
 if __name__ == "__main__":

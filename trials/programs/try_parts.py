@@ -21,7 +21,7 @@ sys.path.insert(0, os.path.dirname(os.path.dirname(os.path.abspath(__file__))))
 import paths  # noqa: E402, F401
 from plain.commands import START  # noqa: E402
 from plain.converter import COMMAND, HIGH, LOW, MAX, MIN, OPERATION, REGISTERS  # noqa: E402
-from plain.packets import CODES, TABLE, length_of, name_of, pec  # noqa: E402
+from plain.packets import TABLE, length_of, name_of, pec  # noqa: E402
 from plain.part import PlainPart  # noqa: E402
 from pmhost.programs import NoAnswer, PartProgram, path_of  # noqa: E402
 from program import seed_and_count  # noqa: E402

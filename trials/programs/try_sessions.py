@@ -24,6 +24,7 @@ from plain.rail import plan  # noqa: E402
 from plain.session import PlainSession, in_hex  # noqa: E402
 from pmhost.programs import HostProgram, NoAnswer, path_of  # noqa: E402
 from program import seed_and_count  # noqa: E402
+from tally import Tally  # noqa: E402
 
 WRITE, REQUEST = "send B0 05 04 00 21 CD 34 5A", "send B0 06 02 00 21 read 4"
 NEW, OLD = "got B1 02 CD 34 B9", "got B1 02 00 10 41"
@@ -313,8 +314,11 @@ def main():
         faults = [*story_faults(), *end_faults(), *random_faults(random.Random(seed), wanted)]
     except NoAnswer as fault:
         faults = [str(fault)]
-    print("\n".join([*faults, f"{len(STORIES) + 1} stories, {len(ENDS) + 2} ends, {wanted} lines of seed {seed}, {len(faults)} faults"]))
-    return 1 if faults else 0
+    tried = len(STORIES) + 1 + len(ENDS) + 2
+    print("\n".join([*faults, f"{len(STORIES) + 1} stories, {len(ENDS) + 2} ends, {wanted} lines of seed {seed}"]))
+    tally = Tally()
+    tally.passed, tally.failed = tried + wanted - len(faults), len(faults)
+    return tally.end()
 
 
 if __name__ == "__main__":

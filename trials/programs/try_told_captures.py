@@ -337,10 +337,9 @@ def faults_of(found):
 
 
 def main():
-    program.answer_help(__doc__)
-    engine = Plain() if "--plain" in sys.argv else Program()
-    if sys.argv[1:] not in ([], ["--plain"]):
-        sys.exit(__doc__.strip())
+    words = program.Words(__doc__, "--plain or nothing")
+    words.add_argument("--plain", action="store_true")
+    engine = Plain() if words.read().plain else Program()
     tally, left_out = Tally(), 0
     for name, found in checks(engine):
         if found is None:

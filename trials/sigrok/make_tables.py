@@ -213,16 +213,17 @@ def stored():
 
 
 def main():
-    program.answer_help(__doc__)
-    if {*sys.argv[1:]} - {"--plain", "--check"}:
-        sys.exit(__doc__.strip())
-    if "--plain" not in sys.argv and not program.has_options("--json"):
+    words = program.Words(__doc__, "[--plain] [--check]")
+    for flag in "plain", "check":
+        words.add_argument(f"--{flag}", action="store_true")
+    given = words.read()
+    if not given.plain and not program.has_options("--json"):
         sys.exit(f"{program.needed()}: its decode has no --json: build it anew, or give --plain")
     try:
-        text = text_of(tables_of(by_plain if "--plain" in sys.argv else by_program))
+        text = text_of(tables_of(by_plain if given.plain else by_program))
     except NoTables as fault:
         sys.exit(f"no tables: {fault}")
-    if "--check" in sys.argv:
+    if given.check:
         sys.exit(None if text == stored() else "the stored tables are others: run trials/sigrok/make_tables.py")
     try:
         with open(TABLES, "w", encoding="utf-8") as file:

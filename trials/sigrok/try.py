@@ -215,13 +215,13 @@ def checks(engine, seed, texts):
 
 
 def main():
-    program.answer_help(__doc__)
-    words = [word for word in sys.argv[1:] if word != "--plain"]
-    if len(words) > 2 or not all(re.fullmatch("[0-9]{1,9}", word) for word in words):
-        sys.exit(__doc__.strip())
-    seed, texts = [*map(int, words), *[1, 60][len(words):]]
-    engine, tally = Plain() if "--plain" in sys.argv else Program(), Tally()
-    for name, found in checks(engine, seed, texts):
+    words = program.Words(__doc__, "[--plain] [SEED [TEXTS]]")
+    words.add_argument("--plain", action="store_true")
+    words.add_argument("seed", type=program.number, nargs="?", default=1)
+    words.add_argument("texts", type=program.count, nargs="?", default=60)
+    given = words.read()
+    engine, tally = Plain() if given.plain else Program(), Tally()
+    for name, found in checks(engine, given.seed, given.texts):
         tally.tell(name, found)
     if not shutil.which("sigrok-cli"):
         print("no sigrok-cli here: the waveforms weren't decoded")

@@ -21,7 +21,8 @@ trap 'rm -rf "$folder"' EXIT
 if [ ${#archives[@]} = 0 ]; then
     for each in pm_host_c pm_device_c; do
         (cd crates/$each && rt lib --target wasm64-unknown-unknown > "$folder/log" 2>&1) || { tail -5 "$folder/log"; exit 1; }
-        cp crates/$each/out/lib$each.a "$folder/$each.a"
+        # (an archive that stays there is taken for this machine's)
+        mv crates/$each/out/lib$each.a "$folder/$each.a"
         archives+=("$folder/$each.a")
     done
 fi

@@ -7,7 +7,7 @@
 # and failed. With SHOTS=OTHER, that folder gets pictures of the page at 420 and 1400 pixels.
 set -u
 case " $* " in *" --help "* | *" -h "*) sed -n '2,/^[^#]/s/^# \{0,1\}//p' "$0"; exit 0 ;; esac
-[ -f "${1-}/pm.wasm" ] || { echo "try.sh: give the folder that trials/web/build.sh left" >&2; exit 2; }
+[ $# = 1 ] && [ -f "$1/pm.wasm" ] || { echo "try.sh: give the folder that trials/web/build.sh left" >&2; exit 2; }
 folder=$(realpath "$1")
 cd "$(dirname "$0")"
 work=$(mktemp -d)

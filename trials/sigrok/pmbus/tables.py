@@ -115,7 +115,8 @@ WORDS = {
         (0x00, 0x7F, "off"), (0x80, 0x8F, "on"), (0x94, 0x9B, "on, margin low"), (0xA4, 0xAB, "on, margin high"),
     ],
     0x10: [
-        (0x00, 0x00, "all writes"), (0x20, 0x20, "writes of WRITE_PROTECT, OPERATION, PAGE, ON_OFF_CONFIG and VOUT_COMMAND"),
+        (0x00, 0x00, "all writes"),
+        (0x20, 0x20, "writes of WRITE_PROTECT, OPERATION, PAGE, ON_OFF_CONFIG and VOUT_COMMAND"),
         (0x40, 0x40, "writes of WRITE_PROTECT, OPERATION and PAGE"), (0x80, 0x80, "writes of WRITE_PROTECT"),
     ],
     0x20: [

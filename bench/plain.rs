@@ -1,11 +1,8 @@
-//! The same by a plain Rust program, line by line over a text in memory, without proofs: the
-//! microseconds of the best of nine runs, and the bytes written. Built by bench/decode/run.sh. With
-//! the one word `decode` it is what `pmb decode` is, from standard input to standard output, for
-//! bench/times.py.
+//! What `pmb decode` does, by a plain Rust program without proofs: line by line over a text in memory, from standard input to
+//! standard output. bench/times.py builds it and compares the two.
 use std::collections::HashMap;
 use std::fmt::Write;
 use std::io::{Read, Write as _};
-use std::time::Instant;
 
 struct Info(&'static str, usize, bool, bool);
 
@@ -177,30 +174,7 @@ fn codes() -> [u8; 256] {
 }
 
 fn main() {
-    let words: Vec<String> = std::env::args().collect();
-    let table = codes();
-    if words.len() == 2 && words[1] == "decode" {
-        let mut text = String::new();
-        std::io::stdin().read_to_string(&mut text).unwrap();
-        std::io::stdout().write_all(decode(&text, &table).as_bytes()).unwrap();
-        return;
-    }
-    let size: usize = words[2].parse().unwrap();
-    let long = " 5A".repeat(298);
-    let lines = match words[1].as_str() {
-        "short" => "B0 05 04 00 21 CD 34 5A\nB0 06 02 00 21 / B1 02 CD 34 B9\nB0 05 04 01 21 CD 34 5A\nb0 10 80 34\nB0 9\n".to_string(),
-        "long" => format!("B0 99{long}\n"),
-        _ => format!("B0 99{long} / B1 99{long}\n"),
-    };
-    let mut text = lines.repeat(size / lines.len() + 1);
-    text.truncate(size);
-    let mut best = u128::MAX;
-    let mut written = 0;
-    for _ in 0..9 {
-        let start = Instant::now();
-        let out = decode(&text, &table);
-        best = best.min(start.elapsed().as_micros());
-        written = out.len();
-    }
-    println!("{best} {written}");
+    let mut text = String::new();
+    std::io::stdin().read_to_string(&mut text).unwrap();
+    std::io::stdout().write_all(decode(&text, &codes()).as_bytes()).unwrap();
 }
