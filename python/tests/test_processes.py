@@ -135,7 +135,7 @@ class Processes(unittest.TestCase):
                 file.write("import os, signal\nos.kill(os.getpid(), signal.SIGINT)\n")
             around = {**os.environ, "PYTHONPATH": os.pathsep.join([folder, os.environ.get("PYTHONPATH", "")])}
             ended = subprocess.run([sys.executable, "-B", "-m", "pmhost", "-b", "desk", "read", "0"], check=False, text=True, env=around,
-                                   stderr=subprocess.PIPE, stdout=subprocess.PIPE)
+                                   stderr=subprocess.PIPE, stdout=subprocess.PIPE, preexec_fn=with_signals)
         self.assertEqual((ended.returncode, ended.stdout, ended.stderr), (-signal.SIGINT, "", ""))
 
 
