@@ -180,9 +180,8 @@ class Pmbus:
             why = self.transfers.why()
             raise Unknown(f"set {output} {volts} V: {cell}: none of {tries} tries is left{': ' * bool(why)}{why}", "unknown", None,
                           self.host.possible(output, cell)) from self.transfers.error
-        if end.kind != "reached":
-            self._ended(Step("differs" if end.kind == "differs" else "unknown", end.word), f"set {output} {volts} V: {cell}",
-                        (output, cell))
+        if end.kind == "differs":
+            self._ended(Step("differs", end.word), f"set {output} {volts} V: {cell}", (output, cell))
         return self.rail(output)
 
     def clear(self, output: int) -> None:
