@@ -200,9 +200,9 @@ impl Host {
     /// behind each order.
     ///
     /// `NoFormat` where the output's format is none that this host has. H5 of OPERATION, which is no voltage; N3, N4, N5 where the
-    /// format has no such word; and what `run_apply` refuses, as P2 and P3 beyond the limits. What is refused before the first order has ordered nothing; behind one, as where the part
-    /// restarted protected, an order may have gone. The answer may be outside what was wanted where another
-    /// register is selected: look at its band.
+    /// format has no such word; and what `run_apply` refuses, as P2 and P3 beyond the limits. What is refused before the first order
+    /// has ordered nothing; behind one, as where the part restarted protected, an order may have gone. The answer may be outside
+    /// what was wanted where another register is selected: look at its band.
     ///
     /// ```
     /// use pm_host::{Band, Host, Limits, NotPlanned, NotReached, Output, Part, Refusal, Register, Within, APPLY_TRIES};
