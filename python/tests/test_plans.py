@@ -229,6 +229,16 @@ class Applies(unittest.TestCase):
         self.assertEqual(codes(pmbus.bus.frames), [])
         self.assertEqual(pmbus.apply(0, VOLTS, tries=13), REACHED)
 
+    def test_tries_are_a_number_of_16_bits(self):
+        for wrong in (-1, 65536):
+            for call in (lambda: recorded().apply(0, VOLTS, tries=wrong), lambda: recorded().set_volts(0, "3.3125", tries=wrong)):
+                with self.subTest(tries=wrong), self.assertRaisesRegex(ValueError, "^tries: "):
+                    call()
+        self.assertEqual((recorded().apply(0, VOLTS, tries=0), recorded().apply(0, VOLTS, tries=65535)), (SPENT, REACHED))
+        with self.assertRaises(pmhost.Unknown):
+            recorded().set_volts(0, "3.3125", tries=0)
+        self.assertEqual(recorded().set_volts(0, "3.3125", tries=65535), RailState(True, Band(3312500, 3312500), True))
+
     def test_an_apply_without_a_try_left_says_so(self):
         with self.assertRaisesRegex(pmhost.Unknown, "none of 3 tries is left$"):
             recorded().set_volts(0, "3.3125", tries=3)

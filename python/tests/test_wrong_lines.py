@@ -43,8 +43,12 @@ class WrongLines(unittest.TestCase):
 
     def test_a_file_that_is_no_text(self):
         with tempfile.NamedTemporaryFile() as file:
-            for data, said in ((b"\xff", "byte 0: no UTF-8"), (b"#" * (1 << 20) + b"#", "more than 1048576 bytes")):
+            for data, said in ((b"\xff", "byte 0: no UTF-8"), (b"#" * (1 << 20) + b"#", "more than 1048576 bytes"),
+                               (b"#" * (1 << 20), "no rails: give a table for each, as [rails.core]"),
+                               (b"\xef\xbb\xbf#", "no rails: give a table for each, as [rails.core]"),
+                               (b"a = " + b"[" * 20000, "it is nested too deep")):
                 file.seek(0)
+                file.truncate()
                 file.write(data)
                 file.flush()
                 self.assertEqual(called(["-b", "7", "-a", "58", "verify", file.name], None), (2, "", f"pmhost: {file.name}: {said}\n"))
