@@ -309,6 +309,19 @@ class Bounds(unittest.TestCase):
         self.assertEqual(cuts(form, {"VOUT_MARGIN_HIGH": 0xFFFF, "VOUT_MARGIN_LOW": None}, 1, 2), [])
         self.assertEqual([it.to for it in cuts(form, {"VOUT_MARGIN_HIGH": 3}, 1, 2)], [form.told(2)])
 
+    def test_numbers_are_of_64_bits(self):
+        form, host = pmhost.Format("ULINEAR16", -12), Host(0x58)
+        for least, most in ((-2**63, 0), (0, 2**63 - 1)):
+            with self.assertRaises(pmhost.NumberRefused):
+                host.narrow(0, least, most)
+            with self.assertRaises(pmhost.NumberRefused):
+                form.nearest(least or most)
+        for number in (-2**63 - 1, 2**63):
+            for call in (lambda: host.narrow(0, number, 0), lambda: host.narrow(0, 0, number), lambda: form.nearest(number),
+                         lambda: host.order_micro(0, "VOUT_COMMAND", number)):
+                with self.assertRaises(ValueError):
+                    call()
+
     def test_a_bound_is_rounded_to_its_side(self):
         form = pmhost.Format("ULINEAR16", -12)
         self.assertEqual((form.at_most(3300000), form.nearest(3300000), form.at_least(3300000)), (0x34CC, 0x34CD, 0x34CD))

@@ -5,6 +5,7 @@ import unittest
 from unittest import mock
 
 from pmhost import PartBus, Part, Output, pec, reads
+from pmhost.cli.probe import revision_words
 from pmhost.probe import Probe
 
 from . import runs
@@ -142,6 +143,14 @@ class Busy(unittest.TestCase):
             found = Probe(PartBus(Part(ADDRESS, [Output()])), ADDRESS, 1).run()
         # Two waits for each of MFR_ID, MFR_MODEL, MFR_REVISION and ON_OFF_CONFIG.
         self.assertEqual((found.late, slept.call_count), (0, 8))
+
+
+class Revisions(unittest.TestCase):
+    def test_each_revision_has_its_name(self):
+        names = {0x00: "1.0", 0x11: "1.1", 0x22: "1.2", 0x33: "1.3", 0x44: "1.4", 0x55: "1.5", 0x53: "1.3"}
+        for revision, name in names.items():
+            self.assertEqual(revision_words(revision), f"PMBUS_REVISION {revision:02X}, Part II {name}")
+        self.assertEqual((revision_words(0x06), revision_words(None)), ("PMBUS_REVISION 06", "no good PMBUS_REVISION"))
 
 
 class WritesWithAFault(unittest.TestCase):

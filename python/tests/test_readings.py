@@ -5,11 +5,11 @@ from unittest import mock
 
 from pmhost import (Format, FrameRefused, MemoryRefused, Output, Part, PartBus, Pmbus, code_request, pec, read_block, read_plain, readings)
 from pmhost.readings import KINDS, Reading
-from pmhost.reads import Reads
+from pmhost.reads import Read, Reads
 from pmhost.status import BITS, names_of
 
 from .fixtures import Recorded
-from .odd_parts import DirectTelemetry, Telemetry
+from .odd_parts import DirectTelemetry, Named, Telemetry
 from .running import ROOT, stored
 from .test_runs import Blocks
 
@@ -84,6 +84,13 @@ class Values(unittest.TestCase):
                 self.assertEqual(found.value, None if value is None else Decimal(value))
                 self.assertIsNotNone(found.word)
 
+    def test_coefficients_are_read_whole(self):
+        payload = bytes.fromhex("FEFF 2C01 FD")
+        self.assertEqual(readings.coefficients_of(Read(payload)), Format("DIRECT", -3, -2, 300))
+        self.assertEqual(readings.coefficients_of(Read(bytes.fromhex("0000 2C01 FD"))), None)
+        self.assertEqual(readings.coefficients_of(Read(bytes.fromhex("0100 0000 0D"))), None)
+        self.assertEqual(readings.coefficients_of(Read(None)), None)
+
     def test_an_output_is_asked_by_its_page_and_the_device_by_the_code_alone(self):
         part = Telemetry()
         for output, name in ((0, "READ_VOUT"), (0, "READ_IIN"), (None, "READ_IIN"), (None, "READ_VIN")):
@@ -153,6 +160,12 @@ class OtherReads(unittest.TestCase):
         for wrong, why in (([2, 0xA0], "F4 WrongCount"), ([1, 0xA1], "")):
             with self.subTest(wrong=wrong), mock.patch.object(part, "answer", lambda request, payload: Telemetry.answer(part, request, wrong)):
                 self.assertEqual(Reads(Odd(part), 0x58).of_page(0, 0x7B, 1).why, why)
+
+    def test_a_block_has_at_most_32_bytes(self):
+        part = Named()
+        for count, found in ((31, bytes(31)), (32, bytes(32)), (33, None)):
+            with self.subTest(count=count), mock.patch.dict(part.blocks, {0x9A: bytes(count)}):
+                self.assertEqual(Reads(Odd(part), 0x58).block(0x9A).payload, found)
 
     def test_a_block_is_cut_at_its_end(self):
         """An adapter reads 34 bytes: what stands behind a block's packet error code is nothing."""
