@@ -550,7 +550,7 @@ static inline pm_rail_end pm_host_run_survey(pm_host *host, pm_survey *survey, p
     return pm_run_jobs_of(host, survey, &left, &fault, write, read, context);
 }
 
-/* Whether the format of an output is known, and is another one than this. */
+/* Whether the format of an output is another one than this, or isn't known. */
 static inline int pm_is_other_format(const pm_host *host, uint8_t output, const pm_format *form) {
     pm_format now = {0, 0, 0, 0};
     return pm_host_format(host, output, &now) == PM_OK &&
