@@ -1,14 +1,14 @@
 #!/usr/bin/env bash
-# Installs what a built tree has below a folder: the command pmhost with its package for Python, the programs pmb, pmbhost and
-# pmbpart, their manual pages and completions for bash; for C the host and the model part, libpm_host and libpm_device, each as an
+# Installs what a built tree has below a folder: the command pmhost with its package for Python, the program pmb,
+# their manual pages and completions for bash; for C the host and the model part, libpm_host and libpm_device, each as an
 # archive and as a shared object with its header (the host's has pm_patient.h beside it), and pm_host.pc and pm_device.pc for
 # pkg-config; README, docs and examples; and the package as a wheel.
 #
 #   packaging/install.sh PREFIX [--library] [--archives FOLDER]
 #   packaging/install.sh PREFIX --uninstall
 #
-# With --library the libraries for C alone. Programs are those in crates/*/out, or those that PMB, PMBHOST and PMBPART name; one
-# that is named '' is left out. The archives are libpm_host_c.a and libpm_device_c.a of FOLDER, or those in crates/*/out. CC is the
+# With --library the libraries for C alone. pmb is the one in crates/pmb/out, or the one that PMB names; it is left out where
+# PMB is ''. The archives are libpm_host_c.a and libpm_device_c.a of FOLDER, or those in crates/*/out. CC is the
 # compiler that makes the shared objects, cc if it isn't set; DESTDIR stands before PREFIX where files are put, and in no file.
 # COMPLETION is a file for pmhost's completion, where its library is made for another machine. Nothing is built but the shared
 # objects. Root without DESTDIR has ldconfig told. --uninstall takes away what the last install put below PREFIX, and just that, also
@@ -52,8 +52,7 @@ if [ -n "$uninstall" ]; then
     exit
 fi
 
-pmb=${PMB-$root/crates/pmb/out/pmb} pmbhost=${PMBHOST-$root/crates/pmbhost/out/pmbhost}
-pmbpart=${PMBPART-$root/crates/pmbpart/out/pmbpart}
+pmb=${PMB-$root/crates/pmb/out/pmb}
 
 # archive CRATE: where its archive is
 archive() { echo "${archives:-$root/crates/$1/out}/lib$1.a"; }
@@ -67,11 +66,9 @@ done
 command -v ${CC-cc} > /dev/null || die "no C compiler ${CC-cc} on this machine: name one by CC"
 if [ -z "$library" ]; then
     program "$pmb" "by (cd crates/pmb && rt run -- replay < stdin), set PMB"
-    program "$pmbhost" "as docs/no-board.md says, set PMBHOST"
-    program "$pmbpart" "as docs/no-board.md says, set PMBPART"
     command -v python3 > /dev/null || die "no python3 on this machine: pmhost wants it; or give --library"
 fi
-version=$(sed -n 's/^pub const VERSION: &str = "\(.*\)";$/\1/p' "$root/crates/pm_console/src/options.rt")
+version=$(sed -n 's/^pub const VERSION: &str = "\(.*\)";$/\1/p' "$root/crates/pm_tool/src/commandline/options.rt")
 major=${version%%.*}
 work=$(mktemp -d)
 trap 'rm -rf "$work"' EXIT
@@ -159,15 +156,14 @@ if [ -z "$library" ]; then
     package
     [ -n "${COMPLETION-}" ] || wheel
     pages
-    for each in pmb pmbhost pmbpart; do
-        [ -n "${!each}" ] || continue
-        put 755 "${!each}" "bin/$each"
-        put 644 "$root/docs/$each.1" "share/man/man1/$each.1"
-        put 644 "$root/packaging/completions/$each.bash" "share/bash-completion/completions/$each"
-    done
+    if [ -n "$pmb" ]; then
+        put 755 "$pmb" bin/pmb
+        put 644 "$root/docs/pmb.1" share/man/man1/pmb.1
+        put 644 "$root/packaging/completions/pmb.bash" share/bash-completion/completions/pmb
+    fi
 fi
 told
-echo "installed below $to: libpm_host and libpm_device for C${library:-, pmhost, pmb, pmbhost and pmbpart with manual pages and completions, README, docs and examples}" | sed 's/Cyes$/C/'
+echo "installed below $to: libpm_host and libpm_device for C${library:-, pmhost and pmb with manual pages and completions, README, docs and examples}" | sed 's/Cyes$/C/'
 echo "next: cc -I$prefix/include examples/c/order.c $prefix/lib/libpm_host.a"
 [ -n "$library" ] || echo "      pmhost -b desk --outputs 2 --limit 0:3.135V:3.465V set 0 3.3V   # a model part, no board; man pmhost"
 case ":$PATH:" in *":$prefix/bin:"*) ;; *) [ -n "$library" ] || echo "      ($prefix/bin isn't on your PATH yet)" ;; esac

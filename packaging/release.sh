@@ -7,8 +7,8 @@
 #   packaging/release.sh OUT [--library] [--archives FOLDER] [--aarch64 FOLDER]
 #
 # The archives libpm_host_c.a and libpm_device_c.a are those of the first FOLDER, or those in crates/*/out. The second is that of
-# aarch64 Linux which trials/c/targets.sh --out leaves; pmb and pmbhost in it, as trials/aarch64/build.sh makes them, go
-# with it, and pmbpart where it is there. No licence is invented: the .deb has no copyright file, which lintian says.
+# aarch64 Linux which trials/c/targets.sh --out leaves; pmb in it, as trials/aarch64/build.sh makes it, goes
+# with it. No licence is invented: the .deb has no copyright file, which lintian says.
 set -eu
 case " $* " in *" --help "* | *" -h "*) sed -n '2,/^[^#]/s/^# \{0,1\}//p' "$0"; exit 0 ;; esac
 root=$(cd "$(dirname "$0")/.." && pwd)
@@ -53,7 +53,7 @@ if [ -z "$archives" ]; then
     done
 fi
 maintainer=$(git -C "$root" log -1 --format='%an <%ae>')
-version=$(sed -n 's/^pub const VERSION: &str = "\(.*\)";$/\1/p' "$root/crates/pm_console/src/options.rt")
+version=$(sed -n 's/^pub const VERSION: &str = "\(.*\)";$/\1/p' "$root/crates/pm_tool/src/commandline/options.rt")
 name=pm-host made=()
 
 # says ARCHIVE: what it says of itself
@@ -94,8 +94,8 @@ Depends: libc6 (>= 2.34)${python:+, python3 (>= 3.11)}
 Section: electronics
 Priority: optional
 Description: PMBus host core that sets supply voltages, proved
- The command pmhost, the programs pmb, pmbhost and pmbpart, and the libraries
- for C with their headers. A host orders a voltage, reads it
+ The command pmhost, the program pmb, and the libraries for C with their
+ headers. A host orders a voltage, reads it
  back, and keeps the list of words that a register may hold until then. A
  model part is there to try firmware and scripts against.
 END
@@ -112,10 +112,9 @@ packed x86_64 amd64 "$archives" "$library"
 if [ -n "$aarch64" ]; then
     export CC=aarch64-linux-gnu-gcc STRIP=aarch64-linux-gnu-strip
     mode=--library
-    if [ -z "$library" ] && [ -x "$aarch64/pmb" ] && [ -x "$aarch64/pmbhost" ]; then
-        mode='' PMB=$aarch64/pmb PMBHOST=$aarch64/pmbhost PMBPART=''
-        [ ! -x "$aarch64/pmbpart" ] || PMBPART=$aarch64/pmbpart
-        export PMB PMBHOST PMBPART
+    if [ -z "$library" ] && [ -x "$aarch64/pmb" ]; then
+        mode=''
+        export PMB=$aarch64/pmb
     fi
     packed aarch64 arm64 "$aarch64" "$mode"
 fi

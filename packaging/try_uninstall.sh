@@ -21,7 +21,7 @@ touch "$work/to/bin/other" "$work/to/share/man/man1/other.1"
 
 # put WORD ..: install.sh of the copy, with the programs of the folder
 put() {
-    DESTDIR=$work PMB=$built/bin/pmb PMBHOST=$built/bin/pmbhost PMBPART=$built/bin/pmbpart PYTHONDONTWRITEBYTECODE=1 \
+    DESTDIR=$work PMB=$built/bin/pmb PYTHONDONTWRITEBYTECODE=1 \
         bash "$work/copy/packaging/install.sh" /to "$@" > "$work/log" 2>&1
 }
 

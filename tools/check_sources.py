@@ -58,17 +58,15 @@ HIDES_ONE = re.compile(
     r"|<TextFault>::|\b(?:with_capacity|reserve\w*)\(.*\bMAX\b")
 # The one place where each crate makes X6 of a refused allocation.
 FROM = re.compile(r"^impl(?:<T: Drop>)? From<(AllocError|AllocFailed<T>)> for (\w+) \{$")
-# The files of the programs' helps, which tell refusals by their letters and names.
-HELPS = ("crates/pm_tool/src/commandline/helps.rt", "crates/pmbhost_lines/src/options.rt", "crates/pmbpart_lines/src/options.rt")
+# The files of the program's helps, which tell refusals by their letters and names.
+HELPS = ("crates/pm_tool/src/commandline/helps.rt",)
 # A file of numbers that are no codes.
 NUMBERS = ("crates/pm_frame/src/packet_error_code.rt", "crates/pm_lines/src/hex_digit.rt", "crates/pm_host_c/src/numbers.rt",
            "crates/pm_host_c/src/names.rt", "crates/pm_host_c/specs/Numbers.antt")
 # Where each register stands for itself, as a field of its own.
 EACH_REGISTER = ("crates/pm_limits/src/ends.rt", "crates/pm_limits/src/part_registers.rt", "crates/pm_limits/specs/Part.antt",
                  "crates/pm_rail/", "crates/pm_world/proofs/LimitedLives.antt", "crates/pm_world/proofs/SurveyReads.antt",
-                 "crates/pm_world_examples/proofs/Ones.antt", "crates/pm_world_examples/proofs/limits/",
-                 "crates/pmbhost_lines/specs/Wishes.antt", "crates/pmbhost_lines/src/wishes.rt",
-                 "crates/pmbhost_lines/specs/Missing.antt", "crates/pmbhost_lines/src/options/missing.rt")
+                 "crates/pm_world_examples/proofs/Ones.antt", "crates/pm_world_examples/proofs/limits/")
 
 
 def sources(crates, folders):

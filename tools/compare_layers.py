@@ -69,7 +69,7 @@ RUST = without_comments(read("rust/src/ffi.rs"))
 
 def versions():
     """One version everywhere: that of the programs, of both packages, and, in two bytes, of the library and its callers."""
-    own = re.search(r'pub const VERSION: &str = "(.*)";', read("crates/pm_console/src/options.rt"))[1]
+    own = re.search(r'pub const VERSION: &str = "(.*)";', read("crates/pm_tool/src/commandline/options.rt"))[1]
     yield "versions", own, {"python": re.search(r'^version = "(.*)"', read("python/pyproject.toml"), re.MULTILINE)[1],
                             "python's module": re.search('^__version__ = "(.*)"', read("python/src/pmhost/_version.py"), re.MULTILINE)[1],
                             "rust": re.search(r'^version = "(.*)"', read("rust/Cargo.toml"), re.MULTILINE)[1]}

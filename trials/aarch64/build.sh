@@ -1,9 +1,9 @@
 #!/usr/bin/env bash
-# Builds pmb and pmbhost for aarch64 Linux into a folder, linked statically: for a Raspberry Pi, a BMC.
+# Builds pmb for aarch64 Linux into a folder, linked statically: for a Raspberry Pi, a BMC.
 #
 #   trials/aarch64/build.sh FOLDER
 #
-# The toolchain proves each program and compiles it for aarch64; linking is by gcc-aarch64-linux-gnu, with
+# The toolchain proves the program and compiles it for aarch64; linking is by gcc-aarch64-linux-gnu, with
 # trials/aarch64/runtime.c in the place of the toolchain's own C code, which is for x86-64 alone: trusted, as that is. Many
 # processor minutes from nothing. What is built for x86-64 in crates/NAME/out stays.
 set -eu
@@ -14,14 +14,12 @@ command -v aarch64-linux-gnu-gcc > /dev/null || { echo "aarch64-linux-gnu-gcc: n
 mkdir -p "$1"
 folder=$(realpath "$1")
 cd "$(dirname "$0")/../.."
-for name in pmb pmbhost; do
-    rm -f "crates/$name/out/$name.o"
-    # The toolchain links and runs for x86-64 alone: it stops there, with the object made.
-    (cd "crates/$name" && rt run --target aarch64-unknown-linux-gnu > "$folder/$name.log" 2>&1 < /dev/null) || true
-    if ! [ -s "crates/$name/out/$name.o" ] || ! grep -q '^logic=proved .*target=aarch64-unknown-linux-gnu' "$folder/$name.log"; then
-        tail -3 "$folder/$name.log" >&2; echo "build.sh: $name isn't proved or built for aarch64" >&2; exit 1
-    fi
-    mv "crates/$name/out/$name.o" "$folder/$name.o"
-    aarch64-linux-gnu-gcc -O2 -Wall -Wextra -Werror -static trials/aarch64/runtime.c "$folder/$name.o" -o "$folder/$name"
-    echo "$folder/$name: $(stat -c %s "$folder/$name") bytes"
-done
+rm -f "crates/pmb/out/pmb.o"
+# The toolchain links and runs for x86-64 alone: it stops there, with the object made.
+(cd "crates/pmb" && rt run --target aarch64-unknown-linux-gnu > "$folder/pmb.log" 2>&1 < /dev/null) || true
+if ! [ -s "crates/pmb/out/pmb.o" ] || ! grep -q '^logic=proved .*target=aarch64-unknown-linux-gnu' "$folder/pmb.log"; then
+    tail -3 "$folder/pmb.log" >&2; echo "build.sh: pmb isn't proved or built for aarch64" >&2; exit 1
+fi
+mv "crates/pmb/out/pmb.o" "$folder/pmb.o"
+aarch64-linux-gnu-gcc -O2 -Wall -Wextra -Werror -static trials/aarch64/runtime.c "$folder/pmb.o" -o "$folder/pmb"
+echo "$folder/pmb: $(stat -c %s "$folder/pmb") bytes"

@@ -1,11 +1,10 @@
 #!/usr/bin/env python3
-"""Compares pmb and pmbhost built for aarch64 Linux, under qemu-aarch64, with those of x86-64: status and both outputs.
+"""Compares pmb built for aarch64 Linux, under qemu-aarch64, with those of x86-64: status and both outputs.
 
-    trials/aarch64/compare.py FOLDER [TEXTS [LINES]]
+    trials/aarch64/compare.py FOLDER [TEXTS]
 
-FOLDER has the two programs for aarch64 (trials/aarch64/build.sh). Compared are all of examples/, TEXTS random texts of
-each command, 1,000 if left out, and sessions of LINES lines in all, 10,000 if left out. The programs of x86-64 are those
-that are built here, or those that the environment variables PMB and PMBHOST name. Says a line for each kind, and last
+FOLDER has the program for aarch64 (trials/aarch64/build.sh). Compared are all of examples/, and TEXTS random texts of
+each command, 1,000 if left out. The program of x86-64 is the one that is built here, or the one that the environment variable PMB names. Says a line for each kind, and last
 how many passed and failed.
 """
 import glob
@@ -24,22 +23,15 @@ from program import Words, number  # noqa: E402
 from tally import Tally  # noqa: E402
 
 COMMANDS = {"hear": "*.frames", "replay": "*.scenario", "decode": "*.trace"}
-SESSION = ["order 0 VOUT_COMMAND 34CD", "order 1 VOUT_MAX 1000", "order - WRITE_PROTECT 40", "volts 0 VOUT_COMMAND 3300000", "check 0 VOUT_COMMAND",
-           "check - WRITE_PROTECT", "learn 0", "clear 1", "store", "restore", "finished ack", "finished nack", "got B1 02 CD 34 B9", "got B1 01 14 4E",
-           "got", "sending", "state 0 VOUT_COMMAND", "state - WRITE_PROTECT", "seen", "restart", "order 9 VOUT_COMMAND 34CD", "nothing"]
 
 
 def programs(folder):
-    """The words that run each program, on either processor."""
-    found = {}
-    for name in ("pmb", "pmbhost"):
-        here = os.environ.get(name.upper(), f"{ROOT}/crates/{name}/out/{name}")
-        there = os.path.join(folder, name)
-        for path in (here, there):
-            if not os.access(path, os.X_OK):
-                sys.exit(f"no program at {path}: (cd crates/{name} && rt run) builds one for x86-64, trials/aarch64/build.sh for aarch64")
-        found[name] = ([here], ["qemu-aarch64", there])
-    return found
+    """The words that run the program, on either processor."""
+    here, there = os.environ.get("PMB", f"{ROOT}/crates/pmb/out/pmb"), os.path.join(folder, "pmb")
+    for path in (here, there):
+        if not os.access(path, os.X_OK):
+            sys.exit(f"no program at {path}: (cd crates/pmb && rt run) builds it for x86-64, trials/aarch64/build.sh for aarch64")
+    return [here], ["qemu-aarch64", there]
 
 
 def same(pair, words, text):
@@ -81,13 +73,6 @@ def texts(count):
         yield "number", ["number", f"--format={form}", what], b""
 
 
-def sessions(lines):
-    for seed in range(lines // 100):
-        draw = random.Random(f"session{seed}")
-        text = "".join(draw.choice(SESSION) + "\n" for _ in range(100))
-        yield "sessions of 100 lines", [f"--address={draw.choice(('58', '08', '77'))}", f"--outputs={draw.randint(1, 8)}", f"--passes={draw.randint(1, 4)}"], text.encode()
-
-
 def examples():
     for command, pattern in COMMANDS.items():
         for path in sorted(glob.glob(f"{ROOT}/examples/{pattern}")):
@@ -97,19 +82,18 @@ def examples():
 
 
 def main():
-    words = Words(__doc__, "FOLDER [TEXTS [LINES]]")
+    words = Words(__doc__, "FOLDER [TEXTS]")
     words.add_argument("folder")
     words.add_argument("texts", type=number, nargs="?", default=1000)
-    words.add_argument("lines", type=number, nargs="?", default=10000)
     given = words.read()
     if not shutil.which("qemu-aarch64"):
         sys.exit("qemu-aarch64: not on this machine: qemu-user")
     both = programs(given.folder)
-    rows = [("pmb", it) for it in examples()] + [("pmb", it) for it in texts(given.texts)] + [("pmbhost", it) for it in sessions(given.lines)]
+    rows = [*examples(), *texts(given.texts)]
     with ThreadPoolExecutor(os.cpu_count()) as pool:
-        ends = list(pool.map(lambda row: same(both[row[0]], row[1][1], row[1][2]), rows))
+        ends = list(pool.map(lambda row: same(both, row[1], row[2]), rows))
     kinds, tally = {}, Tally()
-    for (_, (kind, words, _)), is_same in zip(rows, ends):
+    for (kind, words, _), is_same in zip(rows, ends):
         kinds.setdefault(kind, []).append(is_same)
         tally.tell(kind, [] if is_same else [f"differs: {' '.join(words)}"])
     for kind, found in kinds.items():

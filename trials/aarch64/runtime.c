@@ -1,4 +1,4 @@
-/* What pmb and pmbhost ask of C on aarch64 Linux, in the place of the toolchain's own archives, which are for x86-64 alone:
+/* What pmb asks of C on aarch64 Linux, in the place of the toolchain's own archives, which are for x86-64 alone:
  * memory, errno and the words of the command line. Trusted, as those are. */
 #include <errno.h>
 #include <stddef.h>

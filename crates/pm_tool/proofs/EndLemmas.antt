@@ -13,7 +13,7 @@ use Rattle.pm_lines.specs.Engine.{Engine, EngineEnds, IsLeft, Refuses, over}
 use Rattle.pm_lines.specs.Streams.{AppendsFront, Held}
 use Rattle.pm_lines.specs.declared.fault.TextFault.{TextFault}
 use Rattle.pm_lines.specs.declared.fault.TextFault.TheVariants.{Syntax, BadHex, TooLong, Read, Write, Memory, Setup}
-use Rattle.pm_console.specs.Refusals.{Says, text_refusal}
+use Rattle.pm_tool.specs.Refusals.{Says, text_refusal}
 use Rattle.pm_tool.specs.Execution.{End, EngineRuns, Printed, Hinted, CutShort, Refused, Broken, Misused, NumberEnds, NumberRefuses, UsageEnds}
 use Rattle.pm_tool.specs.Execution.{IsDone, IsEnd, LineEnds, ParserEnds, refusal_line, wants_memory}
 use Rattle.pm_tool.specs.NumberFaults.{refusal_status, refusal_words}

@@ -5,4 +5,5 @@ pub mod PartLemmas
 pub mod RangeLemmas
 pub mod RefusalLemmas
 pub mod ScriptLemmas
+pub mod SetupLemmas
 pub mod TellLemmas

@@ -8,7 +8,7 @@ use Rattle.clap.specs.Words.{App, Row, Text, first_of, kind_of, new_app, with_ru
 use Rattle.clap.specs.Words.{with_subcommand}
 use Rattle.clap.specs.declared.error.Error.{Error}
 use Rattle.clap.specs.declared.error.kind.ErrorKind.TheVariants.{OutOfMemory}
-use Rattle.pm_console.specs.Options.{option_rule}
+use Rattle.pm_tool.specs.Options.{option_rule}
 use Rattle.pm_tool.specs.declared.commandline.choice.Chosen.{Chosen}
 use Rattle.pm_tool.specs.declared.commandline.choice.Chosen.TheVariants.{Hear, Replay, Decode, Number}
 

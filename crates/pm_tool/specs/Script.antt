@@ -16,7 +16,7 @@ use Rattle.pm_lines.specs.Lines.{Numbered, is_space, unskipped_from, words_of}
 use Rattle.pm_lines.specs.declared.fault.TextFault.{TextFault}
 use Rattle.pm_lines.specs.declared.fault.TextFault.TheVariants.{Syntax, BadHex}
 use Rattle.pm_text.specs.Base.{base}
-use Rattle.pm_console.specs.HeardText.{reply_words}
+use Rattle.pm_tool.specs.HeardText.{reply_words}
 
 -- ---- what a line asks
 

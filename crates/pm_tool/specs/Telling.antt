@@ -11,7 +11,7 @@ use Rattle.pm_num.specs.declared.any_format.AnyFormat.{AnyFormat}
 use Rattle.pm_table.specs.Format.{shape_in}
 use Rattle.pm_table.specs.declared.vout_mode.VoutMode.TheVariants as mode
 use Rattle.pm_decode.specs.declared.options.TellOptions.{TellOptions}
-use Rattle.pm_console.specs.Options.{option_rule}
+use Rattle.pm_tool.specs.Options.{option_rule}
 use Rattle.pm_lines.specs.Digits.{natural_of}
 use Rattle.pm_tool.specs.Question.{format_of, text_at}
 use Rattle.pm_tool.specs.ReadingList.{Entry, entries_of, if_any}

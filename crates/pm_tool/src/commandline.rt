@@ -17,6 +17,7 @@ ghost use Rattle.pm_tool.specs.Commandline.{UnlessMemory, is_once, number_words,
 mod choice;
 mod commands;
 mod helps;
+mod options;
 mod readings;
 mod tell_fault;
 mod telling;
@@ -25,7 +26,7 @@ pub use choice::Chosen;
 use clap::error::ErrorKind;
 use clap::{ArgMatches, Error};
 use commands::pmb_command;
-use pm_console::text_of;
+use options::text_of;
 use std::alloc::Global;
 pub use tell_fault::TellFault;
 pub use telling::TellTexts;

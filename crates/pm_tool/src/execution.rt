@@ -5,20 +5,21 @@ ghost use Rattle.std.specs.Process.{exit_status};
 ghost use Rattle.std.specs.Vec.Iter.{into_iter_items};
 ghost use Rattle.clap.specs.Walk.{texts};
 ghost use Rattle.clap.specs.Words.{kind_of};
-ghost use Rattle.pm_console.specs.Arguments.{arguments_of};
-ghost use Rattle.pm_console.specs.Refusals.{Says, text_refusal};
+ghost use Rattle.pm_tool.specs.Arguments.{arguments_of};
+ghost use Rattle.pm_tool.specs.Refusals.{Says, text_refusal};
 ghost use Rattle.pm_decode.specs.declared.hints.Hint.TheVariants.{Beyond};
 ghost use Rattle.pm_tool.specs.Execution.{End, EngineRuns, IsDone, IsEnd, NumberEnds, RunEnds, UsageEnds};
 ghost use Rattle.pm_tool.specs.Execution.{OptionsEnd, TellEnds, TellRuns};
 ghost use Rattle.pm_tool.specs.Execution.{CutShort, IsToldDone, Printed, hint_words, refusal_line, wants_memory};
 ghost use Rattle.pm_tool.specs.Question.{asked_by};
 
+use crate::arguments::{texts_of, words_of};
 use crate::commandline::{Chosen, TellTexts, chosen, option_words};
 use crate::numbers::number;
+use crate::refusals::{misuse, refuse_arguments, refuse_memory, say};
 use crate::text_commands::{Decoding, Hearing, Replaying, TextCommand};
-use pm_console::{
-    Usage, misuse, refuse_arguments, refuse_memory, say, say_fault, texts_of, usage_of, words_of,
-};
+use crate::text_faults::say_fault;
+use crate::usage::{Usage, usage_of};
 use pm_decode::{Hint, TellOptions, tell};
 use pm_text::{Sink, Source, TextFault};
 use std::alloc::Global;

@@ -18,12 +18,16 @@
 //! ```
 #![tactic(auto)]
 
+mod arguments;
 mod commandline;
 mod execution;
 mod laws;
 mod numbers;
+mod refusals;
 mod script;
 mod text_commands;
+mod text_faults;
+mod usage;
 
 pub use commandline::{Chosen, TellFault, TellTexts, chosen};
 pub use execution::{program, run};

@@ -13,6 +13,8 @@ ghost use Rattle.pm_tool.specs.LineEvent.{event_of};
 ghost use Rattle.pm_tool.specs.Outcome.{hearing, IsOfHear};
 ghost use Rattle.pm_tool.specs.Script.{as_line, events_in, event_lines, event_words, held_after, output_at, output_lines, printed_text};
 
+mod answer_text;
+mod heard_text;
 mod line;
 mod reply_text;
 

@@ -2,12 +2,12 @@
 ghost use Rattle.std.specs.Prelude.{◌≡◌, IfOk, codes};
 ghost use Rattle.clap.specs.Words.{app_of, new_app, with_rule};
 ghost use Rattle.pm_tool.specs.Commandline.{number_app, pmb, with_required_subcommand};
-ghost use Rattle.pm_console.specs.Options.{option_rule};
+ghost use Rattle.pm_tool.specs.Options.{option_rule};
 ghost use Rattle.pm_tool.specs.Telling.{flag_rule, tell_app};
 
 use super::helps;
+use super::options::{VERSION, with_option};
 use clap::{Arg, ArgAction, Command};
-use pm_console::{VERSION, with_option};
 use std::alloc::{AllocError, Global};
 
 /// What `decode` does.

@@ -12,11 +12,11 @@ ghost use Rattle.pm_tool.specs.ReadingList.{if_any};
 ghost use Rattle.pm_tool.specs.Telling.{gap_asked, pause_of, readings_asked, vout_asked, vout_seen};
 
 use super::commands::tell_command;
+use super::options::given_text;
 use super::readings::read_readings;
 use super::tell_fault::TellFault;
 use crate::numbers::{FormatText, read_format};
 use clap::{ArgMatches, Error};
-use pm_console::given_text;
 use pm_decode::TellOptions;
 use pm_lines::read_i64;
 use pm_num::{AnyFormat, Ulinear16};

@@ -1,8 +1,9 @@
 ghost use Rattle.std.specs.Prelude.{◌≡◌, ◌<◌, ◌++◌, OnOk};
-ghost use Rattle.pm_console.specs.HeardText.{reply_words};
+ghost use Rattle.pm_tool.specs.HeardText.{reply_words};
 ghost use Rattle.pm_tool.specs.Script.{as_line, output_line};
 
-use pm_console::{AnswerText, TAKEN, push_heard, push_text};
+use super::answer_text::{AnswerText, push_text};
+use super::heard_text::{TAKEN, push_heard};
 use pm_device::Heard;
 use pm_lines::hex_digits;
 use std::alloc::AllocError;

@@ -1,7 +1,7 @@
 use Rattle.std.proofs.Common.{◌≡◌, List, Option, None, inr, refl, subst}
 use Rattle.clap.specs.Walk.{texts}
 use Rattle.clap.specs.Words.{Text, fault_of}
-use Rattle.pm_console.specs.Refusals.{no_words, no_words_status}
+use Rattle.pm_tool.specs.Refusals.{no_words, no_words_status}
 use Rattle.pm_tool.specs.Commandline.{pmb}
 use Rattle.pm_tool.specs.Execution.{LineEnds, Refused}
 use Rattle.pm_tool.specs.Telling.{tell_words}

@@ -1,5 +1,5 @@
 use Rattle.std.proofs.Common.{◌∙◌, subst}
-use Rattle.pm_console.specs.Refusals.{Says}
+use Rattle.pm_tool.specs.Refusals.{Says}
 use Rattle.pm_tool.proofs.TellLemmas.{beyond_line}
 use Rattle.pm_tool.proofs.execution.say_beyond.Goals as goal
 

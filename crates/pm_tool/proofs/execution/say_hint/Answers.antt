@@ -1,5 +1,5 @@
 use Rattle.std.proofs.Common.{subst, sym}
-use Rattle.pm_console.specs.Refusals.{Says}
+use Rattle.pm_tool.specs.Refusals.{Says}
 use Rattle.pm_tool.specs.Execution.{hint_words, refusal_line}
 use Rattle.pm_tool.proofs.execution.say_hint.Goals as goal
 

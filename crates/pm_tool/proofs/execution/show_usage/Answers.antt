@@ -1,5 +1,5 @@
 use Rattle.std.proofs.Common.{List, ℕ, refl, inl, inr, subst, sym}
-use Rattle.pm_console.specs.Usage.{IsSaid}
+use Rattle.pm_tool.specs.Usage.{IsSaid}
 use Rattle.pm_tool.specs.Execution.{Misused, wants_memory}
 use Rattle.pm_tool.proofs.execution.show_usage.Goals as goal
 

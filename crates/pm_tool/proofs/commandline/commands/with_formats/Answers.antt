@@ -1,7 +1,7 @@
 use Rattle.std.proofs.Common.{◌∙◌, ap, codes}
 use Rattle.std.proofs.lemmas.Result.{IfOk-weaker}
 use Rattle.clap.specs.Words.{App, with_rule}
-use Rattle.pm_console.specs.Options.{option_rule}
+use Rattle.pm_tool.specs.Options.{option_rule}
 use Rattle.pm_tool.proofs.commandline.commands.with_formats.Goals as goal
 
 pub returns : goal.returns

@@ -1,3 +1,0 @@
-mod FailureLemmas
-mod TalkLemmas
-mod SetupLemmas
