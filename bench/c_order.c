@@ -5,7 +5,7 @@
  * pm_host_run over a bus of no cost; `patient`, the same by pm_patient_run, with its patience of 200 ms; `bands`, bands of
  * outputs whose registers list as many words as they can. The second says the format, `linear` or `direct`, and the third
  * how often. It prints how many orders were done, or how many listed words were looked at. */
-#include "pm_patient.h"
+#include "pmhost_patient.h"
 #include <stdio.h>
 #include <stdlib.h>
 #include <string.h>
@@ -22,11 +22,11 @@ static double now(void) {
 /* A whole order: accepted, sent, read back with a good answer. */
 static int order(pm_host *host, const uint8_t *answer, uint16_t word) {
     pm_sending frame;
-    if (pm_host_order(host, 0, PM_VOUT_COMMAND, word) || pm_host_sending(host, &frame))
+    if (pm_host_order(host, 0, PM_VOUT_COMMAND, word) || pm_host_frame(host, &frame))
         return 0;
-    pm_host_finished(host, 1);
-    pm_host_sending(host, &frame);
-    return pm_host_got(host, answer, 5).kind == PM_DONE;
+    pm_host_write_ended(host, 1);
+    pm_host_frame(host, &frame);
+    return pm_host_read_ended(host, answer, 5).kind == PM_DONE;
 }
 
 /* The same of an order that a plan gives. */
@@ -34,11 +34,11 @@ static int planned(pm_host *host, const uint8_t *answer, uint16_t word) {
     const pm_wanted wanted = {.command = {1, word}};
     pm_plan_order next;
     pm_sending frame;
-    if (pm_host_next(host, 0, &wanted, &next) || pm_host_sending(host, &frame))
+    if (pm_host_next(host, 0, &wanted, &next) || pm_host_frame(host, &frame))
         return 0;
-    pm_host_finished(host, 1);
-    pm_host_sending(host, &frame);
-    return pm_host_got(host, answer, 5).kind == PM_DONE;
+    pm_host_write_ended(host, 1);
+    pm_host_frame(host, &frame);
+    return pm_host_read_ended(host, answer, 5).kind == PM_DONE;
 }
 
 /* A plan is asked for its next order, which isn't begun. */
@@ -85,14 +85,14 @@ static int order_by_loop(pm_host *host, const uint8_t *answer, uint16_t word, in
 static void answer(pm_host *host, const uint8_t *payload, uint8_t count) {
     uint8_t bytes[24];
     pm_sending frame;
-    pm_host_sending(host, &frame);
+    pm_host_frame(host, &frame);
     memcpy(bytes, frame.bytes, frame.length);
     uint8_t *back = bytes + frame.length;
     back[0] = frame.bytes[0] | 1;
     back[1] = count;
     memcpy(back + 2, payload, count);
     back[2 + count] = pm_pec(bytes, (uint64_t)frame.length + 2 + count);
-    pm_host_got(host, back, (uint64_t)count + 3);
+    pm_host_read_ended(host, back, (uint64_t)count + 3);
 }
 
 /* The host learns an output's format: DIRECT with m 409, b 2 and R 1, or ULINEAR16 with 2^-12 V a step. */
@@ -112,7 +112,7 @@ static void read_for_a_plan(pm_host *host) {
         answer(host, words[i], i ? 2 : 1);
     }
     pm_host_check(host, 0, PM_WRITE_PROTECT);
-    pm_host_got(host, (const uint8_t[]){0xB1, 0x00, 0x60}, 3);
+    pm_host_read_ended(host, (const uint8_t[]){0xB1, 0x00, 0x60}, 3);
 }
 
 /* Orders words for an output's registers whose answers are all lost. How many words they list then. */
@@ -126,14 +126,14 @@ static long fill(pm_host *host, uint8_t output) {
         answer(host, (const uint8_t[]){0x00, 0x10}, 2);
         for (int at = 0; at < 16; at++) {
             pm_host_order(host, output, codes[i], (uint16_t)(at * 0x2F35));
-            while (pm_host_sending(host, &frame) == PM_OK && frame.kind != PM_NOTHING) {
+            while (pm_host_frame(host, &frame) == PM_OK && frame.kind != PM_NOTHING) {
                 if (frame.kind == PM_WRITE)
-                    pm_host_finished(host, 0);
+                    pm_host_write_ended(host, 0);
                 else
-                    pm_host_got(host, frame.bytes, 0);
+                    pm_host_read_ended(host, frame.bytes, 0);
             }
         }
-        pm_host_possible(host, output, codes[i], &words);
+        pm_host_possible_words(host, output, codes[i], &words);
         listed += words.count;
     }
     return listed;
@@ -208,7 +208,7 @@ int main(int count, char **arguments) {
         answers[i][4] = pm_pec(both, 9);
     }
     if (pm_host_size() > sizeof host) {
-        fprintf(stderr, "the archive's host doesn't fit that of this pm.h\n");
+        fprintf(stderr, "the archive's host doesn't fit that of this pmhost.h\n");
         return 1;
     }
     pm_host_new(&host, 0x58, 8, 3);
@@ -222,7 +222,7 @@ int main(int count, char **arguments) {
         }
         int is_plan = !strcmp(arguments[1], "plan"), is_asked = !strcmp(arguments[1], "asked");
         if (is_plan || is_asked || !strcmp(arguments[1], "guard"))
-            pm_host_narrow(&host, 0, 3200000, 3400000);
+            pm_host_set_limits(&host, 0, 3200000, 3400000);
         if (is_plan || is_asked)
             read_for_a_plan(&host);
         if (!strcmp(arguments[1], "bands"))
@@ -253,22 +253,22 @@ int main(int count, char **arguments) {
     DEEPEST("of nothing", (void)0);
     DEEPEST("new", pm_host_new(&host, 0x58, 8, 3));
     DEEPEST("order", pm_host_order(&host, 0, PM_VOUT_COMMAND, 0x34CD));
-    DEEPEST("sending", pm_host_sending(&host, &frame));
-    DEEPEST("finished", pm_host_finished(&host, 1));
-    DEEPEST("got", pm_host_got(&host, answers[0], 5));
-    DEEPEST("got, a surprise", (pm_host_check(&host, 0, PM_VOUT_COMMAND), pm_host_got(&host, answers[1], 5)));
+    DEEPEST("sending", pm_host_frame(&host, &frame));
+    DEEPEST("finished", pm_host_write_ended(&host, 1));
+    DEEPEST("got", pm_host_read_ended(&host, answers[0], 5));
+    DEEPEST("got, a surprise", (pm_host_check(&host, 0, PM_VOUT_COMMAND), pm_host_read_ended(&host, answers[1], 5)));
     pm_host_learn(&host, 0);
-    DEEPEST("got, a learn", pm_host_got(&host, (const uint8_t[]){0xB1, 0x01, 0x14, 0x4E}, 4));
-    DEEPEST("order_micro", pm_host_order_micro(&host, 0, PM_VOUT_COMMAND, 3300000));
-    pm_host_narrow(&host, 0, 0, 16000000);
+    DEEPEST("got, a learn", pm_host_read_ended(&host, (const uint8_t[]){0xB1, 0x01, 0x14, 0x4E}, 4));
+    DEEPEST("order_micro", pm_host_order_microvolts(&host, 0, PM_VOUT_COMMAND, 3300000));
+    pm_host_set_limits(&host, 0, 0, 16000000);
     DEEPEST("order, limited", (pm_host_restart(&host), pm_host_order(&host, 0, PM_VOUT_COMMAND, 0x34CD)));
-    pm_host_restart(&host), pm_host_learn(&host, 0), pm_host_got(&host, (const uint8_t[]){0xB1, 0x01, 0x14, 0x4E}, 4);
+    pm_host_restart(&host), pm_host_learn(&host, 0), pm_host_read_ended(&host, (const uint8_t[]){0xB1, 0x01, 0x14, 0x4E}, 4);
     DEEPEST("order, on", pm_host_order(&host, 0, PM_OPERATION, 0x80));
-    DEEPEST("narrow", pm_host_narrow(&host, 0, 1, 15000000));
+    DEEPEST("narrow", pm_host_set_limits(&host, 0, 1, 15000000));
     DEEPEST("band", pm_host_band(&host, 0, &band));
-    DEEPEST("known", pm_host_known(&host, &known));
+    DEEPEST("known", pm_host_known_cells(&host, &known));
     DEEPEST("name", pm_refusal_name(PM_H6_TOO_UNCERTAIN, &name));
-    DEEPEST("possible", pm_host_possible(&host, 0, PM_VOUT_COMMAND, &words));
+    DEEPEST("possible", pm_host_possible_words(&host, 0, PM_VOUT_COMMAND, &words));
     DEEPEST("restart", pm_host_restart(&host));
     return 0;
 }

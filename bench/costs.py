@@ -1,7 +1,7 @@
 #!/usr/bin/env python3
 """Counts by valgrind's callgrind, and judges each by a bound of this project: an order by pm_driver beside one by the same
-loop written out over a host; by pm_driver, an order over a patient bus beside one over its adapter, and by the loops of pm.h and
-pm_patient.h the same over a bus of no cost; an order through a guard
+loop written out over a host; by pm_driver, an order over a patient bus beside one over its adapter, and by the loops of pmhost.h and
+pmhost_patient.h the same over a bus of no cost; an order through a guard
 within limits beside one through its host, by that loop over either; by pm_driver, an order within limits beside one without;
 and a band for each word that the output's registers list. Limits and bands are counted over the C library as well.
 

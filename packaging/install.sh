@@ -1,7 +1,7 @@
 #!/usr/bin/env bash
 # Installs what a built tree has below a folder: the command pmhost with its package for Python, the program pmb,
-# their manual pages and completions for bash; for C the host and the model part, libpm_host and libpm_device, each as an
-# archive and as a shared object with its header (the host's has pm_patient.h beside it), and pm_host.pc and pm_device.pc for
+# their manual pages and completions for bash; for C the host and the model part, libpmhost and libpmpart, each as an
+# archive and as a shared object with its header (the host's has pmhost_patient.h beside it), and pmhost.pc and pmpart.pc for
 # pkg-config; README, docs and examples; and the package as a wheel.
 #
 #   packaging/install.sh PREFIX [--library] [--archives FOLDER]
@@ -30,7 +30,7 @@ while [ $# -gt 0 ]; do
 done
 case $prefix in '') die "give a folder, as packaging/install.sh /usr/local" ;; /*) ;; *) prefix=$PWD/$prefix ;; esac
 to=${DESTDIR-}$prefix
-list=$to/share/pm-host/installed
+list=$to/share/pmhost/installed
 
 # told: the linker's cache knows the libraries, where this is a system's own folder
 told() { if [ "$(id -u)" = 0 ] && [ -z "${DESTDIR-}" ] && command -v ldconfig > /dev/null; then ldconfig; fi; }
@@ -122,9 +122,9 @@ END
 # package: the command pmhost and its package, which finds its library beside it wherever both stand
 package() {
     (cd "$root/python/src" && find pmhost -type f ! -name '*.pyc' ! -name '*.so') | sort > "$work/modules"
-    while IFS= read -r each; do put 644 "$root/python/src/$each" "lib/pm-host/$each"; done < "$work/modules"
+    while IFS= read -r each; do put 644 "$root/python/src/$each" "lib/pmhost/$each"; done < "$work/modules"
     shared "$work/libpmhost.so" libpmhost.so "$(archive pm_host_c)" "$(archive pm_device_c)"
-    put 644 "$work/libpmhost.so" lib/pm-host/pmhost/libpmhost.so
+    put 644 "$work/libpmhost.so" lib/pmhost/pmhost/libpmhost.so
     put 755 "$root/packaging/pmhost" bin/pmhost
     put 644 "$root/docs/pmhost.1" share/man/man1/pmhost.1
     [ -n "${COMPLETION-}" ] || python3 -B "$to/bin/pmhost" --completion > "$work/completion"
@@ -136,7 +136,7 @@ wheel() {
     mkdir -p "$work/archives" "$work/wheel"
     for each in pm_host_c pm_device_c; do cp "$(archive $each)" "$work/archives/"; done
     (cd "$root/python/backend" && PMHOST_ARCHIVES=$work/archives python3 -B -c 'import backend, sys; backend.build_wheel(sys.argv[1])' "$work/wheel")
-    put 644 "$work/wheel"/*.whl "share/pm-host/$(basename "$work/wheel"/*.whl)"
+    put 644 "$work/wheel"/*.whl "share/pmhost/$(basename "$work/wheel"/*.whl)"
 }
 
 # pages: README, docs and examples, those that git knows where the tree is a repository of its own
@@ -145,13 +145,13 @@ pages() {
         cd "$root"
         { [ -e .git ] && git ls-files README.md CHANGELOG.md docs examples 2> /dev/null; } || find README.md CHANGELOG.md docs examples -type f
     ) > "$work/pages"
-    while IFS= read -r each; do put 644 "$root/$each" "share/doc/pm-host/$each"; done < "$work/pages"
+    while IFS= read -r each; do put 644 "$root/$each" "share/doc/pmhost/$each"; done < "$work/pages"
 }
 
-made share/pm-host
-library pm_host_c pm_host pm.h "A PMBus host core that sets supply voltages, proved"
-put 644 "$root/crates/pm_host_c/include/pm_patient.h" include/pm_patient.h
-library pm_device_c pm_device pm_part.h "A model of a PMBus power converter to try firmware against, proved"
+made share/pmhost
+library pm_host_c pmhost pmhost.h "A PMBus host core that sets supply voltages, proved"
+put 644 "$root/crates/pm_host_c/include/pmhost_patient.h" include/pmhost_patient.h
+library pm_device_c pmpart pmpart.h "A model of a PMBus power converter to try firmware against, proved"
 if [ -z "$library" ]; then
     package
     [ -n "${COMPLETION-}" ] || wheel
@@ -163,7 +163,7 @@ if [ -z "$library" ]; then
     fi
 fi
 told
-echo "installed below $to: libpm_host and libpm_device for C${library:-, pmhost and pmb with manual pages and completions, README, docs and examples}" | sed 's/Cyes$/C/'
-echo "next: cc -I$prefix/include examples/c/order.c $prefix/lib/libpm_host.a"
+echo "installed below $to: libpmhost and libpmpart for C${library:-, pmhost and pmb with manual pages and completions, README, docs and examples}" | sed 's/Cyes$/C/'
+echo "next: cc -I$prefix/include examples/c/order.c $prefix/lib/libpmhost.a"
 [ -n "$library" ] || echo "      pmhost -b desk --outputs 2 --limit 0:3.135V:3.465V set 0 3.3V   # a model part, no board; man pmhost"
 case ":$PATH:" in *":$prefix/bin:"*) ;; *) [ -n "$library" ] || echo "      ($prefix/bin isn't on your PATH yet)" ;; esac

@@ -54,7 +54,7 @@ if [ -z "$archives" ]; then
 fi
 maintainer=$(git -C "$root" log -1 --format='%an <%ae>')
 version=$(sed -n 's/^pub const VERSION: &str = "\(.*\)";$/\1/p' "$root/crates/pm_tool/src/commandline/options.rt")
-name=pm-host made=()
+name=pmhost made=()
 
 # says ARCHIVE: what it says of itself
 says() { readelf -p .comment "$1" 2> /dev/null | grep -ao 'built: backend=[a-z]*\|stack-bytes=[0-9]*\|code=[a-z0-9-]*' | tr '\n' ' '; }
@@ -63,7 +63,7 @@ says() { readelf -p .comment "$1" 2> /dev/null | grep -ao 'built: backend=[a-z]*
 packed() {
     local arch=$1 deb=$2 from=$3 mode=$4 tree=$folder/$1
     DESTDIR=$tree "$root/packaging/install.sh" /usr $mode --archives "$from" > /dev/null
-    rm -f "$tree/usr/share/pm-host/installed" # (the list of what --uninstall takes away; dpkg has its own)
+    rm -f "$tree/usr/share/pmhost/installed" # (the list of what --uninstall takes away; dpkg has its own)
     find "$tree" -exec touch -h -d "@$SOURCE_DATE_EPOCH" {} +
     tar -C "$tree/usr" --sort=name --owner=0 --group=0 --numeric-owner --transform "s,^\.,$name-$version-$arch," -cf - . |
         gzip -n > "$out/$name-$version-$arch.tar.gz"
@@ -100,7 +100,7 @@ Description: PMBus host core that sets supply voltages, proved
  model part is there to try firmware and scripts against.
 END
     printf 'activate-noawait ldconfig\n' > "$tree/DEBIAN/triggers"
-    printf '%s 0 %s (>= %s)\n' libpm_host "$name" "$version" libpm_device "$name" "$version" > "$tree/DEBIAN/shlibs"
+    printf '%s 0 %s (>= %s)\n' libpmhost "$name" "$version" libpmpart "$name" "$version" > "$tree/DEBIAN/shlibs"
     (cd "$tree" && find usr -type f -exec md5sum {} + > DEBIAN/md5sums)
     find "$tree" -type d -exec chmod 755 {} +
     find "$tree" -exec touch -h -d "@$SOURCE_DATE_EPOCH" {} +

@@ -8,7 +8,7 @@
 # --uninstall, and nothing else. Needs gcc and python3. The last line says how many passed and failed.
 set -u
 case " $* " in *" --help "* | *" -h "*) sed -n '2,/^[^#]/s/^# \{0,1\}//p' "$0"; exit 0 ;; esac
-[ $# = 1 ] && [ -f "$1/lib/libpm_host.a" ] || { echo "try_uninstall.sh: give a folder with bin/pmb and lib/libpm_host.a; --help says more" >&2; exit 2; }
+[ $# = 1 ] && [ -f "$1/lib/libpmhost.a" ] || { echo "try_uninstall.sh: give a folder with bin/pmb and lib/libpmhost.a; --help says more" >&2; exit 2; }
 built=$(realpath "$1")
 cd "$(dirname "$0")/.."
 . tools/tally.sh
@@ -16,7 +16,8 @@ work=$(mktemp -d)
 trap 'rm -rf "$work"' EXIT
 mkdir -p "$work/copy" "$work/archives" "$work/to/bin" "$work/to/share/man/man1" "$work/to/share/doc/other"
 git ls-files -z | xargs -0 -r ls -d 2> /dev/null | tar -T - -c | tar -x -C "$work/copy"
-for each in host device; do cp "$built/lib/libpm_$each.a" "$work/archives/libpm_${each}_c.a"; done
+cp "$built/lib/libpmhost.a" "$work/archives/libpm_host_c.a"
+cp "$built/lib/libpmpart.a" "$work/archives/libpm_device_c.a"
 touch "$work/to/bin/other" "$work/to/share/man/man1/other.1"
 
 # put WORD ..: install.sh of the copy, with the programs of the folder

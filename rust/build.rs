@@ -1,13 +1,13 @@
 //! Finds the archives libpm_host_c.a and libpm_device_c.a for the target that is built for: in the folder that
 //! PM_ARCHIVES_<target> names, with `_` for `-`; for x86-64 Linux else in that of PM_ARCHIVES, or those that `rt lib`
-//! left in crates/pm_host_c/out and crates/pm_device_c/out. Installed they are libpm_host.a and libpm_device.a.
+//! left in crates/pm_host_c/out and crates/pm_device_c/out. Installed they are libpmhost.a and libpmpart.a.
 
 use std::path::{Path, PathBuf};
 use std::{env, fs, process};
 
 /// One line that says what to do, and no more.
 fn refuse(why: String) -> ! {
-    eprintln!("pm-host: {why}");
+    eprintln!("pmhost: {why}");
     process::exit(1)
 }
 

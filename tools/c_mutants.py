@@ -91,7 +91,7 @@ class Copy:
     def warns(self, call):
         """Whether gcc warns of this call alone on a line."""
         with open(os.path.join(self.folder, "drops.c"), "w", encoding="utf-8") as file:
-            file.write(f'#include "pm.h"\nstatic pm_host host;\nint main(void) {{ pm_host_{call}; return 0; }}\n')
+            file.write(f'#include "pmhost.h"\nstatic pm_host host;\nint main(void) {{ pm_host_{call}; return 0; }}\n')
         return self.run("gcc", "-Icrates/pm_host_c/include", "-Werror=unused-result", "-c", "drops.c")[0] != 0
 
     def patient_row(self, name):

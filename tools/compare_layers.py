@@ -60,7 +60,7 @@ def header(*path):
 
 
 CRATES = {"pm_host_c": sources("pm_host_c"), "pm_device_c": sources("pm_device_c")}
-HEADERS = {"pm_host_c": header("crates/pm_host_c/include/pm.h"), "pm_device_c": header("crates/pm_device_c/include/pm_part.h")}
+HEADERS = {"pm_host_c": header("crates/pm_host_c/include/pmhost.h"), "pm_device_c": header("crates/pm_device_c/include/pmpart.h")}
 PYTHON = read("python/src/pmhost/_library.py")
 RUST = without_comments(read("rust/src/ffi.rs"))
 
@@ -74,7 +74,7 @@ def versions():
                             "python's module": re.search('^__version__ = "(.*)"', read("python/src/pmhost/_version.py"), re.MULTILINE)[1],
                             "rust": re.search(r'^version = "(.*)"', read("rust/Cargo.toml"), re.MULTILINE)[1]}
     major, minor, _ = map(int, own.split("."))
-    forms = {"its type": ("crates/pm_host_c/src/host.rt", r"^const VERSION: u16 = (\w+);"), "its header": ("crates/pm_host_c/include/pm.h", r"^#define PM_VERSION (\w+)"),
+    forms = {"its type": ("crates/pm_host_c/src/host.rt", r"^const VERSION: u16 = (\w+);"), "its header": ("crates/pm_host_c/include/pmhost.h", r"^#define PM_VERSION (\w+)"),
              "python": ("python/src/pmhost/_library.py", r"^VERSION = (\w+)"), "rust": ("rust/src/ffi.rs", r"^pub const VERSION: u16 = (\w+);")}
     yield "the library's version", 256 * major + minor, {layer: int(re.search(form, read(path), re.MULTILINE)[1], 0) for layer, (path, form) in forms.items()}
 
@@ -230,7 +230,7 @@ def structs():
         image = {"HostStep": "StepImage", "FormatNumbers": "FormatImage", "KnownCell": "CellImage", "KnownCells": "KnownImage",
                  "Packet": "PacketImage"}.get(own, own)
         text = without_comments(read("crates", path)).replace("OUTPUTS", "8")
-        layers = {"pm.h": fields_of_c(name), "python": fields_of_python(image), "rust": fields_of_rust(RUST, image)}
+        layers = {"pmhost.h": fields_of_c(name), "python": fields_of_python(image), "rust": fields_of_rust(RUST, image)}
         plain = {layer: [(field, kind_of(kind), count) for field, kind, count in found] for layer, found in layers.items()}
         yield f"struct {name}", [(field, kind_of(kind), count) for field, kind, count in fields_of_rust(text, own)], plain
 

@@ -3,8 +3,8 @@
  * confirmed, and those of them that the converter doesn't hold, which the guarantees rule out while it
  * didn't restart. Damage here changes one byte, which the PEC always betrays. Half of the jobs are carried out by
  * pm_host_run, half by calls of their own. */
-#include "pm.h"
-#include "pm_part.h"
+#include "pmhost.h"
+#include "pmpart.h"
 #include <stdio.h>
 #include <stdlib.h>
 #include <string.h>
@@ -50,7 +50,7 @@ static size_t damage(uint8_t *bytes, size_t count) {
 static pm_step exchange(pm_host *host, pm_part *part) {
     pm_sending frame;
     pm_part_reply reply = {0, 0, {0}};
-    pm_host_sending(host, &frame);
+    pm_host_frame(host, &frame);
     size_t count = frame.length;
     unsigned fate = draw(8);
     if (fate == 0)
@@ -58,14 +58,14 @@ static pm_step exchange(pm_host *host, pm_part *part) {
     int heard = fate != 1;
     if (frame.kind == PM_WRITE) {
         int taken = heard && pm_part_hear(part, frame.bytes, count, 0, &reply) == PM_HEARD_TAKEN;
-        return pm_host_finished(host, (uint8_t)(fate == 2 ? !taken : taken));
+        return pm_host_write_ended(host, (uint8_t)(fate == 2 ? !taken : taken));
     }
     if (heard)
         pm_part_hear(part, frame.bytes, count, 1, &reply);
     count = reply.length;
     if (fate == 3 && count)
         count = damage(reply.bytes, count);
-    return pm_host_got(host, reply.bytes, fate == 4 ? 0 : count);
+    return pm_host_read_ended(host, reply.bytes, fate == 4 ? 0 : count);
 }
 
 /* The same by pm_host_run's two calls, on whose bus the read address is the host's own. */
@@ -107,7 +107,7 @@ static uint8_t begin(pm_host *host) {
     case 2: return pm_host_clear(host, output);
     case 3: return pm_host_store(host);
     case 4: return pm_host_restore(host);
-    case 5: return pm_host_order_micro(host, output, code, (int64_t)draw(4000000));
+    case 5: return pm_host_order_microvolts(host, output, code, (int64_t)draw(4000000));
     default: return pm_host_order(host, output, code, code == PM_OPERATION ? 0x80 : (uint16_t)(0x1000 + draw(0x400)));
     }
 }
@@ -131,18 +131,18 @@ int main(int count, char **words) {
             done += step.kind == PM_DONE;
             ended++;
         }
-        for (pm_host_sending(&host, &frame); frame.kind != PM_NOTHING; pm_host_sending(&host, &frame)) {
+        for (pm_host_frame(&host, &frame); frame.kind != PM_NOTHING; pm_host_frame(&host, &frame)) {
             pm_step step = exchange(&host, &part);
             done += step.kind == PM_DONE;
             ended += step.kind != PM_NEXT;
         }
         for (uint8_t output = 0; output < OUTPUTS; output++)
             for (int i = 0; i < CODES; i++) {
-                pm_standing standing;
+                pm_confirmed standing;
                 pm_words words_held;
                 uint16_t held;
-                pm_host_standing(&host, output, codes[i], &standing);
-                pm_host_possible(&host, output, codes[i], &words_held);
+                pm_host_confirmed_word(&host, output, codes[i], &standing);
+                pm_host_possible_words(&host, output, codes[i], &words_held);
                 pm_part_word(&part, output, codes[i], &held);
                 int listed = words_held.count == 0;
                 for (int at = 0; at < words_held.count; at++)

@@ -1,8 +1,8 @@
 /* A bus over a HAL as STM32's: 0 is success, addresses are shifted, a repeated start has calls of its own. It drives a model part,
  * rightly, and then with each of eight mistakes. A line says what a learn, an order of 3.3 V and a store came to, and what the
  * store came to where no part is there; what only looks done stands behind an exclamation mark. */
-#include "pm.h"
-#include "pm_part.h"
+#include "pmhost.h"
+#include "pmpart.h"
 #include <stdio.h>
 #include <string.h>
 
@@ -146,7 +146,7 @@ static void store(pm_host *host, hal_bus *bus, unsigned driver) {
     pm_step step = {PM_UNKNOWN, 0};
     if (pm_host_store(host) == PM_OK)
         step = pm_host_run(host, drivers[driver].write, drivers[driver].read, bus);
-    (void)pm_part_stored(&bus->part, 0, PM_VOUT_COMMAND, &stored);
+    (void)pm_part_stored_word(&bus->part, 0, PM_VOUT_COMMAND, &stored);
     printf(", store %s%s", end_of(step), step.kind == PM_DONE && stored != 0x34CD ? "!" : "");
 }
 

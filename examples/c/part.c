@@ -1,5 +1,5 @@
 /* A firmware's frame at a desk: a part hears a write of 3.3 V for output 0, and restarts. */
-#include "pm_part.h"
+#include "pmpart.h"
 #include <stdio.h>
 #include <string.h>
 
@@ -16,10 +16,10 @@ int main(void) {
     if (pm_part_size() != sizeof part || pm_part_new(&part, &config) != PM_PART_OK)
         return 1;
     unsigned heard = pm_part_hear(&part, write, sizeof write, 0, &reply);
-    pm_part_commanded(&part, 0, &microvolts);
+    pm_part_commanded_microvolts(&part, 0, &microvolts);
     printf("%s, output 0 commands %ld uV\n", heard == PM_HEARD_TAKEN ? "taken" : "refused", (long)microvolts);
     pm_part_restart(&part);
-    pm_part_commanded(&part, 0, &microvolts);
+    pm_part_commanded_microvolts(&part, 0, &microvolts);
     printf("restarted, output 0 commands %ld uV\n", (long)microvolts);
     return 0;
 }

@@ -1,6 +1,6 @@
 /* pm_patient_run beside rows of its own: when it asks a part whether it is ready, what it sends again, and what it hands over.
  * Each row has the job's end and the calls that the bus below must have seen. It prints each row that differs, and a count. */
-#include "pm_patient.h"
+#include "pmhost_patient.h"
 #include <stdio.h>
 #include <string.h>
 

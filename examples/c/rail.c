@@ -1,8 +1,8 @@
 /* A rail is surveyed and set over a bus with a model part: what it commands before, on the way and afterwards, with each
  * write; what is refused, and how a bus that loses every write ends. Then random rails under faults: what the output commands
  * behind each frame is its old voltage or its new one, and where the end is PM_REACHED the part holds each wanted word. */
-#include "pm.h"
-#include "pm_part.h"
+#include "pmhost.h"
+#include "pmpart.h"
 #include <stdio.h>
 #include <stdlib.h>
 #include <string.h>
@@ -33,7 +33,7 @@ static unsigned draw(unsigned below) {
 
 static int64_t commanded(const pm_part *part) {
     int64_t microvolts = -1;
-    pm_part_commanded(part, 0, &microvolts);
+    pm_part_commanded_microvolts(part, 0, &microvolts);
     return microvolts;
 }
 
@@ -148,7 +148,7 @@ static void tell_rail(const pm_host *host) {
 
 static pm_host new_host(void) {
     pm_host host;
-    if (pm_host_new(&host, 0x58, 1, 2) != PM_OK || pm_host_narrow(&host, 0, 900000, 3600000) != PM_OK)
+    if (pm_host_new(&host, 0x58, 1, 2) != PM_OK || pm_host_set_limits(&host, 0, 900000, 3600000) != PM_OK)
         exit(1);
     return host;
 }

@@ -1,6 +1,6 @@
 /* pm_host_run beside rows of its own: what a write answers, how many bytes a read says, and what it leaves in the buffer.
  * Each row has the job's end and the calls that the bus must have seen. It prints each row that differs, and a count. */
-#include "pm.h"
+#include "pmhost.h"
 #include <stdio.h>
 #include <string.h>
 
@@ -138,14 +138,14 @@ static uint8_t begin(pm_host *host, char job) {
 /* Whether a row came as it must: its end, its calls, and the word that is confirmed then. */
 static int is_right(const row *of, uint16_t confirmed) {
     pm_host host;
-    pm_standing standing = {0, 0};
+    pm_confirmed standing = {0, 0};
     bus to = {of, &host, 0, 0, NULL};
     if (pm_host_new(&host, 0x58, 2, of->passes) != PM_OK || begin(&host, of->job) != PM_OK) {
         printf("%s: the job is refused\n", of->name);
         return 0;
     }
     pm_step step = pm_host_run(&host, put, ask, &to);
-    uint8_t number = pm_host_standing(&host, 0, PM_VOUT_COMMAND, &standing);
+    uint8_t number = pm_host_confirmed_word(&host, 0, PM_VOUT_COMMAND, &standing);
     uint16_t word = number == PM_OK && standing.is_confirmed == 1 ? standing.word : 0;
     if (!to.wrong && step.kind == of->kind && step.word == of->word && to.writes == of->writes && to.asked == of->asked &&
         word == confirmed)

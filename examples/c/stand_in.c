@@ -23,7 +23,7 @@
 #ifndef _GNU_SOURCE
 #define _GNU_SOURCE /* the lock of an open file */
 #endif
-#include "pm_part.h"
+#include "pmpart.h"
 #include <errno.h>
 #include <fcntl.h>
 #include <linux/i2c-dev.h>

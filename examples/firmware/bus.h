@@ -3,7 +3,7 @@
 #ifndef BUS_H
 #define BUS_H
 
-#include "pm.h"
+#include "pmhost.h"
 #include <stdint.h>
 
 /* Writes a frame of `count` bytes, which a stop ends: PM_ACKED where every byte was acknowledged, PM_UNHEARD where nobody

@@ -3,7 +3,7 @@
  * all of them. Nothing here takes memory or knows the board: bus.h and console.h are what a board has to have. */
 #include "bus.h"
 #include "console.h"
-#include "pm.h"
+#include "pmhost.h"
 #include <stddef.h>
 
 enum { ADDRESS = 0x58, PASSES = 3, ROUNDS = 24, RAILS = 2, ATTEMPTS = 4 };
@@ -45,10 +45,10 @@ static void say(const rail *of, const char *what) {
 
 /* The word that the rail is known to hold, and its microvolts; or that none is known. */
 static void say_held(const pm_host *host, const rail *of) {
-    pm_standing standing = {0, 0};
+    pm_confirmed standing = {0, 0};
     pm_format format = {PM_NO_FORMAT, 0, 0, 0};
     int64_t microvolts = 0;
-    pm_host_standing(host, of->output, PM_VOUT_COMMAND, &standing);
+    pm_host_confirmed_word(host, of->output, PM_VOUT_COMMAND, &standing);
     pm_host_format(host, of->output, &format);
     if (standing.is_confirmed != 1 || pm_microvolts(&format, standing.word, &microvolts) != PM_OK) {
         console_put("nothing that is known\n");
@@ -90,7 +90,7 @@ static int learn(pm_host *host, const rail *of) {
 /* Orders the rail's voltage: 1 where its word was read back. */
 static int set_rail(pm_host *host, const rail *of) {
     for (int i = 0; i < ATTEMPTS; i++) {
-        if (pm_host_order_micro(host, of->output, PM_VOUT_COMMAND, of->microvolts) != PM_OK) {
+        if (pm_host_order_microvolts(host, of->output, PM_VOUT_COMMAND, of->microvolts) != PM_OK) {
             say(of, ": the order is refused\n");
             return 0;
         }
@@ -119,14 +119,14 @@ typedef enum { HOLDS, UNREAD, OTHER, RESTARTED } finding;
 
 /* Reads the rail back, and compares it with the word that its voltage is. */
 static finding check_rail(pm_host *host, const rail *of) {
-    pm_standing standing;
+    pm_confirmed standing;
     pm_format format;
     uint16_t wanted;
     if (pm_host_check(host, of->output, PM_VOUT_COMMAND) != PM_OK || carry_out(host).kind != PM_DONE)
         return UNREAD;
     if (pm_host_restart_seen(host) == 1)
         return RESTARTED;
-    if (pm_host_standing(host, of->output, PM_VOUT_COMMAND, &standing) != PM_OK ||
+    if (pm_host_confirmed_word(host, of->output, PM_VOUT_COMMAND, &standing) != PM_OK ||
         pm_host_format(host, of->output, &format) != PM_OK ||
         pm_nearest_word(&format, of->microvolts, &wanted) != PM_OK)
         return UNREAD;
@@ -164,7 +164,7 @@ int main(void) {
     if (pm_host_new(&host, ADDRESS, RAILS, PASSES) != PM_OK)
         return 1;
     for (int i = 0; i < RAILS; i++)
-        if (pm_host_narrow(&host, rails[i].output, rails[i].least, rails[i].most) != PM_OK)
+        if (pm_host_set_limits(&host, rails[i].output, rails[i].least, rails[i].most) != PM_OK)
             return 1;
     is_well = set_all(&host);
     for (int round = 1; round <= ROUNDS; round++)

@@ -3,7 +3,7 @@
  * A driver for a board puts its I2C controller in the place of this file. */
 #include "bus.h"
 #include "console.h"
-#include "pm_part.h"
+#include "pmpart.h"
 #include <string.h>
 
 enum { RESTARTS_EACH = 37 };

@@ -1,5 +1,5 @@
 // The proved host and the proved part as a module of JavaScript, over the libraries pm_host_c and pm_device_c as WebAssembly
-// (wasm64). The calls are those of pm.h and pm_part.h; what they answer is proved of the libraries, and this layer is not.
+// (wasm64). The calls are those of pmhost.h and pmpart.h; what they answer is proved of the libraries, and this layer is not.
 
 export const CODE = {OPERATION: 0x01, WRITE_PROTECT: 0x10, VOUT_COMMAND: 0x21, VOUT_MAX: 0x24, VOUT_MARGIN_HIGH: 0x25,
                      VOUT_MARGIN_LOW: 0x26, VOUT_MIN: 0x2B};
@@ -9,7 +9,7 @@ const WITHIN = {0x91: "within", 0x92: "outside", 0x93: "not known"};
 const SIZES = {host: "pm_host_size", part: "pm_part_size"};
 const PAGE = 65536;
 
-// Why a call is refused: the number that pm.h and pm_part.h tell, and its name.
+// Why a call is refused: the number that pmhost.h and pmpart.h tell, and its name.
 export class Refused extends Error {
     constructor(call, number, name) {
         super(`${call} is refused: ${number.toString(16).toUpperCase().padStart(2, "0")}h ${name}`.trim());
@@ -103,18 +103,18 @@ export class Host {
     restart() { this.library.ask("pm_host_restart", pointer(this.at)); }
 
     // Limits of an output in microvolts, or narrower ones: each later order is judged by them.
-    narrow(output, least, most) { this.library.ask("pm_host_narrow", pointer(this.at), output, BigInt(least), BigInt(most)); }
+    narrow(output, least, most) { this.library.ask("pm_host_set_limits", pointer(this.at), output, BigInt(least), BigInt(most)); }
 
     // Whether an output's voltage is known to lie within its limits: within, outside or not known.
     within(output) {
-        const number = this.library.call("pm_host_within", pointer(this.at), output) & 0xFF;
-        if (!(number in WITHIN)) throw new Refused("pm_host_within", number, this.library.nameOf(number));
+        const number = this.library.call("pm_host_limits_state", pointer(this.at), output) & 0xFF;
+        if (!(number in WITHIN)) throw new Refused("pm_host_limits_state", number, this.library.nameOf(number));
         return WITHIN[number];
     }
 
     // {reads, bytes, wanted}: `wanted` is how many bytes a whole answer has; null where there is nothing to send.
     sending() {
-        this.library.ask("pm_host_sending", pointer(this.at), pointer(this.frame));
+        this.library.ask("pm_host_frame", pointer(this.at), pointer(this.frame));
         const [kind, length, wanted] = this.library.bytes(this.frame, 3);
         if (kind === 0) return null;
         return {reads: kind === 2, bytes: [...this.library.bytes(this.frame + 4, length)], wanted};
@@ -129,23 +129,23 @@ export class Host {
         return {end: END[kind], word};
     }
 
-    finished(acked) { return this.step("pm_host_finished", acked ? 1 : 0); }
+    finished(acked) { return this.step("pm_host_write_ended", acked ? 1 : 0); }
 
     got(bytes) {
         this.library.bytes(this.room, 16).fill(0).set(bytes);
-        return this.step("pm_host_got", pointer(this.room), BigInt(bytes.length));
+        return this.step("pm_host_read_ended", pointer(this.room), BigInt(bytes.length));
     }
 
     // The confirmed word, or null.
     standing(output, code) {
-        this.library.ask("pm_host_standing", pointer(this.at), output, code, pointer(this.library.scratch));
+        this.library.ask("pm_host_confirmed_word", pointer(this.at), output, code, pointer(this.library.scratch));
         const view = this.library.view(this.library.scratch, 4);
         return view.getUint16(0, true) === 1 ? view.getUint16(2, true) : null;
     }
 
     // The words that the cell may hold, or null for any word.
     possible(output, code) {
-        this.library.ask("pm_host_possible", pointer(this.at), output, code, pointer(this.library.scratch));
+        this.library.ask("pm_host_possible_words", pointer(this.at), output, code, pointer(this.library.scratch));
         const view = this.library.view(this.library.scratch, 34);
         const count = view.getUint16(0, true);
         return count === 0 ? null : Array.from({length: count}, (_, at) => view.getUint16(2 + 2 * at, true));
@@ -200,7 +200,7 @@ export class Part {
     }
 
     microvolts(output) {
-        this.library.ask("pm_part_commanded", pointer(this.at), output, pointer(this.library.scratch));
+        this.library.ask("pm_part_commanded_microvolts", pointer(this.at), output, pointer(this.library.scratch));
         return Number(this.library.view(this.library.scratch, 8).getBigInt64(0, true));
     }
 }

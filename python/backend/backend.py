@@ -1,6 +1,6 @@
 """Builds the package: the files of pmhost, and the shared object that the C compiler makes of the two archives.
 
-The archives libpm_host_c.a and libpm_device_c.a (installed: libpm_host.a and libpm_device.a) are those in the folder that the variable
+The archives libpm_host_c.a and libpm_device_c.a (installed: libpmhost.a and libpmpart.a) are those in the folder that the variable
 PMHOST_ARCHIVES names, or else those that
 `rt lib` left in crates/pm_host_c/out and crates/pm_device_c/out. The compiler is `cc`, or what CC names. It has the calls of PEP 517
 and no dependency.

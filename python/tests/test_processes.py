@@ -120,13 +120,13 @@ class Processes(unittest.TestCase):
     def test_the_command_with_another_library_says_so_in_one_line(self):
         """A part's library alone has no call of a host."""
         with tempfile.TemporaryDirectory() as folder:
-            other = os.path.join(folder, "libpm_device.so")
+            other = os.path.join(folder, "libpmpart.so")
             subprocess.run(["gcc", "-shared", "-fPIC", "-x", "c", "-", "-o", other], check=True, text=True,
                            input="unsigned long pm_part_size(void) { return 372; }\n")
             ended = subprocess.run([sys.executable, "-B", "-m", "pmhost", "-b", "desk", "read", "0"], check=False, text=True,
                                    env={**os.environ, "PMHOST_LIBRARY": other}, stderr=subprocess.PIPE, stdout=subprocess.PIPE)
         self.assertEqual((ended.returncode, ended.stdout), (2, ""))
-        self.assertRegex(ended.stderr, r"\Apmhost: .*libpm_device\.so is another library than this package is for: it has no pm_\w+\n\Z")
+        self.assertRegex(ended.stderr, r"\Apmhost: .*libpmpart\.so is another library than this package is for: it has no pm_\w+\n\Z")
 
     def test_an_interruption_before_the_command_begins_tells_no_traceback(self):
         """A module that is imported while the package is interrupts the process."""

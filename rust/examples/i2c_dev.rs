@@ -8,7 +8,7 @@
 //! i2c_dev [--share-bus] [--patience=MS] BUS ADDRESS store
 //! ```
 
-use pm_host::{Bus, Cell, Done, Host, Job, Limits, LinuxBus, NotDone, Operation, Patient, Register, SystemClock};
+use pmhost::{Bus, Cell, Done, Host, Job, Limits, LinuxBus, NotDone, Operation, Patient, Register, SystemClock};
 use std::error::Error;
 use std::process::ExitCode;
 
@@ -39,9 +39,9 @@ impl<B: Bus<Error: Error>> Counted<B> {
         Counted { bus, tried: 0, failed: 0, why: String::new() }
     }
 
-    fn carry_out(&mut self, host: &mut Host, job: Job) -> Result<Done, NotDone<B::Error>> {
+    fn run_job(&mut self, host: &mut Host, job: Job) -> Result<Done, NotDone<B::Error>> {
         (self.tried, self.failed) = (0, 0);
-        host.carry_out(job, self)
+        host.run_job(job, self)
     }
 
     /// Why a job didn't end well: which transfers failed, what the last answer had, or what else it means.
@@ -89,18 +89,18 @@ fn held_low(bus: &Counted<Board>) -> Option<ExitCode> {
 }
 
 /// Orders a voltage of an output within its limits, where it has some. Its format is learned first.
-fn order<B: Bus<Error: Error>>(bus: &mut Counted<B>, address: u8, voltage: &Voltage) -> Result<ExitCode, pm_host::Refusal> {
+fn order<B: Bus<Error: Error>>(bus: &mut Counted<B>, address: u8, voltage: &Voltage) -> Result<ExitCode, pmhost::Refusal> {
     let Voltage { output, microvolts, limits } = *voltage;
     let mut host = Host::new(address, output + 1, 3)?;
     if let Some(limits) = limits {
-        host.narrow(output, limits)?;
+        host.set_limits(output, limits)?;
     }
     let cell = Cell::Output(output, Register::VoutCommand);
-    if let Err(end) = bus.carry_out(&mut host, Job::Learn(output)) {
+    if let Err(end) = bus.run_job(&mut host, Job::Learn(output)) {
         bus.say_why("learn", &end, "no answer was good, or its format is neither ULINEAR16 nor DIRECT");
         return Ok(ExitCode::from(1));
     }
-    let end = bus.carry_out(&mut host, Job::OrderMicro(cell, microvolts));
+    let end = bus.run_job(&mut host, Job::OrderMicrovolts(cell, microvolts));
     let said = match &end {
         Err(NotDone::Refused(refusal)) => {
             eprintln!("i2c_dev: refused: {refusal}");
@@ -110,7 +110,7 @@ fn order<B: Bus<Error: Error>>(bus: &mut Counted<B>, address: u8, voltage: &Volt
         Err(NotDone::Differs { .. }) => "differs",
         Err(NotDone::Unknown { .. } | NotDone::NoFormat) => "unknown",
     };
-    match (host.standing(cell)?, host.format(output)?) {
+    match (host.confirmed_word(cell)?, host.format(output)?) {
         (Some(word), Some(format)) => println!("ended {said}, confirmed {word:04X}, {} uV", format.microvolts(word)?),
         _ => println!("ended {said}, the output may hold the old or the ordered word"),
     }
@@ -125,8 +125,8 @@ fn order<B: Bus<Error: Error>>(bus: &mut Counted<B>, address: u8, voltage: &Volt
 }
 
 /// Sends STORE_USER_ALL, once.
-fn store(bus: &mut Counted<Board>, address: u8) -> Result<ExitCode, pm_host::Refusal> {
-    let end = bus.carry_out(&mut Host::new(address, 1, 3)?, Job::Store);
+fn store(bus: &mut Counted<Board>, address: u8) -> Result<ExitCode, pmhost::Refusal> {
+    let end = bus.run_job(&mut Host::new(address, 1, 3)?, Job::Store);
     if let Some(status) = held_low(bus) {
         return Ok(status);
     }
@@ -231,7 +231,7 @@ fn main() -> ExitCode {
 #[cfg(test)]
 mod tests {
     use super::*;
-    use pm_host::{Output, Part};
+    use pmhost::{Output, Part};
 
     fn words(line: &str) -> Result<Asked, String> {
         asked(line.split(' ').map(String::from))
@@ -256,7 +256,7 @@ mod tests {
             assert_eq!((asked.bus, asked.address, asked.is_shared, asked.patience), (1, 0x58, true, Some(5)));
             let mut bus = Counted::new(Part::new(0x58, &[Output::default()], (1, 0, 3)).unwrap());
             order(&mut bus, 0x58, &asked.voltage.unwrap()).unwrap();
-            assert_eq!(bus.bus.commanded(0), Ok(commanded));
+            assert_eq!(bus.bus.commanded_microvolts(0), Ok(commanded));
         }
     }
 }

@@ -1,6 +1,6 @@
 //! An order over a scripted bus: it prints what `examples/c/order.c` does.
 
-use pm_host::{Cell, Host, Refusal, Register, Sending, Step};
+use pmhost::{Cell, Host, Refusal, Register, Sending, Step};
 
 fn hex(bytes: &[u8]) -> String {
     bytes.iter().map(|byte| format!(" {byte:02X}")).collect()
@@ -11,15 +11,15 @@ fn main() -> Result<(), Refusal> {
     let mut host = Host::new(0x58, 2, 2)?;
     host.order(command, 0x34CD)?;
     let end = loop {
-        let step = match host.sending() {
+        let step = match host.frame() {
             Sending::Nothing => return Ok(()),
             Sending::Write(frame) => {
                 println!("write{}", hex(&frame));
-                host.finished(false)?
+                host.write_ended(false)?
             }
             Sending::Request { frame, answer } => {
                 println!("request{}\nwants {answer} bytes", hex(&frame));
-                host.got(&[0xB1, 0x02, 0xCD, 0x34, 0xB9])?
+                host.read_ended(&[0xB1, 0x02, 0xCD, 0x34, 0xB9])?
             }
         };
         if step != Step::Next {
@@ -33,7 +33,7 @@ fn main() -> Result<(), Refusal> {
         Step::Unknown { .. } => 3,
         Step::Learned => 4,
     };
-    match host.standing(command)? {
+    match host.confirmed_word(command)? {
         Some(word) => println!("ended {kind}, confirmed {word:04X}"),
         None => println!("ended {kind}, unknown 0000"),
     }

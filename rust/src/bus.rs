@@ -29,7 +29,7 @@ pub enum Operation<'a> {
 /// # } }
 /// use core::{error, fmt};
 /// use embedded_hal::i2c::{Error, ErrorKind, I2c, NoAcknowledgeSource, Operation as Hal};
-/// use pm_host::{Bus, Operation, Unheard};
+/// use pmhost::{Bus, Operation, Unheard};
 ///
 /// struct Board<I>(I);
 ///
@@ -74,14 +74,14 @@ pub enum Operation<'a> {
 /// # }
 /// # #[derive(Default)]
 /// # struct Ticks(u32);
-/// # impl pm_host::Clock for Ticks {
+/// # impl pmhost::Clock for Ticks {
 /// #     fn now(&mut self) -> u32 { self.0 }
 /// #     fn wait(&mut self, milliseconds: u32) { self.0 += milliseconds; }
 /// # }
-/// use pm_host::{Clock, Done, Host, Job, Patient};
+/// use pmhost::{Clock, Done, Host, Job, Patient};
 ///
 /// fn learn(i2c: impl I2c<Error: 'static>, clock: impl Clock) -> Result<Done, Box<dyn error::Error>> {
-///     Ok(Host::new(0x58, 1, 3)?.carry_out(Job::Learn(0), &mut Patient::new(Board(i2c), clock))?)
+///     Ok(Host::new(0x58, 1, 3)?.run_job(Job::Learn(0), &mut Patient::new(Board(i2c), clock))?)
 /// }
 /// # assert!(learn(Dead, Ticks::default()).unwrap_err().to_string().ends_with("a transfer failed"));
 /// ```

@@ -29,7 +29,7 @@ pub enum NotDone<E> {
         word: u16,
     },
     /// The last pass had no good answer, or no pass was acknowledged. The cell of an order may hold its old word or the
-    /// new one: `Host::possible` lists them.
+    /// new one: `Host::possible_words` lists them.
     Unknown {
         /// What the bus said of the last transaction that failed, where one did.
         error: Option<E>,

@@ -1,4 +1,4 @@
-//! The calls of the two libraries, as their headers pm.h and pm_part.h have them. tools/compare_layers.py compares names,
+//! The calls of the two libraries, as their headers pmhost.h and pmpart.h have them. tools/compare_layers.py compares names,
 //! numbers and sizes.
 
 pub const VERSION: u16 = 0x0001;
@@ -218,25 +218,25 @@ extern "C" {
     pub fn pm_host_version() -> u16;
     pub fn pm_host_new(host: &mut HostImage, address: u8, outputs: u8, passes: u8) -> u8;
     pub fn pm_host_new_with(host: &mut HostImage, address: u8, outputs: u8, passes: u8, registers: &RegistersImage) -> u8;
-    pub fn pm_host_narrow(host: &mut HostImage, output: u8, least: i64, most: i64) -> u8;
+    pub fn pm_host_set_limits(host: &mut HostImage, output: u8, least: i64, most: i64) -> u8;
     pub fn pm_host_limits(host: &HostImage, output: u8, limits: &mut LimitsImage) -> u8;
-    pub fn pm_host_within(host: &HostImage, output: u8) -> u8;
+    pub fn pm_host_limits_state(host: &HostImage, output: u8) -> u8;
     pub fn pm_host_band(host: &HostImage, output: u8, band: &mut BandImage) -> u8;
     pub fn pm_host_order(host: &mut HostImage, output: u8, code: u8, word: u16) -> u8;
-    pub fn pm_host_order_micro(host: &mut HostImage, output: u8, code: u8, microvolts: i64) -> u8;
+    pub fn pm_host_order_microvolts(host: &mut HostImage, output: u8, code: u8, microvolts: i64) -> u8;
     pub fn pm_host_check(host: &mut HostImage, output: u8, code: u8) -> u8;
     pub fn pm_host_learn(host: &mut HostImage, output: u8) -> u8;
     pub fn pm_host_clear(host: &mut HostImage, output: u8) -> u8;
     pub fn pm_host_store(host: &mut HostImage) -> u8;
     pub fn pm_host_restore(host: &mut HostImage) -> u8;
-    pub fn pm_host_sending(host: &HostImage, sending: &mut SendingImage) -> u8;
-    pub fn pm_host_finished(host: &mut HostImage, acked: u8) -> StepImage;
-    pub fn pm_host_got(host: &mut HostImage, bytes: *const u8, count: u64) -> StepImage;
+    pub fn pm_host_frame(host: &HostImage, sending: &mut SendingImage) -> u8;
+    pub fn pm_host_write_ended(host: &mut HostImage, acked: u8) -> StepImage;
+    pub fn pm_host_read_ended(host: &mut HostImage, bytes: *const u8, count: u64) -> StepImage;
     pub fn pm_host_restart(host: &mut HostImage) -> u8;
-    pub fn pm_host_standing(host: &HostImage, output: u8, code: u8, standing: &mut StandingImage) -> u8;
-    pub fn pm_host_possible(host: &HostImage, output: u8, code: u8, words: &mut WordsImage) -> u8;
+    pub fn pm_host_confirmed_word(host: &HostImage, output: u8, code: u8, standing: &mut StandingImage) -> u8;
+    pub fn pm_host_possible_words(host: &HostImage, output: u8, code: u8, words: &mut WordsImage) -> u8;
     pub fn pm_host_format(host: &HostImage, output: u8, format: &mut FormatImage) -> u8;
-    pub fn pm_host_known(host: &HostImage, known: &mut KnownImage) -> u8;
+    pub fn pm_host_known_cells(host: &HostImage, known: &mut KnownImage) -> u8;
     pub fn pm_host_restart_seen(host: &HostImage) -> u8;
     pub fn pm_host_rail(host: &HostImage, output: u8, rail: &mut RailImage) -> u8;
     pub fn pm_host_plan(host: &HostImage, output: u8, wanted: &WantedImage, next: &mut PlanOrderImage) -> u8;
@@ -272,10 +272,10 @@ extern "C" {
     pub fn pm_part_restart(part: &mut PartImage) -> u8;
     pub fn pm_part_set_reading(part: &mut PartImage, output: u8, code: u8, word: u16) -> u8;
     pub fn pm_part_word(part: &PartImage, output: u8, code: u8, word: &mut u16) -> u8;
-    pub fn pm_part_stored(part: &PartImage, output: u8, code: u8, word: &mut u16) -> u8;
+    pub fn pm_part_stored_word(part: &PartImage, output: u8, code: u8, word: &mut u16) -> u8;
     pub fn pm_part_page(part: &PartImage, page: &mut u8) -> u8;
-    pub fn pm_part_commanded(part: &PartImage, output: u8, microvolts: &mut i64) -> u8;
-    pub fn pm_part_is_on(part: &PartImage, output: u8, on: &mut u8) -> u8;
+    pub fn pm_part_commanded_microvolts(part: &PartImage, output: u8, microvolts: &mut i64) -> u8;
+    pub fn pm_part_on_state(part: &PartImage, output: u8, on: &mut u8) -> u8;
     pub fn pm_part_status_byte(part: &PartImage, output: u8, status: &mut u8) -> u8;
     pub fn pm_part_status_word(part: &PartImage, output: u8, status: &mut u16) -> u8;
     pub fn pm_part_status_vout(part: &PartImage, output: u8, status: &mut u8) -> u8;

@@ -80,10 +80,10 @@ impl Register {
 ///
 /// ```
 /// # #![deny(unused_must_use)]
-/// # fn main() -> Result<(), pm_host::Refusal> {
-/// # let mut host = pm_host::Host::new(0x58, 1, 1)?;
+/// # fn main() -> Result<(), pmhost::Refusal> {
+/// # let mut host = pmhost::Host::new(0x58, 1, 1)?;
 /// # host.store()?;
-/// assert_eq!(host.finished(false)?, pm_host::Step::Unknown { fault: None });
+/// assert_eq!(host.write_ended(false)?, pmhost::Step::Unknown { fault: None });
 /// # Ok(())
 /// # }
 /// ```
@@ -92,10 +92,10 @@ impl Register {
 ///
 /// ```compile_fail
 /// # #![deny(unused_must_use)]
-/// # fn main() -> Result<(), pm_host::Refusal> {
-/// # let mut host = pm_host::Host::new(0x58, 1, 1)?;
+/// # fn main() -> Result<(), pmhost::Refusal> {
+/// # let mut host = pmhost::Host::new(0x58, 1, 1)?;
 /// # host.store()?;
-/// host.finished(false)?;
+/// host.write_ended(false)?;
 /// # Ok(())
 /// # }
 /// ```
@@ -221,7 +221,7 @@ pub struct Band {
 /// Whether an output's voltage lies within its limits, by what is known.
 #[derive(Clone, Copy, Debug, PartialEq, Eq)]
 #[must_use = "the output may be outside its limits"]
-pub enum Within {
+pub enum LimitsState {
     /// Its whole band does, or it has no limits.
     Yes,
     /// Its whole band lies below them, or above them.
@@ -234,17 +234,17 @@ pub enum Within {
 /// be copied.
 ///
 /// ```
-/// use pm_host::{Cell, Host, Register, Sending, Step};
+/// use pmhost::{Cell, Host, Register, Sending, Step};
 ///
 /// let mut host = Host::new(0x58, 2, 2)?;
 /// let cell = Cell::Output(0, Register::VoutCommand);
 /// host.order(cell, 0x34CD)?;
-/// let Sending::Write(frame) = host.sending() else { panic!() };
+/// let Sending::Write(frame) = host.frame() else { panic!() };
 /// assert_eq!(&*frame, [0xB0, 0x05, 0x04, 0x00, 0x21, 0xCD, 0x34, 0x5A]);
-/// assert_eq!(host.finished(false)?, Step::Next); // the acknowledgement is lost
-/// assert_eq!(host.got(&[0xB1, 0x02, 0xCD, 0x34, 0xB9])?, Step::Done);
-/// assert_eq!(host.standing(cell)?, Some(0x34CD));
-/// # Ok::<(), pm_host::Refusal>(())
+/// assert_eq!(host.write_ended(false)?, Step::Next); // the acknowledgement is lost
+/// assert_eq!(host.read_ended(&[0xB1, 0x02, 0xCD, 0x34, 0xB9])?, Step::Done);
+/// assert_eq!(host.confirmed_word(cell)?, Some(0x34CD));
+/// # Ok::<(), pmhost::Refusal>(())
 /// ```
 #[derive(Clone)]
 pub struct Host {
@@ -269,7 +269,7 @@ struct Confirmed<'a>(&'a Host);
 impl fmt::Debug for Confirmed<'_> {
     fn fmt(&self, to: &mut fmt::Formatter<'_>) -> fmt::Result {
         let mut words = to.debug_map();
-        for Known { cell, confirmed, .. } in self.0.known() {
+        for Known { cell, confirmed, .. } in self.0.known_cells() {
             if let Some(word) = confirmed {
                 words.entry(&cell, &format_args!("0x{word:04X}"));
             }
@@ -335,8 +335,8 @@ impl Host {
     /// Gives an output limits, or narrower ones. They hold for words as the format has them that the last learn found: where the part
     /// may be another one, or VOUT_MODE may have been written, learn again before an order. H4, N5, L1, L6, H3 where an order of the
     /// output is open that these would refuse.
-    pub fn narrow(&mut self, output: u8, limits: Limits) -> Result<(), Refusal> {
-        accepted(unsafe { ffi::pm_host_narrow(&mut self.image, output, limits.least, limits.most) })
+    pub fn set_limits(&mut self, output: u8, limits: Limits) -> Result<(), Refusal> {
+        accepted(unsafe { ffi::pm_host_set_limits(&mut self.image, output, limits.least, limits.most) })
     }
 
     /// The limits of an output, where it has any. H4.
@@ -349,8 +349,8 @@ impl Host {
     }
 
     /// Whether an output's voltage lies within its limits, by what is known. H4.
-    pub fn within(&self, output: u8) -> Result<Within, Refusal> {
-        within_of(unsafe { ffi::pm_host_within(&self.image, output) })
+    pub fn limits_state(&self, output: u8) -> Result<LimitsState, Refusal> {
+        within_of(unsafe { ffi::pm_host_limits_state(&self.image, output) })
     }
 
     /// Which voltages an output may be commanded to, by what is known. H4, H7 where its format isn't known, NoBand where OPERATION may
@@ -368,9 +368,9 @@ impl Host {
     }
 
     /// Begins an order of the word nearest to microvolts. H3, H4, L7, H5, H7, N5, N3, N4, L3, L4, H6.
-    pub fn order_micro(&mut self, cell: Cell, microvolts: i64) -> Result<(), Refusal> {
+    pub fn order_microvolts(&mut self, cell: Cell, microvolts: i64) -> Result<(), Refusal> {
         let (output, code) = cell.numbers();
-        accepted(unsafe { ffi::pm_host_order_micro(&mut self.image, output, code, microvolts) })
+        accepted(unsafe { ffi::pm_host_order_microvolts(&mut self.image, output, code, microvolts) })
     }
 
     /// Begins a check. H3, H4, L7.
@@ -390,7 +390,7 @@ impl Host {
     }
 
     /// Begins a store of the outputs' settings, which wears the part's memory: `run` sends its frame once, and a loop of one's own
-    /// that sends what `sending` says sends it in each of `passes` until it is acknowledged. H3.
+    /// that sends what `frame` says sends it in each of `passes` until it is acknowledged. H3.
     pub fn store(&mut self) -> Result<(), Refusal> {
         accepted(unsafe { ffi::pm_host_store(&mut self.image) })
     }
@@ -401,9 +401,9 @@ impl Host {
     }
 
     /// What is to be sent now.
-    pub fn sending(&self) -> Sending {
+    pub fn frame(&self) -> Sending {
         let mut found = ffi::SendingImage::default();
-        unsafe { ffi::pm_host_sending(&self.image, &mut found) };
+        unsafe { ffi::pm_host_frame(&self.image, &mut found) };
         let frame = Bytes::of(found.length, found.bytes);
         match found.kind {
             1 => Sending::Write(frame),
@@ -413,14 +413,14 @@ impl Host {
     }
 
     /// A write was sent, and acknowledged or not. OtherFrame where none is to be sent.
-    pub fn finished(&mut self, acked: bool) -> Result<Step, Refusal> {
-        step_of(unsafe { ffi::pm_host_finished(&mut self.image, u8::from(acked)) })
+    pub fn write_ended(&mut self, acked: bool) -> Result<Step, Refusal> {
+        step_of(unsafe { ffi::pm_host_write_ended(&mut self.image, u8::from(acked)) })
     }
 
     /// A request was sent, and these bytes came back, the read address first; none where there was no answer. OtherFrame
     /// where none is to be sent.
-    pub fn got(&mut self, bytes: &[u8]) -> Result<Step, Refusal> {
-        step_of(unsafe { ffi::pm_host_got(&mut self.image, bytes.as_ptr(), bytes.len() as u64) })
+    pub fn read_ended(&mut self, bytes: &[u8]) -> Result<Step, Refusal> {
+        step_of(unsafe { ffi::pm_host_read_ended(&mut self.image, bytes.as_ptr(), bytes.len() as u64) })
     }
 
     /// Drops the open job and all that is known; the limits stay. `give_up` ends a job and keeps what is known.
@@ -429,16 +429,16 @@ impl Host {
     }
 
     /// The word of a cell, where it is confirmed. H4.
-    pub fn standing(&self, cell: Cell) -> Result<Option<u16>, Refusal> {
+    pub fn confirmed_word(&self, cell: Cell) -> Result<Option<u16>, Refusal> {
         let ((output, code), mut found) = (cell.numbers(), ffi::StandingImage::default());
-        accepted(unsafe { ffi::pm_host_standing(&self.image, output, code, &mut found) })?;
+        accepted(unsafe { ffi::pm_host_confirmed_word(&self.image, output, code, &mut found) })?;
         Ok(confirmed(found))
     }
 
     /// The words that a cell may hold. H4.
-    pub fn possible(&self, cell: Cell) -> Result<Possible, Refusal> {
+    pub fn possible_words(&self, cell: Cell) -> Result<Possible, Refusal> {
         let ((output, code), mut found) = (cell.numbers(), ffi::WordsImage::default());
-        accepted(unsafe { ffi::pm_host_possible(&self.image, output, code, &mut found) })?;
+        accepted(unsafe { ffi::pm_host_possible_words(&self.image, output, code, &mut found) })?;
         Ok(Possible::of(found))
     }
 
@@ -450,9 +450,9 @@ impl Host {
     }
 
     /// What is known of every cell, output by output and WRITE_PROTECT last.
-    pub fn known(&self) -> impl Iterator<Item = Known> {
+    pub fn known_cells(&self) -> impl Iterator<Item = Known> {
         let mut found = ffi::KnownImage { count: 0, cells: [ffi::CellImage::default(); ffi::CELLS] };
-        unsafe { ffi::pm_host_known(&self.image, &mut found) };
+        unsafe { ffi::pm_host_known_cells(&self.image, &mut found) };
         found.cells.into_iter().take(usize::from(found.count)).map(|it| Known {
             cell: Cell::of(it.output, it.code),
             confirmed: confirmed(it.standing),
@@ -467,11 +467,11 @@ impl Host {
     }
 }
 
-pub(crate) fn within_of(number: u8) -> Result<Within, Refusal> {
+pub(crate) fn within_of(number: u8) -> Result<LimitsState, Refusal> {
     match number {
-        0x91 => Ok(Within::Yes),
-        0x92 => Ok(Within::No),
-        0x93 => Ok(Within::NotKnown),
+        0x91 => Ok(LimitsState::Yes),
+        0x92 => Ok(LimitsState::No),
+        0x93 => Ok(LimitsState::NotKnown),
         number => Err(Refusal::of(number)),
     }
 }

@@ -13,7 +13,7 @@ pub enum Job {
     /// The word is written and read back.
     Order(Cell, u16),
     /// The same of the word nearest to microvolts.
-    OrderMicro(Cell, i64),
+    OrderMicrovolts(Cell, i64),
     /// The cell is read.
     Check(Cell),
     /// The format of an output's voltages is learned.
@@ -57,7 +57,7 @@ impl Host {
     pub fn begin(&mut self, job: Job) -> Result<(), Refusal> {
         match job {
             Job::Order(cell, word) => self.order(cell, word),
-            Job::OrderMicro(cell, microvolts) => self.order_micro(cell, microvolts),
+            Job::OrderMicrovolts(cell, microvolts) => self.order_microvolts(cell, microvolts),
             Job::Check(cell) => self.check(cell),
             Job::Learn(output) => self.learn(output),
             Job::Clear(output) => self.clear(output),
@@ -85,9 +85,9 @@ impl Host {
         let mut has_stored = false;
         failures.is_answered = false;
         loop {
-            let step = match self.sending() {
+            let step = match self.frame() {
                 Sending::Nothing => return Err(Refusal::OtherFrame),
-                Sending::Write(_) if has_stored => self.finished(false)?,
+                Sending::Write(_) if has_stored => self.write_ended(false)?,
                 Sending::Write(frame) => {
                     has_stored = frame[1..frame.len() - 1] == [STORE_USER_ALL];
                     self.written(bus, &frame, failures)?
@@ -104,7 +104,7 @@ impl Host {
         let ended = bus.transaction(frame[0] >> 1, &mut [Operation::Write(&frame[1..])]);
         let acked = ended.is_ok();
         failures.error = ended.err().or(failures.error.take());
-        self.finished(acked)
+        self.write_ended(acked)
     }
 
     fn asked<B: Bus>(
@@ -121,19 +121,19 @@ impl Host {
         failures.is_answered = false;
         if let Err(why) = ended {
             failures.error = Some(why);
-            return self.got(&[]);
+            return self.read_ended(&[]);
         }
         came[0] = frame[0] | 1;
         failures.answered(frame, came);
-        self.got(came)
+        self.read_ended(came)
     }
 
     /// Begins a job and carries it out over a bus: what it is worth where it was done, and why where it wasn't.
-    pub fn carry_out<B: Bus>(&mut self, job: Job, bus: &mut B) -> Result<Done, NotDone<B::Error>> {
+    pub fn run_job<B: Bus>(&mut self, job: Job, bus: &mut B) -> Result<Done, NotDone<B::Error>> {
         self.begin(job)?;
         self.run(bus)?;
         let found = match job {
-            Job::Order(cell, _) | Job::OrderMicro(cell, _) | Job::Check(cell) => self.standing(cell)?.map(Done::Word),
+            Job::Order(cell, _) | Job::OrderMicrovolts(cell, _) | Job::Check(cell) => self.confirmed_word(cell)?.map(Done::Word),
             Job::Learn(output) => self.format(output)?.map(Done::Learned),
             Job::Clear(_) | Job::Store | Job::Restore => Some(Done::Acknowledged),
         };
@@ -148,10 +148,10 @@ impl Host {
     pub fn give_up(&mut self) {
         let mut is_open = true;
         while is_open {
-            is_open = match self.sending() {
+            is_open = match self.frame() {
                 Sending::Nothing => false,
-                Sending::Write(_) => self.finished(false).is_ok(),
-                Sending::Request { .. } => self.got(&[]).is_ok(),
+                Sending::Write(_) => self.write_ended(false).is_ok(),
+                Sending::Request { .. } => self.read_ended(&[]).is_ok(),
             };
         }
     }

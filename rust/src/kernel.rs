@@ -159,7 +159,7 @@ mod tests {
 
     #[test]
     fn an_address_is_locked_for_one_open_file() {
-        let path = env::temp_dir().join(format!("pm-host-{}", process::id()));
+        let path = env::temp_dir().join(format!("pmhost-{}", process::id()));
         let open = || OpenOptions::new().read(true).write(true).create(true).truncate(false).open(&path).unwrap();
         let (one, other) = (open(), open());
         lock(&one, 0x58).unwrap();

@@ -21,7 +21,7 @@ mod refusal;
 
 pub use bus::{Bus, Operation};
 pub use done::{Done, NotDone};
-pub use host::{Band, Cell, Host, Known, Limits, Possible, Register, Sending, Step, Within};
+pub use host::{Band, Cell, Host, Known, Limits, LimitsState, Possible, Register, Sending, Step};
 pub use jobs::Job;
 #[cfg(feature = "linux")]
 pub use linux::{LinuxBus, NoBus, NoTransfer, SystemClock};

@@ -143,14 +143,14 @@ impl Host {
     /// sent, and before the survey that would have confirmed it.
     ///
     /// ```
-    /// use pm_host::{Band, Host, Output, Part, Power, Wanted, Within, APPLY_TRIES};
+    /// use pmhost::{Band, Host, Output, Part, Power, Wanted, LimitsState, APPLY_TRIES};
     ///
     /// let mut bus = Part::new(0x58, &[Output::default()], (1, 0, 3))?;
     /// let mut host = Host::new(0x58, 1, 3)?;
     /// let wanted = Wanted { command: Some(0x34CD), ..Wanted::default() }; // 3.3 V
     /// host.run_apply(0, &wanted, APPLY_TRIES, &mut bus)?;
     /// let rail = host.rail(0)?;
-    /// assert_eq!((rail.power, rail.within), (Power::On, Within::Yes));
+    /// assert_eq!((rail.power, rail.within), (Power::On, LimitsState::Yes));
     /// assert_eq!(rail.band, Ok(Band { least: 3_300_048, greatest: 3_300_049 }));
     /// # Ok::<(), Box<dyn core::error::Error>>(())
     /// ```
@@ -205,18 +205,18 @@ impl Host {
     /// what was wanted where another register is selected: look at its band.
     ///
     /// ```
-    /// use pm_host::{Band, Host, Limits, NotPlanned, NotReached, Output, Part, Refusal, Register, Within, APPLY_TRIES};
+    /// use pmhost::{Band, Host, Limits, NotPlanned, NotReached, Output, Part, Refusal, Register, LimitsState, APPLY_TRIES};
     ///
     /// let mut bus = Part::new(0x58, &[Output::default()], (1, 0, 3))?;
     /// let mut host = Host::new(0x58, 1, 3)?;
-    /// host.narrow(0, Limits { least: 3_200_000, most: 3_465_000 })?;
-    /// let rail = host.set_micro(0, Register::VoutCommand, 3_300_000, APPLY_TRIES, &mut bus)?;
-    /// assert_eq!((rail.band, rail.within), (Ok(Band { least: 3_300_048, greatest: 3_300_049 }), Within::Yes));
-    /// let twelve_volts = host.set_micro(0, Register::VoutCommand, 12_000_000, APPLY_TRIES, &mut bus);
+    /// host.set_limits(0, Limits { least: 3_200_000, most: 3_465_000 })?;
+    /// let rail = host.set_microvolts(0, Register::VoutCommand, 3_300_000, APPLY_TRIES, &mut bus)?;
+    /// assert_eq!((rail.band, rail.within), (Ok(Band { least: 3_300_048, greatest: 3_300_049 }), LimitsState::Yes));
+    /// let twelve_volts = host.set_microvolts(0, Register::VoutCommand, 12_000_000, APPLY_TRIES, &mut bus);
     /// assert!(matches!(twelve_volts, Err(NotReached::Refused(NotPlanned { refusal: Refusal::P3AboveLimit, .. }))));
     /// # Ok::<(), Box<dyn core::error::Error>>(())
     /// ```
-    pub fn set_micro<B: Bus>(
+    pub fn set_microvolts<B: Bus>(
         &mut self,
         output: u8,
         register: Register,

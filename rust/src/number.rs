@@ -42,7 +42,7 @@ impl Format {
     /// The whole millionths of a word's value, rounded down. H7 where the numbers are no format's, N5.
     ///
     /// ```
-    /// use pm_host::Format;
+    /// use pmhost::Format;
     /// assert_eq!(Format::Ulinear16(-12).microvolts(0x34CD), Ok(3_300_048));
     /// assert_eq!(Format::Linear11.microvolts(0xD300), Ok(12_000_000)); // READ_VIN: 12 V
     /// ```
@@ -65,7 +65,7 @@ impl Format {
     /// above the greatest value it is that value's word. H7 where the numbers are no format's.
     ///
     /// ```
-    /// use pm_host::Format;
+    /// use pmhost::Format;
     /// assert_eq!(Format::Ulinear16(-12).at_most(3_300_000), Ok(0x34CC)); // the nearest, 34CDh, is 3.300048 V
     /// assert_eq!(Format::Ulinear16(-12).at_least(3_300_000), Ok(0x34CD));
     /// ```

@@ -138,7 +138,7 @@ impl Packet {
     /// where the code doesn't have this layout.
     ///
     /// ```
-    /// use pm_host::{Packet, Refusal};
+    /// use pmhost::{Packet, Refusal};
     /// assert_eq!(Packet::PagePlusRead { page: 0, code: 0x21 }.answer(), Ok(4)); // a count, a word and the packet error code
     /// assert_eq!(Packet::SendByte { code: 0x03 }.answer(), Ok(0));
     /// assert_eq!(Packet::Read { code: 0x03 }.answer(), Err(Refusal::NoPacket)); // CLEAR_FAULTS isn't read
@@ -174,7 +174,7 @@ impl Packet {
     /// request, F1 to F5.
     ///
     /// ```
-    /// use pm_host::{Packet, Refusal};
+    /// use pmhost::{Packet, Refusal};
     /// let request = Packet::PagePlusRead { page: 0, code: 0x21 };
     /// assert_eq!(&*request.read_answer(0x58, &[0xB1, 0x02, 0xCD, 0x34, 0xB9]).unwrap(), [0xCD, 0x34]);
     /// assert_eq!(request.read_answer(0x58, &[0xB1, 0x02, 0xCD, 0x35, 0xB9]), Err(Refusal::F5WrongPec));
@@ -212,11 +212,11 @@ impl Block {
     /// counted, and all where the count is above 32, since all 34 of a shorter block are too many (F3). F1 to F5.
     ///
     /// ```
-    /// # use pm_host::{pec, Block};
+    /// # use pmhost::{pec, Block};
     /// let mut came = vec![0xB1, 3, b'L', b'T', b'C'];
     /// came.push(pec(&[&[0xB0, 0x99], came.as_slice()].concat())); // MFR_ID
     /// assert_eq!(&*Block::read(0x58, 0x99, &came)?, b"LTC");
-    /// # Ok::<(), pm_host::Refusal>(())
+    /// # Ok::<(), pmhost::Refusal>(())
     /// ```
     pub fn read(address: u8, code: u8, bytes: &[u8]) -> Result<Block, Refusal> {
         let mut found = ffi::BlockImage::default();

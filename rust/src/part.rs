@@ -153,9 +153,9 @@ impl Part {
     }
 
     /// The word that a cell has in the user store. H4; NoCell of WRITE_PROTECT, which isn't stored.
-    pub fn stored(&self, cell: Cell) -> Result<u16, Refusal> {
+    pub fn stored_word(&self, cell: Cell) -> Result<u16, Refusal> {
         let (output, code) = cell.numbers();
-        written(|word| unsafe { ffi::pm_part_stored(&self.image, output, code, word) })
+        written(|word| unsafe { ffi::pm_part_stored_word(&self.image, output, code, word) })
     }
 
     /// PAGE: the output that plain packets reach.
@@ -166,13 +166,13 @@ impl Part {
     }
 
     /// The whole microvolts that an output commands, on or off, rounded down. H4, N5.
-    pub fn commanded(&self, output: u8) -> Result<i64, Refusal> {
-        written(|microvolts| unsafe { ffi::pm_part_commanded(&self.image, output, microvolts) })
+    pub fn commanded_microvolts(&self, output: u8) -> Result<i64, Refusal> {
+        written(|microvolts| unsafe { ffi::pm_part_commanded_microvolts(&self.image, output, microvolts) })
     }
 
     /// Whether OPERATION has an output on. H4.
     pub fn is_on(&self, output: u8) -> Result<bool, Refusal> {
-        written(|on| unsafe { ffi::pm_part_is_on(&self.image, output, on) }).map(|on: u8| on == 1)
+        written(|on| unsafe { ffi::pm_part_on_state(&self.image, output, on) }).map(|on: u8| on == 1)
     }
 
     /// STATUS_BYTE of an output. H4.

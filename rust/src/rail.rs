@@ -3,7 +3,7 @@
 use core::{error, fmt};
 
 use crate::ffi;
-use crate::host::{within_of, Band, Cell, Host, Register, Step, Within};
+use crate::host::{within_of, Band, Cell, Host, LimitsState, Register, Step};
 use crate::refusal::{accepted, Refusal};
 
 const PLAN_DONE: u8 = 0x94;
@@ -29,7 +29,7 @@ pub struct Rail {
     /// is off has its band too.
     pub band: Result<Band, Refusal>,
     /// Whether that lies within its limits.
-    pub within: Within,
+    pub within: LimitsState,
 }
 
 /// The words that are wanted of an output's registers; `None` where one is to stay as it is.
@@ -89,7 +89,7 @@ pub struct PlanOrder {
 /// Why a plan gives no order. Nothing has begun, and nothing changed.
 #[derive(Clone, Copy, Debug, PartialEq, Eq)]
 pub struct NotPlanned {
-    /// Of a plan H3, H4, L7, or P1 to P7; of a loop also what one of its other calls refuses, as H5 or N3 of `set_micro`.
+    /// Of a plan H3, H4, L7, or P1 to P7; of a loop also what one of its other calls refuses, as H5 or N3 of `set_microvolts`.
     pub refusal: Refusal,
     /// The cell that it is about, where one is known: `None` of H3, H4 and P1.
     pub cell: Option<Cell>,

@@ -64,12 +64,12 @@ class Format(ctypes.Structure):
 
 def declare(loaded):
     """What the calls answer."""
-    for name in ("pm_host_new", "pm_host_order", "pm_host_order_micro", "pm_host_check", "pm_host_learn", "pm_host_clear",
-                 "pm_host_store", "pm_host_restore", "pm_host_sending", "pm_host_restart", "pm_host_standing",
-                 "pm_host_possible", "pm_host_format", "pm_host_restart_seen", "pm_host_narrow", "pm_host_limits",
-                 "pm_host_within", "pm_host_band", "pm_host_known"):
+    for name in ("pm_host_new", "pm_host_order", "pm_host_order_microvolts", "pm_host_check", "pm_host_learn", "pm_host_clear",
+                 "pm_host_store", "pm_host_restore", "pm_host_frame", "pm_host_restart", "pm_host_confirmed_word",
+                 "pm_host_possible_words", "pm_host_format", "pm_host_restart_seen", "pm_host_set_limits", "pm_host_limits",
+                 "pm_host_limits_state", "pm_host_band", "pm_host_known_cells"):
         getattr(loaded, name).restype = ctypes.c_uint8
-    loaded.pm_host_finished.restype = loaded.pm_host_got.restype = Step
+    loaded.pm_host_write_ended.restype = loaded.pm_host_read_ended.restype = Step
     loaded.pm_host_size.restype = ctypes.c_size_t
 
 
@@ -112,7 +112,7 @@ class Life:
         if self.draw.random() < 0.1:
             least, most = self.draw.choice(((most, least), (-10**15 - 1, most), (least, 10**15 + 1)))
         fault = self.narrow_fault(output, least, most)
-        number = self.loaded.pm_host_narrow(self.image, output, ctypes.c_int64(least), ctypes.c_int64(most))
+        number = self.loaded.pm_host_set_limits(self.image, output, ctypes.c_int64(least), ctypes.c_int64(most))
         self.same(f"narrow {output} {least} {most}", number, number_of(fault))
         if not fault:
             self.limits[output] = least, most
@@ -146,7 +146,7 @@ class Life:
         elif draw < 0.7:
             micro = self.draw.choice((self.draw.randint(-10**6, 5 * 10**6), 10**15 + 1, -10**14))
             name, fault = "order_micro", self.judged("volts", cell, micro) or self.plain.order_micro(cell, micro)
-            number = self.loaded.pm_host_order_micro(self.image, output, code, ctypes.c_int64(micro))
+            number = self.loaded.pm_host_order_microvolts(self.image, output, code, ctypes.c_int64(micro))
         elif draw < 0.82:
             name, fault, number = "check", self.plain.check(cell), self.loaded.pm_host_check(self.image, output, code)
         elif draw < 0.92:
@@ -179,11 +179,11 @@ class Life:
             if self.draw.random() < 0.1:
                 got = self.damaged(got)
             self.plain.told(("got", got))
-            step = self.loaded.pm_host_got(self.image, (ctypes.c_uint8 * max(len(got), 1))(*got), ctypes.c_size_t(len(got)))
+            step = self.loaded.pm_host_read_ended(self.image, (ctypes.c_uint8 * max(len(got), 1))(*got), ctypes.c_size_t(len(got)))
         else:
             acked = self.draw.random() < 0.7
             self.plain.told(("finished", acked))
-            step = self.loaded.pm_host_finished(self.image, int(acked))
+            step = self.loaded.pm_host_write_ended(self.image, int(acked))
         end = "next" if self.plain.sending() is not None else self.plain.job()
         fault = answer_fault(ADDRESS, message, got) if got and end == "unknown" else None
         word = int(end.split(" ")[1], 16) if end.startswith("differs") else number_of(fault and fault[0])
@@ -192,7 +192,7 @@ class Life:
 
     def same_frame(self):
         sending = Sending()
-        self.same("sending", self.loaded.pm_host_sending(self.image, ctypes.byref(sending)), 0)
+        self.same("sending", self.loaded.pm_host_frame(self.image, ctypes.byref(sending)), 0)
         found = sending.kind, list(sending.bytes[:sending.length])
         if self.plain.sending() is None:
             self.same("frame", found, (0, []))
@@ -202,8 +202,8 @@ class Life:
     def same_cell(self, cell):
         (output, code), words, said = code_of(cell), Words(), Step()
         if output < self.count:
-            self.loaded.pm_host_possible(self.image, output, code, ctypes.byref(words))
-            self.loaded.pm_host_standing(self.image, output, code, ctypes.byref(said))
+            self.loaded.pm_host_possible_words(self.image, output, code, ctypes.byref(words))
+            self.loaded.pm_host_confirmed_word(self.image, output, code, ctypes.byref(said))
             possible = self.plain.possible(cell)
             self.same(f"possible of {cell}", list(words.words[:words.count]), [] if possible is ANY else possible)
             standing = self.plain.standing(cell)
@@ -226,14 +226,14 @@ class Life:
             ends = floor(found[0] * 10**6), ceil(found[1] * 10**6)
             self.same(f"ends of the band of {output}", (band.least, band.most), ends)
         within = WITHIN[limits.within(self.limits[output], found)]
-        self.same(f"within {output}", self.loaded.pm_host_within(self.image, output), within)
+        self.same(f"within {output}", self.loaded.pm_host_limits_state(self.image, output), within)
         number = self.loaded.pm_host_limits(self.image, output, ctypes.byref(own))
         self.same(f"limits of {output}", number or (own.least, own.most), self.limits[output] or 0xE6)
 
     def same_known(self):
         """All that is known in one answer is what is known of each cell."""
         known = AllKnown()
-        self.same("known", self.loaded.pm_host_known(self.image, ctypes.byref(known)), 0)
+        self.same("known", self.loaded.pm_host_known_cells(self.image, ctypes.byref(known)), 0)
         cells = [(output, register) for output in range(self.count) for register in REGISTERS] + [PROTECT]
         self.same("cells", [(it.output, it.code) for it in known.cells[:known.count]], [code_of(cell) for cell in cells])
         for cell, it in zip(cells, known.cells):

@@ -1,6 +1,6 @@
 /* ORDERS whole orders and nothing else: begun, written, acknowledged, read back. trials/c/targets.sh counts the
  * instructions of two counts of orders, and takes the difference. */
-#include "pm.h"
+#include "pmhost.h"
 
 #ifndef ORDERS
 #define ORDERS 1
@@ -16,10 +16,10 @@ int main(void) {
     for (int i = 0; i < ORDERS; i++) {
         if (pm_host_order(&host, 0, PM_VOUT_COMMAND, 0x34CD) != PM_OK)
             return 1;
-        pm_host_sending(&host, &frame);
-        pm_host_finished(&host, 1);
-        pm_host_sending(&host, &frame);
-        done += pm_host_got(&host, answer, sizeof answer).kind == PM_DONE;
+        pm_host_frame(&host, &frame);
+        pm_host_write_ended(&host, 1);
+        pm_host_frame(&host, &frame);
+        done += pm_host_read_ended(&host, answer, sizeof answer).kind == PM_DONE;
     }
     return done != ORDERS;
 }

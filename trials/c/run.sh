@@ -63,7 +63,7 @@ bound() {
     local most=PM_STACK needed promised
     if nm "$1" | grep -q ' T pm_part_'; then most=PM_PART_STACK; fi
     needed=$(readelf -p .comment "$1" | grep -o 'stack-bytes=[0-9]*' | cut -d= -f2)
-    promised=$(sed -n "s/^#define $most \([0-9]*\)$/\1/p" crates/pm_host_c/include/pm.h crates/pm_device_c/include/pm_part.h)
+    promised=$(sed -n "s/^#define $most \([0-9]*\)$/\1/p" crates/pm_host_c/include/pmhost.h crates/pm_device_c/include/pmpart.h)
     if [ "${needed:-none}" != none ] && [ "$needed" -le "$promised" ]; then
         tell 0; echo "$(basename "$1") stack: ok, $needed of $most, $promised"
     else
@@ -286,9 +286,9 @@ program() {
 asked_calls() {
     cat << 'END'
 pm_host_new(&host, 0x58, 1, 3)
-pm_host_narrow(&host, 0, 3135000, 3465000)
+pm_host_set_limits(&host, 0, 3135000, 3465000)
 pm_host_order(&host, 0, PM_VOUT_COMMAND, 0x34CD)
-pm_host_order_micro(&host, 0, PM_VOUT_COMMAND, 3300000)
+pm_host_order_microvolts(&host, 0, PM_VOUT_COMMAND, 3300000)
 pm_host_check(&host, 0, PM_VOUT_COMMAND)
 pm_host_learn(&host, 0)
 pm_host_clear(&host, 0)
@@ -308,7 +308,7 @@ END
 
 # dropped NAME COMPILER: of each call, a program that drops its answer is refused for that, and one that asks it isn't
 dropped() {
-    local call before='#include "pm.h"
+    local call before='#include "pmhost.h"
 static pm_host host;
 static pm_wanted wanted;
 static pm_plan_order next;
@@ -332,7 +332,7 @@ int main(void) { (void)wanted; (void)next; (void)survey;' row=0
 # snippets NAME COMPILER: the C of docs/c.md builds with no warning
 snippets() {
     {
-        printf '#include "pm_patient.h"\n#include <stddef.h>\nextern pm_host host;\nvoid log_line(const char *line);\n'
+        printf '#include "pmhost_patient.h"\n#include <stddef.h>\nextern pm_host host;\nvoid log_line(const char *line);\n'
         printf 'uint32_t milliseconds(void *context);\nvoid wait_for(void *context, uint32_t milliseconds);\n'
         printf 'uint8_t write_to_bus(void *context, const uint8_t *bytes, uint64_t count);\n'
         printf 'uint64_t read_from_bus(void *context, const uint8_t *request, uint64_t count, uint8_t *answer, uint64_t room);\n'
@@ -432,12 +432,12 @@ if command -v pkg-config > /dev/null && command -v gcc > /dev/null; then
     export PKG_CONFIG_PATH=$folder/prefix/lib/pkgconfig
     order="examples/c/order.expected examples/c/order.c" part="examples/c/part.expected examples/c/part.c"
     ends="examples/c/faults.expected examples/c/faults.c"
-    installed "order, shared" $order $(pkg-config --cflags --libs pm_host)
-    installed "order, static" $order $(pkg-config --cflags pm_host) "$folder/prefix/lib/libpm_host.a"
-    installed "part, shared" $part $(pkg-config --cflags --libs pm_device)
-    installed "part, static" $part $(pkg-config --cflags pm_device) "$folder/prefix/lib/libpm_device.a"
-    installed "both ends, shared" $ends $(pkg-config --cflags --libs pm_host pm_device)
-    installed "both ends, static" $ends $(pkg-config --cflags pm_host pm_device) "$folder/prefix/lib/libpm_host.a" "$folder/prefix/lib/libpm_device.a"
+    installed "order, shared" $order $(pkg-config --cflags --libs pmhost)
+    installed "order, static" $order $(pkg-config --cflags pmhost) "$folder/prefix/lib/libpmhost.a"
+    installed "part, shared" $part $(pkg-config --cflags --libs pmpart)
+    installed "part, static" $part $(pkg-config --cflags pmpart) "$folder/prefix/lib/libpmpart.a"
+    installed "both ends, shared" $ends $(pkg-config --cflags --libs pmhost pmpart)
+    installed "both ends, static" $ends $(pkg-config --cflags pmhost pmpart) "$folder/prefix/lib/libpmhost.a" "$folder/prefix/lib/libpmpart.a"
     # An uninstall takes away just what was put.
     packaging/install.sh "$folder/prefix" --uninstall > "$folder/log" 2>&1
     (cd "$folder/prefix" && find . -type f) > "$folder/out"; echo ./lib/other > "$folder/wanted"

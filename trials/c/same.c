@@ -5,8 +5,8 @@
  *
  * A line for each seed: how many calls were made, were taken, and ended a job; how many exports were called; the sums;
  * and how many answers weren't widened with zeros, where the processor's calling convention asks that of the library. */
-#include "pm.h"
-#include "pm_part.h"
+#include "pmhost.h"
+#include "pmpart.h"
 #include <stdio.h>
 #include <stdlib.h>
 #include <string.h>
@@ -51,7 +51,7 @@ static uint8_t room[ROOM];
 
 /* What calls write, with guards. */
 static struct {
-    uint8_t a[3]; pm_sending sending; uint8_t b; pm_part_reply reply; uint16_t c; pm_words words; uint16_t d; pm_standing standing;
+    uint8_t a[3]; pm_sending sending; uint8_t b; pm_part_reply reply; uint16_t c; pm_words words; uint16_t d; pm_confirmed standing;
     uint16_t e; pm_format format; uint16_t f; pm_packet packet; uint16_t g; uint16_t word; uint16_t h[4]; int64_t microvolts;
     uint16_t i[4]; pm_limits limits; uint16_t j[4]; pm_band band; uint16_t k[4]; pm_name name; pm_payload payload; uint16_t l[4];
     pm_rail rail; uint16_t m[4]; pm_plan_order order; uint16_t n[2];
@@ -215,7 +215,7 @@ static void begin(pm_host *host) {
     uint16_t word = draw_word();
     int64_t microvolts = draw_microvolts();
     switch (draw(10)) {
-    case 0: heard(1, pm_host_order_micro(host, output, code, microvolts), 255); break;
+    case 0: heard(1, pm_host_order_microvolts(host, output, code, microvolts), 255); break;
     case 1: heard(2, wide_check(host, output, code), 255); break;
     case 2: heard(3, pm_host_learn(host, output), 255); break;
     case 3: heard(4, pm_host_clear(host, output), 255); break;
@@ -249,14 +249,14 @@ static void told(unsigned which, pm_step step) {
 static void exchange(pm_host *host) {
     unsigned fate = draw(10);
     memset(&out.sending, (int)draw(256), sizeof out.sending);
-    heard(9, pm_host_sending(host, &out.sending), 255);
+    heard(9, pm_host_frame(host, &out.sending), 255);
     wrote(&out.sending, sizeof out.sending);
     unsigned count = out.sending.length % (sizeof out.sending.bytes + 1), is_request = out.sending.kind == PM_REQUEST;
     if (fate == 0)
         is_request = !is_request;
     unsigned answer = fate == 1 ? 0 : hear(out.sending.bytes, count, is_request);
     if (!is_request) {
-        told(10, pm_host_finished(host, (uint8_t)(fate == 2 ? draw(256) : answer == PM_HEARD_TAKEN ? 1 + draw(255) : 0)));
+        told(10, pm_host_write_ended(host, (uint8_t)(fate == 2 ? draw(256) : answer == PM_HEARD_TAKEN ? 1 + draw(255) : 0)));
         return;
     }
     uint8_t *at = room + draw(4);
@@ -266,14 +266,14 @@ static void exchange(pm_host *host) {
         damage(at, count);
     if (fate == 4)
         count = draw(ROOM - 4);
-    told(11, pm_host_got(host, at, fate == 5 ? 0 : count));
+    told(11, pm_host_read_ended(host, at, fate == 5 ? 0 : count));
 }
 
 /* Limits of an output, near those that an order is drawn from; the names of numbers. */
 static void limit(pm_host *host) {
     uint8_t output = draw_output();
     int64_t least = draw_microvolts(), most = (int64_t)((uint64_t)least + (uint64_t)draw_microvolts());
-    heard(28, pm_host_narrow(host, output, draw(4) ? (int64_t)(0 - (uint64_t)least) : least, most), 255);
+    heard(28, pm_host_set_limits(host, output, draw(4) ? (int64_t)(0 - (uint64_t)least) : least, most), 255);
 }
 
 static void names(void) {
@@ -291,13 +291,13 @@ static void ask(const pm_host *host) {
     memset(&out, (int)draw(256), sizeof out);
     switch (draw(9)) {
     case 5: heard(31, pm_host_limits(host, output, &out.limits), 255); break;
-    case 6: heard(32, pm_host_within(host, output), 255); break;
+    case 6: heard(32, pm_host_limits_state(host, output), 255); break;
     case 7: heard(33, pm_host_band(host, output, &out.band), 255); break;
     case 8: memset(&cells, (int)draw(256), sizeof cells);
-        heard(34, pm_host_known(host, &cells.known), 255);
+        heard(34, pm_host_known_cells(host, &cells.known), 255);
         add_halves((const uint16_t *)&cells, sizeof cells / 2); break;
-    case 0: heard(12, pm_host_standing(host, output, code, &out.standing), 255); break;
-    case 1: heard(13, pm_host_possible(host, output, code, &out.words), 255); break;
+    case 0: heard(12, pm_host_confirmed_word(host, output, code, &out.standing), 255); break;
+    case 1: heard(13, pm_host_possible_words(host, output, code, &out.words), 255); break;
     case 2: heard(14, pm_host_format(host, output, &out.format), 255); break;
     case 3: heard(15, wide_restart_seen(host), 255); break;
     default: heard(16, (uint32_t)pm_host_size() ^ wide_version() << 16 ^ (uint32_t)(pm_host_size() >> 32), UINT32_MAX);
@@ -404,10 +404,10 @@ static void parts(void) {
     case 0: new_part(); break;
     case 1: heard(25, (uint32_t)pm_part_size() ^ (uint32_t)(pm_part_size() >> 32), UINT32_MAX); break;
     case 2: hear(room, count, is_request); break;
-    case 3: case 4: heard(26, pm_part_commanded(part, output, &out.microvolts), 255); break;
-    case 5: heard(37, pm_part_stored(part, output, code, &out.word), 255); break;
+    case 3: case 4: heard(26, pm_part_commanded_microvolts(part, output, &out.microvolts), 255); break;
+    case 5: heard(37, pm_part_stored_word(part, output, code, &out.word), 255); break;
     case 6: heard(38, pm_part_page(part, &small), 255); break;
-    case 7: heard(39, pm_part_is_on(part, output, &small), 255); break;
+    case 7: heard(39, pm_part_on_state(part, output, &small), 255); break;
     case 8: heard(40, pm_part_status_byte(part, output, &small), 255); break;
     case 9: heard(41, pm_part_status_word(part, output, &out.word), 255); break;
     case 10: heard(42, pm_part_status_vout(part, output, &small), 255); break;

@@ -154,8 +154,8 @@ measured() {
     text=$(size -t "$folder/$name.a" 2> /dev/null | awk 'END {print $1}')
     case $name in wasm*) text=$(wc -c < "$folder/$name.o") ;; esac
     if [ -n "${linker[$name]}" ] && [ -f "$folder/$name.passed" ]; then
-        ${linker[$name]} -r --gc-sections -u pm_host_new -u pm_host_order -u pm_host_sending -u pm_host_finished -u pm_host_got \
-            -u pm_host_standing "$folder/$name.a" -o "$folder/$name.alone" 2> /dev/null &&
+        ${linker[$name]} -r --gc-sections -u pm_host_new -u pm_host_order -u pm_host_frame -u pm_host_write_ended -u pm_host_read_ended \
+            -u pm_host_confirmed_word "$folder/$name.a" -o "$folder/$name.alone" 2> /dev/null &&
             order=$(size "$folder/$name.alone" | awk 'END {print $1}')
     fi
     echo "$text $order $(deepest "$name" pm_refusal_name) $(deepest "$name.part") $(instructions "$name")"
@@ -166,7 +166,7 @@ within() {
     local host naming part most=() each
     read -r _ _ host naming part _ < "$folder/$1.measured"
     for each in PM_STACK PM_NAME_STACK PM_PART_STACK; do
-        most+=("$(sed -n "s/^#define $each \([0-9]*\)$/\1/p" crates/pm_host_c/include/pm.h crates/pm_device_c/include/pm_part.h)")
+        most+=("$(sed -n "s/^#define $each \([0-9]*\)$/\1/p" crates/pm_host_c/include/pmhost.h crates/pm_device_c/include/pmpart.h)")
     done
     if { [ "$host" -le "${most[0]}" ] && [ "$naming" -le "${most[1]}" ] && [ "$part" -le "${most[2]}" ]; } 2> /dev/null; then
         echo "$1 stack: ok"
@@ -195,7 +195,7 @@ leave() {
     mkdir -p "$out/$name"
     cp "$folder/$name.a" "$out/$name/libpm_host_c.a"
     cp "$folder/$name.part.a" "$out/$name/libpm_device_c.a"
-    cp crates/pm_host_c/include/pm.h crates/pm_device_c/include/pm_part.h "$out/$name/"
+    cp crates/pm_host_c/include/pmhost.h crates/pm_device_c/include/pmpart.h "$out/$name/"
     echo "commit=$(git rev-parse HEAD) toolchain=$(rt version | tr ' ' '-') target=$name proof=${class[$name]} flags=$(tr ' ' ',' <<< "${flags[$name]}")" \
         "text=$text order=$order stack-host=$host stack-name=$naming stack-part=$part instructions=$orders sha256=$(sha256sum "$folder/$name.a" | cut -d' ' -f1)" \
         "sha256-part=$(sha256sum "$folder/$name.part.a" | cut -d' ' -f1)" \

@@ -5,7 +5,7 @@
 #   trials/c/try_same.sh BUILT
 #
 # BUILT is the folder that `trials/c/targets.sh --built BUILT` has left. Planted are a load of a struct that isn't
-# rewritten, counts of 32 bits in pm.h, and an export whose result isn't widened. No export leaves anything in the upper
+# rewritten, counts of 32 bits in pmhost.h, and an export whose result isn't widened. No export leaves anything in the upper
 # bits by itself, so pm_pec is made to answer twice its answer first, which does: widened it is only another answer.
 set -u
 case " $* " in *" --help "* | *" -h "*) sed -n '2,/^[^#]/s/^# \{0,1\}//p' "$0"; exit 0 ;; esac
@@ -25,10 +25,10 @@ line() {
     cp trials/c/retarget.py "$folder/retarget.py"
     cp "$folder/module.text" "$folder/planted.text"
     mkdir -p "$folder/include"
-    cp crates/pm_host_c/include/pm.h "$folder/include/"
+    cp crates/pm_host_c/include/pmhost.h "$folder/include/"
     case $planted in
         struct) sed -i 's/return load_struct(found) if self.narrow else \[line\]/return [line]/' "$folder/retarget.py" ;;
-        count) sed -i 's/uint64_t count/size_t count/; s/^#include <stdint.h>/#include <stddef.h>\n&/' "$folder/include/pm.h" ;;
+        count) sed -i 's/uint64_t count/size_t count/; s/^#include <stdint.h>/#include <stddef.h>\n&/' "$folder/include/pmhost.h" ;;
     esac
     case $planted in twice*) sed -i '/^define .* @pm_pec(/,/^}/s/^  ret i8 \(%[a-z0-9]*\)/  %twice = add i8 \1, \1\n  ret i8 %twice/' "$folder/planted.text" ;; esac
     [ "$planted" = twice-narrow ] && sed -i 's/if found\["result"\] in ("i8", "i16") and/if False and/' "$folder/retarget.py"

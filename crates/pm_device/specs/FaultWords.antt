@@ -23,7 +23,7 @@ device_fault_words Protected = codes "K5 Protected"
 device_fault_words Nested = codes "K6 Nested"
 device_fault_words ReadOnly = codes "K7 ReadOnly"
 
--- the number of a fault as `pm_part.h` has it, which no other fault has
+-- the number of a fault as `pmpart.h` has it, which no other fault has
 abbrev pub device_fault_number : DeviceFault → ℕ
 device_fault_number (Frame fault) = 0x41
 device_fault_number UnsupportedCode = 0x42
@@ -44,7 +44,7 @@ device_fault_text Protected = device_fault_words Protected
 device_fault_text Nested = device_fault_words Nested
 device_fault_text ReadOnly = device_fault_words ReadOnly
 
--- the number of a configuration's fault as `pm_part.h` has it, which no other fault has
+-- the number of a configuration's fault as `pmpart.h` has it, which no other fault has
 abbrev pub config_fault_number : ConfigFault → ℕ
 config_fault_number OutputCount = 0x51
 config_fault_number (BadStart cell) = 0x52

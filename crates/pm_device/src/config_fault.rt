@@ -43,7 +43,7 @@ impl ConfigFault {
         }
     }
 
-    /// The number of the fault as `pm_part.h` has it, 51h to 55h. No other fault has it.
+    /// The number of the fault as `pmpart.h` has it, 51h to 55h. No other fault has it.
     pub fn number(self) -> u8
         ensures number { result ≡ config_fault_number self }
         ensures some { result ≢ 0 }

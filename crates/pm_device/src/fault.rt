@@ -43,7 +43,7 @@ impl DeviceFault {
         }
     }
 
-    /// The number of the fault as `pm_part.h` has it, 41h to 47h. No other fault has it.
+    /// The number of the fault as `pmpart.h` has it, 41h to 47h. No other fault has it.
     pub fn number(self) -> u8
         ensures number { result ≡ device_fault_number self }
         ensures some { result ≢ 0 }

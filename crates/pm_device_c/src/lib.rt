@@ -1,4 +1,4 @@
-//! The model converter for callers in C: a static library, whose header is `include/pm_part.h`. It is a part of a
+//! The model converter for callers in C: a static library, whose header is `include/pmpart.h`. It is a part of a
 //! power supply as firmware and scripts meet it: PAGE, the store, latched status and readings are all there.
 //!
 //! A part lives in the caller's memory, as plain numbers. No call wants anything of what is in that memory: each asks

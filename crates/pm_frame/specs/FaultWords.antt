@@ -16,7 +16,7 @@ frame_fault_words (UnknownCode place) = codes "F6 UnknownCode"
 frame_fault_words (WrongDirection place) = codes "F7 WrongDirection"
 frame_fault_words (Nested place) = codes "F8 Nested"
 
--- the number of a fault as `pm.h` has it, which no other fault has
+-- the number of a fault as `pmhost.h` has it, which no other fault has
 abbrev pub frame_fault_number : FrameFault → ℕ
 frame_fault_number NotOurs = 0x31
 frame_fault_number (Short place) = 0x32

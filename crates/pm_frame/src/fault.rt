@@ -56,7 +56,7 @@ impl FrameFault {
         }
     }
 
-    /// The number of the fault as `pm.h` has it, 31h to 38h. No other fault has it.
+    /// The number of the fault as `pmhost.h` has it, 31h to 38h. No other fault has it.
     pub fn number(self) -> u8
         ensures number { result ≡ frame_fault_number self }
         ensures some { result ≢ 0 }

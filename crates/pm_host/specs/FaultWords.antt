@@ -19,7 +19,7 @@ host_fault_words TooUncertain = codes "H6 TooUncertain"
 host_fault_words FormatUnknown = codes "H7 FormatUnknown"
 host_fault_words (Num fault) = num_fault_words fault
 
--- the number of a fault as `pm.h` has it, which no other fault has
+-- the number of a fault as `pmhost.h` has it, which no other fault has
 abbrev pub host_fault_number : HostFault → ℕ
 host_fault_number OutputCount = 1
 host_fault_number Passes = 2

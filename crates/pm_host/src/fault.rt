@@ -45,7 +45,7 @@ impl HostFault {
         }
     }
 
-    /// The number of the fault as `pm.h` has it, 1 to 7; the fault of a number has its own.
+    /// The number of the fault as `pmhost.h` has it, 1 to 7; the fault of a number has its own.
     pub fn number(self) -> u8
         ensures number { result ≡ host_fault_number self }
         ensures some { result ≢ 0 }

@@ -179,7 +179,7 @@ pub extern "C" fn pm_host_order(host: &mut GuardImage, output: u8, code: u8, wor
 /// Begins an order of the word nearest to a number of microvolts, in the format that was learned for
 /// the output. E0h, E1h, H3, H4, L7, H5, H7, N5, N3 or N4, L3 or L4, H6.
 #[unsafe(no_mangle)]
-pub extern "C" fn pm_host_order_micro(
+pub extern "C" fn pm_host_order_microvolts(
     host: &mut GuardImage,
     output: u8,
     code: u8,

@@ -12,7 +12,7 @@ use pm_table::{Code, cell_of};
 
 /// What is known of a cell's word. E0h, E1h, H4.
 #[unsafe(no_mangle)]
-pub extern "C" fn pm_host_standing(
+pub extern "C" fn pm_host_confirmed_word(
     host: &GuardImage,
     output: u8,
     code: u8,
@@ -52,7 +52,7 @@ pub(crate) fn flagged(standing: StandingImage) -> StandingImage
 
 /// The words that a cell may hold. E0h, E1h, H4.
 #[unsafe(no_mangle)]
-pub extern "C" fn pm_host_possible(
+pub extern "C" fn pm_host_possible_words(
     host: &GuardImage,
     output: u8,
     code: u8,

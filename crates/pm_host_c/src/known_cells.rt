@@ -39,7 +39,7 @@ pub struct KnownCells {
 
 /// What is known of every cell. E0h.
 #[unsafe(no_mangle)]
-pub extern "C" fn pm_host_known(host: &GuardImage, known: &mut KnownCells) -> u8
+pub extern "C" fn pm_host_known_cells(host: &GuardImage, known: &mut KnownCells) -> u8
     ensures number { result ≡ memory_number (host_of host.now.host) }
     ensures said { result ≡ 0 → IsSomeAnd (host_of host.now.host) (λ s. IsKnownOf s known.new) }
     ensures rest { drop known.new.count known.new.cells ≡ drop known.new.count known.old.cells }

@@ -1,4 +1,4 @@
-//! The host core for callers in C: a static library, whose header is `include/pm.h`. It has the host, and calls for
+//! The host core for callers in C: a static library, whose header is `include/pmhost.h`. It has the host, and calls for
 //! packets and numbers that need no host. A converter to try firmware against is the library `pm_device_c`.
 //!
 //! A host lives in the caller's memory, as plain numbers that are worked on in place. No call wants
@@ -12,10 +12,10 @@
 //! fn ordered(host: &mut GuardImage, frame: &mut SendingImage) -> HostStep {
 //!     pm_host_new(host, 0x58, 2, 2); // the last number: two passes
 //!     pm_host_order(host, 0, 0x21, 0x34CD);
-//!     pm_host_sending(host, frame); // a write: B0 05 04 00 21 CD 34 5A
-//!     pm_host_finished(host, 0); // no acknowledgement came; the host reads the cell back
-//!     pm_host_sending(host, frame); // a request: B0 06 02 00 21
-//!     pm_host_got(host, &[0xB1, 0x02, 0xCD, 0x34, 0xB9]) // kind 1 Done
+//!     pm_host_frame(host, frame); // a write: B0 05 04 00 21 CD 34 5A
+//!     pm_host_write_ended(host, 0); // no acknowledgement came; the host reads the cell back
+//!     pm_host_frame(host, frame); // a request: B0 06 02 00 21
+//!     pm_host_read_ended(host, &[0xB1, 0x02, 0xCD, 0x34, 0xB9]) // kind 1 Done
 //! }
 //! ```
 #![tactic(auto)]

@@ -30,7 +30,7 @@ pub struct BandImage {
 /// Gives an output narrower limits; an output without limits takes any. E0h, H4, N5, L1, L6, then H3 where an order of the
 /// output is open that these would refuse.
 #[unsafe(no_mangle)]
-pub extern "C" fn pm_host_narrow(host: &mut GuardImage, output: u8, least: i64, most: i64) -> u8
+pub extern "C" fn pm_host_set_limits(host: &mut GuardImage, output: u8, least: i64, most: i64) -> u8
     ensures number { result ≡ narrow_number (guard_of host.old) output least most }
     ensures narrowed { result ≡ 0 → guard_of host.new ≡ option_map (λ g. narrowed g output least most) (guard_of host.old) }
     ensures written { IsMemory host.old → IsMemory host.new }
@@ -79,7 +79,7 @@ pub extern "C" fn pm_host_limits(host: &GuardImage, output: u8, limits: &mut Lim
 /// Whether an output's voltage lies within its limits, by the words that its registers may hold: 91h where it does or
 /// the output has none, 92h where its whole band lies below them or above them, otherwise 93h. E0h, H4.
 #[unsafe(no_mangle)]
-pub extern "C" fn pm_host_within(host: &GuardImage, output: u8) -> u8
+pub extern "C" fn pm_host_limits_state(host: &GuardImage, output: u8) -> u8
     ensures { result ≡ within_number (guard_of host.now) output }
 {
     if host.host.read_stage().is_err() {

@@ -11,7 +11,7 @@ use crate::sending_image::SendingImage;
 /// The frame that is to be sent now. E0h where the memory holds no host; then, and where no job is
 /// open, it is nothing.
 #[unsafe(no_mangle)]
-pub extern "C" fn pm_host_sending(host: &GuardImage, sending: &mut SendingImage) -> u8
+pub extern "C" fn pm_host_frame(host: &GuardImage, sending: &mut SendingImage) -> u8
     ensures number { result ≡ memory_number (host_of host.now.host) }
     ensures frame { IsSent (host_of host.now.host) sending.new }
 {

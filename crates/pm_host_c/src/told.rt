@@ -12,7 +12,7 @@ use pm_host::Told;
 
 /// A write was sent, and acknowledged or not (0). E0h, E2h where no write is being sent.
 #[unsafe(no_mangle)]
-pub extern "C" fn pm_host_finished(host: &mut GuardImage, acked: u8) -> HostStep
+pub extern "C" fn pm_host_write_ended(host: &mut GuardImage, acked: u8) -> HostStep
     ensures { TellsHost host.old (Finished (not (acked == 0))) result host.new }
 {
     tell(host, Told::Finished { acked: acked != 0 })
@@ -21,7 +21,7 @@ pub extern "C" fn pm_host_finished(host: &mut GuardImage, acked: u8) -> HostStep
 /// A request was sent, and these bytes came back, the read address first; none where there was no
 /// answer. E0h, E2h where no request is being sent.
 #[unsafe(no_mangle)]
-pub extern "C" fn pm_host_got(host: &mut GuardImage, bytes: &[u8]) -> HostStep
+pub extern "C" fn pm_host_read_ended(host: &mut GuardImage, bytes: &[u8]) -> HostStep
     ensures { TellsHost host.old (Got bytes.now) result host.new }
 {
     tell(host, Told::Got(bytes))

@@ -17,7 +17,7 @@ limit_fault_words LimitsWidened = codes "L6 LimitsWidened"
 limit_fault_words MissingRegister = codes "L7 MissingRegister"
 limit_fault_words (Host fault) = host_fault_words fault
 
--- the number of a fault as `pm.h` has it, which no other fault has
+-- the number of a fault as `pmhost.h` has it, which no other fault has
 abbrev pub limit_fault_number : LimitFault → ℕ
 limit_fault_number LimitsInverted = 0x21
 limit_fault_number FormatUnknown = 0x22

@@ -47,7 +47,7 @@ impl LimitFault {
         }
     }
 
-    /// The number of the fault as `pm.h` has it, 21h to 27h; a refusal of the host has its own.
+    /// The number of the fault as `pmhost.h` has it, 21h to 27h; a refusal of the host has its own.
     pub fn number(self) -> u8
         ensures number { result ≡ limit_fault_number self }
         ensures some { result ≢ 0 }

@@ -11,7 +11,7 @@ num_fault_words BelowLeast = codes "N3 BelowLeast"
 num_fault_words AboveGreatest = codes "N4 AboveGreatest"
 num_fault_words TooLarge = codes "N5 TooLarge"
 
--- the number of a fault as `pm.h` has it, which no other fault has
+-- the number of a fault as `pmhost.h` has it, which no other fault has
 abbrev pub num_fault_number : NumFault → ℕ
 num_fault_number ZeroSlope = 0x11
 num_fault_number ExponentRange = 0x12

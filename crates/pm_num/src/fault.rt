@@ -36,7 +36,7 @@ impl NumFault {
         }
     }
 
-    /// The number of the fault as `pm.h` has it, 11h to 15h. No other fault has it.
+    /// The number of the fault as `pmhost.h` has it, 11h to 15h. No other fault has it.
     pub fn number(self) -> u8
         ensures number { result ≡ num_fault_number self }
         ensures some { result ≢ 0 }

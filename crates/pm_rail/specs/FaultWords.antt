@@ -21,7 +21,7 @@ plan_fault_words (BelowMin register) = codes "P5 BelowMin"
 plan_fault_words (AboveMax register) = codes "P6 AboveMax"
 plan_fault_words (Protected register) = codes "P7 Protected"
 
--- the number of a fault as `pm.h` has it, which no other fault has
+-- the number of a fault as `pmhost.h` has it, which no other fault has
 abbrev pub plan_fault_number : PlanFault → ℕ
 plan_fault_number Busy = host_fault_number host.Busy
 plan_fault_number (MissingRegister register) = limit_fault_number limit.MissingRegister

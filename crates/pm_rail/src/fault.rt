@@ -51,7 +51,7 @@ impl PlanFault {
         }
     }
 
-    /// The number of the fault as `pm.h` has it, 61h to 67h; H3 and L7 have their own.
+    /// The number of the fault as `pmhost.h` has it, 61h to 67h; H3 and L7 have their own.
     pub fn number(self) -> u8
         ensures number { result ≡ plan_fault_number self }
         ensures some { result ≢ 0 }

@@ -136,7 +136,7 @@ class Host:
         """Gives an output limits in microvolts, or narrower ones. N5, L1, L6; H3 while an order is open that they would refuse."""
         least = whole(least, -(2**63), 2**63 - 1, "least")
         most = whole(most, -(2**63), 2**63 - 1, "most")
-        accepted(library.pm_host_narrow(REFERENCE(self._image), self._there(output), least, most))
+        accepted(library.pm_host_set_limits(REFERENCE(self._image), self._there(output), least, most))
 
     def limits(self, output: int) -> Limits | None:
         """The limits of an output, None where it has none."""
@@ -150,7 +150,7 @@ class Host:
     def within(self, output: int) -> bool | None:
         """Whether an output's voltage lies within its limits, by what is known: True where it has none, None where that doesn't
         tell."""
-        number = library.pm_host_within(REFERENCE(self._image), self._there(output))
+        number = library.pm_host_limits_state(REFERENCE(self._image), self._there(output))
         if number not in WITHIN:
             raise refusal(number)
         return WITHIN[number]
@@ -207,7 +207,7 @@ class Host:
     def order_micro(self, output: int, register: str | int, microvolts: int) -> None:
         """Begins an order of the word nearest to microvolts. H3, L7, H5, H7, N5, N3, N4, L3, L4, H6."""
         code, microvolts = code_of(register), whole(microvolts, -(2**63), 2**63 - 1, "microvolts")
-        accepted(library.pm_host_order_micro(REFERENCE(self._image), self._there(output), code, microvolts))
+        accepted(library.pm_host_order_microvolts(REFERENCE(self._image), self._there(output), code, microvolts))
 
     def check(self, output: int, register: str | int) -> None:
         """Begins to read a register back. H3, L7."""
@@ -239,7 +239,7 @@ class Host:
     def sending(self) -> Sending | None:
         """What to send now, None where no job is open."""
         found = at.SendingImage()
-        accepted(library.pm_host_sending(REFERENCE(self._image), REFERENCE(found)))
+        accepted(library.pm_host_frame(REFERENCE(self._image), REFERENCE(found)))
         if found.kind == 0:
             return None
         is_request = found.kind == 2
@@ -249,12 +249,12 @@ class Host:
         """A write was sent, and acknowledged or not."""
         if not isinstance(acked, bool):
             raise TypeError(f"acked: True or False is wanted, and not {acked!r}")
-        return self._step(library.pm_host_finished(REFERENCE(self._image), acked))
+        return self._step(library.pm_host_write_ended(REFERENCE(self._image), acked))
 
     def got(self, answer: bytes) -> Step:
         """A request was sent, and these bytes came back, the read address first; none where there was no answer."""
         taken = frame_bytes(answer, 2**16, "answer")
-        return self._step(library.pm_host_got(REFERENCE(self._image), taken, len(taken)))
+        return self._step(library.pm_host_read_ended(REFERENCE(self._image), taken, len(taken)))
 
     @staticmethod
     def _step(step: at.StepImage) -> Step:
@@ -421,13 +421,13 @@ class Host:
     def standing(self, output: int, register: str | int) -> int | None:
         """The word of a register, where it is confirmed."""
         code, found = code_of(register), at.StandingImage()
-        accepted(library.pm_host_standing(REFERENCE(self._image), self._there(output), code, REFERENCE(found)))
+        accepted(library.pm_host_confirmed_word(REFERENCE(self._image), self._there(output), code, REFERENCE(found)))
         return word_of(found)
 
     def possible(self, output: int, register: str | int) -> tuple[int, ...] | None:
         """The words that a register may hold, None for any."""
         code, found = code_of(register), at.WordsImage()
-        accepted(library.pm_host_possible(REFERENCE(self._image), self._there(output), code, REFERENCE(found)))
+        accepted(library.pm_host_possible_words(REFERENCE(self._image), self._there(output), code, REFERENCE(found)))
         return words_of(found)
 
     def format(self, output: int) -> Format | None:
@@ -439,7 +439,7 @@ class Host:
     def known(self) -> list[Known]:
         """What is known of every register."""
         found = at.KnownImage()
-        accepted(library.pm_host_known(REFERENCE(self._image), REFERENCE(found)))
+        accepted(library.pm_host_known_cells(REFERENCE(self._image), REFERENCE(found)))
         return [Known(None if NAMES[cell.code] == "WRITE_PROTECT" else cell.output, NAMES[cell.code],
                       word_of(cell.standing), words_of(cell.words)) for cell in found.cells[: found.count]]
 

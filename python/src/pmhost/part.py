@@ -121,7 +121,7 @@ class Part:
 
     def stored(self, output: int, register: str | int) -> int:
         """The word that a register has in the user store; WRITE_PROTECT has none, and is refused as NoCell."""
-        return self._asked(library.pm_part_stored, ctypes.c_uint16, self._there(output), code_of(register))
+        return self._asked(library.pm_part_stored_word, ctypes.c_uint16, self._there(output), code_of(register))
 
     @property
     def page(self) -> int:
@@ -130,11 +130,11 @@ class Part:
 
     def volts(self, output: int) -> Decimal:
         """The volts that an output commands, on or off, rounded down to microvolts."""
-        return volts_of(self._asked(library.pm_part_commanded, ctypes.c_int64, self._there(output)))
+        return volts_of(self._asked(library.pm_part_commanded_microvolts, ctypes.c_int64, self._there(output)))
 
     def is_on(self, output: int) -> bool:
         """Whether OPERATION has an output on."""
-        return self._asked(library.pm_part_is_on, ctypes.c_uint8, self._there(output)) == 1
+        return self._asked(library.pm_part_on_state, ctypes.c_uint8, self._there(output)) == 1
 
     def status_byte(self, output: int) -> int:
         """STATUS_BYTE of an output."""

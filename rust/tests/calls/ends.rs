@@ -4,7 +4,7 @@ use core::fmt;
 use std::error::Error;
 
 use super::{framed, learned, part, COMMAND};
-use pm_host::*;
+use pmhost::*;
 
 /// A transaction that failed, by its number from 1.
 #[derive(Clone, Copy, Debug, PartialEq, Eq)]
@@ -86,19 +86,19 @@ const DAMAGED: &[u8] = &[0x02, 0xCD, 0x34, 0xB8];
 #[test]
 fn a_refused_job_is_an_error_and_sends_nothing() {
     let (mut host, _) = learned();
-    host.narrow(0, Limits { least: 3_200_000, most: 3_465_000 }).unwrap();
+    host.set_limits(0, Limits { least: 3_200_000, most: 3_465_000 }).unwrap();
     for (job, refusal) in [
-        (Job::OrderMicro(COMMAND, 12_000_000), Refusal::L4AboveLimit),
+        (Job::OrderMicrovolts(COMMAND, 12_000_000), Refusal::L4AboveLimit),
         (Job::Order(COMMAND, 0xFFFF), Refusal::L4AboveLimit),
-        (Job::OrderMicro(COMMAND, 3_199_000), Refusal::L3BelowLimit),
+        (Job::OrderMicrovolts(COMMAND, 3_199_000), Refusal::L3BelowLimit),
         (Job::Order(Cell::Output(0, Register::Operation), 0x80), Refusal::L5NotKnownWithin),
-        (Job::OrderMicro(Cell::WriteProtect, 1), Refusal::H5BadWord),
+        (Job::OrderMicrovolts(Cell::WriteProtect, 1), Refusal::H5BadWord),
         (Job::Check(Cell::Output(9, Register::VoutMax)), Refusal::H4UnknownOutput),
         (Job::Learn(9), Refusal::H4UnknownOutput),
         (Job::Clear(9), Refusal::H4UnknownOutput),
     ] {
         let mut bus = Scripted::new(&[Answers(ANSWER)]);
-        assert_eq!(host.carry_out(job, &mut bus), Err(NotDone::Refused(refusal)), "{job:?}");
+        assert_eq!(host.run_job(job, &mut bus), Err(NotDone::Refused(refusal)), "{job:?}");
         assert_eq!(bus.frames, [[0; 0]; 0], "{job:?}");
     }
 }
@@ -112,7 +112,7 @@ fn no_command_is_done_over_a_dead_bus() {
         (Job::Clear(1), &[0xB0, 0x05, 0x02, 0x01, 0x03, 0x45], 3),
     ] {
         let mut bus = Scripted::new(&[Fails(&[])]);
-        let end = host().carry_out(job, &mut bus);
+        let end = host().run_job(job, &mut bus);
         assert_eq!(end, Err(NotDone::Unknown { error: Some(Broken(times)), fault: None }), "{job:?}");
         assert_eq!(bus.frames, vec![frame; times], "{job:?}");
     }
@@ -122,12 +122,12 @@ fn no_command_is_done_over_a_dead_bus() {
 fn what_a_failed_transaction_left_is_no_answer() {
     let unknown = Err(NotDone::Unknown { error: Some(Broken(3)), fault: None });
     let (mut host, mut bus) = (host(), Scripted::new(&[Fails(ANSWER)]));
-    assert_eq!(host.carry_out(Job::Check(COMMAND), &mut bus), unknown);
-    assert_eq!((bus.frames.len(), host.standing(COMMAND)), (3, Ok(None)));
+    assert_eq!(host.run_job(Job::Check(COMMAND), &mut bus), unknown);
+    assert_eq!((bus.frames.len(), host.confirmed_word(COMMAND)), (3, Ok(None)));
     let mut bus = Scripted::new(&[Fails(ANSWER)]);
-    let end = host.carry_out(Job::Order(COMMAND, 0x34CD), &mut bus);
+    let end = host.run_job(Job::Order(COMMAND, 0x34CD), &mut bus);
     assert_eq!(end, Err(NotDone::Unknown { error: Some(Broken(6)), fault: None }));
-    assert_eq!((bus.frames.len(), host.standing(COMMAND)), (6, Ok(None)));
+    assert_eq!((bus.frames.len(), host.confirmed_word(COMMAND)), (6, Ok(None)));
 }
 
 #[test]
@@ -142,7 +142,7 @@ fn unknown_says_what_the_bus_and_the_last_answer_had() {
         (order, &[Fails(&[]), Answers(DAMAGED)], (Some(Broken(1)), wrong_pec)),
     ];
     for (job, script, (error, fault)) in rows {
-        let end = host().carry_out(job, &mut Scripted::new(script));
+        let end = host().run_job(job, &mut Scripted::new(script));
         assert_eq!(end, Err(NotDone::Unknown { error, fault }), "{job:?} {script:?}");
         let source = end.unwrap_err().source().map(ToString::to_string);
         assert_eq!(source, error.map(|it| it.to_string()), "{job:?} {script:?}");
@@ -161,7 +161,7 @@ fn a_format_that_no_host_has_is_told() {
         (&[Fails(NO_FORMAT)], unknown(Some(Broken(3)))),
     ];
     for (script, end) in rows {
-        assert_eq!(host().carry_out(Job::Learn(0), &mut Scripted::new(script)), Err(end), "{script:?}");
+        assert_eq!(host().run_job(Job::Learn(0), &mut Scripted::new(script)), Err(end), "{script:?}");
     }
 }
 
@@ -169,16 +169,16 @@ fn a_format_that_no_host_has_is_told() {
 fn a_job_that_is_given_up_leaves_what_is_true() {
     let mut given_up = host();
     given_up.give_up(); // no job is open
-    given_up.carry_out(Job::Check(COMMAND), &mut Scripted::new(&[Answers(ANSWER)])).unwrap();
+    given_up.run_job(Job::Check(COMMAND), &mut Scripted::new(&[Answers(ANSWER)])).unwrap();
     // Before the first frame, and behind a write that was acknowledged: the word may be the old one or the new one.
     for is_sent in [false, true] {
         given_up.order(COMMAND, 0x3400).unwrap();
         if is_sent {
-            assert_eq!(given_up.finished(true), Ok(Step::Next));
+            assert_eq!(given_up.write_ended(true), Ok(Step::Next));
         }
         given_up.give_up();
-        assert_eq!((given_up.sending(), given_up.standing(COMMAND)), (Sending::Nothing, Ok(None)));
-        let possible = given_up.possible(COMMAND).unwrap();
+        assert_eq!((given_up.frame(), given_up.confirmed_word(COMMAND)), (Sending::Nothing, Ok(None)));
+        let possible = given_up.possible_words(COMMAND).unwrap();
         assert_eq!((possible.words().map(<[u16]>::len), possible.allows(0x34CD), possible.allows(0x3400)), (Some(2), true, true));
     }
     assert_eq!(given_up.check(COMMAND), Ok(()));
@@ -187,7 +187,7 @@ fn a_job_that_is_given_up_leaves_what_is_true() {
 #[test]
 fn a_wrong_answer_before_a_good_one_is_no_error() {
     let mut bus = Scripted::new(&[Answers(DAMAGED), Fails(&[]), Answers(ANSWER)]);
-    assert_eq!(host().carry_out(Job::Check(COMMAND), &mut bus), Ok(Done::Word(0x34CD)));
+    assert_eq!(host().run_job(Job::Check(COMMAND), &mut bus), Ok(Done::Word(0x34CD)));
     assert_eq!(bus.frames, [[0xB0, 0x06, 0x02, 0x00, 0x21]; 3]);
 }
 
@@ -215,7 +215,7 @@ fn each_job_sends_its_own_frames() {
     ];
     for (job, done, frames) in rows {
         let mut bus = Watched { part: part(), frames: Vec::new() };
-        assert_eq!(host().carry_out(job, &mut bus), Ok(done), "{job:?}");
+        assert_eq!(host().run_job(job, &mut bus), Ok(done), "{job:?}");
         assert_eq!(bus.frames, frames, "{job:?}");
     }
 }
@@ -225,12 +225,12 @@ fn a_protected_part_makes_an_order_an_error() {
     let mut part = Part::protected(0x58, &[Output::default()], (1, 0, 3), 0x80).unwrap();
     let mut host = Host::new(0x58, 1, 3).unwrap();
     let mut order = || -> Result<Done, NotDone<NoAnswer>> {
-        host.carry_out(Job::Learn(0), &mut part)?;
-        host.carry_out(Job::OrderMicro(COMMAND, 3_300_000), &mut part)?;
-        host.carry_out(Job::Check(COMMAND), &mut part)
+        host.run_job(Job::Learn(0), &mut part)?;
+        host.run_job(Job::OrderMicrovolts(COMMAND, 3_300_000), &mut part)?;
+        host.run_job(Job::Check(COMMAND), &mut part)
     };
     assert_eq!(order(), Err(NotDone::Differs { word: 0x1000 }));
-    assert_eq!(part.commanded(0), Ok(1_000_000));
+    assert_eq!(part.commanded_microvolts(0), Ok(1_000_000));
 }
 
 // In steps of one microvolt round 33.554433 V, which is 2 to the 25th, and 1: no number of 32 floating bits.
@@ -241,16 +241,16 @@ fn microvolts_are_exact() {
     assert_eq!((direct.nearest_word(EXACT), direct.microvolts(4433)), (Ok(4433), Ok(EXACT)));
     let mut part = Part::new(0x58, &[Output { mode: 0x40, ..Output::default() }], (100, -3355, 4)).unwrap();
     let mut host = Host::new(0x58, 1, 3).unwrap();
-    assert_eq!(host.carry_out(Job::Learn(0), &mut part), Ok(Done::Learned(direct)));
-    assert_eq!(host.carry_out(Job::OrderMicro(COMMAND, EXACT), &mut part), Ok(Done::Word(4433)));
-    assert_eq!(part.commanded(0), Ok(EXACT));
+    assert_eq!(host.run_job(Job::Learn(0), &mut part), Ok(Done::Learned(direct)));
+    assert_eq!(host.run_job(Job::OrderMicrovolts(COMMAND, EXACT), &mut part), Ok(Done::Word(4433)));
+    assert_eq!(part.commanded_microvolts(0), Ok(EXACT));
     let limits = Limits { least: EXACT, most: EXACT };
-    host.narrow(0, limits).unwrap();
+    host.set_limits(0, limits).unwrap();
     assert_eq!(host.limits(0), Ok(Some(limits)));
     for (microvolts, wanted) in
         [(EXACT, Ok(())), (EXACT - 1, Err(Refusal::L3BelowLimit)), (EXACT + 1, Err(Refusal::L4AboveLimit))]
     {
-        assert_eq!(host.clone().order_micro(COMMAND, microvolts), wanted, "{microvolts}");
+        assert_eq!(host.clone().order_microvolts(COMMAND, microvolts), wanted, "{microvolts}");
     }
 }
 
@@ -259,12 +259,12 @@ fn an_output_that_isnt_there_is_h4() {
     let (host, cell) = (host(), Cell::Output(9, Register::VoutCommand));
     let found = [
         ("limits", host.limits(9).err()),
-        ("within", host.within(9).err()),
+        ("within", host.limits_state(9).err()),
         ("band", host.band(9).err()),
         ("format", host.format(9).err()),
-        ("standing", host.standing(cell).err()),
-        ("possible", host.possible(cell).err()),
-        ("narrow", host.clone().narrow(9, Limits { least: 0, most: 1 }).err()),
+        ("standing", host.confirmed_word(cell).err()),
+        ("possible", host.possible_words(cell).err()),
+        ("narrow", host.clone().set_limits(9, Limits { least: 0, most: 1 }).err()),
     ];
     for (name, refusal) in found {
         assert_eq!(refusal, Some(Refusal::H4UnknownOutput), "{name}");

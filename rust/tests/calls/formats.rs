@@ -1,7 +1,7 @@
 //! The format that a voltage is set by, and what a loop that didn't come to its end says.
 
 use super::framed;
-use pm_host::*;
+use pmhost::*;
 
 const SET: Register = Register::VoutCommand;
 const MICROVOLTS: i64 = 3_300_000;
@@ -54,8 +54,11 @@ fn a_voltage_is_set_in_the_format_that_the_part_has() {
     let (mut host, mut bus) = (Host::new(0x58, 1, 3).unwrap(), Exchanged::new(usize::MAX));
     for place in [0, 1] {
         // From the second call on another part is there.
-        assert!(host.set_micro(0, SET, MICROVOLTS, APPLY_TRIES, &mut bus).is_ok());
-        assert_eq!((bus.parts[place].commanded(0), bus.words[place].as_slice()), (COMMANDED[place], &WORDS[place..=place]));
+        assert!(host.set_microvolts(0, SET, MICROVOLTS, APPLY_TRIES, &mut bus).is_ok());
+        assert_eq!(
+            (bus.parts[place].commanded_microvolts(0), bus.words[place].as_slice()),
+            (COMMANDED[place], &WORDS[place..=place])
+        );
         bus.at = bus.count;
     }
 }
@@ -66,12 +69,12 @@ fn a_set_learns_whatever_is_known() {
     for (is_known, is_lost) in [(false, false), (true, false), (true, true)] {
         let (mut host, mut bus) = (Host::new(0x58, 1, 1).unwrap(), Exchanged::new(usize::from(is_known)));
         if is_known {
-            assert_eq!(host.carry_out(Job::Learn(0), &mut bus), Ok(Done::Learned(Format::Ulinear16(-12))));
+            assert_eq!(host.run_job(Job::Learn(0), &mut bus), Ok(Done::Learned(Format::Ulinear16(-12))));
         }
         if is_lost {
             bus.fails = bus.count; // the first frame of the set
         }
-        assert!(host.set_micro(0, Register::VoutMax, 20_000_000, APPLY_TRIES, &mut bus).is_ok(), "{is_known} {is_lost}");
+        assert!(host.set_microvolts(0, Register::VoutMax, 20_000_000, APPLY_TRIES, &mut bus).is_ok(), "{is_known} {is_lost}");
         assert_eq!(bus.words, [vec![], vec![0xA000]], "{is_known} {is_lost}");
     }
 }
@@ -81,15 +84,22 @@ fn a_part_that_is_exchanged_while_a_voltage_is_set() {
     // Transaction 0 is the learn, 1 to 6 are the survey, whose first is a learn, 7 and 8 the order, and the survey goes on at 9.
     for (at, sent) in [(1, 0), (9, 1)] {
         let (mut host, mut bus) = (Host::new(0x58, 1, 3).unwrap(), Exchanged::new(at));
-        let rail = host.set_micro(0, SET, MICROVOLTS, APPLY_TRIES, &mut bus).unwrap();
+        let rail = host.set_microvolts(0, SET, MICROVOLTS, APPLY_TRIES, &mut bus).unwrap();
         assert_eq!(rail.band, Ok(Band { least: 3_299_804, greatest: 3_299_805 }), "{at}");
-        assert_eq!((bus.parts[1].commanded(0), bus.words), (COMMANDED[1], [WORDS[..sent].to_vec(), vec![WORDS[1]]]), "{at}");
+        assert_eq!(
+            (bus.parts[1].commanded_microvolts(0), bus.words),
+            (COMMANDED[1], [WORDS[..sent].to_vec(), vec![WORDS[1]]]),
+            "{at}"
+        );
     }
     // Behind the learn of the first survey the word of the other part may be sent; the next survey finds that.
     for at in 2..=8 {
         let (mut host, mut bus) = (Host::new(0x58, 1, 3).unwrap(), Exchanged::new(at));
-        let rail = host.set_micro(0, SET, MICROVOLTS, APPLY_TRIES, &mut bus).unwrap();
-        assert_eq!((rail.band, bus.parts[1].commanded(0)), (Ok(Band { least: 3_299_804, greatest: 3_299_805 }), COMMANDED[1]));
+        let rail = host.set_microvolts(0, SET, MICROVOLTS, APPLY_TRIES, &mut bus).unwrap();
+        assert_eq!(
+            (rail.band, bus.parts[1].commanded_microvolts(0)),
+            (Ok(Band { least: 3_299_804, greatest: 3_299_805 }), COMMANDED[1])
+        );
     }
 }
 
@@ -122,14 +132,14 @@ fn a_format_that_no_host_has_ends_a_loop() {
     let [part, _] = parts();
     let mut host = Host::new(0x58, 1, 1).unwrap();
     let mut bus = Vid { part, from: 0, modes: 0, count: 0 };
-    let end = host.set_micro(0, SET, MICROVOLTS, APPLY_TRIES, &mut bus);
+    let end = host.set_microvolts(0, SET, MICROVOLTS, APPLY_TRIES, &mut bus);
     assert_eq!((end, bus.count), (Err(NotReached::NoFormat), 1));
     assert_eq!(end.unwrap_err().to_string(), "the output's voltages have a format that this host doesn't have");
     // The learn of a survey says it too, and what was learned before is no reason to go on.
     (bus.from, bus.modes) = (1, 0);
-    let end = host.set_micro(0, SET, MICROVOLTS, APPLY_TRIES, &mut bus);
+    let end = host.set_microvolts(0, SET, MICROVOLTS, APPLY_TRIES, &mut bus);
     assert_eq!((end, bus.modes, bus.part.register(0, SET)), (Err(NotReached::NoFormat), 2, Ok(0x1000)));
-    assert_eq!((host.sending(), host.format(0)), (Sending::Nothing, Ok(Some(Format::Ulinear16(-12)))));
+    assert_eq!((host.frame(), host.format(0)), (Sending::Nothing, Ok(Some(Format::Ulinear16(-12)))));
     // A survey that ended so may be run once more, and counts its jobs: a learn, and a second one with four checks.
     let mut survey = Survey::new(0, 6).unwrap();
     (bus.from, bus.modes) = (0, 0);
@@ -174,7 +184,7 @@ fn spent_says_what_failed_in_any_job() {
         for (at, is_damaged) in (0..20).flat_map(|at| [(at, false), (at, true)]) {
             let [part, _] = parts();
             let (mut host, mut bus) = (Host::new(0x58, 1, passes).unwrap(), Once { part, at, is_damaged, count: 0, met: false });
-            let end = host.set_micro(0, SET, MICROVOLTS, tries, &mut bus);
+            let end = host.set_microvolts(0, SET, MICROVOLTS, tries, &mut bus);
             let (error, fault) = match (bus.met, is_damaged) {
                 (false, _) => (None, None),
                 (true, false) => (Some(at), None),

@@ -7,7 +7,7 @@ mod other_library;
 mod patience;
 mod rails;
 
-use pm_host::*;
+use pmhost::*;
 
 const COMMAND: Cell = Cell::Output(0, Register::VoutCommand);
 
@@ -22,7 +22,7 @@ fn part() -> Part {
 fn learned() -> (Host, Part) {
     let (mut host, mut part) = (Host::new(0x58, 2, 3).unwrap(), part());
     for output in 0..2 {
-        assert_eq!(host.carry_out(Job::Learn(output), &mut part), Ok(Done::Learned(Format::Ulinear16(-12))));
+        assert_eq!(host.run_job(Job::Learn(output), &mut part), Ok(Done::Learned(Format::Ulinear16(-12))));
     }
     (host, part)
 }
@@ -32,20 +32,20 @@ fn every_job_ends() {
     let (mut host, mut part) = learned();
     for (job, end) in [
         (Job::Order(COMMAND, 0x3400), Done::Word(0x3400)),
-        (Job::OrderMicro(COMMAND, 3_300_000), Done::Word(0x34CD)),
+        (Job::OrderMicrovolts(COMMAND, 3_300_000), Done::Word(0x34CD)),
         (Job::Check(Cell::WriteProtect), Done::Word(0)),
         (Job::Clear(1), Done::Acknowledged),
         (Job::Store, Done::Acknowledged),
         (Job::Restore, Done::Acknowledged),
     ] {
-        assert_eq!(host.carry_out(job, &mut part), Ok(end), "{job:?}");
+        assert_eq!(host.run_job(job, &mut part), Ok(end), "{job:?}");
     }
-    assert_eq!((part.word(COMMAND), part.commanded(0)), (Ok(0x34CD), Ok(3_300_048)));
-    assert_eq!(host.possible(COMMAND).unwrap().words(), None);
+    assert_eq!((part.word(COMMAND), part.commanded_microvolts(0)), (Ok(0x34CD), Ok(3_300_048)));
+    assert_eq!(host.possible_words(COMMAND).unwrap().words(), None);
     assert_eq!(host.run(&mut part), Err(NotDone::Refused(Refusal::OtherFrame)));
     host.check(COMMAND).unwrap();
     assert_eq!(host.run(&mut part), Ok(()));
-    assert_eq!(host.sending(), Sending::Nothing);
+    assert_eq!(host.frame(), Sending::Nothing);
     assert_eq!(host.format(1), Ok(Some(Format::Ulinear16(-12))));
 }
 
@@ -53,20 +53,20 @@ fn every_job_ends() {
 fn limits_are_kept_by_the_host() {
     let (mut host, mut part) = learned();
     let limits = Limits { least: 3_200_000, most: 3_465_000 };
-    assert_eq!((host.limits(0), host.within(0)), (Ok(None), Ok(Within::Yes)));
-    host.narrow(0, limits).unwrap();
-    assert_eq!((host.limits(0), host.within(0)), (Ok(Some(limits)), Ok(Within::NotKnown)));
+    assert_eq!((host.limits(0), host.limits_state(0)), (Ok(None), Ok(LimitsState::Yes)));
+    host.set_limits(0, limits).unwrap();
+    assert_eq!((host.limits(0), host.limits_state(0)), (Ok(Some(limits)), Ok(LimitsState::NotKnown)));
     assert_eq!(host.order(COMMAND, 0xFFFF), Err(Refusal::L4AboveLimit));
-    assert_eq!(host.order_micro(COMMAND, 3_199_000), Err(Refusal::L3BelowLimit));
+    assert_eq!(host.order_microvolts(COMMAND, 3_199_000), Err(Refusal::L3BelowLimit));
     assert_eq!(host.order(Cell::Output(0, Register::Operation), 0x80), Err(Refusal::L5NotKnownWithin));
-    assert_eq!(host.narrow(0, Limits { most: 3_500_000, ..limits }), Err(Refusal::L6LimitsWidened));
-    assert_eq!(host.narrow(1, Limits { least: 2, most: 1 }), Err(Refusal::L1LimitsInverted));
-    assert_eq!(host.narrow(1, Limits { least: 0, most: i64::MAX }), Err(Refusal::N5TooLarge));
-    assert_eq!(host.narrow(2, limits), Err(Refusal::H4UnknownOutput));
+    assert_eq!(host.set_limits(0, Limits { most: 3_500_000, ..limits }), Err(Refusal::L6LimitsWidened));
+    assert_eq!(host.set_limits(1, Limits { least: 2, most: 1 }), Err(Refusal::L1LimitsInverted));
+    assert_eq!(host.set_limits(1, Limits { least: 0, most: i64::MAX }), Err(Refusal::N5TooLarge));
+    assert_eq!(host.set_limits(2, limits), Err(Refusal::H4UnknownOutput));
     for register in Register::ALL {
-        host.carry_out(Job::Check(Cell::Output(0, register)), &mut part).unwrap();
+        host.run_job(Job::Check(Cell::Output(0, register)), &mut part).unwrap();
     }
-    assert_eq!((host.band(0), host.within(0)), (Ok(Band { least: 3_300_048, greatest: 3_300_049 }), Ok(Within::Yes)));
+    assert_eq!((host.band(0), host.limits_state(0)), (Ok(Band { least: 3_300_048, greatest: 3_300_049 }), Ok(LimitsState::Yes)));
     host.restart();
     assert_eq!((host.limits(0), host.band(0)), (Ok(Some(limits)), Err(Refusal::H7FormatUnknown)));
     assert_eq!(host.order(COMMAND, 0x34CD), Err(Refusal::L2FormatUnknown));
@@ -75,12 +75,12 @@ fn limits_are_kept_by_the_host() {
 #[test]
 fn what_is_known_of_every_cell() {
     let (mut host, mut part) = learned();
-    host.carry_out(Job::Check(COMMAND), &mut part).unwrap();
-    let known: Vec<Known> = host.known().collect();
+    host.run_job(Job::Check(COMMAND), &mut part).unwrap();
+    let known: Vec<Known> = host.known_cells().collect();
     assert_eq!((known.len(), known[1].cell, known[1].confirmed), (13, COMMAND, Some(0x34CD)));
     assert_eq!(known[12].cell, Cell::WriteProtect);
     for it in &known {
-        assert_eq!((host.standing(it.cell), host.possible(it.cell)), (Ok(it.confirmed), Ok(it.possible)));
+        assert_eq!((host.confirmed_word(it.cell), host.possible_words(it.cell)), (Ok(it.confirmed), Ok(it.possible)));
     }
     assert_eq!((host.address(), host.outputs(), host.passes()), (0x58, 2, 3));
     let confirmed = "confirmed: {Output(0, VoutCommand): 0x34CD}";
@@ -91,7 +91,7 @@ fn what_is_known_of_every_cell() {
     part.restart();
     let write = Packet::WriteWord { code: 0x21, word: 7 }.bytes(0x58).unwrap();
     assert_eq!(part.hear(&write, false), Ok(Heard::Taken));
-    assert_eq!(host.carry_out(Job::Check(COMMAND), &mut part), Ok(Done::Word(7)));
+    assert_eq!(host.run_job(Job::Check(COMMAND), &mut part), Ok(Done::Word(7)));
     assert!(host.restart_seen());
 }
 
@@ -124,11 +124,11 @@ fn a_refusal_has_its_letter_and_its_name() {
 #[test]
 fn a_frame_of_the_other_kind_is_refused() {
     let mut host = Host::new(0x58, 1, 2).unwrap();
-    assert_eq!(host.finished(true), Err(Refusal::OtherFrame));
+    assert_eq!(host.write_ended(true), Err(Refusal::OtherFrame));
     host.check(COMMAND).unwrap();
-    assert_eq!((host.finished(true), host.order(COMMAND, 1)), (Err(Refusal::OtherFrame), Err(Refusal::H3Busy)));
+    assert_eq!((host.write_ended(true), host.order(COMMAND, 1)), (Err(Refusal::OtherFrame), Err(Refusal::H3Busy)));
     let too_long = Step::Unknown { fault: Some(Refusal::F3Long) };
-    assert_eq!((host.got(&[]), host.got(&[0xB1; 300])), (Ok(Step::Next), Ok(too_long)));
+    assert_eq!((host.read_ended(&[]), host.read_ended(&[0xB1; 300])), (Ok(Step::Next), Ok(too_long)));
 }
 
 #[test]
@@ -211,12 +211,12 @@ fn a_part_has_a_page_and_a_store() {
     part.restart();
     assert_eq!((part.page(), part.register(1, Register::VoutCommand)), (0, Ok(0x1000)));
     assert_eq!(part.hear(&CARRIED, false), Ok(Heard::Taken));
-    assert_eq!((part.word(COMMAND), part.stored(COMMAND)), (Ok(0x34CD), Ok(0x1000)));
+    assert_eq!((part.word(COMMAND), part.stored_word(COMMAND)), (Ok(0x34CD), Ok(0x1000)));
     assert_eq!(part.hear(&STORE, false), Ok(Heard::Taken));
     part.restart();
-    assert_eq!((part.word(COMMAND), part.commanded(0), part.is_on(0)), (Ok(0x34CD), Ok(3_300_048), Ok(true)));
-    assert_eq!(part.stored(Cell::WriteProtect), Err(Refusal::NoCell));
-    assert_eq!(part.stored(Cell::Output(2, Register::VoutMin)), Err(Refusal::H4UnknownOutput));
+    assert_eq!((part.word(COMMAND), part.commanded_microvolts(0), part.is_on(0)), (Ok(0x34CD), Ok(3_300_048), Ok(true)));
+    assert_eq!(part.stored_word(Cell::WriteProtect), Err(Refusal::NoCell));
+    assert_eq!(part.stored_word(Cell::Output(2, Register::VoutMin)), Err(Refusal::H4UnknownOutput));
 }
 
 #[test]
@@ -277,15 +277,15 @@ fn no_confirmed_word_is_wrong_under_every_fault() {
     for fates in 0..4096 {
         let mut host = Host::new(0x58, 2, 3).unwrap();
         let mut bus = Faulty { part: part(), fates };
-        let end = host.carry_out(Job::Order(COMMAND, 0x3400), &mut bus);
+        let end = host.run_job(Job::Order(COMMAND, 0x3400), &mut bus);
         let held = bus.part.word(COMMAND).unwrap();
         ends[match end {
             Ok(Done::Word(0x3400)) if held == 0x3400 => 0,
             Err(NotDone::Differs { word: 0x34CD }) if held == 0x34CD => 1,
-            Err(NotDone::Unknown { .. }) if host.possible(COMMAND).unwrap().allows(held) => 2,
+            Err(NotDone::Unknown { .. }) if host.possible_words(COMMAND).unwrap().allows(held) => 2,
             other => panic!("{fates}: {other:?}, while the part holds {held:04X}"),
         }] += 1;
-        assert!(host.standing(COMMAND).unwrap().map_or(true, |word| word == held));
+        assert!(host.confirmed_word(COMMAND).unwrap().map_or(true, |word| word == held));
     }
     assert!(ends.iter().all(|count| *count > 0), "{ends:?}");
 }

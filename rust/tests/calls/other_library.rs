@@ -3,7 +3,7 @@
 
 use core::cell::Cell;
 
-use pm_host::*;
+use pmhost::*;
 
 extern "C" {
     fn __real_pm_version() -> u16;

@@ -5,7 +5,7 @@ use std::cell::Cell as Kept;
 use std::error::Error;
 use std::rc::Rc;
 
-use pm_host::*;
+use pmhost::*;
 
 /// Why a transaction failed: nobody acknowledged the address, or a byte behind it wasn't acknowledged.
 #[derive(Clone, Copy, Debug, PartialEq, Eq)]
@@ -99,7 +99,7 @@ impl Clock for Back {
 fn a_clock_that_steps_back_ends_the_patience() {
     let below = Scripted { does: b"uuuu", time: Time(Rc::new(Kept::new(0))), calls: String::new(), last: 0 };
     let mut bus = Patient::new(below, Back(50));
-    assert!(Host::new(0x58, 1, 1).unwrap().carry_out(ORDER, &mut bus).is_err());
+    assert!(Host::new(0x58, 1, 1).unwrap().run_job(ORDER, &mut bus).is_err());
     assert_eq!(bus.into_inner().calls, "WQR");
 }
 
@@ -109,13 +109,13 @@ fn a_bus_may_be_borrowed_and_is_given_back() {
     let mut part = Part::new(0x58, &[Output::default()], (1, 0, 3)).unwrap();
     let mut host = Host::new(0x58, 1, 1).unwrap();
     let mut bus = Patient::new(&mut part, clock());
-    assert_eq!(host.carry_out(ORDER, &mut bus), Ok(Done::Word(0x34CD)));
+    assert_eq!(host.run_job(ORDER, &mut bus), Ok(Done::Word(0x34CD)));
     bus.bus_mut().restart();
     assert_eq!(bus.into_inner().word(WORD), Ok(0x1000));
     assert!(!NoAnswer.is_unheard());
     // A bus whose type isn't known.
     let mut any: &mut dyn Bus<Error = NoAnswer> = &mut part;
-    assert_eq!(host.carry_out(CHECK, &mut any), Ok(Done::Word(0x1000)));
+    assert_eq!(host.run_job(CHECK, &mut any), Ok(Done::Word(0x1000)));
 }
 
 /// How a job ends, the calls that the bus below saw, and how many milliseconds behind the first one the last came.
@@ -129,7 +129,7 @@ fn carried_out(
     let below = Scripted { does: does.as_bytes(), time: time.clone(), calls: String::new(), last: BEGIN };
     let bus = Patient::new(below, time);
     let mut bus = if let Some(milliseconds) = patience { bus.with_patience(milliseconds) } else { bus };
-    let ended = Host::new(0x58, 1, passes).unwrap().carry_out(job, &mut bus);
+    let ended = Host::new(0x58, 1, passes).unwrap().run_job(job, &mut bus);
     let below = bus.bus();
     (ended, below.calls.clone(), below.last.wrapping_sub(BEGIN))
 }
@@ -175,7 +175,7 @@ fn ones_are_no_answer() {
     let time = Time(Rc::new(Kept::new(0)));
     let below = Scripted { does: b"o", time: time.clone(), calls: String::new(), last: 0 };
     let mut host = Host::new(0x4A, 1, 1).unwrap();
-    assert_eq!(host.carry_out(Job::Check(Cell::WriteProtect), &mut Patient::new(below, time)), ones);
+    assert_eq!(host.run_job(Job::Check(Cell::WriteProtect), &mut Patient::new(below, time)), ones);
 }
 
 #[test]

@@ -1,6 +1,6 @@
 //! What an output commands, plans, surveys, and the loops over them.
 
-use pm_host::*;
+use pmhost::*;
 
 const VOLTS: Wanted = Wanted { command: Some(0x3500), max: None, margin_high: None, margin_low: None, min: None };
 
@@ -36,11 +36,11 @@ fn lossy(lost: usize) -> Lossy {
 fn a_rail_is_told_by_what_is_known() {
     let (mut host, mut bus) = (Host::new(0x58, 1, 3).unwrap(), lossy(0));
     let before = host.rail(0).unwrap();
-    assert_eq!((before.power, before.band, before.within), (Power::NotKnown, Err(Refusal::H7FormatUnknown), Within::Yes));
+    assert_eq!((before.power, before.band, before.within), (Power::NotKnown, Err(Refusal::H7FormatUnknown), LimitsState::Yes));
     host.run_survey(&mut Survey::new(0, 5).unwrap(), &mut bus).unwrap();
     let band = Ok(Band { least: 3_300_048, greatest: 3_300_049 });
-    assert_eq!(host.rail(0), Ok(Rail { power: Power::On, band, within: Within::Yes }));
-    host.carry_out(Job::Order(Cell::Output(0, Register::Operation), 0), &mut bus).unwrap();
+    assert_eq!(host.rail(0), Ok(Rail { power: Power::On, band, within: LimitsState::Yes }));
+    host.run_job(Job::Order(Cell::Output(0, Register::Operation), 0), &mut bus).unwrap();
     assert_eq!(host.rail(0).unwrap().power, Power::Off);
     assert_eq!(host.rail(1), Err(Refusal::H4UnknownOutput));
 }
@@ -55,7 +55,7 @@ fn a_plan_is_told_and_begun() {
     assert_eq!((host.plan(0, &VOLTS), host.plan(0, &Wanted::default())), (Ok(Some(order)), Ok(None)));
     let high = Wanted { command: Some(0x3800), ..VOLTS };
     assert_eq!(host.next(0, &high), about(Refusal::P6AboveMax, Some(Cell::Output(0, Register::VoutCommand))));
-    assert_eq!((host.next(0, &Wanted::default()), host.sending()), (Ok(None), Sending::Nothing));
+    assert_eq!((host.next(0, &Wanted::default()), host.frame()), (Ok(None), Sending::Nothing));
     assert_eq!(host.next(0, &VOLTS), Ok(Some(order)));
     assert_eq!(host.plan(0, &VOLTS), about(Refusal::H3Busy, None));
     host.run(&mut bus).unwrap();
@@ -67,7 +67,7 @@ fn a_survey_ends_and_is_told() {
     let (mut host, mut survey) = (Host::new(0x58, 1, 1).unwrap(), Survey::new(0, 1).unwrap());
     assert_eq!(host.survey(&mut survey), Ok(Surveyed::Begun));
     assert_eq!(host.survey(&mut survey), Err(Refusal::H3Busy));
-    let step = host.got(&[]).unwrap();
+    let step = host.read_ended(&[]).unwrap();
     assert_eq!((survey.told(Step::Next), survey.told(step)), (Err(Refusal::NoEnd), Ok(())));
     assert_eq!(host.survey(&mut survey), Ok(Surveyed::Spent));
     assert_eq!(Survey::new(8, 1).unwrap_err(), Refusal::H4UnknownOutput);
@@ -78,7 +78,7 @@ fn an_apply_writes_what_is_due_and_surveys() {
     let (mut host, mut bus) = (Host::new(0x58, 1, 3).unwrap(), lossy(0));
     let wanted = Wanted { max: Some(0x3A00), command: Some(0x3900), ..Wanted::default() };
     assert_eq!(host.run_apply(0, &wanted, 40, &mut bus), Ok(()));
-    assert_eq!((bus.writes.as_slice(), bus.part.commanded(0)), (&[0x24, 0x21][..], Ok(3_562_500)));
+    assert_eq!((bus.writes.as_slice(), bus.part.commanded_microvolts(0)), (&[0x24, 0x21][..], Ok(3_562_500)));
     assert_eq!(host.run_apply(0, &wanted, 40, &mut bus), Ok(()));
     assert_eq!(bus.writes.len(), 2);
     let low = host.run_apply(0, &Wanted { command: Some(0x3000), ..Wanted::default() }, 40, &mut bus);
@@ -90,28 +90,28 @@ fn an_apply_writes_what_is_due_and_surveys() {
 #[test]
 fn a_voltage_is_set_and_told() {
     let (mut host, mut bus) = (Host::new(0x58, 1, 3).unwrap(), lossy(1));
-    host.narrow(0, Limits { least: 3_200_000, most: 3_600_000 }).unwrap();
+    host.set_limits(0, Limits { least: 3_200_000, most: 3_600_000 }).unwrap();
     // Nothing is known: the format is learned, the first write is lost, and the word is 3501h, 3.312744 V.
-    let band = |least| Ok(Rail { power: Power::On, band: Ok(Band { least, greatest: least + 1 }), within: Within::Yes });
-    assert_eq!(host.set_micro(0, Register::VoutCommand, 3_312_800, 20, &mut bus), band(3_312_744));
-    assert_eq!((bus.writes.as_slice(), bus.part.commanded(0)), (&[0x21, 0x21][..], Ok(3_312_744)));
+    let band = |least| Ok(Rail { power: Power::On, band: Ok(Band { least, greatest: least + 1 }), within: LimitsState::Yes });
+    assert_eq!(host.set_microvolts(0, Register::VoutCommand, 3_312_800, 20, &mut bus), band(3_312_744));
+    assert_eq!((bus.writes.as_slice(), bus.part.commanded_microvolts(0)), (&[0x21, 0x21][..], Ok(3_312_744)));
     // As it is wanted: nothing is written. A margin that isn't selected leaves what the output commands.
-    assert_eq!(host.set_micro(0, Register::VoutCommand, 3_312_800, 20, &mut bus), band(3_312_744));
-    assert_eq!(host.set_micro(0, Register::VoutMarginHigh, 3_400_000, 20, &mut bus), band(3_312_744));
-    assert_eq!(host.set_micro(0, Register::VoutMarginLow, 3_275_000, 20, &mut bus), band(3_312_744));
-    assert_eq!(host.set_micro(0, Register::VoutMax, 3_500_000, 20, &mut bus), band(3_312_744));
-    assert_eq!(host.set_micro(0, Register::VoutMin, 3_225_000, 20, &mut bus), band(3_312_744));
+    assert_eq!(host.set_microvolts(0, Register::VoutCommand, 3_312_800, 20, &mut bus), band(3_312_744));
+    assert_eq!(host.set_microvolts(0, Register::VoutMarginHigh, 3_400_000, 20, &mut bus), band(3_312_744));
+    assert_eq!(host.set_microvolts(0, Register::VoutMarginLow, 3_275_000, 20, &mut bus), band(3_312_744));
+    assert_eq!(host.set_microvolts(0, Register::VoutMax, 3_500_000, 20, &mut bus), band(3_312_744));
+    assert_eq!(host.set_microvolts(0, Register::VoutMin, 3_225_000, 20, &mut bus), band(3_312_744));
     assert_eq!(bus.writes, [0x21, 0x21, 0x25, 0x26, 0x24, 0x2B]);
     let held = [Register::VoutMarginHigh, Register::VoutMarginLow, Register::VoutMax, Register::VoutMin]
-        .map(|register| host.standing(Cell::Output(0, register)).unwrap());
+        .map(|register| host.confirmed_word(Cell::Output(0, register)).unwrap());
     assert_eq!(held, [Some(0x3666), Some(0x3466), Some(0x3800), Some(0x339A)]);
 }
 
 #[test]
 fn a_voltage_that_is_not_set_says_why() {
     let (mut host, mut bus) = (Host::new(0x58, 1, 1).unwrap(), lossy(9));
-    host.narrow(0, Limits { least: 3_200_000, most: 3_600_000 }).unwrap();
-    let mut set = |register, microvolts, tries| host.set_micro(0, register, microvolts, tries, &mut bus);
+    host.set_limits(0, Limits { least: 3_200_000, most: 3_600_000 }).unwrap();
+    let mut set = |register, microvolts, tries| host.set_microvolts(0, register, microvolts, tries, &mut bus);
     let refused = |refusal, cell| Err(NotReached::Refused(NotPlanned { refusal, cell }));
     assert_eq!(set(Register::VoutCommand, 3_300_000, 0), Err(NotReached::Spent { error: None, fault: None }));
     assert_eq!(set(Register::Operation, 3_300_000, 20), refused(Refusal::H5BadWord, None));
@@ -121,7 +121,7 @@ fn a_voltage_that_is_not_set_says_why() {
     let differs = Err(NotReached::Differs { register: Register::VoutCommand, word: 0x34CD });
     assert_eq!(set(Register::VoutCommand, 3_312_800, 20), differs);
     assert_eq!(bus.writes, [0x21, 0x21]);
-    assert_eq!(host.set_micro(1, Register::VoutCommand, 1, 20, &mut bus), refused(Refusal::H4UnknownOutput, None));
+    assert_eq!(host.set_microvolts(1, Register::VoutCommand, 1, 20, &mut bus), refused(Refusal::H4UnknownOutput, None));
 }
 
 #[test]
@@ -135,7 +135,7 @@ fn a_format_that_is_not_learned_ends_a_set() {
         }
     }
     let (mut host, mut bus) = (Host::new(0x58, 1, 1).unwrap(), Dead(0));
-    let end = host.set_micro(0, Register::VoutCommand, 3_300_000, 4, &mut bus);
+    let end = host.set_microvolts(0, Register::VoutCommand, 3_300_000, 4, &mut bus);
     assert_eq!((end, bus.0), (Err(NotReached::Spent { error: Some(NoAnswer), fault: None }), 4));
 }
 
@@ -158,7 +158,7 @@ fn a_part_may_lack_registers() {
     assert_eq!(host.run_apply(0, &VOLTS, 40, &mut bus), Ok(()));
     assert_eq!(host.check(Cell::Output(0, Register::VoutMin)), Err(Refusal::L7MissingRegister));
     assert_eq!(host.order(Cell::Output(0, Register::Operation), 0xA8), Err(Refusal::L7MissingRegister));
-    assert_eq!(host.possible(Cell::Output(0, Register::VoutMin)).unwrap().words(), None);
+    assert_eq!(host.possible_words(Cell::Output(0, Register::VoutMin)).unwrap().words(), None);
     let cell = Some(Cell::Output(0, Register::VoutMin));
     let wanted = Wanted { min: Some(1), ..VOLTS };
     assert_eq!(host.plan(0, &wanted), Err(NotPlanned { refusal: Refusal::L7MissingRegister, cell }));

@@ -2,7 +2,7 @@
  * struct of two numbers in memory, and the library rewritten to 32 bits in one number, as on the processor that it was
  * made for: a caller in C goes by the two functions here, one in JavaScript takes the number apart. */
 #include "console.h"
-#include "pm.h"
+#include "pmhost.h"
 
 __attribute__((import_module("console"), import_name("put"))) void imported_put(const char *text);
 __attribute__((import_module("console"), import_name("end"))) void imported_end(int status);
@@ -16,8 +16,8 @@ void console_end(int status) {
 }
 
 #ifdef __wasm32__
-uint32_t finished(pm_host *host, uint32_t acked) __asm__("pm_host_finished");
-uint32_t got(pm_host *host, const uint8_t *bytes, uint64_t count) __asm__("pm_host_got");
+uint32_t finished(pm_host *host, uint32_t acked) __asm__("pm_host_write_ended");
+uint32_t got(pm_host *host, const uint8_t *bytes, uint64_t count) __asm__("pm_host_read_ended");
 
 static pm_step step_of(uint32_t number) {
     pm_step step = {(uint16_t)number, (uint16_t)(number >> 16)};

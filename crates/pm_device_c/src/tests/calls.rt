@@ -1,6 +1,8 @@
 //! Each call by value: what it answers, and what it wrote.
 
-use crate::asked::{pm_part_commanded, pm_part_is_on, pm_part_page, pm_part_stored, pm_part_word};
+use crate::asked::{
+    pm_part_commanded_microvolts, pm_part_on_state, pm_part_page, pm_part_stored_word, pm_part_word,
+};
 use crate::events::{pm_part_hear, pm_part_new, pm_part_restart, pm_part_set_reading};
 use crate::reply_image::ReplyImage;
 use crate::status::{
@@ -59,7 +61,7 @@ pub(super) fn word(part: &Image, output: u8, code: u8) -> (u8, u16) {
 
 pub(super) fn stored(part: &Image, output: u8, code: u8) -> (u8, u16) {
     let mut word = 7;
-    (pm_part_stored(part, output, code, &mut word), word)
+    (pm_part_stored_word(part, output, code, &mut word), word)
 }
 
 pub(super) fn page(part: &Image) -> (u8, u8) {
@@ -69,12 +71,15 @@ pub(super) fn page(part: &Image) -> (u8, u8) {
 
 pub(super) fn commanded(part: &Image, output: u8) -> (u8, i64) {
     let mut microvolts = 7;
-    (pm_part_commanded(part, output, &mut microvolts), microvolts)
+    (
+        pm_part_commanded_microvolts(part, output, &mut microvolts),
+        microvolts,
+    )
 }
 
 pub(super) fn is_on(part: &Image, output: u8) -> (u8, u8) {
     let mut on = 7;
-    (pm_part_is_on(part, output, &mut on), on)
+    (pm_part_on_state(part, output, &mut on), on)
 }
 
 /// STATUS_BYTE, STATUS_WORD, STATUS_VOUT and STATUS_CML; 7 where a call is refused.

@@ -5,22 +5,24 @@ use crate::format_numbers::FormatNumbers;
 use crate::guard_image::{GuardImage, LimitsImage, RegistersImage};
 use crate::host::{
     pm_host_check, pm_host_clear, pm_host_learn, pm_host_new, pm_host_new_with, pm_host_order,
-    pm_host_order_micro, pm_host_restart, pm_host_restore, pm_host_store,
+    pm_host_order_microvolts, pm_host_restart, pm_host_restore, pm_host_store,
 };
-use crate::known::{pm_host_possible, pm_host_restart_seen, pm_host_standing};
-use crate::known_cells::{KnownCell, KnownCells, pm_host_known};
-use crate::limits::{BandImage, pm_host_band, pm_host_limits, pm_host_narrow, pm_host_within};
+use crate::known::{pm_host_confirmed_word, pm_host_possible_words, pm_host_restart_seen};
+use crate::known_cells::{KnownCell, KnownCells, pm_host_known_cells};
+use crate::limits::{
+    BandImage, pm_host_band, pm_host_limits, pm_host_limits_state, pm_host_set_limits,
+};
 use crate::name_image::NameImage;
 use crate::names::{pm_end_name, pm_refusal_name};
 use crate::other_read::{BlockImage, pm_read_block, pm_read_plain};
 use crate::packet::{Packet, pm_packet_read_request, pm_packet_read_write, pm_packet_write};
 use crate::plan::{PlanOrderImage, pm_host_next, pm_host_plan};
 use crate::rail::{RailImage, pm_host_rail};
-use crate::sending::pm_host_sending;
+use crate::sending::pm_host_frame;
 use crate::sending_image::SendingImage;
 use crate::survey::{pm_host_survey, pm_survey_for, pm_survey_new, pm_survey_told};
 use crate::survey_image::SurveyImage;
-use crate::told::{pm_host_finished, pm_host_got};
+use crate::told::{pm_host_read_ended, pm_host_write_ended};
 use crate::voltages::{pm_at_least, pm_at_most, pm_host_format, pm_microvolts, pm_nearest_word};
 use crate::wanted_image::WantedImage;
 use pm_host::{StandingImage, WordsImage};
@@ -65,7 +67,7 @@ pub(super) fn host_with(passes: u8, has: [u8; 4]) -> GuardImage {
 // The frame that is being sent.
 pub(super) fn sending(image: &GuardImage) -> SendingImage {
     let mut frame = NOTHING;
-    let _ = pm_host_sending(image, &mut frame);
+    let _ = pm_host_frame(image, &mut frame);
     frame
 }
 
@@ -78,7 +80,7 @@ pub(super) fn order(image: &mut GuardImage, output: u8, code: u8, word: u16) -> 
 }
 
 pub(super) fn order_micro(image: &mut GuardImage, output: u8, code: u8, microvolts: i64) -> u8 {
-    pm_host_order_micro(image, output, code, microvolts)
+    pm_host_order_microvolts(image, output, code, microvolts)
 }
 
 pub(super) fn check(image: &mut GuardImage, output: u8, code: u8) -> u8 {
@@ -106,12 +108,12 @@ pub(super) fn restart(image: &mut GuardImage) -> u8 {
 }
 
 pub(super) fn finished(image: &mut GuardImage, acked: u8) -> (u16, u16) {
-    let step = pm_host_finished(image, acked);
+    let step = pm_host_write_ended(image, acked);
     (step.kind, step.word)
 }
 
 pub(super) fn got(image: &mut GuardImage, bytes: &[u8]) -> (u16, u16) {
-    let step = pm_host_got(image, bytes);
+    let step = pm_host_read_ended(image, bytes);
     (step.kind, step.word)
 }
 
@@ -121,7 +123,7 @@ pub(super) fn standing(image: &GuardImage, output: u8, code: u8) -> (u8, u16, u1
         is_confirmed: 7,
         word: 7,
     };
-    let number = pm_host_standing(image, output, code, &mut said);
+    let number = pm_host_confirmed_word(image, output, code, &mut said);
     (number, said.is_confirmed, said.word)
 }
 
@@ -130,7 +132,7 @@ pub(super) fn possible(image: &GuardImage, output: u8, code: u8) -> (u8, u16, u1
         count: 7,
         words: [7; 16],
     };
-    let number = pm_host_possible(image, output, code, &mut words);
+    let number = pm_host_possible_words(image, output, code, &mut words);
     (number, words.count, words.words[0])
 }
 
@@ -211,7 +213,7 @@ pub(super) fn at_least(format: &FormatNumbers, microvolts: i64) -> (u8, u16) {
 }
 
 pub(super) fn narrow(image: &mut GuardImage, output: u8, least: i64, most: i64) -> u8 {
-    pm_host_narrow(image, output, least, most)
+    pm_host_set_limits(image, output, least, most)
 }
 
 pub(super) fn limits(image: &GuardImage, output: u8) -> (u8, i64, i64) {
@@ -221,7 +223,7 @@ pub(super) fn limits(image: &GuardImage, output: u8) -> (u8, i64, i64) {
 }
 
 pub(super) fn within(image: &GuardImage, output: u8) -> u8 {
-    pm_host_within(image, output)
+    pm_host_limits_state(image, output)
 }
 
 pub(super) fn band(image: &GuardImage, output: u8) -> (u8, i64, i64) {
@@ -299,7 +301,7 @@ pub(super) fn known(image: &GuardImage) -> (u8, KnownCells) {
             },
         }; Cell::PLACES],
     };
-    let number = pm_host_known(image, &mut known);
+    let number = pm_host_known_cells(image, &mut known);
     (number, known)
 }
 

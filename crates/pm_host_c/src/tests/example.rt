@@ -5,18 +5,18 @@ use super::checks::equal;
 use crate::guard_image::GuardImage;
 use crate::host::{pm_host_new, pm_host_order};
 use crate::host_step::HostStep;
-use crate::sending::pm_host_sending;
+use crate::sending::pm_host_frame;
 use crate::sending_image::SendingImage;
-use crate::told::{pm_host_finished, pm_host_got};
+use crate::told::{pm_host_read_ended, pm_host_write_ended};
 
 // 3.3 V for VOUT_COMMAND of output 0, by a host of a part at address 58h with two outputs.
 fn ordered(host: &mut GuardImage, frame: &mut SendingImage) -> HostStep {
     pm_host_new(host, 0x58, 2, 2); // the last number: two passes
     pm_host_order(host, 0, 0x21, 0x34CD);
-    pm_host_sending(host, frame); // a write: B0 05 04 00 21 CD 34 5A
-    pm_host_finished(host, 0); // no acknowledgement came; the host reads the cell back
-    pm_host_sending(host, frame); // a request: B0 06 02 00 21
-    pm_host_got(host, &[0xB1, 0x02, 0xCD, 0x34, 0xB9]) // kind 1 Done
+    pm_host_frame(host, frame); // a write: B0 05 04 00 21 CD 34 5A
+    pm_host_write_ended(host, 0); // no acknowledgement came; the host reads the cell back
+    pm_host_frame(host, frame); // a request: B0 06 02 00 21
+    pm_host_read_ended(host, &[0xB1, 0x02, 0xCD, 0x34, 0xB9]) // kind 1 Done
 }
 
 #[test]

@@ -1,5 +1,5 @@
 /* The model of a PMBus 1.3 power converter as a static library: a part to try firmware against, with PAGE, a user
- * store, latched status and readings. It is an archive of its own: firmware that links a host (pm.h) needs nothing of
+ * store, latched status and readings. It is an archive of its own: firmware that links a host (pmhost.h) needs nothing of
  * it. One header for processors of 64 and of 32 bits.
  *
  * What each call answers and does is proved of the library (crates/pm_device_c), by the converter's own definitions. No
@@ -116,17 +116,17 @@ uint8_t pm_part_set_reading(pm_part *part, uint8_t output, uint8_t code, uint16_
  * WRITE_PROTECT (10h) whatever the output, which has none in the store. PM_NO_PART, PM_PART_NO_CELL,
  * PM_PART_NO_OUTPUT. */
 uint8_t pm_part_word(const pm_part *part, uint8_t output, uint8_t code, uint16_t *word);
-uint8_t pm_part_stored(const pm_part *part, uint8_t output, uint8_t code, uint16_t *word);
+uint8_t pm_part_stored_word(const pm_part *part, uint8_t output, uint8_t code, uint16_t *word);
 
 /* PAGE. PM_NO_PART. */
 uint8_t pm_part_page(const pm_part *part, uint8_t *page);
 
 /* The whole microvolts that an output commands, on or off, rounded down. PM_NO_PART, PM_PART_NO_OUTPUT,
  * PM_PART_TOO_LARGE. */
-uint8_t pm_part_commanded(const pm_part *part, uint8_t output, int64_t *microvolts);
+uint8_t pm_part_commanded_microvolts(const pm_part *part, uint8_t output, int64_t *microvolts);
 
 /* 1 where OPERATION has an output on, otherwise 0. PM_NO_PART, PM_PART_NO_OUTPUT. */
-uint8_t pm_part_is_on(const pm_part *part, uint8_t output, uint8_t *on);
+uint8_t pm_part_on_state(const pm_part *part, uint8_t output, uint8_t *on);
 
 /* The status registers of an output, and STATUS_CML, the device's. PM_NO_PART, PM_PART_NO_OUTPUT. */
 uint8_t pm_part_status_byte(const pm_part *part, uint8_t output, uint8_t *status);

@@ -1,6 +1,6 @@
 /* The PMBus host core as a static library: a host that sets supply voltages over PMBus 1.3, and calls for packets and
  * numbers that need no host. One header for processors of 64 and of 32 bits. A model converter to try firmware against
- * is a library of its own, pm_part.h.
+ * is a library of its own, pmpart.h.
  *
  * What each call answers and does is proved of the library (crates/pm_host_c). No prover reads this header: the
  * programs of examples/c compare its sizes and the numbers that they use.
@@ -60,11 +60,11 @@ extern "C" {
 #define PM_STACK 2048
 #define PM_NAME_STACK 4096
 
-/* What a call answers: 0, or why it is refused. A refused call changes nothing, but for three: pm_host_sending then
+/* What a call answers: 0, or why it is refused. A refused call changes nothing, but for three: pm_host_frame then
  * writes PM_NOTHING, pm_host_plan and pm_host_next the code of the register that the refusal is about. pm_pec,
- * pm_host_restart_seen and pm_host_within answer something else: each says what, and what the last answers is no number
+ * pm_host_restart_seen and pm_host_limits_state answer something else: each says what, and what the last answers is no number
  * of these; nor are PM_PLAN_DONE, PM_SURVEY_DONE, PM_SURVEY_SPENT and PM_SURVEY_STUCK, which refuse nothing.
- * pm_refusal_name gives the name of each, and of those of pm_part.h. */
+ * pm_refusal_name gives the name of each, and of those of pmpart.h. */
 enum {
     PM_OK = 0,
     PM_H1_OUTPUT_COUNT = 0x01,    /* a number of outputs other than 1 to 8 */
@@ -161,13 +161,13 @@ typedef struct {
 typedef struct { uint16_t count; uint16_t words[16]; } pm_words;
 
 /* What is said of a cell's word: 1 where it is confirmed, otherwise 0. */
-typedef struct { uint16_t is_confirmed; uint16_t word; } pm_standing;
+typedef struct { uint16_t is_confirmed; uint16_t word; } pm_confirmed;
 
 /* What is known of one cell, by its output and its command code. */
 typedef struct {
     uint8_t code;
     uint8_t output; /* 0 of WRITE_PROTECT */
-    pm_standing standing;
+    pm_confirmed standing;
     pm_words words;
 } pm_cell;
 
@@ -188,7 +188,7 @@ typedef struct { int64_t least, greatest; } pm_band;
 enum { PM_POWER_ANY = 0, PM_POWER_ON = 1, PM_POWER_OFF = 2 };
 typedef struct {
     uint8_t power;     /* PM_POWER_ON or PM_POWER_OFF where each byte that OPERATION may hold has it so, or PM_POWER_ANY */
-    uint8_t within;    /* PM_WITHIN, PM_OUTSIDE or PM_NOT_KNOWN, as pm_host_within answers */
+    uint8_t within;    /* PM_WITHIN, PM_OUTSIDE or PM_NOT_KNOWN, as pm_host_limits_state answers */
     uint8_t band;      /* 0 where the band is told in `ends`; otherwise why it isn't: H7, PM_NO_BAND, N5 */
     uint8_t unused[5];
     pm_band ends;      /* zeros where it isn't told */
@@ -251,10 +251,10 @@ uint8_t pm_host_new_with(pm_host *host, uint8_t address, uint8_t outputs, uint8_
  * value of the word that would be sent, and a byte of OPERATION that leaves the output on by the band that would then
  * hold. Turning an output off is never refused by a limit. pm_host_restart keeps limits, pm_host_new drops them. A
  * word that was ordered before stays possible, and what the part or its store holds no host knows: check the
- * registers, and ask pm_host_within. PM_NO_HOST, H4, N5 beyond 10^15, L1, L6, and H3 where an order of the output is
+ * registers, and ask pm_host_limits_state. PM_NO_HOST, H4, N5 beyond 10^15, L1, L6, and H3 where an order of the output is
  * open that the new limits would refuse, since its frame may be sent again. */
 PM_MUST_USE
-uint8_t pm_host_narrow(pm_host *host, uint8_t output, int64_t least, int64_t most);
+uint8_t pm_host_set_limits(pm_host *host, uint8_t output, int64_t least, int64_t most);
 
 /* The limits of an output. PM_NO_HOST, H4, PM_NO_LIMITS; then nothing is written. */
 uint8_t pm_host_limits(const pm_host *host, uint8_t output, pm_limits *limits);
@@ -263,7 +263,7 @@ uint8_t pm_host_limits(const pm_host *host, uint8_t output, pm_limits *limits);
  * whole band does or it has none, PM_OUTSIDE where the whole band lies below them or above them, otherwise
  * PM_NOT_KNOWN. PM_NO_HOST, H4. */
 enum { PM_WITHIN = 0x91, PM_OUTSIDE = 0x92, PM_NOT_KNOWN = 0x93 };
-uint8_t pm_host_within(const pm_host *host, uint8_t output);
+uint8_t pm_host_limits_state(const pm_host *host, uint8_t output);
 
 /* Which voltages an output may be commanded to, by what is known. No narrower band is true where, since the host started, the
  * device didn't restart, WRITE_PROTECT was neither ordered nor read as other than 00h, and no restore was begun. The least
@@ -281,7 +281,7 @@ uint8_t pm_host_order(pm_host *host, uint8_t output, uint8_t code, uint16_t word
  * output found. PM_NO_HOST, PM_NO_CELL, H3, H4, L7, H5, H7, N5, N3 or N4, then L3 or L4 by the value of that word,
  * H6. */
 PM_MUST_USE
-uint8_t pm_host_order_micro(pm_host *host, uint8_t output, uint8_t code, int64_t microvolts);
+uint8_t pm_host_order_microvolts(pm_host *host, uint8_t output, uint8_t code, int64_t microvolts);
 
 /* Begins a check: the cell is read at most `passes` times. PM_DONE or PM_UNKNOWN. PM_NO_HOST, PM_NO_CELL,
  * H3, H4, L7. */
@@ -306,29 +306,29 @@ uint8_t pm_host_store(pm_host *host);
 PM_MUST_USE
 uint8_t pm_host_restore(pm_host *host);
 
-/* What is to be sent now. It stays the same until pm_host_finished, pm_host_got, pm_host_restart, pm_host_new
+/* What is to be sent now. It stays the same until pm_host_write_ended, pm_host_read_ended, pm_host_restart, pm_host_new
  * or pm_host_new_with, and where it is PM_NOTHING until a job begins. PM_NO_HOST, and then PM_NOTHING. */
-uint8_t pm_host_sending(const pm_host *host, pm_sending *sending);
+uint8_t pm_host_frame(const pm_host *host, pm_sending *sending);
 
 /* A write was sent; `acked` isn't 0 where every byte was acknowledged. The status of many HALs is 0 then: ask it, and don't
  * hand it on. PM_NO_HOST, PM_OTHER_FRAME where no write is to be sent. */
-pm_step pm_host_finished(pm_host *host, uint8_t acked);
+pm_step pm_host_write_ended(pm_host *host, uint8_t acked);
 
 /* A request was sent, and these bytes came back, the read address first; 0 bytes where none came.
  * PM_NO_HOST, PM_OTHER_FRAME where no request is to be sent. */
-pm_step pm_host_got(pm_host *host, const uint8_t *bytes, uint64_t count);
+pm_step pm_host_read_ended(pm_host *host, const uint8_t *bytes, uint64_t count);
 
 /* Drops the open job and all that is known of cells and formats. The limits and the registers stay. PM_NO_HOST. */
 uint8_t pm_host_restart(pm_host *host);
 
 /* What is known of a cell's word, the words that it may hold, the format of an output's voltages.
  * PM_NO_HOST, PM_NO_CELL, H4; then nothing is written. */
-uint8_t pm_host_standing(const pm_host *host, uint8_t output, uint8_t code, pm_standing *standing);
-uint8_t pm_host_possible(const pm_host *host, uint8_t output, uint8_t code, pm_words *words);
+uint8_t pm_host_confirmed_word(const pm_host *host, uint8_t output, uint8_t code, pm_confirmed *standing);
+uint8_t pm_host_possible_words(const pm_host *host, uint8_t output, uint8_t code, pm_words *words);
 uint8_t pm_host_format(const pm_host *host, uint8_t output, pm_format *format);
 
 /* What is known of every cell. What stands behind `count` cells stays as it was. PM_NO_HOST; then nothing is written. */
-uint8_t pm_host_known(const pm_host *host, pm_known *known);
+uint8_t pm_host_known_cells(const pm_host *host, pm_known *known);
 
 /* 1 where a restart of the device was seen since the host started, 0 where none was. PM_NO_HOST, which isn't
  * 0 either: ask `pm_host_restart_seen(host) == 1`. */
@@ -472,18 +472,18 @@ PM_MUST_USE
 static inline pm_step pm_host_run(pm_host *host, pm_write write, pm_read read, void *context) {
     pm_step step = {PM_UNKNOWN, 0};
     pm_sending frame;
-    uint8_t number = pm_host_sending(host, &frame);
+    uint8_t number = pm_host_frame(host, &frame);
     while (number == PM_OK && frame.kind != PM_NOTHING) {
         if (frame.kind == PM_WRITE) {
-            step = pm_host_finished(host, write(context, frame.bytes, frame.length) == PM_ACKED);
+            step = pm_host_write_ended(host, write(context, frame.bytes, frame.length) == PM_ACKED);
         } else {
             uint8_t answer[8] = {0, 0, 0, 0, 0, 0, 0, 0};
             uint64_t room = (uint64_t)frame.answer - 1;
             uint64_t came = read(context, frame.bytes, frame.length, answer + 1, room);
             answer[0] = (uint8_t)(frame.bytes[0] | 1);
-            step = pm_host_got(host, answer, came == 0 || came > room ? 0 : came + 1);
+            step = pm_host_read_ended(host, answer, came == 0 || came > room ? 0 : came + 1);
         }
-        number = pm_host_sending(host, &frame);
+        number = pm_host_frame(host, &frame);
     }
     if (number != PM_OK)
         step.kind = number;

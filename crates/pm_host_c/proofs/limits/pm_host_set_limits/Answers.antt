@@ -9,7 +9,7 @@ use Rattle.pm_limits.specs.Bounds.{Bounds}
 use Rattle.pm_limits.specs.Guard.{narrower_fault, open_fault}
 use Rattle.pm_host_c.specs.Guard.{limits_kept}
 use Rattle.pm_host_c.proofs.Narrows.{refused}
-use Rattle.pm_host_c.proofs.limits.pm_host_narrow.Goals as goal
+use Rattle.pm_host_c.proofs.limits.pm_host_set_limits.Goals as goal
 
 pub returns-in-Err-clause-number : goal.returns-in-Err-clause-number
 returns-in-Err-clause-number c =

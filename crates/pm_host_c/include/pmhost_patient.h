@@ -6,11 +6,11 @@
  * none: a bus that nobody drives is high, and no true answer of the host's jobs is of ones alone.
  *
  * This is C of a header, tried beside rows (examples/c/patient_rows.c), and not proved. It keeps what pm_write and pm_read
- * of pm.h ask for: a question is a request that a repeated start ends, which changes no setting. */
-#ifndef PM_PATIENT_H
-#define PM_PATIENT_H
+ * of pmhost.h ask for: a question is a request that a repeated start ends, which changes no setting. */
+#ifndef PMHOST_PATIENT_H
+#define PMHOST_PATIENT_H
 
-#include "pm.h"
+#include "pmhost.h"
 
 #ifdef __cplusplus
 extern "C" {
