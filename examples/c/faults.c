@@ -138,7 +138,7 @@ int main(int count, char **words) {
         }
         for (uint8_t output = 0; output < OUTPUTS; output++)
             for (int i = 0; i < CODES; i++) {
-                pm_confirmed standing;
+                pm_standing standing;
                 pm_words words_held;
                 uint16_t held;
                 pm_host_confirmed_word(&host, output, codes[i], &standing);

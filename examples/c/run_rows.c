@@ -138,7 +138,7 @@ static uint8_t begin(pm_host *host, char job) {
 /* Whether a row came as it must: its end, its calls, and the word that is confirmed then. */
 static int is_right(const row *of, uint16_t confirmed) {
     pm_host host;
-    pm_confirmed standing = {0, 0};
+    pm_standing standing = {0, 0};
     bus to = {of, &host, 0, 0, NULL};
     if (pm_host_new(&host, 0x58, 2, of->passes) != PM_OK || begin(&host, of->job) != PM_OK) {
         printf("%s: the job is refused\n", of->name);

@@ -45,7 +45,7 @@ static void say(const rail *of, const char *what) {
 
 /* The word that the rail is known to hold, and its microvolts; or that none is known. */
 static void say_held(const pm_host *host, const rail *of) {
-    pm_confirmed standing = {0, 0};
+    pm_standing standing = {0, 0};
     pm_format format = {PM_NO_FORMAT, 0, 0, 0};
     int64_t microvolts = 0;
     pm_host_confirmed_word(host, of->output, PM_VOUT_COMMAND, &standing);
@@ -119,7 +119,7 @@ typedef enum { HOLDS, UNREAD, OTHER, RESTARTED } finding;
 
 /* Reads the rail back, and compares it with the word that its voltage is. */
 static finding check_rail(pm_host *host, const rail *of) {
-    pm_confirmed standing;
+    pm_standing standing;
     pm_format format;
     uint16_t wanted;
     if (pm_host_check(host, of->output, PM_VOUT_COMMAND) != PM_OK || carry_out(host).kind != PM_DONE)

@@ -51,7 +51,7 @@ static uint8_t room[ROOM];
 
 /* What calls write, with guards. */
 static struct {
-    uint8_t a[3]; pm_sending sending; uint8_t b; pm_part_reply reply; uint16_t c; pm_words words; uint16_t d; pm_confirmed standing;
+    uint8_t a[3]; pm_sending sending; uint8_t b; pm_part_reply reply; uint16_t c; pm_words words; uint16_t d; pm_standing standing;
     uint16_t e; pm_format format; uint16_t f; pm_packet packet; uint16_t g; uint16_t word; uint16_t h[4]; int64_t microvolts;
     uint16_t i[4]; pm_limits limits; uint16_t j[4]; pm_band band; uint16_t k[4]; pm_name name; pm_payload payload; uint16_t l[4];
     pm_rail rail; uint16_t m[4]; pm_plan_order order; uint16_t n[2];

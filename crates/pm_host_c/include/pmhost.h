@@ -161,13 +161,13 @@ typedef struct {
 typedef struct { uint16_t count; uint16_t words[16]; } pm_words;
 
 /* What is said of a cell's word: 1 where it is confirmed, otherwise 0. */
-typedef struct { uint16_t is_confirmed; uint16_t word; } pm_confirmed;
+typedef struct { uint16_t is_confirmed; uint16_t word; } pm_standing;
 
 /* What is known of one cell, by its output and its command code. */
 typedef struct {
     uint8_t code;
     uint8_t output; /* 0 of WRITE_PROTECT */
-    pm_confirmed standing;
+    pm_standing standing;
     pm_words words;
 } pm_cell;
 
@@ -323,7 +323,7 @@ uint8_t pm_host_restart(pm_host *host);
 
 /* What is known of a cell's word, the words that it may hold, the format of an output's voltages.
  * PM_NO_HOST, PM_NO_CELL, H4; then nothing is written. */
-uint8_t pm_host_confirmed_word(const pm_host *host, uint8_t output, uint8_t code, pm_confirmed *standing);
+uint8_t pm_host_confirmed_word(const pm_host *host, uint8_t output, uint8_t code, pm_standing *standing);
 uint8_t pm_host_possible_words(const pm_host *host, uint8_t output, uint8_t code, pm_words *words);
 uint8_t pm_host_format(const pm_host *host, uint8_t output, pm_format *format);
 
