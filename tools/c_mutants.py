@@ -22,7 +22,7 @@ class Copy:
 
     def __init__(self, folder, built):
         self.folder, self.built, self.sound = folder, built, {}
-        for each in ("crates/pm_host_c/include", "crates/pm_device_c/include", "examples/c", "rust"):
+        for each in ("crates/pm_host_c/include", "crates/pm_device_c/include", "examples/c", "trials/c/rows", "rust"):
             shutil.copytree(os.path.join(ROOT, each), os.path.join(folder, each), ignore=shutil.ignore_patterns("target"))
 
     def run(self, *words, **environment):
@@ -79,7 +79,7 @@ class Copy:
 
     def row(self, name):
         """Whether this row of run_rows.c is right."""
-        self.program("rows", "examples/c/run_rows.c")
+        self.program("rows", "trials/c/rows/run_rows.c")
         return f"\n{name}: " not in "\n" + self.run("./rows")[1]
 
     def rail(self):
@@ -96,13 +96,13 @@ class Copy:
 
     def patient_row(self, name):
         """Whether this row of patient_rows.c is right."""
-        self.program("patient", "examples/c/patient_rows.c")
+        self.program("patient", "trials/c/rows/patient_rows.c")
         return f"\n{name}: " not in "\n" + self.run("./patient")[1]
 
     def transfers(self, words, mishaps, wanted):
         """Whether i2c_dev.c over the stand-in for the kernel prints this."""
         self.program("bus", "-Wl," + ",".join(f"--wrap={name}" for name in ("open", "ioctl", "close", "fcntl", "clock_gettime", "nanosleep")),
-                     "examples/c/i2c_dev.c", "examples/c/stand_in.c")
+                     "examples/c/i2c_dev.c", "trials/c/rows/stand_in.c")
         return self.run("./bus", *words.split(), MISHAPS=mishaps)[1] == wanted
 
     def rust(self, test):

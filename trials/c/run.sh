@@ -202,7 +202,7 @@ rows() {
 
 # bus_program NAME COMPILER: the order over the Linux bus, and each row of it
 bus_program() {
-    program "$1 Linux bus" examples/c/i2c_dev.expected "$2 $strict $wraps" examples/c/i2c_dev.c examples/c/stand_in.c \
+    program "$1 Linux bus" examples/c/i2c_dev.expected "$2 $strict $wraps" examples/c/i2c_dev.c trials/c/rows/stand_in.c \
         -- --no-limit /dev/i2c-1 58 0 3300000
     bus_rows > "$folder/rows"
     rows "$1 Linux bus" i2c_dev "$folder/program" < "$folder/rows"
@@ -387,8 +387,8 @@ for each in $compilers; do
         name=$each; case $option in *sanitize*) name="$each, sanitized" ;; esac
         program "$name order" examples/c/order.expected "$compiler $strict" examples/c/order.c $rest --
         program "$name part" examples/c/part.expected "$compiler $strict" examples/c/part.c $rest --
-        program "$name pm_host_run" examples/c/run_rows.expected "$compiler $strict" examples/c/run_rows.c $rest --
-        program "$name pm_patient_run" examples/c/patient_rows.expected "$compiler $strict" examples/c/patient_rows.c $rest --
+        program "$name pm_host_run" trials/c/rows/run_rows.expected "$compiler $strict" trials/c/rows/run_rows.c $rest --
+        program "$name pm_patient_run" trials/c/rows/patient_rows.expected "$compiler $strict" trials/c/rows/patient_rows.c $rest --
         program "$name both ends" examples/c/faults.expected "$compiler $strict" examples/c/faults.c $rest --
         program "$name HAL" examples/c/hal_bus.expected "$compiler $strict" examples/c/hal_bus.c $rest --
         program "$name rail" examples/c/rail.expected "$compiler $strict" examples/c/rail.c $rest --

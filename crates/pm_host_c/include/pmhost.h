@@ -467,7 +467,7 @@ typedef uint64_t (*pm_read)(void *context, const uint8_t *request, uint64_t coun
 /* Carries the open job out, and says how it ended: PM_UNKNOWN where none was open, PM_NO_HOST where the memory holds no
  * host. A `read` that says that more bytes came than there was room for counts as one to which none came. It ends since a
  * job has at most twice as many frames as passes, which is proved; this loop is C of the header, was tried under rows
- * of each kind of fault (examples/c/run_rows.c) and under random ones (faults.c), and isn't proved. */
+ * of each kind of fault (trials/c/rows/run_rows.c) and under random ones (faults.c), and isn't proved. */
 PM_MUST_USE
 static inline pm_step pm_host_run(pm_host *host, pm_write write, pm_read read, void *context) {
     pm_step step = {PM_UNKNOWN, 0};

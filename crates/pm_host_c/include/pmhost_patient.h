@@ -5,7 +5,7 @@
  * patience; a store isn't, since it wears the memory. A read is sent once. An answer of nothing but FFh is handed over as
  * none: a bus that nobody drives is high, and no true answer of the host's jobs is of ones alone.
  *
- * This is C of a header, tried beside rows (examples/c/patient_rows.c), and not proved. It keeps what pm_write and pm_read
+ * This is C of a header, tried beside rows (trials/c/rows/patient_rows.c), and not proved. It keeps what pm_write and pm_read
  * of pmhost.h ask for: a question is a request that a repeated start ends, which changes no setting. */
 #ifndef PMHOST_PATIENT_H
 #define PMHOST_PATIENT_H
