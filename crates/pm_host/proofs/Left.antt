@@ -47,7 +47,7 @@ finished-left : (s : Summary) (stage : Option Stage) (acked : Bool) → IsLeft s
     → IsLeft s.setup.passes (finished s stage acked).after.stage
 finished-left = search rules
 
--- where a job begins
+-- a pass or a try is left after a job begins
 begins-left : (s : Summary) (job : Job) → 1 ≤ s.setup.passes → IsLeft s.setup.passes (change s (Accepted job)).after.stage
 begins-left = search rules
 

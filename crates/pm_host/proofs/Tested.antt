@@ -12,7 +12,7 @@ use Rattle.pm_host.specs.Transcript.{Setup}
 setup-tested : (setup : Setup) → IsSetup setup → is_setup setup ≡ true
 setup-tested = search rules
 
--- where its job stands
+-- the stage of a job passes its test
 stage-tested : (s : Summary) (stage : Option Stage) → IsStage s stage → is_stage s stage ≡ true
 stage-tested s None is = refl
 stage-tested s (Some (Writes cell word pass)) is = search rules

@@ -1,4 +1,4 @@
--- Where a job stands once its frame was sent, and what the host then holds.
+-- A job's next stage or its end once its frame was sent, and what the host then holds.
 use Rattle.std.specs.Prelude.{Option, Some, None}
 use Rattle.pm_host.specs.declared.progress.Progress.{Progress}
 use Rattle.pm_host.specs.declared.progress.Progress.TheVariants.{At, Over}

@@ -7,7 +7,7 @@ use Rattle.pm_host.specs.Summary.{Summary, possible_at, standing_at}
 use Rattle.pm_host_c.specs.declared.known_cells.KnownCell.{KnownCell}
 use Rattle.pm_host_c.specs.declared.known_cells.KnownCells.{KnownCells}
 
--- these numbers name the cell, 0 for the output of the device's own, and say what is known of it
+-- the numbers name the cell, with output 0 for the device's own cell, and say what is known of it
 pub record IsKnown (s : Summary) (of : Cell) (known : KnownCell) : Type 0 where
   pub cell : cell_at known.code known.output ≡ Some of
   pub output : known.output ≡ output_of of
@@ -16,7 +16,7 @@ pub record IsKnown (s : Summary) (of : Cell) (known : KnownCell) : Type 0 where
   pub words : words_held known.words ≡ possible_at s of
   pub count : known.words.count ≤ 16
 
--- of no cell
+-- the numbers that name no cell
 abbrev pub no_cell_known : KnownCell
 no_cell_known = record {
   code = 0;

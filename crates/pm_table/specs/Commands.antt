@@ -130,7 +130,7 @@ known_of code = option_map (λ l. record {
   writes = is_ever_written l.protection;
 }) (line_of code)
 
--- the same in the code's own type
+-- what is known of a code, read from the code's own type `Info`
 abbrev pub info_seen : Info → Known
 info_seen i = record {
   name = i.name.now;
