@@ -67,7 +67,7 @@ heard-of h addr cell word arrival at stage =
     ∙ ap (λ a. is_whole (frame_of a (cell_write cell word)) arrival) at)
 
 module _ (laws : Below) (config : Config) (passes : ℕ) where
-  -- of a life
+  -- an order's first write is heard whole in a life exactly if it arrives whole
   sent-heard : (events : List Event) (cell : Cell) (word : ℕ) (arrival : Arrival) →
       IsLived config passes (Deliver arrival ∷ events) → (now config passes events).host.stage ≡ Some (Writes cell word 0) →
       hears_whole (now config passes (Deliver arrival ∷ events)).host arrival
@@ -130,7 +130,7 @@ module _ (laws : Below) (config : Config) (passes : ℕ) where
     go (Some job) e = (job, e)
     go None e = cc
 
-  -- where the job stands then
+  -- the stage after an event that asks for a job is the one that the job begins with
   job-stage : (s : State) (event : Event) (job : host.Job) → asked s event ≡ Some job →
       (next s event).host.stage ≡ (begins s.host job).after.stage
   unfolding host_next

@@ -56,7 +56,7 @@ whole-read config passes request before reads =
           ∙ ap₂ (λ a b. true && a && b) (same_bytes frame) (same_bytes answer);
     }
 
--- of a cell
+-- an exchange that comes whole reads a cell
 pub whole-cell : (config : Config) (passes : ℕ) (cell : Cell) (before : List Event) →
     IsRead config passes (cell_read cell) before (Exchange Whole back.Whole ∷ before)
 whole-cell config passes cell before = whole-read config passes (cell_read cell) before (reads_cell cell)
