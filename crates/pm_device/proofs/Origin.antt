@@ -86,7 +86,7 @@ later-ever config past event cell word h = record {
   number = h.number;
 }
 
--- a later write carried a cell's word if the cell didn't get its word from the store since
+-- a word carried since the cell last got its word in the store is so after one more event, if that doesn't bring the cell that word
 later-carried : (config : Config) (past : List Event) (event : Event) (cell : Cell) (word : ℕ) →
     loads cell (outcome_of config (kept config past) event) ≡ false →
     WasCarried config past cell word → WasCarried config (event ∷ past) cell word

@@ -196,7 +196,7 @@ abbrev Keeps : Config → ℕ → List Event → List Event → Stage → Turn �
 Keeps config passes before after stage (Ends end) = end ≡ good_end config passes before stage
 Keeps config passes before after stage (GoesOn next) = good_end config passes after next ≡ good_end config passes before stage
 
--- one frame less is left after a turn
+-- at least one frame less is left after a turn
 abbrev Fewer : ℕ → Stage → Turn → Type 0
 Fewer passes stage (Ends end) = 1 ≤ frames_from passes stage
 Fewer passes stage (GoesOn next) = 1 + frames_from passes next ≤ frames_from passes stage

@@ -83,7 +83,7 @@ cell-kept : (held : Held) (cell : Cell) (word : ℕ) (there allowed fits : Bool)
 cell-kept held cell word there true fits p q = rw (p, q) refl
 cell-kept held cell word there false fits p q = rw p refl
 
--- a whole write of WRITE_PROTECT with a word that it accepts: by whether it allows it
+-- a whole write of WRITE_PROTECT with a word that it accepts: by whether it allows that write
 plain-kept : (held : Held) (word : ℕ) (allowed fits : Bool) → fits ≡ true →
     record (kept_in held) { words = cond (allowed && fits) (with_word held.words Protect word) held.words }
     ≡ kept_taken held (where_so allowed (Some (pending.Order Protect word)))
