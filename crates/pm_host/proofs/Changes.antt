@@ -135,11 +135,11 @@ pub turn_after_read : (n passes : ℕ) → eqb (n % 2) 0 ≡ false
     → (eqb (suc n % 2) 0 ≡ true) × ((suc n / 2 ≡ n / 2 + 1) × (eqb (n / 2 + 1) passes ≡ eqb (suc n) (2 * passes)))
 turn_after_read = search rules
 
--- what the summary makes of the end of a write, and of an answer, is what the look back says
+-- what the summary makes of the end of a write is what the look back says
 abbrev pub FinishedFollows : Summary → Option Job → List Entry → Bool → Type 0
 FinishedFollows s job told acked = finished s (stage_by s.setup job told) acked ≡ finished_change s job told acked
 
--- likewise of an answer
+-- what the summary makes of an answer is what the look back says
 abbrev pub GotFollows : Summary → Option Job → List Entry → List ℕ → Type 0
 GotFollows s job told bytes = answered s (stage_by s.setup job told) bytes ≡ got_change s job told bytes
 

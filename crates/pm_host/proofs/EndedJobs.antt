@@ -233,7 +233,7 @@ now_places setup entries = record {
   standing = length-table places (standing_of (marks setup entries));
 }
 
--- in a transcript
+-- the step and the host after an entry of a frame in a transcript are those that the frame tells
 pub entry-tells : CellsHavePlaces → TranscriptsAreFollowed → (setup : Setup) (entries : List Entry) (entry : Entry) → IsSetup setup
     → AreTold setup (entry ∷ entries) → is_of_frame entry ≡ true
     → StepTells (now setup entries) entry (step_by (end_of setup (entry ∷ entries))) (now setup (entry ∷ entries))
@@ -262,7 +262,7 @@ open_of-job : (setup : Setup) (job : Option Job) (told : List Entry)
 open_of-job setup None told = refl
 open_of-job setup (Some job) told = ap Some (stage_of-job setup job told)
 
--- in a transcript
+-- the job that a host has open after a transcript is the transcript's open job
 pub now-job : (setup : Setup) (entries : List Entry) → job_in (now setup entries) ≡ open_job setup entries
 unfolding now stage_of
 now-job setup entries = open_of-job setup (open_job setup entries) (told_since entries)

@@ -29,13 +29,12 @@ no_cell_known = record {
 abbrev pub cell_count : ℕ → ℕ
 cell_count outputs = outputs * register_count + 1
 
--- the first so many of them have their numbers, output by output, each with its registers in their order, and
--- WRITE_PROTECT last
+-- the first `count` cells have their numbers, output by output, each with its registers in their order, and WRITE_PROTECT last
 abbrev pub AreKnown : Summary → ℕ → List KnownCell → Type 0
 AreKnown s count cells = (number : ℕ) → number < count →
     IsKnown s (nth_cell s.setup.outputs number) (slice_index_or cells number no_cell_known)
 
--- all of them
+-- the numbers of all cells of a device
 pub record IsKnownOf (s : Summary) (known : KnownCells) : Type 0 where
   pub count : known.count ≡ cell_count s.setup.outputs
   pub cells : AreKnown s known.count known.cells

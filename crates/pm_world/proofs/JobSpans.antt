@@ -87,7 +87,7 @@ comes-open : (stage : Option Stage) (test : Message → Bool) → option_map_or 
 comes-open None test h = absurd (false≢true h)
 comes-open (Some stage) test h = refl
 
--- whichever it is
+-- a job is open while an entry of a frame may come
 frame-open : (s : Summary) (entry : host.Entry) → may_come s entry ≡ true → is_of_frame entry ≡ true → IsSome (job_in s)
 frame-open s (host.Finished acked) comes frame = comes-open s.stage (λ message. not (is_read_message message)) comes
 frame-open s (host.Got bytes) comes frame = comes-open s.stage is_read_message comes

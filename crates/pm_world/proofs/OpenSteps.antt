@@ -117,7 +117,7 @@ left-lists laws config passes events lived h =
     ap lists_other (now-possible laws config passes events Protect lived tt)
     ∙ open-lists (marks (setup_of config passes) (since config passes events)) h
 
--- all that is left open
+-- marks together are open if each part is
 open-all : (new ms : List Mark) → are_open new ≡ true → are_open ms ≡ true → are_open (new ++ ms) ≡ true
 open-all new ms a b = open-append new ms ∙ ap₂ (λ x y. x && y) a b
 

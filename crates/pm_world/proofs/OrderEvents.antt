@@ -90,14 +90,14 @@ plain-kept : (held : Held) (word : ℕ) (allowed fits : Bool) → fits ≡ true 
 plain-kept held word true fits q = rw q refl
 plain-kept held word false fits q = refl
 
--- a store, and a restore
+-- a whole write of a store makes what the store does, if WRITE_PROTECT allows it
 store-kept : (held : Held) (allowed : Bool) →
     record (kept_in held) { store = cond allowed (with_outputs held.store held.words) held.store }
     ≡ kept_taken held (where_so allowed (Some pending.Store))
 store-kept held true = refl
 store-kept held false = refl
 
--- likewise
+-- a whole write of a restore makes what the restore does, if WRITE_PROTECT allows it
 restore-kept : (held : Held) (allowed : Bool) →
     record (kept_in held) { words = cond allowed (with_outputs held.words held.store) held.words }
     ≡ kept_taken held (where_so allowed (Some pending.Restore))

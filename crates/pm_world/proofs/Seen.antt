@@ -285,7 +285,7 @@ between-started config passes cell (event ∷ before) between =
       | inr older ↦ between-started config passes cell before older
     ]))
 
--- both promises
+-- the host's possible words are as `PossibleIsHeld` says after the events of a life
 pub possible-held : Below → (config : Config) (passes : ℕ) (events : List Event) → IsLived config passes events →
     PossibleIsHeld config passes events (now config passes events)
 unfolding now state_of

@@ -51,7 +51,7 @@ put-possible laws ms c cell w x h = laws.possible_words_are_followed.put ms c ce
   go true = ap (λ p. p || eqb w x) h
   go false = h
 
--- it confirms nothing
+-- a write that begins confirms nothing
 put-confirms : (b : Bool) (rest : Standing) (word : ℕ) → cond b Unknown rest ≡ Confirmed word → rest ≡ Confirmed word
 put-confirms true rest word h = cc
 put-confirms false rest word h = h
@@ -185,7 +185,7 @@ goods-known laws no_good is known = known
 goods-known laws (one_good read word asked good) is known =
     good-known laws read word (is read word asked good) known
 
--- one more entry
+-- what is known holds after a job was accepted
 pub accepted-known : Below → (setup : Setup) (entries : List Entry) (cell : Cell) (restarted : Bool) (words : Words) (job : Job) →
     IsKnown (marks setup entries) cell restarted words → IsKnownAfter setup entries cell restarted (Some (Accepted job)) words
 accepted-known laws setup entries cell restarted words job known =

@@ -237,7 +237,7 @@ sweeps-parts config passes (cell ∷ cells) others before after s =
     let rest = sweeps-parts config passes cells others s.0 after s.2 in
     record { middle = rest.middle; first = (s.0, s.1, rest.first); second = rest.second }
 
--- all cells, and all but the last once more
+-- the converter's word is alone possible for each cell after all cells were checked, and all but the last once more
 pub swept : Below → {config : Config} {passes : ℕ} (before after : List Event) (cells : List Cell) (last : Cell) →
     IsLived config passes after → AreThere config.count (last ∷ cells) → Sweeps config passes (cells ++ last ∷ cells) before after →
     (cell : Cell) → is_among cell (last ∷ cells) ≡ true →

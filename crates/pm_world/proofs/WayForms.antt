@@ -78,7 +78,7 @@ module _ (laws : Below) (config : Config) (passes : ℕ) where
       (ap (λ (t : State). t.host) (now-next laws config passes events (Deliver arrival) lived) ∙ next-deliver-host s arrival)
       ∙ heard-of s.host config.addr cell word arrival (ap (λ (u : host.Setup). u.addr) (now-setup config passes events)) stage
 
-  -- after a delivery
+  -- the way has its form after a delivery
   delivered-form : (before : List Event) (arrival : Arrival) (way : Way) →
       IsLived config passes (Deliver arrival ∷ before) → FormOf config passes before way →
       FormOf config passes (Deliver arrival ∷ before)
@@ -136,7 +136,7 @@ module _ (laws : Below) (config : Config) (passes : ℕ) where
   unfolding host_next
   job-stage s event job asks = ap (λ (t : State). t.host.stage) (asked-next s event job asks)
 
-  -- after a job was accepted
+  -- the way has its form after a job was accepted
   begun-form : (before : List Event) (event : Event) (job : host.Job) →
       IsLived config passes (event ∷ before) → asked (now config passes before) event ≡ Some job →
       FormOf config passes (event ∷ before) (begun (now config passes (event ∷ before)) (now config passes (event ∷ before)).host.stage)

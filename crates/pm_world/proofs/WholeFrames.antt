@@ -75,7 +75,7 @@ whole-sent config passes before cell word allowed = record {
   heard = heard-whole (frame_of config.addr (cell_write cell word));
 }
 
--- such an order is undisturbed
+-- an order whose frames come whole is undisturbed
 pub whole-order : (config : Config) (passes : ℕ) (before : List Event) (cell : Cell) (word : ℕ) (acked : Bool) →
     is_allowed (word_at (now config passes before).device.words Protect) (cell_code cell) ≡ true →
     WasUndisturbed config passes cell word (Exchange Whole back.Whole ∷ Finish acked ∷ Deliver Whole ∷ Order cell word ∷ before)
