@@ -35,7 +35,7 @@ pub extern "C" fn pm_host_standing(
     ACCEPTED
 }
 
-/// The numbers of what is said of a cell, each 0 if the flag isn't 0 or 1, which damaged memory may have.
+/// The numbers of what is said of a cell, each 0 unless the flag is 1: damaged memory may have any flag.
 pub(crate) fn flagged(standing: StandingImage) -> StandingImage
     ensures same { standing_held result ≡ standing_held standing }
     ensures flag { result.is_confirmed ≤ 1 }
