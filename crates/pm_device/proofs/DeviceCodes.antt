@@ -190,11 +190,11 @@ carried-heard exact held bytes others h =
     ∙ (carried-alike held.config held.words held.page h.page h.other h.code h.payload h.device h.there.0 h.there.1
     ∙ sym (heard-write exact held (PagePlusWrite h.other h.code h.payload) others h.two)))
 
--- the same where another page is selected
+-- what a converter holds, with another page selected
 moved : Held → ℕ → Held
 moved held page = record held { page = page }
 
--- what isn't answered by bytes is answered alike there
+-- a verdict that isn't answered by bytes is answered alike with another page selected
 reply-moved : (held : Held) (page : ℕ) (verdict : Verdict) →
     ((items : List ℕ) → reply_to held verdict ≢ Answer (record { items = items })) →
     reply_to held verdict ≡ reply_to (moved held page) verdict

@@ -70,7 +70,7 @@ any-gives Q test (start ∷ starts) e each =
     go true is h later = each 0 (omega arith) is
     go false is h later = later h
 
--- where a mode has a format it is read, and where it is DIRECT the coefficients are a format's
+-- a mode that makes a format was read, and if it is DIRECT its coefficients make a format
 made-read : (read : Result VoutMode TableFault) (c : Coefficients) (shape : Shape) →
     option_and_then (λ mode. result_ok (shape_in mode c)) (result_ok read) ≡ Some shape →
     (result_err read ≡ None) × (is_direct read ≡ true → result_err (shape_in Direct c) ≡ None)

@@ -11,11 +11,11 @@ use Rattle.pm_device.specs.Held.{CmlFaults, Held, Measured}
 use Rattle.pm_device.specs.Image.{config_held, device_of, held, is_current, is_set, latches_held, may_hold, readings_held}
 use Rattle.pm_device.specs.Start.{config_fault}
 
--- where one half fails the whole does
+-- the whole of two halves fails if the first half does
 left-fails : (a b : Bool) → a ≡ false → (a && b) ≡ false
 left-fails a b e = ap (λ (x : Bool). x && b) e
 
--- where the second of two halves fails the whole does, whatever the first says
+-- the whole of two halves fails if the second half does, whatever the first says
 right-fails : (a b : Bool) → b ≡ false → (a && b) ≡ false
 right-fails false b e = refl
 right-fails true b e = e

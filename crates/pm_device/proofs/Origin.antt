@@ -1,4 +1,4 @@
--- Where the words of the cells come from, over a converter's whole past.
+-- The frames and start words that the words of the cells come from, over a converter's whole past.
 use Rattle.std.proofs.Common.{◌≡◌, ◌⊎◌, inl, inr, ℕ, ◌≤◌, Bool, true, false, cond, eqb, Option, Some, None, List, [], ◌∷◌, refl, sym}
 use Rattle.std.proofs.Common.{◌∙◌, ap, subst}
 use Rattle.std.proofs.Math.Bool.{and-false}
@@ -86,7 +86,7 @@ later-ever config past event cell word h = record {
   number = h.number;
 }
 
--- where the cell didn't get its word in the store since, a later write carried it
+-- a word carried since the cell last got its word in the store is so after one more event, if that doesn't bring the cell that word
 later-carried : (config : Config) (past : List Event) (event : Event) (cell : Cell) (word : ℕ) →
     loads cell (outcome_of config (kept config past) event) ≡ false →
     WasCarried config past cell word → WasCarried config (event ∷ past) cell word

@@ -124,7 +124,7 @@ past-without_others followed config (Reading output code word ∷ past) some few
 record IsOther (fault : Option FrameFault) : Type 0 where
   differs : fault ≡ Some NotOurs → ⊥
 
--- Where there is no fault it isn't F1.
+-- The absence of a fault isn't F1.
 none-other : IsOther None
 none-other = record { differs = λ e. cc }
 

@@ -43,7 +43,7 @@ after-refused held (Refuses found) fault e =
     ap (λ f. record held { faults = f })
     (noted held.faults found (fault_bit found) refl ∙ ap (λ f. with_bit held.faults (fault_bit f)) same)
 
--- the same of what was heard
+-- bytes that are refused set the bit of the refusal's kind, and nothing else changes
 pub next-refused : (held : Held) (bytes : List ℕ) (ending : Ending) (fault : DeviceFault) → reply_of held bytes ending ≡ Refused fault
     → next held (Hearing bytes ending) ≡ record held { faults = with_bit held.faults (fault_bit fault) }
 unfolding reply_of next
@@ -57,7 +57,7 @@ after-silent held (Takes act) e = cc
 after-silent held (Answers request) e = cc
 after-silent held (Refuses found) e = cc
 
--- the same of what was heard
+-- bytes that are met with silence change nothing
 pub next-silent : (held : Held) (bytes : List ℕ) (ending : Ending) → reply_of held bytes ending ≡ Silent
     → next held (Hearing bytes ending) ≡ held
 unfolding reply_of next
@@ -104,7 +104,7 @@ after-taken held (Takes act) Data e h = unset (act_clears_cml Data act) held.fau
 after-taken held (Takes act) Pec e h = unset (act_clears_cml Pec act) held.faults.pec h
 after-taken held (Takes act) OtherCommunication e h = unset (act_clears_cml OtherCommunication act) held.faults.other_communication h
 
--- the same of what was heard
+-- a bit that is set after bytes that are a taken write was set before them
 pub next-taken : (held : Held) (bytes : List ℕ) (ending : Ending) (bit : CmlBit) → reply_of held bytes ending ≡ Taken
     → cml_at (next held (Hearing bytes ending)).faults bit ≡ true → cml_at held.faults bit ≡ true
 unfolding reply_of next

@@ -197,7 +197,7 @@ taken-can config words page message act h here =
     can-act config.count (output_in page message) act (output-there config.count page message h.there here)
     (acts-on (message_code message) (output_in page message) (written_word message) act h.asked) h.selected h.accepted
 
--- the same of what was heard
+-- an act that is heard in bytes and taken can be done
 pub verdict-can : (config : Config) (words : Words) (page : ℕ) (bytes : List ℕ) (ending : Ending) (act : Act)
     → verdict_of config words page bytes ending ≡ Takes act → page < config.count → CanAct config.count act
 verdict-can config words page bytes ending act e here =

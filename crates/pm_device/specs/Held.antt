@@ -33,7 +33,7 @@ no_readings = record {
   outputs = replicate (length output_readings) (replicate 8 0);
 }
 
--- where a code stands in a list of them
+-- the place of a code in a list of codes
 abbrev pub place_among : List ℕ → ℕ → Option ℕ
 place_among readings code = position (λ reading. reading == code) readings
 

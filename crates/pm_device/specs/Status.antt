@@ -99,7 +99,7 @@ act_clears_cml bit (ClearFaults output) = true
 act_clears_cml bit (ClearCml byte) = has_bit byte (cml_mask bit)
 act_clears_cml bit _ = false
 
--- the same of what an event came to: a restart clears all
+-- what an event came to clears a bit: it is an act that does by `test`, or a restart, which clears all
 abbrev pub clears : (Act → Bool) → Outcome → Bool
 clears test (Heard (Takes act)) = test act
 clears test Restarts = true

@@ -112,7 +112,7 @@ pub fn is_reading(code: Code) -> bool
     place_among(&DEVICE_READINGS, code).is_some() || place_among(&OUTPUT_READINGS, code).is_some()
 }
 
-// Where a code stands among these.
+// The place of a code among `codes`; None if it isn't one of them.
 fn place_among(codes: &[Code], code: Code) -> Option<usize>
     ensures place { result ≡ position (λ reading. reading.0 == code.0) codes.now }
     ensures there { IfSome result (λ place. place < length codes.now) }

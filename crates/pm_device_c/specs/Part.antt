@@ -30,7 +30,7 @@ pub record HasReply (heard : Heard) (before after : ReplyImage) : Type 0 where
   pub rest : drop after.length after.bytes ≡ drop after.length before.bytes
   pub unused : after.unused ≡ before.unused
 
--- where the memory holds no part all of it stays
+-- the reply's memory after what a part heard; it stays as it was if the memory of the part holds none
 abbrev pub IsReply : Option Heard → ReplyImage → ReplyImage → Type 0
 IsReply None before after = after ≡ before
 IsReply (Some heard) before after = HasReply heard before after

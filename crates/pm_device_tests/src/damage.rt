@@ -150,7 +150,8 @@ fn is_another_request(rt: &impl Abort, sent: &Message, bytes: &[u8]) -> Result<(
     Ok(())
 }
 
-// So is a request that is cut at this place, or whose byte there is changed in one bit.
+// A request that is cut at this place is none. One whose byte there is changed in a bit may be another one,
+// whose answer is refused by a host that sent the first.
 fn is_betrayed_request(
     rt: &impl Abort,
     sent: &Message,

@@ -44,7 +44,7 @@ ones_below-cat a m n (suc j) h =
     let bit : bit_at (a * 2 ^ n + m) (j + n) ≡ bit_at a j = bit_at_cat_high a n m (j + n) h (omega arith) ∙ ap (bit_at a) back in
     ap (ones_below (a * 2 ^ n + m)) size ∙ ap₂ (λ (x y : ℕ). x + y) bit (ones_below-cat a m n j h) ∙ omega arith
 
--- where there are no ones each bit is 0
+-- each bit of e below `count` is 0 if there are no ones below `count`
 bits-none : (e count j : ℕ) → ones_below e count ≡ 0 → j < count → bit_at e j ≡ 0
 unfolding ones_below
 bits-none e zero j h below = absurd (omega arith)

@@ -48,7 +48,7 @@ messages-shared bytes other same = (
   λ none. same_from_xor (pec_of bytes) (pec_of other) (sym (pec_of-changes bytes other same) ∙ none),
 )
 
--- The same bytes before two messages of one length decide nothing.
+-- Two messages of one length that follow the same bytes have one PEC exactly if the PEC of their changes is 0.
 behind : (front bytes other : List ℕ) → length bytes ≡ length other
     → (pec_of (front ++ bytes) ≡ pec_of (front ++ other) ↔ pec_of (changes bytes other) ≡ 0)
 behind front bytes other same =

@@ -221,7 +221,7 @@ carried-found {count} {page} {code} {rest} are_short addr are_bytes f pec =
               ∙ sym (ap (λ m. with_pec [] (sent addr m)) found ∙ ap (with_pec []) sent_is));
         }
 
--- where the first part of a false conjunction holds the second does not
+-- the second part of a false conjunction is false if the first part holds
 second_false : (a b : Bool) → a ≡ true → (a && b) ≡ false → b ≡ false
 second_false true b h e = e
 second_false false b h e = absurd (false≢true h)

@@ -9,7 +9,7 @@ use Rattle.pm_frame.specs.Fault.{opening_fault, length_fault, pec_fault}
 use Rattle.pm_frame.specs.Layout.{read_address, with_pec}
 use Rattle.pm_frame.specs.PlainRead.{code_request, most_read}
 
--- these are the bytes after the repeated start, with this payload
+-- the bytes are those after the repeated start of a block read, with this payload
 pub record IsBlockAnswer (addr code : ℕ) (payload bytes : List ℕ) : Type 0 where
   pub counted : length payload ≤ most_read
   pub spelled : bytes ≡ with_pec (code_request addr code) (read_address addr ∷ length payload ∷ payload)

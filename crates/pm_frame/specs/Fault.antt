@@ -21,7 +21,7 @@ use Rattle.pm_frame.specs.Pec.{pec_of}
 unfoldable pub address_fault : ℕ → List ℕ → Option FrameFault
 address_fault wanted bytes = rule (length bytes == 0 || not (slice_index bytes 0 == wanted)) NotOurs
 
--- the same, and F2 where nothing follows it
+-- F1 for no byte or another first one than wanted, and F2 if nothing follows the first byte
 unfoldable pub opening_fault : ℕ → List ℕ → Option FrameFault
 opening_fault wanted bytes =
     option_or (address_fault wanted bytes) (rule (length bytes == 1) (Short 1))

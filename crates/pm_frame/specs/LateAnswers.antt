@@ -15,9 +15,9 @@ pub record HaveOneForm (request other : Message) : Type 0 where
   pub count : has_count request ≡ has_count other
   pub size : answer_length request ≡ answer_length other
 
--- Where two requests have one PEC up to the read address, and their answers one form, what comes back is judged alike for
--- both, so that each answer to the one is an answer to the other, with the same payload. An answer to one request passes
--- for an answer to another only where the two have one PEC up to the read address.
+-- What comes back is judged alike for two requests that have one PEC up to the read address and answers of one form, so that each answer to
+-- the one is an answer to the other, with the same payload. An answer to one request passes for an answer to another only if the two have
+-- one PEC up to the read address.
 pub record LateAnswersPass : Type 0 where
   pub judged : (addr : ℕ) (request other : Message) (bytes : List ℕ) → HaveOneForm request other →
       request_code addr request ≡ request_code addr other → answer_fault addr request bytes ≡ answer_fault addr other bytes

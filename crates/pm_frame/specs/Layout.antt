@@ -110,19 +110,19 @@ AreBytes bytes = (place : ℕ) → slice_index bytes place < 2 ^ 8
 abbrev pub with_pec : List ℕ → List ℕ → List ℕ
 with_pec before bytes = bytes ++ pec_of (before ++ bytes) ∷ []
 
--- these are all the bytes of a packet that writes
+-- the bytes are all those of a packet that writes
 pub record IsWrite (addr : ℕ) (message : Message) (bytes : List ℕ) : Type 0 where
   pub writes : is_read_message message ≡ false
   pub fits : fits_layout message ≡ true
   pub spelled : bytes ≡ with_pec [] (sent addr message)
 
--- these are the bytes of a read before its repeated start
+-- the bytes are those of a read before its repeated start
 pub record IsRequest (addr : ℕ) (message : Message) (bytes : List ℕ) : Type 0 where
   pub reads : is_read_message message ≡ true
   pub fits : fits_layout message ≡ true
   pub spelled : bytes ≡ sent addr message
 
--- these are the bytes of a read after its repeated start
+-- the bytes are those of a read after its repeated start
 pub record IsAnswer (addr : ℕ) (request : Message) (payload bytes : List ℕ) : Type 0 where
   pub reads : is_read_message request ≡ true
   pub fits : fits_layout request ≡ true

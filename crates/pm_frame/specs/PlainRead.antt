@@ -15,7 +15,7 @@ most_read = 32
 abbrev pub code_request : ℕ → ℕ → List ℕ
 code_request addr code = write_address addr ∷ code ∷ []
 
--- these are the bytes after the repeated start, for this many bytes of payload
+-- the bytes are those after the repeated start of a read of `size` bytes, with this payload
 pub record IsPlainAnswer (addr code size : ℕ) (payload bytes : List ℕ) : Type 0 where
   pub counted : length payload ≡ size
   pub spelled : bytes ≡ with_pec (code_request addr code) (read_address addr ∷ payload)

@@ -3,7 +3,7 @@ use Rattle.std.specs.Prelude.{◌≡◌, ◌≢◌, ◌≤◌, ℕ, List, length
 use Rattle.pm_table.specs.Codes as command
 use Rattle.pm_frame.specs.Layout.{AreBytes}
 
--- these are bytes, as many as a packet that writes has, or the request of one that reads
+-- the bytes are bytes, as many as a packet that writes has, or the request of one that reads
 pub record IsWhole (bytes : List ℕ) : Type 0 where
   pub are_bytes : AreBytes bytes
   pub two : 2 ≤ length bytes

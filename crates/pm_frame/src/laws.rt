@@ -1,6 +1,6 @@
-//! The laws between the layouts, the faults and the PEC, over the definitions alone: each is the
-//! contract of a function that does nothing, or hands a law below to the prover. What each says
-//! stands in the definitions, under its name.
+//! The laws between the layouts, the faults and the PEC, over the definitions alone: each is the contract of
+//! a function that does nothing, or calls a law below. What each says stands in the definitions, under its
+//! name.
 
 ghost use Rattle.pm_frame.specs.Laws.{WritesAreExact, RequestsAreExact, AnswersAreExact, DamageIsRefused, BetrayalIsRefused};
 ghost use Rattle.pm_frame.specs.LateAnswers.{LateAnswersPass};
@@ -15,7 +15,6 @@ use pm_table::payloads_are_short;
 pub fn writes_are_exact()
     ensures { WritesAreExact }
 {
-    // A law for the prover: it does nothing.
     payloads_are_short();
 }
 
@@ -43,7 +42,6 @@ pub fn damage_is_refused()
 pub fn betrayal_is_refused()
     ensures { BetrayalIsRefused }
 {
-    // A law for the prover: it does nothing.
     damage_is_refused();
 }
 

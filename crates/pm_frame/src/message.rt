@@ -108,7 +108,7 @@ impl Message {
         )
     }
 
-    /// Where the payload begins in its answer.
+    /// The place of the payload's first byte in the answer to this message.
     pub(crate) fn payload_place(&self) -> usize
         ensures { result ≡ (if has_count self.now then 2 else 1) }
     {

@@ -1,4 +1,4 @@
-//! Where the bytes of a packet stand, from place 0, the address with its direction.
+//! The places of a packet's bytes, from place 0, the address with its direction.
 
 /// The code, in a packet of the host.
 pub(crate) const CODE: usize = 1;

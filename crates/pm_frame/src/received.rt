@@ -37,7 +37,6 @@ pub fn read_write(addr: u8, bytes: &[u8]) -> Result<FrameView<'_>, FrameFault>
     ensures accepts { (message : Message) → IsWrite addr message bytes.now →
         IsOkAnd result (λ found. found ≡ message) }
 {
-    // A law for the prover: it does nothing.
     payloads_are_short();
     written(addr, bytes)?;
     Ok(FrameView::new(bytes))

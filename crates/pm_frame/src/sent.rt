@@ -39,7 +39,6 @@ pub fn answer(addr: u8, request: &Message, payload: &[u8]) -> Frame
     requires counted { length payload.now ≡ answer_length request.now }
     ensures { IsAnswer addr request.now payload.now result.items }
 {
-    // A law for the prover: it does nothing.
     payloads_are_short();
     let mut frame = answered(addr, request, payload);
     let code = pec_after(pec(sent(addr, request).as_slice()), frame.as_slice());

@@ -8,7 +8,7 @@ use pm_frame::{
     Frame, FrameFault, Message, answer, is_betrayed, read_answer, read_request, read_write,
 };
 
-/// The message, the page, the code and the payload that a write shows.
+/// The message, the page and the code that a write shows.
 pub(crate) fn write_shown(addr: u8, bytes: &[u8]) -> Result<(Message, Option<u8>, u8), FrameFault>
     requires { IsAddress addr }
 {
@@ -26,7 +26,7 @@ pub(crate) fn write_carries(addr: u8, bytes: &[u8], payload: &[u8]) -> bool
     }
 }
 
-/// The same of a request.
+/// The message, the page and the code that a request shows.
 pub(crate) fn request_shown(addr: u8, bytes: &[u8]) -> Result<(Message, Option<u8>, u8), FrameFault>
     requires { IsAddress addr }
 {

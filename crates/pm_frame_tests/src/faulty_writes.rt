@@ -246,7 +246,7 @@ fn a_count_below_two_comes_before_the_code_at_its_place(rt: HostRuntime) {
     }
 }
 
-// These bytes and so many more of one value.
+// The bytes of `front`, and after them so many of one value.
 fn lengthened(alloc: Global, front: &[u8], byte: u8, count: usize) -> Result<Vec<u8>, AllocError> {
     let mut bytes = front.to_vec(alloc)?;
     let rest = vec![in alloc; byte; count]?;

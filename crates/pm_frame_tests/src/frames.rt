@@ -126,7 +126,8 @@ pub(crate) static WRITES: [WriteRow; 19] = [
         code: 0x21,
         payload: &[0xCD, 0x34],
     },
-    // These two share their PEC with the write above: 01h and 07h changed in page and code, or in the word's bytes.
+    // The next two rows share their PEC with the write above: 01h and 07h changed in page and code, or in the
+    // word's bytes.
     WriteRow {
         addr: 0x58,
         message: Message::PagePlusWrite {

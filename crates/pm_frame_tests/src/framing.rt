@@ -56,8 +56,8 @@ pub(crate) fn fails(rt: &impl Abort, row: usize, found: Option<FrameFault>, want
     agrees(rt, row, &found, &Some(wanted));
 }
 
-// Calls with long contracts, of which the rows need nothing: the prover carries none of them through their
-// loops.
+// Calls without the long contracts of what they call: the rows need nothing of these, and no proof carries
+// them through its loops.
 
 /// The fault of a write.
 pub(crate) fn write_fault(addr: u8, bytes: &[u8]) -> Option<FrameFault>

@@ -109,7 +109,7 @@ fn a_code_fits_the_layout_of_its_direction_and_length(rt: HostRuntime) {
 }
 
 static UNFITTING: [Message; 35] = [
-    // of another length
+    // messages of another length than their code has
     Message::SendByte { code: 0x10 },
     Message::WriteByte {
         code: 0x03,

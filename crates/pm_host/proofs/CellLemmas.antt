@@ -44,7 +44,7 @@ table-set law f g c v there at others =
           ∙ sym (get_or-set_other (table n f) (place_of c) k v d apart)
     ])
 
--- the same element for each
+-- a table of one element for every cell is a list of that element alone
 pub table-same : {X : Type 0} (n : ℕ) (f : Cell → X) (v : X) → ((c : Cell) → f c ≡ v) → table n f ≡ replicate n v
 table-same n f v same =
     same_lists _ _ (length-table n f ∙ sym (length-replicate n v)) (λ k d h.

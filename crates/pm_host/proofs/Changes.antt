@@ -72,7 +72,7 @@ got_change s job told bytes = record {
   step = step_by (end_by s.setup job (Got bytes ∷ told));
 }
 
--- the same of a write that was sent, and of a job that is accepted
+-- what the look back says of a write that was sent
 abbrev pub finished_change : Summary → Option Job → List Entry → Bool → Change
 finished_change s job told acked = record {
   after = record {
@@ -84,7 +84,7 @@ finished_change s job told acked = record {
   step = step_by (end_by s.setup job (Finished acked ∷ told));
 }
 
--- what it says of a job that is accepted
+-- what the look back says of a job that is accepted
 abbrev pub accepted_change : Summary → Job → Change
 accepted_change s job = record {
   after = record {
@@ -104,7 +104,7 @@ writes_at stage = option_map_or (λ message. not (is_read_message message)) (opt
 abbrev pub reads_at : Option Stage → Bool
 reads_at stage = option_map_or is_read_message (option_map stage_message stage) false
 
--- where a write is sent, or a read, the job is open
+-- the job is open and its next frame is a write
 abbrev pub WritesBy : Setup → Option Job → List Entry → Type 0
 WritesBy setup None told = ⊥
 WritesBy setup (Some (Order cell word)) told = (is_none (order_end setup cell word told) ≡ true) × (is_write_turn told ≡ true)
@@ -112,7 +112,7 @@ WritesBy setup (Some (Check cell)) told = ⊥
 WritesBy setup (Some (Learn output)) told = ⊥
 WritesBy setup (Some (Send sent)) told = is_none (send_end setup told) ≡ true
 
--- where a read is sent, the job is open
+-- the job is open and its next frame is a read
 abbrev pub ReadsBy : Setup → Option Job → List Entry → Type 0
 ReadsBy setup None told = ⊥
 ReadsBy setup (Some (Order cell word)) told = (is_none (order_end setup cell word told) ≡ true) × (is_write_turn told ≡ false)
@@ -120,12 +120,12 @@ ReadsBy setup (Some (Check cell)) told = is_none (check_end setup cell told) ≡
 ReadsBy setup (Some (Learn output)) told = is_none (learn_end setup output told) ≡ true
 ReadsBy setup (Some (Send sent)) told = ⊥
 
--- where the stage writes, the job does; where it reads, likewise
+-- the job's next frame is a write if the stage's is
 pub WritesBy-from : (setup : Setup) (job : Option Job) (told : List Entry) → writes_at (stage_by setup job told) ≡ true
     → WritesBy setup job told
 WritesBy-from = search rules
 
--- where the stage reads, the job does
+-- the job's next frame is a read if the stage's is
 pub ReadsBy-from : (setup : Setup) (job : Option Job) (told : List Entry) → reads_at (stage_by setup job told) ≡ true
     → ReadsBy setup job told
 ReadsBy-from = search rules
@@ -135,11 +135,11 @@ pub turn_after_read : (n passes : ℕ) → eqb (n % 2) 0 ≡ false
     → (eqb (suc n % 2) 0 ≡ true) × ((suc n / 2 ≡ n / 2 + 1) × (eqb (n / 2 + 1) passes ≡ eqb (suc n) (2 * passes)))
 turn_after_read = search rules
 
--- what the summary makes of the end of a write, and of an answer, is what the look back says
+-- what the summary makes of the end of a write is what the look back says
 abbrev pub FinishedFollows : Summary → Option Job → List Entry → Bool → Type 0
 FinishedFollows s job told acked = finished s (stage_by s.setup job told) acked ≡ finished_change s job told acked
 
--- likewise of an answer
+-- what the summary makes of an answer is what the look back says
 abbrev pub GotFollows : Summary → Option Job → List Entry → List ℕ → Type 0
 GotFollows s job told bytes = answered s (stage_by s.setup job told) bytes ≡ got_change s job told bytes
 

@@ -92,7 +92,7 @@ read_tells law s cell word pass read bytes false true whole there is e l =
     rw (e, l) (refl, ((is, (λ same. false≢true (sym e ∙ eq-eqb read word same)), marked-read law (idle s) cell read whole there), refl))
 read_tells law s cell word pass read bytes false false whole there is e l = rw (e, l) (refl, refl)
 
--- the same, or no good answer came
+-- what came back for an order's read, a good answer or none, tells what the step says
 back_tells : CellsHavePlaces → (s : Summary) (cell : Cell) (word pass : ℕ) (bytes : List ℕ) (read : Option ℕ) → HasPlaces s.known
     → IsCell 8 cell → IsOrdering s cell word pass → good_word s.setup.addr cell bytes ≡ read
     → Tells s (Some (Reads cell word pass)) (Got bytes) (read_back (idle s) cell word pass read)
@@ -218,7 +218,7 @@ frame_tells law s Restarted whole sound comes frame = absurd (false≢true frame
 told_frame : (told : Told) → is_of_frame (entry_told told) ≡ true
 told_frame = search rules
 
--- by the call
+-- the step and the host after a call that is told of a frame are those that the frame tells
 pub told-tells : (s new : Summary) (told : Told) (step : Step) → new ≡ next s (entry_told told) → step ≡ step_of s (entry_told told)
     → CellsHavePlaces → HasPlaces s.known → IsSound s → may_come s (entry_told told) ≡ true
     → StepTells s (entry_told told) step new
@@ -233,7 +233,7 @@ now_places setup entries = record {
   standing = length-table places (standing_of (marks setup entries));
 }
 
--- in a transcript
+-- the step and the host after an entry of a frame in a transcript are those that the frame tells
 pub entry-tells : CellsHavePlaces → TranscriptsAreFollowed → (setup : Setup) (entries : List Entry) (entry : Entry) → IsSetup setup
     → AreTold setup (entry ∷ entries) → is_of_frame entry ≡ true
     → StepTells (now setup entries) entry (step_by (end_of setup (entry ∷ entries))) (now setup (entry ∷ entries))
@@ -256,13 +256,13 @@ stage_of-job setup (Learn output) told = go (is_some (mode_told setup output tol
   go false = refl
 stage_of-job setup (Send command) told = refl
 
--- where there is one
+-- the job of an open job's stage is that job; None if none is open
 open_of-job : (setup : Setup) (job : Option Job) (told : List Entry)
     → option_map stage_job (option_map (λ j. job_stage setup j told) job) ≡ job
 open_of-job setup None told = refl
 open_of-job setup (Some job) told = ap Some (stage_of-job setup job told)
 
--- in a transcript
+-- the job that a host has open after a transcript is the transcript's open job
 pub now-job : (setup : Setup) (entries : List Entry) → job_in (now setup entries) ≡ open_job setup entries
 unfolding now stage_of
 now-job setup entries = open_of-job setup (open_job setup entries) (told_since entries)

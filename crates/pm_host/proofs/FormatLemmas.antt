@@ -14,7 +14,7 @@ use Rattle.pm_table.specs.Format.{is_decimal}
 use Rattle.pm_table.specs.VoutMode.{exponent_of}
 use Rattle.pm_host.specs.Memory.{format_image, mode_byte, IsFormat}
 
--- of ULINEAR16 the byte of VOUT_MODE
+-- the byte of VOUT_MODE of ULINEAR16 is written again from its exponent
 pub mode-again : (byte : ℕ) → byte < 32 → mode_byte (exponent_of byte) ≡ byte
 mode-again byte below =
     let small : byte % 32 ≡ byte = omega arith in
@@ -35,7 +35,7 @@ high-again low high l h =
     let back = of_z-to_z w16 (low + 256 * high) (omega arith) in
     ap (λ n. n / 256) back ∙ omega arith
 
--- of DIRECT the five bytes of COEFFICIENTS
+-- the five bytes of COEFFICIENTS are written again from the coefficients
 bytes-again : (a b c d e : ℕ) → a < 256 → b < 256 → c < 256 → d < 256 → e < 256
     → coefficient_bytes (coefficients_of (a ∷ b ∷ c ∷ d ∷ e ∷ [])) ≡ a ∷ b ∷ c ∷ d ∷ e ∷ []
 bytes-again a b c d e la lb lc ld le =

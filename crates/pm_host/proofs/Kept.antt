@@ -3,7 +3,7 @@ use Rattle.std.proofs.Common.{rules, ◌≡◌}
 use Rattle.pm_host.specs.Summary.{Summary, next}
 use Rattle.pm_host.specs.Transcript.{Entry}
 
--- by the definition of each change
+-- what a host was made with stays after an entry, by the definition of each change
 pub next-keeps : (s : Summary) (e : Entry) → (next s e).setup ≡ s.setup
 unfolding next
 next-keeps = search rules

@@ -47,11 +47,11 @@ finished-left : (s : Summary) (stage : Option Stage) (acked : Bool) → IsLeft s
     → IsLeft s.setup.passes (finished s stage acked).after.stage
 finished-left = search rules
 
--- where a job begins
+-- a pass or a try is left after a job begins
 begins-left : (s : Summary) (job : Job) → 1 ≤ s.setup.passes → IsLeft s.setup.passes (change s (Accepted job)).after.stage
 begins-left = search rules
 
--- after each entry
+-- a pass or a try is left after each entry if a job is open
 turn-left : (s : Summary) (e : Entry) → 1 ≤ s.setup.passes → IsLeft s.setup.passes s.stage → IsLeft s.setup.passes (change s e).after.stage
 turn-left s (Accepted job) some left = begins-left s job some
 turn-left s (Finished acked) some left = finished-left (idle s) s.stage acked left

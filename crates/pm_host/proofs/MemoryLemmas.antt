@@ -99,7 +99,7 @@ seen-known known other is other_is =
       seen = n;
     }) (ap (λ k. k.seen) other_is)
 
--- where a restart is seen, any word is possible
+-- what is known is written as it is meant once a restart is seen, when any word is possible
 pub surprised-known : (known : Knowledge) → IsKnown known
     → IsKnown (record { possible = replicate 49 (words_image Any); standing = known.standing; seen = 1 })
 unfolding IsKnown known_held

@@ -36,7 +36,7 @@ once_step w x xs false h =
       | inr apart ↦ rw (ne_eqb x w apart, ne_eqb w x (λ e. apart (sym e))) refl
     ])
 
--- the same for a list of any length
+-- one more word at the end of a list of any length comes in only if it isn't listed
 pub once-push : (w : ℕ) (xs : List ℕ) → once (xs ++ w ∷ []) ≡ cond (is_listed w xs) (once xs) (once xs ++ w ∷ [])
 once-push w [] = refl
 once-push w (x ∷ xs) = once_step w x xs (is_listed w xs) (once-push w xs)

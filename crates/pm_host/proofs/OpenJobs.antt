@@ -66,18 +66,18 @@ put_facts before cell word = (
   rw (same_cell-itself cell) refl,
 )
 
--- where an order's write is sent, the newest mark is its write
+-- the newest mark is an order's write while that write is sent
 put_newest : (job : Option Job) (told : List Entry) (cell : Cell) (word : ℕ) (before : List Mark) → job ≡ Some (Order cell word)
     → is_write_turn told ≡ true
     → put_by job told ++ before ≡ Put cell word ∷ before
 put_newest = search rules
 
--- the same where the newest mark is its write
+-- a word is possible and no word of its cell is confirmed if the newest mark is its write
 marked_facts : (marks' before : List Mark) (cell : Cell) (word : ℕ) → marks' ≡ Put cell word ∷ before
     → (is_possible word (possible_of marks' cell) ≡ true) × (standing_of marks' cell ≡ standing.Unknown)
 marked_facts marks' before cell word is = rw is (put_facts before cell word)
 
--- where its read is sent, there is no new mark
+-- no mark is new while an order's read is sent
 put_none : (job : Option Job) (told : List Entry) (cell : Cell) (word : ℕ) (before : List Mark) → job ≡ Some (Order cell word)
     → is_write_turn told ≡ false
     → put_by job told ++ before ≡ before
@@ -142,7 +142,7 @@ open_order setup (Got bytes ∷ entries) cell word made told is =
 open_order setup (Restarted ∷ entries) cell word made told is =
     absurd (none-some (Order cell word) (open_is_last setup (Restarted ∷ entries) (Order cell word) is).0)
 
--- where a restore is sent, the newest mark is its own
+-- the newest mark is a restore while that restore is sent
 restore_newest : (job : Option Job) (told : List Entry) (before : List Mark) → job ≡ Some (Send RestoreUserAll)
     → put_by job told ++ before ≡ Restored ∷ before
 restore_newest = search rules

@@ -24,7 +24,7 @@ AtMost-above l h x den le less =
 pub is_at_most-true : (p q : Ratio) → AtMost p q → is_at_most p q ≡ true
 is_at_most-true = search rules
 
--- the same test where it doesn't hold
+-- the test is false of a number that is above the other
 pub is_at_most-false : (p q : Ratio) → LessThan q p → is_at_most p q ≡ false
 is_at_most-false = search rules
 

@@ -34,7 +34,7 @@ use Rattle.pm_host.specs.Refusals.{is_within}
 use Rattle.pm_host.specs.Summary.{Summary, summary, possible_at, standing_at}
 use Rattle.pm_host.specs.Transcript.{Setup}
 
--- these words alone
+-- no word but the listed ones is possible
 abbrev pub listing : List ℕ → Possible
 listing words = Words (record { items = words })
 
@@ -85,12 +85,11 @@ stage_in i =
     else (if i.kind == 7 then at_command i None
     else None))))))
 
--- where the open job stands, if one is open: kind 0 is none; None for a kind or a command code that means
--- nothing
+-- the stage of the open job, if one is open: kind 0 is none; None for a kind or a command code that means nothing
 unfoldable pub stage_held : StageImage → Option (Option Stage)
 stage_held i = if i.kind == 0 then Some None else option_map (λ stage. Some stage) (stage_in i)
 
--- what a host holds whose open job stands there
+-- what a host holds whose open job is at this stage
 abbrev pub held : Option Stage → State → Summary
 held stage state = summary state.address state.outputs state.passes stage
     (formats_held state.formats) (known_held state.known)

@@ -52,7 +52,7 @@ pub record Begins {X : Type 0} (old : Summary) (job : Job) (result : Result X Ho
   -- it sends at most twice as many frames as it has passes
   pub left : OnOk result (frames_left new ≤ 2 * new.setup.passes)
 
--- where the job stands after the call that begins it, or what was open
+-- the stage of the open job after the call that begins a job; it is what it was before if the call refuses
 abbrev pub begun_at : Option Stage → Result Stage HostFault → Option Stage
 begun_at before (Ok stage) = Some stage
 begun_at before (Err fault) = before

@@ -27,7 +27,7 @@ use Rattle.pm_host.specs.Transcript.{Setup, Order, Send, Entry, open_job, end_of
 -- What a host holds after its transcript, which the definitions find by looking back over the whole
 -- of it, is what one entry after another makes of its start.
 pub record TranscriptsAreFollowed : Type 0 where
-  -- of no entry, and of one more
+  -- the host holds its start after no entry, and after one more what that entry makes of what it held
   pub none : (setup : Setup) → IsSetup setup → now setup [] ≡ start setup
   pub more : (setup : Setup) (entries : List Entry) (entry : Entry) → IsSetup setup
       → AreTold setup (entry ∷ entries) → now setup (entry ∷ entries) ≡ next (now setup entries) entry

@@ -32,7 +32,7 @@ pub possible_of-put_other : (before : List Mark) (cell d : Cell) (word : ℕ) �
 unfolding possible_of
 possible_of-put_other = search rules
 
--- Where any word is possible in each place there are as many as places.
+-- The list of places at which any word is possible has as many elements as there are places.
 pub all_any-length : length all_any ≡ places
 unfolding all_any
 all_any-length = length-replicate places Any

@@ -63,7 +63,7 @@ format_image (Some (InDirect m b r)) = record {
 }
 format_image _ = record { mode = 0xFF; coefficients = replicate 5 0xFF }
 
--- where an open job stands at a cell, at an output, and with a command
+-- the stage of an open job at a cell, at an output, with a question, and with a command, as plain numbers
 abbrev pub cell_stage : ℕ → Cell → ℕ → ℕ → StageImage
 cell_stage kind cell word count =
     record { kind = kind; code = cell_code cell; output = output_of cell; count = count; word = word }
@@ -82,7 +82,7 @@ command_stage (ClearFaults output) count =
 command_stage command count =
     record { kind = 7; code = command_code command; output = 0; count = count; word = 0 }
 
--- where it stands; None where none is open
+-- the stage of the open job as plain numbers, all 0 if none is open
 abbrev pub stage_image : Option Stage → StageImage
 stage_image None = output_stage 0 0 0
 stage_image (Some (Writes cell word pass)) = cell_stage 1 cell word pass
@@ -90,7 +90,8 @@ stage_image (Some (Reads cell word pass)) = cell_stage 2 cell word pass
 stage_image (Some (Asks question tries)) = question_stage question tries
 stage_image (Some (Sends command tries)) = command_stage command tries
 
--- these words are written so, what is said is, what is known, and the formats
+-- an image has the numbers that are written for what it means: of possible words, of what is said of a cell, of what is known, and of the
+-- formats
 abbrev pub AreWords : WordsImage → Type 0
 AreWords words = words ≡ words_image (words_held words)
 

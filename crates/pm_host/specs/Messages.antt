@@ -50,7 +50,7 @@ abbrev pub command_message : Command → Message
 command_message sent = option_map_or (λ output. PagePlusWrite output (command_code sent) Empty)
     (command_output sent) (SendByte (command_code sent))
 
--- these are the bytes that a host puts on the wire for a message
+-- the bytes are those that a host puts on the wire for a message
 pub record IsFrameOf (addr : ℕ) (message : Message) (bytes : List ℕ) : Type 0 where
   pub write : is_read_message message ≡ false → IsWrite addr message bytes
   pub request : is_read_message message ≡ true → IsRequest addr message bytes

@@ -11,7 +11,7 @@ use Rattle.pm_host.specs.Summary.{Summary}
 use Rattle.pm_host.specs.Transcript.{Setup, Job, Order, Check, Learn, Send, Entry, open_job, told_since, is_write_turn, mode_told}
 use Rattle.pm_host.specs.Transcript.{coefficients_tries, format_of_output}
 
--- where an open job stands, by what was told since it was accepted
+-- the stage of an open job, by what was told since it was accepted
 abbrev pub job_stage : Setup → Job → List Entry → Stage
 job_stage setup (Order cell word) told =
     if is_write_turn told then Writes cell word (length told / 2)

@@ -1,4 +1,4 @@
--- Where a job stands once its frame was sent, and what the host then holds.
+-- A job's next stage or its end once its frame was sent, and what the host then holds.
 use Rattle.std.specs.Prelude.{Option, Some, None}
 use Rattle.pm_host.specs.declared.progress.Progress.{Progress}
 use Rattle.pm_host.specs.declared.progress.Progress.TheVariants.{At, Over}
@@ -19,7 +19,7 @@ abbrev pub step_after : Progress → Step
 step_after (At stage) = Next
 step_after (Over end) = Ended end
 
--- both, with what the host then holds
+-- the step and the host after a frame was sent
 abbrev pub change_to : Progress → State → Change
 change_to progress state =
     record { after = held (stage_after progress) state; step = step_after progress }

@@ -19,7 +19,7 @@ is_question outputs (Word cell) = is_cell outputs cell
 is_question outputs (Mode output) = nat_lt output outputs
 is_question outputs (Coefficients output) = nat_lt output outputs
 
--- the same as a fact
+-- a device with this many outputs has what is asked for: `is_question` as a fact
 abbrev pub IsQuestion : ℕ → Question → Type 0
 IsQuestion outputs (Word cell) = IsCell outputs cell
 IsQuestion outputs (Mode output) = output < outputs

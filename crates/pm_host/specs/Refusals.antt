@@ -45,7 +45,7 @@ asking_fault s there = first (
     rule (not there) UnknownOutput ∷
     [])
 
--- the same for an output, for a cell, for a question, and for a command that names an output
+-- H3, then H4 if the device hasn't the output, the cell, what a question asks for, or the output that a command names
 abbrev pub output_fault : Summary → ℕ → Option HostFault
 output_fault s output = asking_fault s (nat_lt output s.setup.outputs)
 

@@ -33,7 +33,7 @@ use Rattle.pm_host.specs.Transcript.{Setup, Job, Order, Check, Learn, Send, Entr
 pub record Summary : Type 0 where
   -- what the host was made with
   pub setup : Setup
-  -- where the open job stands; None where no job is open
+  -- the stage of the open job; None if no job is open
   pub stage : Option Stage
   -- the format of each output's voltages, where it was learned
   pub formats : List (Option Shape)

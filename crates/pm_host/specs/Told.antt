@@ -25,7 +25,7 @@ abbrev pub is_awaited : Stage → Told → Bool
 is_awaited stage (told.Finished acked) = not (is_read_message (stage_message stage))
 is_awaited stage (told.Got bytes) = is_read_message (stage_message stage)
 
--- where the job has ended, a fact
+-- a fact that holds if the job has ended
 abbrev pub OnEnded : Step → Type 0 → Type 0
 OnEnded Next fact = Unit {0}
 OnEnded (Ended end) fact = fact

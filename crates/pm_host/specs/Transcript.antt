@@ -123,7 +123,7 @@ coefficients_told setup output (Got bytes ∷ before) =
     (if is_some (mode_told setup output before) then good_coefficients setup.addr bytes else None)
 coefficients_told setup output (_ ∷ before) = coefficients_told setup output before
 
--- of which this many were asked.
+-- The tries at COEFFICIENTS of a learn: the entries that came once a good answer for VOUT_MODE was told.
 abbrev pub coefficients_tries : Setup → ℕ → List Entry → ℕ
 coefficients_tries setup output [] = 0
 coefficients_tries setup output (entry ∷ before) =

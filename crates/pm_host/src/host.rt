@@ -228,7 +228,7 @@ impl Host {
         ensures left { frames_left self.new < frames_left self.old }
         ensures over { OnEnded result (frames_left self.new ≡ 0) }
     {
-        // These calls hand the prover that what is known of a cell has a place of its own.
+        // law: what is known of each cell has a place of its own
         cells_have_places();
         self.state.known.has_places();
         let Some(sending) = &self.sending else {
@@ -262,7 +262,7 @@ impl Host {
         &self.state
     }
 
-    /// Where its open job stands; `None` where none is open.
+    /// The stage of the open job; `None` if none is open.
     pub fn stage(&self) -> Option<Stage>
         ensures { result ≡ self.now.stage }
     {

@@ -33,7 +33,7 @@ pub struct Image {
     pub mark: u16,
     /// The number of this layout.
     pub version: u16,
-    /// Where the open job stands.
+    /// The stage of the open job, or that none is open.
     pub stage: StageImage,
     /// What the host holds beside.
     pub state: State,
@@ -75,8 +75,8 @@ impl Image {
         Ok(())
     }
 
-    /// Where the open job stands of the host whose image it is, `None` where none is open: each call of its
-    /// state wants it. `NoHost` where it isn't the image of a host.
+    /// The stage of the open job of the host whose image it is, `None` if none is open: each call of its
+    /// state wants it. `NoHost` if it isn't the image of a host.
     #[inline(never)]
     #[tactic(auto, unfolding(crate::specs::Image::host_of))]
     pub fn read_stage(&self) -> Result<Option<Stage>, NoHost>
@@ -144,7 +144,7 @@ impl State {
     }
 }
 
-/// Where an open job stands, as plain numbers.
+/// The stage of an open job, or that none is open, as plain numbers.
 #[repr(C)]
 #[derive(Clone, Copy, Debug, PartialEq, Eq)]
 pub struct StageImage {

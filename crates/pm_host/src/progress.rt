@@ -5,7 +5,7 @@ use crate::job_end::JobEnd;
 use crate::stage::Stage;
 use crate::step::Step;
 
-/// Where a job stands once its frame was sent.
+/// A job's next stage or its end, once its frame was sent.
 #[derive(Clone, Copy, Debug, PartialEq, Eq)]
 pub enum Progress {
     /// It goes on at this stage, whose frame is sent next.

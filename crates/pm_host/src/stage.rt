@@ -9,7 +9,7 @@ use crate::told::Told;
 use pm_frame::Message;
 use pm_table::Cell;
 
-/// Where an open job stands: the frame that it sends, and how many passes or tries came before.
+/// A stage of an open job: the frame that it sends, and how many passes or tries came before.
 #[derive(Clone, Copy, Debug, PartialEq, Eq)]
 pub enum Stage {
     /// An order sends its write, in this pass, counted from 0.

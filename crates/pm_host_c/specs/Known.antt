@@ -7,7 +7,7 @@ use Rattle.pm_host.specs.Summary.{Summary, possible_at, standing_at}
 use Rattle.pm_host_c.specs.declared.known_cells.KnownCell.{KnownCell}
 use Rattle.pm_host_c.specs.declared.known_cells.KnownCells.{KnownCells}
 
--- these numbers name the cell, 0 for the output of the device's own, and say what is known of it
+-- the numbers name the cell, with output 0 for the device's own cell, and say what is known of it
 pub record IsKnown (s : Summary) (of : Cell) (known : KnownCell) : Type 0 where
   pub cell : cell_at known.code known.output ≡ Some of
   pub output : known.output ≡ output_of of
@@ -16,7 +16,7 @@ pub record IsKnown (s : Summary) (of : Cell) (known : KnownCell) : Type 0 where
   pub words : words_held known.words ≡ possible_at s of
   pub count : known.words.count ≤ 16
 
--- of no cell
+-- the numbers that name no cell
 abbrev pub no_cell_known : KnownCell
 no_cell_known = record {
   code = 0;
@@ -29,13 +29,12 @@ no_cell_known = record {
 abbrev pub cell_count : ℕ → ℕ
 cell_count outputs = outputs * register_count + 1
 
--- the first so many of them have their numbers, output by output, each with its registers in their order, and
--- WRITE_PROTECT last
+-- the first `count` cells have their numbers, output by output, each with its registers in their order, and WRITE_PROTECT last
 abbrev pub AreKnown : Summary → ℕ → List KnownCell → Type 0
 AreKnown s count cells = (number : ℕ) → number < count →
     IsKnown s (nth_cell s.setup.outputs number) (slice_index_or cells number no_cell_known)
 
--- all of them
+-- the numbers of all cells of a device
 pub record IsKnownOf (s : Summary) (known : KnownCells) : Type 0 where
   pub count : known.count ≡ cell_count s.setup.outputs
   pub cells : AreKnown s known.count known.cells

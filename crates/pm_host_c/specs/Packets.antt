@@ -86,7 +86,7 @@ pub record HasBlock (block : BlockImage) : Type 0 where
   pub count : block.length ≤ 32
   pub rest : drop block.length block.bytes ≡ drop block.length (replicate 32 0)
 
--- so many bytes of a code are read: at most 32 are asked for
+-- the number that a read of `size` bytes of a code answers: at most 32 are asked for
 abbrev pub plain_read_number : ℕ → ℕ → ℕ → List ℕ → ℕ
 plain_read_number address code size bytes =
     if is_within 0x08 0x77 address

@@ -12,7 +12,7 @@ word_size = 2
 abbrev pub cell_size : ℕ
 cell_size = (1 + 16) * word_size + 2 * word_size
 
--- where a job stands: four bytes and a word
+-- the stage of a job: four bytes and a word
 abbrev pub stage_size : ℕ
 stage_size = 4 + word_size
 

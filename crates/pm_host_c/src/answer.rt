@@ -54,7 +54,7 @@ pub extern "C" fn pm_packet_read_answer(
 }
 
 impl PayloadImage {
-    // These bytes.
+    // The image of a payload of these bytes.
     fn of(found: &[u8]) -> PayloadImage
         requires { length found.now ≤ 5 }
         ensures bytes { payload_of result ≡ found.now }

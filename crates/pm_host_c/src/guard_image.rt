@@ -39,7 +39,7 @@ pub struct RegistersImage {
 }
 
 impl RegistersImage {
-    // These registers.
+    // The image of these registers.
     fn of(registers: PartRegisters) -> RegistersImage
         ensures held { registers_held result ≡ registers }
         ensures written { result ≡ registers_image registers }
@@ -81,7 +81,7 @@ impl LimitsImage {
     /// None.
     const NONE: LimitsImage = LimitsImage { least: 1, most: 0 };
 
-    /// These limits.
+    /// The image of these limits.
     pub(crate) fn of(limits: &Limits) -> LimitsImage
         ensures held { limits_held result ≡ Some limits.now }
         ensures written { result ≡ limits_image (Some limits.now) }

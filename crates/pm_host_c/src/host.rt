@@ -63,7 +63,7 @@ pub extern "C" fn pm_host_new(host: &mut GuardImage, address: u8, outputs: u8, p
     start_with(host, address, outputs, passes, PartRegisters::all())
 }
 
-/// The same of a part whose outputs have these registers. E3h, H1, H2.
+/// Makes a host as `pm_host_new` does, of a part whose outputs have these registers. E3h, H1, H2.
 #[unsafe(no_mangle)]
 pub extern "C" fn pm_host_new_with(
     host: &mut GuardImage,

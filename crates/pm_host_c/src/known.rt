@@ -35,7 +35,7 @@ pub extern "C" fn pm_host_confirmed_word(
     ACCEPTED
 }
 
-/// The same with 0 for any number that isn't 1, which damaged memory may have.
+/// The numbers of what is said of a cell, each 0 unless the flag is 1: damaged memory may have any flag.
 pub(crate) fn flagged(standing: StandingImage) -> StandingImage
     ensures same { standing_held result ≡ standing_held standing }
     ensures flag { result.is_confirmed ≤ 1 }
@@ -75,7 +75,7 @@ pub extern "C" fn pm_host_possible_words(
     ACCEPTED
 }
 
-/// The same with 0 for a count above 16, which damaged memory may have.
+/// The numbers of a cell's possible words, each 0 if the count is above 16, which damaged memory may have.
 pub(crate) fn counted(words: &WordsImage) -> WordsImage
     ensures same { words_held result ≡ words_held words.now }
     ensures count { result.count ≤ 16 }

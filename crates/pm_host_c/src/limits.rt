@@ -91,7 +91,7 @@ pub extern "C" fn pm_host_limits_state(host: &GuardImage, output: u8) -> u8
     of_within(within_in(host, output))
 }
 
-// The same of an output that is there. Its number is below 8.
+// Whether an output that is there lies within its limits, as `pm_host_within` says it. Its number is below 8.
 fn within_in(host: &GuardImage, output: u8) -> Within
     requires { output < 8 }
     ensures { let band = band_at (registers_held host.now.registers) (held None host.now.host.state) output in
@@ -128,7 +128,7 @@ pub extern "C" fn pm_host_band(host: &GuardImage, output: u8, band: &mut BandIma
     put_band_of(host, output, band)
 }
 
-// The same of an output that is there. Its number is below 8.
+// The band of an output that is there, as `pm_host_band` puts it. The output's number is below 8.
 fn put_band_of(host: &GuardImage, output: u8, band: &mut BandImage) -> u8
     requires { output < 8 }
     ensures number { let s = held None host.now.host.state in

@@ -13,7 +13,7 @@ pub struct NameImage {
 }
 
 impl NameImage {
-    /// These characters.
+    /// Puts these characters, and zeros to the end.
     pub(crate) fn put(&mut self, words: &str)
         requires { length words.now ≤ 31 }
         ensures { HasText words.now self.new }

@@ -72,7 +72,7 @@ pub extern "C" fn pm_read_plain(
 }
 
 impl BlockImage {
-    // These bytes.
+    // The image of a block of these bytes.
     fn of(found: &[u8]) -> BlockImage
         requires { length found.now ≤ 32 }
         ensures bytes { block_of result ≡ found.now }

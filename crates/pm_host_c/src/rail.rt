@@ -46,7 +46,7 @@ pub extern "C" fn pm_host_rail(host: &GuardImage, output: u8, rail: &mut RailIma
     ACCEPTED
 }
 
-// The same of an output that is there. Its number is below 8.
+// What an output that is there commands, as `pm_host_rail` puts it. Its number is below 8.
 fn rail_in(host: &GuardImage, output: u8) -> RailImage
     requires { output < 8 }
     ensures { let s = held None host.now.host.state in

@@ -161,7 +161,7 @@ fn wanted_of(plan: Option<Wanted>) -> Wanted
 }
 
 impl ReadsImage {
-    // These.
+    // The image of these reads.
     fn of(read: &Reads) -> ReadsImage
         ensures { result ≡ reads_image read.now }
     {

@@ -71,7 +71,8 @@ pub(crate) fn put_floor(value: &Frac, microvolts: &mut i64) -> u8
     ACCEPTED
 }
 
-/// The same rounded up.
+/// The whole microvolts of a value, rounded up. N5 exactly where the value is beyond 10^15 microvolts in
+/// size.
 pub(crate) fn put_ceil(value: &Frac, microvolts: &mut i64) -> u8
     ensures number { result ≡ floor_number value.now }
     ensures ceil { result ≡ 0 → IsCeil value.now microvolts.new }

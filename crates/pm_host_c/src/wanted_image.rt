@@ -19,15 +19,15 @@ pub struct WishImage {
 #[repr(C)]
 #[derive(Clone, Copy, Debug)]
 pub struct WantedImage {
-    /// Of VOUT_COMMAND.
+    /// The word that is wanted of VOUT_COMMAND.
     pub command: WishImage,
-    /// Of VOUT_MAX.
+    /// The word that is wanted of VOUT_MAX.
     pub max: WishImage,
-    /// Of VOUT_MARGIN_HIGH.
+    /// The word that is wanted of VOUT_MARGIN_HIGH.
     pub margin_high: WishImage,
-    /// Of VOUT_MARGIN_LOW.
+    /// The word that is wanted of VOUT_MARGIN_LOW.
     pub margin_low: WishImage,
-    /// Of VOUT_MIN.
+    /// The word that is wanted of VOUT_MIN.
     pub min: WishImage,
 }
 
@@ -51,7 +51,7 @@ impl WishImage {
 }
 
 impl WantedImage {
-    /// These words.
+    /// The image of these wanted words.
     pub(crate) fn of(wanted: &Wanted) -> WantedImage
         ensures { result ≡ wanted_image wanted.now }
     {

@@ -92,7 +92,7 @@ struct Ordered {
     next: usize,
 }
 
-// Of a simulated bus itself, and of a patient one with one try over it.
+// Orders over a simulated bus itself, and over a patient one with one try over it.
 static ONCE: [Ordered; 11] = [
     Ordered {
         plan: &[],
@@ -186,7 +186,7 @@ static ONCE: [Ordered; 11] = [
     },
 ];
 
-// Of a patient bus alone.
+// Orders over a patient bus alone.
 static PATIENT: [Ordered; 6] = [
     Ordered {
         plan: &[Unheard, Unheard, Whole, Unheard, Unheard],

@@ -118,7 +118,7 @@ fn goes(rt: &impl Abort, host: &mut Host, rows: &[(Call<'_>, Answer)]) {
     }
 }
 
-// These bytes are being sent, of a request or of a write: none where no frame is.
+// The bytes of a request or of a write are being sent: none where no frame is.
 fn sends(rt: &impl Abort, host: &Host, bytes: &[u8], is_read: bool) {
     let same = match host.sending() {
         Some(frame) => frame.as_slice() == bytes,

@@ -34,7 +34,7 @@ outside_fault bounds value =
     if is_above (micros bounds.least) value then Some BelowLimit
     else (if is_above value (micros bounds.most) then Some AboveLimit else None)
 
--- the same by where the value lies; L2 where that isn't known, since the format isn't
+-- L3 for a value below the limits, L4 for one above, by the value's place; L2 if the place isn't known, since the format isn't
 abbrev pub place_fault : Option Ordering → Option LimitFault
 place_fault None = Some FormatUnknown
 place_fault (Some Less) = Some BelowLimit

@@ -18,7 +18,7 @@ abbrev pub Reaches : Side → Ratio → Ratio → Type 0
 Reaches Lowest value other = AtMost value other
 Reaches Highest value other = AtMost other value
 
--- of two words the one whose value lies farther out, and of several; the first of equals
+-- the one of two words whose value lies farther out, and the one of several; the first of equals
 abbrev pub farther : Side → (ℕ → Ratio) → ℕ → ℕ → ℕ
 farther side value word other = if is_farther side (value word) (value other) then other else word
 

@@ -50,8 +50,8 @@ pub record GuardedOrdersAreWithin : Type 0 where
       accepted_job g.host asked ≡ Some (Order cell word) → missing_ordered g.registers cell word ≡ None
   pub unread : (g : Guarded) (cell : Cell) → guard_fault g (job.Check cell) ≡ None → missing_cell g.registers cell ≡ None
 
--- Where a part has every register, each may hold what the host knows of it (`known`), and no order and no check is of
--- a missing one (`ordered`, `checked`).
+-- Each register of a part that has every one may hold what the host knows of it (`known`), and no order and no check is of a missing one
+-- (`ordered`, `checked`).
 pub record WholePartsMissNothing : Type 0 where
   pub known : (shape : Shape) (s : Summary) (output : ℕ) →
       known_of all_registers shape s output ≡ (λ register. possible_at s (Out output register))

@@ -43,7 +43,8 @@ pub fn band_of(host: &Host, registers: PartRegisters, output: u8) -> Option<Band
     band_in(host.state(), registers, output)
 }
 
-/// The same by what is held beside the open job. The output's number is below 8.
+/// The band of an output as [`band_of`] says it, by what the host holds beside its open job. The output's
+/// number is below 8.
 pub fn band_in(host: &State, registers: PartRegisters, output: u8) -> Option<Band>
     requires { output < 8 }
     ensures { result ≡ band_at registers (held None host.now) output }

@@ -124,7 +124,7 @@ impl OutputEnds {
         }
     }
 
-    // The same of a byte and others.
+    // The byte of a first one and others whose selected register has the farthest end.
     fn farthest_from(&self, side: Side, format: &AnyFormat, first: u16, others: &[u16]) -> u16
         ensures { result
             ≡ spec_farthest side (selected_value side (any_value format.now) self.now) first others.now }
@@ -169,7 +169,7 @@ fn ends_at(
     }
 }
 
-// The same of a cell, by what the host knows.
+// The ends of a cell, by what the host knows.
 fn ends_in(format: &AnyFormat, host: &State, cell: Cell) -> WordEnds
     requires { IsCell 8 cell }
     ensures { (side : Side) → word_on side result
@@ -237,7 +237,7 @@ fn farthest(side: Side, format: &AnyFormat, words: &[u16]) -> u16
     }
 }
 
-// The same of a word and others.
+// The word of a first one and others whose value lies farthest out.
 fn farthest_from(side: Side, format: &AnyFormat, first: u16, others: &[u16]) -> u16
     ensures { result ≡ spec_farthest side (any_value format.now) first others.now }
 {

@@ -75,7 +75,7 @@ impl Guard {
         Guard::of_part(addr, outputs, passes, limits, PartRegisters::all())
     }
 
-    /// The same of a part whose outputs have these registers.
+    /// Makes a guard as [`Guard::new`] does, of a part whose outputs have these registers.
     pub fn of_part(
         addr: u8,
         outputs: u8,
@@ -195,7 +195,7 @@ impl Guard {
         }
     }
 
-    // The same where they stand.
+    // The limits of an output, borrowed from the guard.
     #[inline(always)]
     fn limits_at(&self, output: u8) -> Option<&Limits>
         ensures { option_map (λ limits. limits.now) result ≡ limits_at self.now output }

@@ -260,8 +260,8 @@ fn judge_voltage(state: &State, limits: &Limits, output: u8, word: u16) -> Resul
     }
 }
 
-// Where the value of an output's word lies beside limits; `None` where the format isn't known. It isn't inlined: it would
-// weigh on each order without limits.
+// The place of the value of an output's word beside limits; `None` if the format isn't known. It isn't
+// inlined: it would weigh on each order without limits.
 #[inline(never)]
 fn place_of(state: &State, limits: &Limits, output: u8, word: u16) -> Option<Ordering>
     requires { output < 8 }
@@ -275,7 +275,7 @@ fn place_of(state: &State, limits: &Limits, output: u8, word: u16) -> Option<Ord
     }
 }
 
-// The same in one format, so that no value goes through memory.
+// The place of a word's value beside limits, in one format, so that no value goes through memory.
 #[inline(always)]
 fn place_in<F: NumFormat>(format: &F, limits: &Limits, word: u16) -> Ordering
     ensures { place_fault (Some result) ≡ outside_fault limits.now (F.value format.now word) }

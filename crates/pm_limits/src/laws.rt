@@ -19,8 +19,8 @@ pub fn bands_are_ends()
     ensures { BandsAreEnds }
 {}
 
-/// Where a part has every register, each may hold what the host knows of it (`known`), and no order (`ordered`) and no
-/// check (`checked`) is of a missing one.
+/// Each register of a part that has every one may hold what the host knows of it (`known`), and no order
+/// (`ordered`) and no check (`checked`) is of a missing one.
 pub fn whole_parts_miss_nothing()
     ensures { WholePartsMissNothing }
 {}

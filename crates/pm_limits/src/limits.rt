@@ -89,7 +89,7 @@ impl Limits {
         self.least < old.least || old.most < self.most
     }
 
-    /// Where a value lies beside them: `Less` below, `Equal` within, `Greater` above.
+    /// The place of a value beside the limits: `Less` below, `Equal` within, `Greater` above.
     #[inline(always)]
     pub(crate) fn place(&self, value: &Frac) -> Ordering
         ensures { place_fault (Some result) ≡ outside_fault self.now value.now }

@@ -13,7 +13,7 @@ use Rattle.pm_lines.proofs.LineLemmas.{words-nil, words-spaced, words-first, wor
 abbrev spaceless : List ℕ → Bool
 spaceless bytes = list_all (λ byte. not (is_space byte)) bytes
 
--- where a text's first space is, and what follows it, behind bytes of which none is a space
+-- the text up to the first space, and what follows it, are those of `rest` if no byte of the word before it is a space
 record Behind (word rest : List ℕ) : Type 0 where
   before : before_first is_space (word ++ rest) ≡ word ++ before_first is_space rest
   after : after_first is_space (word ++ rest) ≡ after_first is_space rest

@@ -16,7 +16,6 @@ use pm_table::{cells_are_told_apart, cells_have_places};
 pub fn settings_are_a_map()
     ensures { SettingsAreAMap }
 {
-    // Where the cells stand among the words.
     cells_have_places();
     cells_are_told_apart();
 }

@@ -96,7 +96,6 @@ impl Plain {
     pub fn of(count: u8, words: [u16; Cell::PLACES]) -> Option<Plain>
         ensures { result ≡ settings_in count words }
     {
-        // Hands its law to the prover.
         cells_have_places();
         if count < 1 || 8 < count || !are_accepted(count, &words) {
             return None;
@@ -110,12 +109,11 @@ impl Plain {
         ensures words { result ≡ self.now.words }
         ensures back { settings_in self.now.count result ≡ Some self.now }
     {
-        // Hands its law to the prover.
         cells_have_places();
         self.words
     }
 
-    /// The same settings: a copy, which can't fail.
+    /// A copy of the settings, which can't fail.
     pub fn copied(&self) -> Plain
         ensures { result ≡ self.now }
     {
@@ -189,7 +187,7 @@ impl Plain {
         } }
         ensures protection { word_at self.new.words Cell.Protect ≡ word_at self.old.words Cell.Protect }
     {
-        // Hands a law to the prover, and that each cell has a word in the others.
+        // law: settings are a map, and each cell of the others has a word
         settings_are_a_map();
         let _count = others.count();
         let protect = self.get(Cell::Protect);

@@ -85,7 +85,7 @@ pub nearest-at_least : {value : ℕ → Ratio} {rank : ℕ → ℕ} {x : Ratio} 
     → IsNearest value rank (value w) w
 nearest-at_least {value} {rank} {x} {w} den is = nearest_for_same (value w) w is.word den den (omega (arith, ints)) is.spelling
 
--- Of two words that a number is rounded down to the second is the nearest word for the value of the first.
+-- The second of two words that a number is rounded down to is the nearest word for the value of the first.
 pub nearest-at_most_both : {value : ℕ → Ratio} {rank : ℕ → ℕ} {x : Ratio} {u w : ℕ} → 0 < (value u).den → 0 < (value w).den
     → IsAtMost value rank x u → IsAtMost value rank x w → IsNearest value rank (value u) w
 nearest-at_most_both {value} {rank} {x} {u} {w} den own first second =
@@ -93,7 +93,7 @@ nearest-at_most_both {value} {rank} {x} {u} {w} den own first second =
     let q = second.greatest u first.word first.reached in
     nearest_for_same (value u) w second.word den own (at_most_both (value w) (value u) p q) second.spelling
 
--- Of two words that a number is rounded up to the second is the nearest word for the value of the first.
+-- The second of two words that a number is rounded up to is the nearest word for the value of the first.
 pub nearest-at_least_both : {value : ℕ → Ratio} {rank : ℕ → ℕ} {x : Ratio} {u w : ℕ} → 0 < (value u).den → 0 < (value w).den
     → IsAtLeast value rank x u → IsAtLeast value rank x w → IsNearest value rank (value u) w
 nearest-at_least_both {value} {rank} {x} {u} {w} den own first second =
@@ -117,14 +117,14 @@ end-at_least {value} {rank} {lowest = lowest} {x = x} {w = w} between met beyond
     let reached = subst (λ (v : Ratio). AtMost (value w) v) met.2 (is.least met.0 met.1 at) in
     at_most_both (value w) lowest reached (between w is.word).from_least
 
--- Where some word has the number's value, the word that the number is rounded down to has it.
+-- The word that a number is rounded down to has the number's value if some word has it.
 pub hit-at_most : {value : ℕ → Ratio} {rank : ℕ → ℕ} {x : Ratio} {u w : ℕ} → u < 2 ^ 16 → 0 < (value u).den → SameValue (value u) x
     → IsAtMost value rank x w → SameValue (value w) x
 hit-at_most {value} {rank} {x} {u} {w} word den same is =
     let up = is.greatest u word (omega (arith, ints)) in
     at_most_both (value w) x is.reached (at_most-trans x (value u) (value w) den (omega (arith, ints)) up)
 
--- Where some word has the number's value, the word that the number is rounded up to has it.
+-- The word that a number is rounded up to has the number's value if some word has it.
 pub hit-at_least : {value : ℕ → Ratio} {rank : ℕ → ℕ} {x : Ratio} {u w : ℕ} → u < 2 ^ 16 → 0 < (value u).den → SameValue (value u) x
     → IsAtLeast value rank x w → SameValue (value w) x
 hit-at_least {value} {rank} {x} {u} {w} word den same is =

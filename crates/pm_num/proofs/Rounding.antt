@@ -68,7 +68,7 @@ pub same_product : {p q r : ℤ} (a b : ℤ) → SFits w128 p → SFits w128 q �
     → r ≡ a *ℤ b
 same_product a b fits_p fits_q e is_p is_q = let f = simp to_z-of_z at e in cc
 
--- The same where the casts are known to keep the numbers; s is what the code goes on with.
+-- The code's product s is that of a and b if its factors are a and b, which the casts keep.
 pub product_at : {p q r s : ℤ} (a b : ℤ) → r ≡ p *ℤ q → p ≡ a → q ≡ b → s ≡ r → s ≡ a *ℤ b
 product_at {q = q} a b e is_p is_q is_s = is_s ∙ e ∙ ap (λ (z : ℤ). z *ℤ q) is_p ∙ ap (λ (z : ℤ). a *ℤ z) is_q
 

@@ -70,7 +70,7 @@ direct-fits (negsuc n) b r x q h between =
     let g = to_greatest (negsuc n) b r x q h 0x8000 between.to_greatest in
     record { size = omega (arith, ints); above = omega (arith, ints); below = omega (arith, ints) }
 
--- The same at the range l to g and the grid s that the code passed.
+-- A number in the range l to g has a place q on the grid s that a word has; l, g and s are what the code passed.
 pub found_fits : {x : Ratio} {q : ℤ} {l g : Ratio} {s : Spacing} (m b r : ℤ) → l ≡ direct_value m b r (direct_least m)
     → g ≡ direct_value m b r (direct_greatest m) → IsBetween l g x → s ≡ direct_spacing m b r → IsWithinPlaces s x q → FitsWord m q
 found_fits {x} {q} {l} {g} m b r e f between is h =

@@ -29,7 +29,8 @@ below_fault least x = if is_above least x then Some BelowLeast else None
 abbrev pub above_fault : Ratio → Ratio → Option NumFault
 above_fault greatest x = if is_above x greatest then Some AboveGreatest else None
 
--- The same of x millionths, with N5 first where they are beyond 10^15 in size.
+-- N5 for x beyond 10^15 in size; otherwise N3 for x millionths below the least value if they are rounded down, N4 for x millionths above
+-- the greatest if they are rounded up
 abbrev pub at_most_fault : Ratio → ℤ → Option NumFault
 at_most_fault least x = if nat_lt (10 ^ 15) (unsigned_abs x) then Some TooLarge else below_fault least (micros x)
 

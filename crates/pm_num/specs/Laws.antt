@@ -43,10 +43,10 @@ pub record NearestWordsHold (value : ℕ → Ratio) (rank : ℕ → ℕ) : Type 
   -- no word is nearer than the one for x
   pub none_nearer : (x : Ratio) (u w : ℕ) → u < 2 ^ 16 → IsNearest value rank x w →
       Near x (value w) (value u)
-  -- of two words that are equally near it is the lower value
+  -- the word for x has the lower value of two that are equally near to x
   pub tie : (x : Ratio) (u w : ℕ) → u < 2 ^ 16 → IsNearest value rank x w → Near x (value u) (value w) →
       AtMost (value w) (value u)
-  -- it is the one that is found among all words
+  -- the word for x is the one that is found among all words
   pub found : (x : Ratio) (w : ℕ) → IsNearest value rank x w → nearest_word value rank x ≡ Some w
 
 -- what the words of bounds are: rounded down and up there is one word at most, the one that is sent for its own value; at and

@@ -23,7 +23,7 @@ pub fn canonical<F: NumFormat>(format: &F, word: u16) -> u16
     ensures only { let values = F.value format.now in
         (w : ℕ) → IsNearest values (F.rank format.now) (values word) w → w ≡ result }
 {
-    // Hands its law to the prover.
+    // law: what the nearest words of a format are
     nearest_words_hold(format);
     match format.nearest(format.value_of(word)) {
         Ok(canonical) => canonical,

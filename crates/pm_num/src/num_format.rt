@@ -47,11 +47,11 @@ pub trait NumFormat {
     // The denominator of a value is not 0.
     ghost has_den: { (f : Self) (w : ℕ) → w < 2 ^ 16 → 0 < (value f w).den };
 
-    // Every value lies between the least and the greatest,
+    // Every value lies between the least and the greatest value.
     ghost within: { (f : Self) (w : ℕ) → w < 2 ^ 16 →
         IsBetween (lowest f) (highest f) (value f w) };
 
-    // and these two are values.
+    // The least and the greatest value are each the value of a word.
     ghost least_met: { (f : Self) → IsValue (value f) (lowest f) };
 
     ghost greatest_met: { (f : Self) → IsValue (value f) (highest f) };

@@ -113,7 +113,7 @@ abbrev pub is_cell : ℕ → Cell → Bool
 is_cell count (Out output register) = nat_lt output count
 is_cell count Protect = true
 
--- the same as a fact
+-- a device with this many outputs has the cell: `is_cell` as a fact
 abbrev pub IsCell : ℕ → Cell → Type 0
 IsCell count (Out output register) = output < count
 IsCell count Protect = Unit {0}

@@ -130,7 +130,7 @@ known_of code = option_map (λ l. record {
   writes = is_ever_written l.protection;
 }) (line_of code)
 
--- the same in the code's own type
+-- what is known of a code, read from the code's own type `Info`
 abbrev pub info_seen : Info → Known
 info_seen i = record {
   name = i.name.now;
@@ -148,11 +148,11 @@ name_of code = option_map_or (λ l. l.name) (line_of code) []
 abbrev pub is_known : ℕ → Bool
 is_known code = is_some (line_of code)
 
--- it is answered when read
+-- the code is answered when read
 abbrev pub is_read : ℕ → Bool
 is_read code = option_map_or (λ l. l.reads) (line_of code) false
 
--- it is taken when written
+-- the code is taken when written
 abbrev pub is_written : ℕ → Bool
 is_written code = option_map_or (λ l. is_ever_written l.protection) (line_of code) false
 

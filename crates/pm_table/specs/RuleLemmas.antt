@@ -4,12 +4,12 @@ use Rattle.std.specs.Option.{option_map, option_or}
 use Rattle.std.proofs.Common.{ap, ◌∙◌}
 use Rattle.pm_table.specs.Rules.{rule}
 
--- where the first of two faults is none, each is none
+-- each of two faults is none if the first of them is none
 pub or-none : {X : Type 0} (one other : Option X) → option_or one other ≡ None → (one ≡ None) × (other ≡ None)
 or-none None other h = (refl, h)
 or-none (Some x) other h = cc
 
--- where each of two faults is none, so is the first of them
+-- the first of two faults is none if each of them is none
 pub none-or : {X : Type 0} (one other : Option X) → one ≡ None → other ≡ None → option_or one other ≡ None
 none-or one other h k = ap (λ o. option_or o other) h ∙ k
 
@@ -22,7 +22,7 @@ rule-none true fault h = cc
 pub none-rule : {X : Type 0} (applies : Bool) (fault : X) → applies ≡ false → rule applies fault ≡ None
 none-rule applies fault h = ap (λ b. rule b fault) h
 
--- where what a fault is made into is none, so is the fault
+-- a fault is none if what it is made into is none
 pub map-none : {X Y : Type 0} (f : X → Y) (fault : Option X) → option_map f fault ≡ None → fault ≡ None
 map-none f None h = refl
 map-none f (Some x) h = cc

@@ -68,7 +68,7 @@ impl Reg {
             .find(|register| register.code() == code)
     }
 
-    /// Where it stands among the registers of its output, from 0.
+    /// The register's place among the registers of its output, from 0.
     pub fn number(self) -> usize
         ensures number { result ≡ register_number self }
         ensures below { result < register_count }

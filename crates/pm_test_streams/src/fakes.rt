@@ -147,9 +147,9 @@ pub static KINDS: [ErrorKind; 42] = [
 /// How a writer fails.
 #[derive(Clone, Copy, Debug, PartialEq, Eq)]
 pub enum Failure {
-    /// By an error of this kind.
+    /// An error of this kind.
     Error(ErrorKind),
-    /// By taking none of the bytes.
+    /// No error, with none of the bytes taken.
     Nothing,
 }
 

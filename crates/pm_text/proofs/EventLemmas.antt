@@ -40,7 +40,7 @@ pub room-left : (s : State) (event : Event) → IsTaken s event → s.taken < ev
 unfolding cause_of
 room-left s event taken = grind (arith, nat_tests, taken.free)
 
--- Of these lines some are left, and the events of the others, the latest first, were taken and left this world.
+-- Some of these lines are left, and the events of the others, the latest first, were taken and left this world.
 pub record SoFar (form : Form) (lines left : List Numbered) (old now : State) (taken : ℕ) (before : List Event) : Type 0 where
   pub reads : events_in form lines ≡ after (reverse before) (events_in form left)
   pub now_is : now ≡ after_all old before

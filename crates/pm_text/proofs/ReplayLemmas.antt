@@ -95,7 +95,7 @@ taken-length config passes events (Some stop) stops =
     let there : stop.at < length events = within _ events stop.at stops in
     sym (length-reverse (take stop.at events) ∙ length-take-le stop.at events (omega (arith, there)))
 
--- where a run from the start stops
+-- a run from the start stops at an event that has the cause against it in the world that the events before it left
 stops-at : (config : Config) (passes : ℕ) (events : List Event) (stop : Option Stop)
     → now config passes (taken_events events stop) ≡ after_all (start config passes) (taken_events events stop)
     → StopsFrom (start config passes) events stop → StopsAt config passes events stop

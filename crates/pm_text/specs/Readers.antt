@@ -32,12 +32,12 @@ abbrev pub Reads : {S A : Type 0} → Result A ScenarioFault → S → Result (A
 Reads (Ok x) left read = read ≡ Ok (x, left)
 Reads (Err fault) left read = read ≡ Err fault
 
--- the same of a call that leaves the value in a place of the caller's
+-- a call that leaves the value in a place of the caller's reads what a reader reads
 abbrev pub ReadsTo : {S A : Type 0} → Result (Unit {0}) ScenarioFault → A → S → Result (A × S) ScenarioFault → Type 0
 ReadsTo (Ok done) x left read = read ≡ Ok (x, left)
 ReadsTo (Err fault) x left read = read ≡ Err fault
 
--- the same of a call that tells nothing of what is left
+-- a call that tells nothing of what is left reads what a reader reads
 abbrev pub IsRead : {A : Type 0} → Result (Unit {0}) ScenarioFault → A → Result A ScenarioFault → Type 0
 IsRead (Ok done) x read = read ≡ Ok x
 IsRead (Err fault) x read = read ≡ Err fault
@@ -88,7 +88,7 @@ made_into make read = do
   x ← read
   gives (make x)
 
--- the same of readers by their names
+-- readers by their names, with what each reads made into something else
 abbrev pub lines_into : {A B : Type 0} → (A → B) → List (List ℕ × Field A) → List (List ℕ × Field B)
 lines_into make readers = map (λ line. (line.0, made_into make line.1)) readers
 

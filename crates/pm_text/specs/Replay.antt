@@ -29,8 +29,7 @@ abbrev pub stop_or : Option Cause → ℕ → Option Stop → Option Stop
 stop_or (Some cause) at later = Some (record { at = at; cause = cause })
 stop_or None at later = later
 
--- where a run stops, which took these events, newest first, and has these before it: at the first
--- that has a cause against it
+-- the stop of a run that took some events, newest first, and has others before it: at the first that has a cause against it
 abbrev pub stop_after : Config → ℕ → List Event → List Event → Option Stop
 stop_after config passes taken [] = None
 stop_after config passes taken (event ∷ events) =

@@ -80,7 +80,7 @@ voltage_text value = signed_decimal value.num
 unfoldable pub output_head : ℕ → Bool → List ℕ
 output_head output is_on = codes "output " ++ (decimal output ++ on_text is_on)
 
--- the same, and the voltage that it commands
+-- an output's number, whether it is on, and the voltage that it commands
 unfoldable pub commanded_line : ℕ → Bool → Ratio → List ℕ
 commanded_line output is_on voltage =
     output_head output is_on ++ (codes " commanded " ++ (voltage_text voltage ++ codes "\n"))

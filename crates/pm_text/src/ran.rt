@@ -9,6 +9,6 @@ pub struct Ran {
     pub world: World,
     /// How many events were taken.
     pub taken: u64,
-    /// Where the run stopped, and why; `None` where all events were taken.
+    /// The place at which the run stopped, and why; `None` if all events were taken.
     pub stop: Option<Stop>,
 }

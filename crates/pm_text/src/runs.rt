@@ -23,7 +23,7 @@ pub(crate) fn run_text(text: &[u8]) -> Result<Ran, TextFault>
     ensures fault { IfErr result (λ fault. replay_of text.now ≡ Err fault) }
     ensures faults { IfErr result IsOfRun }
 {
-    lives_are_followed(); // hands its law to the prover
+    lives_are_followed();
     let mut rows = Rows::new(text);
     let head = read_header(&mut rows)?;
     let mut world = match World::new(head.config, head.passes) {

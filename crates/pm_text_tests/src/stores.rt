@@ -171,7 +171,7 @@ static HEARD: [(&str, &str, &str); 6] = [
         "taken\ntaken\nrestarted\n",
         "34CD",
     ),
-    // By a page that is there, and by one that isn't.
+    // RESTORE_USER_ALL by a page that is there, and by one that isn't.
     (
         "B0 05 04 00 21 CD 34 5A\nB0 05 02 01 16 2E\n",
         "taken\ntaken\n",

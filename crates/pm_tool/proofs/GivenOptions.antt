@@ -33,7 +33,7 @@ row one = record {
 
 -- ---- rows where an option has none yet
 
--- where an option has no row, the rows that stand for a missing one are added
+-- the rows that stand for a missing one are added if an option has no row
 at_none : (id : Text) (change : Row → List Row) (missing rows : List Row) → has_row id rows ≡ false
     → at_row id change missing rows ≡ rows ++ missing
 at_none id change missing [] none = refl
@@ -82,7 +82,7 @@ same_either_way micro_option micro_option = refl
 abbrev is_new : List Row → Given → Bool
 is_new rows one = not (has_row (option_name one.option) rows)
 
--- where there are no rows, each option is new
+-- each option is new if there are no rows
 all_new_first : (given : List Given) → list_all (is_new []) given ≡ true
 all_new_first [] = refl
 all_new_first (one ∷ rest) = all_new_first rest
@@ -129,7 +129,7 @@ stepped_as format_option text rows = refl
 stepped_as word_option text rows = refl
 stepped_as micro_option text rows = refl
 
--- where the option had no row, this one is added
+-- a step over an option's word adds the option's row if it had none
 stepped : (one : Given) (rows : List Row) → has_row (option_name one.option) rows ≡ false
     → walked number_built.rules [] (with_rows rows) (option_word one) ≡ with_rows (rows ++ row one ∷ [])
 stepped one rows none = stepped_as one.option one.text rows ∙ ap with_rows (rows_used one rows none)

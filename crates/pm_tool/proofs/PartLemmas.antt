@@ -55,7 +55,7 @@ cut_at_comma text (Some found) h =
 small : (c : ℕ) → is_colon c ≡ true → c < 128
 small c is = grind (arith, nat_tests)
 
--- where no character is a mark no byte is
+-- no byte of a text is a mark if no character is
 no_colon : (text : Text) → NoCharPasses is_colon text → NoMark is_colon text
 no_colon text none i lt = go (is_colon (get_or text i 0)) refl
   where

@@ -25,7 +25,7 @@ module _ (asked : Question) (can_be : IsFormat asked.format) (none : (fault : Nu
     → ⊥) (r : Result Answer NumFault)
     (by_value : (fault : NumFault)
     → (r ≡ Err fault) ↔ RefusesValue (least_in asked.format) (greatest_in asked.format) asked.asked fault) where
-  -- where the format can be, what is refused of the value is what is refused of the question
+  -- what is refused of the value is what is refused of the question if the format can be
   pub refused_by_value : (fault : NumFault) → (r ≡ Err fault) ↔ Refuses asked fault
   refused_by_value ZeroSlope = (
     λ e. absurd (not_of_slope (least_in asked.format) (greatest_in asked.format) asked.asked

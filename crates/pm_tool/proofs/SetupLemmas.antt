@@ -29,14 +29,14 @@ module _ (program words w detail s d : List ℕ) (is_words : w ≡ words) (is_de
   detailed : s ++ (d ++ codes "\n") ≡ detail ++ codes "\n"
   detailed = sym (append_assoc s d (codes "\n")) ∙ ap (λ l. l ++ codes "\n") is_detail
 
-  -- of a fault that names no output
+  -- the line for a fault that names no output
   pub line-none : program ++ (codes ": X7 Setup " ++ (w ++ (s ++ (d ++ codes "\n"))))
       ≡ program_line program (codes "X7 Setup " ++ (words ++ ([] ++ detail)))
   line-none =
       (λ i. program ++ (codes ": X7 Setup " ++ (is_words i ++ detailed i)))
       ∙ ap (λ l. program ++ (codes ": X7 Setup " ++ l)) (sym (append_assoc words detail (codes "\n")))
 
-  -- of one that names this output
+  -- the line for a fault that names this output
   pub line-some : (n : ℕ) (o : List ℕ) → o ≡ decimal n
       → program ++ (codes ": X7 Setup " ++ (w ++ (codes " " ++ (o ++ (s ++ (d ++ codes "\n"))))))
       ≡ program_line program (codes "X7 Setup " ++ (words ++ ((codes " " ++ decimal n) ++ detail)))
@@ -45,12 +45,12 @@ module _ (program words w detail s d : List ℕ) (is_words : w ≡ words) (is_de
       ∙ ap (λ l. program ++ (codes ": X7 Setup " ++ (words ++ (codes " " ++ l)))) (sym (append_assoc (decimal n) detail (codes "\n")))
       ∙ ap (λ l. program ++ (codes ": X7 Setup " ++ l)) (sym (append_assoc words ((codes " " ++ decimal n) ++ detail) (codes "\n")))
 
--- of the host
+-- the line for a fault of the host's setup
 pub line-host : (program words w : List ℕ) → w ≡ words
     → program ++ (codes ": X7 Setup " ++ (w ++ codes "\n")) ≡ program_line program (codes "X7 Setup " ++ words)
 line-host program words w is = ap (λ l. program ++ (codes ": X7 Setup " ++ (l ++ codes "\n"))) is
 
--- of a line of the text
+-- the line for a fault in a line of the text
 pub line-numbered : (program p words w : List ℕ) (n : ℕ) (o : List ℕ) → p ≡ program → w ≡ words → o ≡ decimal n
     → p ++ (codes ": " ++ (w ++ (codes " line " ++ (o ++ codes "\n")))) ≡ program_line program (words ++ (codes " line " ++ decimal n))
 line-numbered program p words w n o named is_words is =

@@ -45,7 +45,7 @@ use Rattle.pm_tool.specs.declared.numbers.question.Question.{Question}
 pub data End : Type 0 where
   -- standard output got the whole of a text
   Printed : (status : ℕ) (text : List ℕ) → End
-  -- the same, and standard error says what may be wrong
+  -- standard output got the whole of a text, and standard error says what may be wrong
   Hinted : (status : ℕ) (text : List ℕ) (words : List ℕ) → End
   -- standard output failed: it got a prefix of a text
   CutShort : (text : List ℕ) → End
@@ -241,7 +241,8 @@ WordsEnd remaining old new words end =
     × ChoiceEnds remaining old new chosen end)
     ⊎ ParserEnds old new (fault_of pmb words) end
 
--- the same of `decode` with options, by the words from `decode` on
+-- how a run of `decode` with options ends, by the words from `decode` on: where the parser finds no fault, as the options that it found
+-- say; otherwise as `ParserEnds` says
 abbrev pub OptionsEnd : {R : Type 0} → (R → Option (List ℕ)) → Held R → Held R → List Text → End → Type 0
 OptionsEnd remaining old new words end =
     ((fault_of tell_app words ≡ []) × (given : TellTexts) × HasTexts given (matches_of tell_app words)
@@ -278,7 +279,7 @@ IsDone err output errors errors' wanted status =
     ⊎ ((IsTrue output.failed) × (status ≡ 1)
     × Says err errors errors' (refusal_line (fault_words Write)))
 
--- the same of a telling, of which is said what may be wrong
+-- a telling's text that was written is handed on and standard error says what may be wrong, or standard output failed as it should be
 abbrev pub SaysHint : {E : Type 0} → (E → Option (List ℕ)) → Held E → Held E → Option Hint → Type 0
 SaysHint err errors errors' None = errors' ≡ errors
 SaysHint err errors errors' (Some hint) = Says err errors errors' (refusal_line (hint_words hint))

@@ -130,7 +130,7 @@ IsOfNumber (fault.Text text.Memory) = ⊤
 IsOfNumber (fault.Text _) = ⊥
 IsOfNumber _ = ⊤
 
--- of a format that can be, a question has one text at most
+-- a question has one text at most if its format can be
 abbrev pub NumberHasOneText : Type 0
 NumberHasOneText = (asked : Question) → IsFormat asked.format → (a b : List ℕ) →
     IsNumberText (Ok asked) a → IsNumberText (Ok asked) b → a ≡ b

@@ -84,7 +84,7 @@ entries_in (suc room) (text ∷ texts) = before_entries (entry_of text) (entries
 abbrev pub entries_of : Text → Option (List Entry)
 entries_of text = entries_in 8 (items text)
 
--- the same of what is left of a text, which may be nothing
+-- the entries of what is left of a text, which may be nothing
 abbrev pub entries_left : ℕ → Option Text → Option (List Entry)
 entries_left room None = Some []
 entries_left room (Some text) = entries_in room (items text)

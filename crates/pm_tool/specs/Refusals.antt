@@ -26,7 +26,7 @@ abbrev pub line_words : Option ℕ → List ℕ
 line_words None = []
 line_words (Some line) = codes " line " ++ decimal line
 
--- the same, where nothing can be made of what the text asks for
+-- the words for why nothing can be made of what a text asks for, if that is its fault
 abbrev pub reason_words : Option SetupFault → List ℕ
 reason_words None = []
 reason_words (Some fault) = codes " " ++ setup_fault_text fault

@@ -23,8 +23,8 @@ use Rattle.pm_tool.specs.declared.numbers.question.FormatText.TheVariants.{Linea
 
 -- ---- the words
 
--- of a command line that names `decode` with more words behind it: the words from `decode` on, which stands where the
--- parser wants the program's name
+-- the words from `decode` on of a command line that names `decode` with more words after it; `decode` stands where the parser wants the
+-- program's name
 abbrev pub tell_words : List Text → Option (List Text)
 tell_words (program ∷ name ∷ option ∷ options) =
     if bytes_eq name (codes "decode") then Some (name ∷ option ∷ options) else None

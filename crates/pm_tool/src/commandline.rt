@@ -50,7 +50,7 @@ pub fn chosen<'a>(alloc: Global, words: &'a [&'a str]) -> Result<Chosen<'a>, Err
     ensures passes { IfErr result (λ error. takes pmb (texts words.entry.now) ≡ true
         → kind_of error ≡ ErrorKind.OutOfMemory) }
 
-    // The same in plain words, for any name of the program.
+    // The answer in plain words, for any name of the program.
     ensures hear { (program : List ℕ) → texts words.entry.now ≡ program ∷ codes "hear" ∷ []
         → UnlessMemory result (λ chosen. chosen ≡ Chosen.Hear) }
     ensures replay { (program : List ℕ) → texts words.entry.now ≡ program ∷ codes "replay" ∷ []

@@ -213,7 +213,8 @@ fn done<W: Write, E: Write>(output: &mut Sink<W>, errors: &mut Sink<E>, status: 
     done_with(output, errors, status, None)
 }
 
-// The same of a telling, with what may be wrong.
+// The status of a telling whose text was written whole, as `done` has it; standard error says what may be
+// wrong.
 fn done_with<W: Write, E: Write>(
     output: &mut Sink<W>,
     errors: &mut Sink<E>,

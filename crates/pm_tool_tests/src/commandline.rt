@@ -3,7 +3,7 @@ use pm_tool::{Chosen, chosen};
 use std::process::Abort;
 use std::test::Fail;
 
-// These words choose this command.
+// The words choose this command.
 fn is_chosen<'a>(
     rt: &(impl Abort + AllocGlobal),
     words: &'a [&'a str],

@@ -14,7 +14,7 @@ fn heard(alloc: Global, text: &[u8], piece: usize) -> (Result<(), TextFault>, Ve
     (result, writer.into_inner().taken)
 }
 
-// Of a text that comes in such pieces these are the answers, and these the lines of the outputs.
+// A text that comes in such pieces has these answers, and these lines of the outputs.
 fn is_heard(rt: &(impl Abort + AllocGlobal), text: &str, piece: usize, answers: &str, words: &str) {
     let (result, written) = heard(rt.alloc(), text.as_bytes(), piece);
     equal(rt, &result, &Ok(()), &(text, piece));

@@ -29,7 +29,7 @@ static HINTS: [(&[&str], &str, u8, &str, &str); 11] = [
         "1 58 page 0 VOUT_COMMAND read 03E9 1001 V\ncount VOUT_COMMAND 1\nlines 1 accepted 1 faults 0 bad 0\n",
         "",
     ),
-    // By a format that the trace taught nothing is said.
+    // Nothing is said of an order whose format the trace taught.
     (
         &["pmb", "decode", "--values", "--vout=ulinear16:0"],
         "B0 06 02 00 20 / B1 01 00 22\nB0 05 04 00 21 E9 03 25\nB0 05 04 01 21 E9 03 33\n",

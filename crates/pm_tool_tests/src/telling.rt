@@ -372,8 +372,8 @@ fn each_line_is_told_before_the_next_one_is_read(rt: HostRuntime) {
     }
 }
 
-/// So many lines that are there at once, and by how many writes they are told: 16 KiB and what a piece says at a time, and
-/// what is left.
+/// Counts of lines that are there at once, and of the writes by which they are told: 16 KiB and what a piece
+/// says at a time, and what is left.
 static GATHERED: [(usize, usize); 2] = [(64, 2), (2000, 4)];
 
 #[test]

@@ -107,7 +107,7 @@ in-band laws {config = config} {passes = passes} {events = events} part output b
       to_greatest = band-held Highest shape known words output dens possible short;
     })
 
--- where words are listed there is one
+-- a list of words has one
 abbrev pub IsFilled : List ℕ → Type 0
 IsFilled [] = ⊥
 IsFilled (word ∷ words) = Unit {0}
@@ -181,7 +181,7 @@ pub listed-is : (side : Side) (value : ℕ → Ratio) (words : List ℕ) → IsF
 listed-is side value [] h = absurd h
 listed-is side value (word ∷ words) h = farthest_of-is side value word words
 
--- of the three bytes that stand for all each is accepted
+-- each of the three bytes that stand for all is accepted
 accepted : (byte : ℕ) → is_listed byte (0x80 ∷ 0xA8 ∷ 0x94 ∷ []) ≡ true → is_operation byte ≡ true
 accepted byte h = go (0x80 == byte) (0xA8 == byte) (0x94 == byte) refl refl refl h where
   go : (on high low : Bool) → (0x80 == byte) ≡ on → (0xA8 == byte) ≡ high → (0x94 == byte) ≡ low →
@@ -259,7 +259,7 @@ picked-held laws s output byte other register full may = go (same_cell (Out outp
       may
   go false e = pick-held other register (possible_at s (Out other register)) full
 
--- where each listed byte is taken, none isn't
+-- no listed byte is untaken if each is taken
 all-taken : (bytes : List ℕ) → ((byte : ℕ) → is_listed byte bytes ≡ true → is_operation byte ≡ true) → list_any is_untaken bytes ≡ false
 all-taken [] each = refl
 all-taken (byte ∷ bytes) each =

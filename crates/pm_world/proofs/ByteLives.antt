@@ -273,7 +273,7 @@ tells-more (Some (host.Accepted job)) entries is are = are
 tells-more (Some (host.Finished acked)) entries is are = are
 tells-more (Some host.Restarted) entries is are = are
 
--- of an answer that returns so
+-- what comes back of an answer are bytes, if the answer has bytes and any that come in its place are bytes
 returned-bytes : (answer : List ℕ) (returned : Back) → AreBytes answer → ReturnsInBytes returned → AreBytes (back_bytes answer returned)
 returned-bytes answer back.Whole are carries = are
 returned-bytes answer (back.Cut count) are carries = λ place. first-bytes count answer place are

@@ -83,7 +83,7 @@ AreCome config setup (host.Finished acked ∷ before) = AreCome config setup bef
 AreCome config setup (host.Got bytes ∷ before) = Came config (host_now setup before) bytes × AreCome config setup before
 AreCome config setup (host.Restarted ∷ before) = AreCome config setup before
 
--- where the converter didn't restart since the host did, each cell's word is possible
+-- each cell's word is possible if the converter didn't restart since the host did
 since-among : Below → (config : Config) (passes : ℕ) (events : List Event) (cell : Cell) → IsLived config passes events →
     restarted_since_host events ≡ false → IsCell config.count cell →
     is_possible (word_at (now config passes events).device.words cell)

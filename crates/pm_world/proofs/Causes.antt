@@ -37,14 +37,14 @@ pub taken-free : (s : State) (event : Event) → IsTaken s event → event_cause
 unfolding cause_of
 taken-free s event taken = (or-none (rule (nat_le event_limit s.taken) Full) (event_cause s event) taken.free).1
 
--- a job that an event asks for, and that has no cause, has no fault: of an order in microvolts,
+-- the job of an order has no fault if the host refuses its word for none
 word-free : (s : Summary) (cell : Cell) (word : Option ℕ) (job : host.Job) →
     option_map (λ w. host.Order cell w) word ≡ Some job →
     option_and_then (λ w. order_fault s cell w) word ≡ None → job_fault s job ≡ None
 word-free s cell None job is h = cc
 word-free s cell (Some word) job is h = subst (λ j. job_fault s j ≡ None) (same_Some (host.Order cell word) job is) h
 
--- the same of a number of microvolts
+-- the job of an order in microvolts has no fault if the order has none
 micro-free : (s : Summary) (cell : Cell) (x : ℤ) (job : host.Job) →
     option_map (λ w. host.Order cell w) (micro_word s cell x) ≡ Some job → micro_fault s cell x ≡ None →
     job_fault s job ≡ None
@@ -60,7 +60,7 @@ accepted-free : (s : Summary) (asked : Job) (accepted : host.Job) → accepted_j
 accepted-free s (job.OrderMicro cell x) accepted is h = micro-free s cell x accepted is h
 accepted-free s asked accepted is h = subst (λ o. option_and_then (job_fault s) o ≡ None) is h
 
--- where an event asks for one
+-- the job that an event asks for has no fault if the host doesn't refuse it
 fault-none : (s : Summary) (asked : Option Job) (accepted : host.Job) → option_and_then (accepted_job s) asked ≡ Some accepted →
     option_and_then (begin_fault s) asked ≡ None → job_fault s accepted ≡ None
 fault-none s None accepted is h = cc

@@ -46,7 +46,7 @@ pub data Begun (h : Summary) : List Mark → Type 0 where
   one_write : (cell : Cell) (word : ℕ) → IsSent h cell word → Begun h (Put cell word ∷ [])
   one_restore : Begun h (Restored ∷ [])
 
--- by the open job
+-- what the open job begins to send is nothing, a write, or a restore
 pub begun-by : (setup : host.Setup) (entries : List host.Entry) → IsSound (host_now setup entries) →
     Begun (host_now setup entries) (puts setup entries)
 unfolding puts host_now stage_of
@@ -80,7 +80,7 @@ begun-by setup entries sound = go (host.open_job setup entries) refl sound.stage
   go (Some (host.Learn output)) e is = no_write
   go (Some (host.Send sent)) e is = by_command sent
 
--- where WRITE_PROTECT is 00h, each code that is written may be
+-- each code that is ever written may be written while WRITE_PROTECT is 00h
 open-allows : (code : ℕ) → is_written code ≡ true → is_allowed 0x00 code ≡ true
 open-allows code written = go (line_of code) written where
   at_00h : (protection : Protection) → is_ever_written protection ≡ true → lets_write protection 0x00 ≡ true
@@ -105,7 +105,7 @@ pub record Delivers (s : State) (output : ℕ) (register : Reg) (word : ℕ) : T
   pub told : (share_of s (Deliver Whole)).told ≡ None
   pub words : (next s (Deliver Whole)).device.words ≡ with_word s.device.words (Out output register) word
 
--- by the whole frame
+-- the whole frame of a write that can be delivered does what `Delivers` says
 pub delivers : Below → (s : State) (output : ℕ) (register : Reg) (word : ℕ) → CanDeliver s output register word →
     Delivers s output register word
 delivers laws s output register word can = record {

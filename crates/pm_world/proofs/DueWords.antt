@@ -70,7 +70,7 @@ good-has laws ms read word due words cell (expected, so_far) possible =
     go false true e f h older = older h
     go false false e f h older = absurd (true≢false (sym f))
 
--- of all outputs: a write that stays lost,
+-- a write that stays lost leaves each cell of all outputs its due word
 pub put-left : Below → {count : ℕ} {ms : List Mark} {due : Choice} {words : Words} (put : Cell) (word : ℕ) → (due put ≡ word → ⊥) →
     IsDue count ms due words → IsDue count (Put put word ∷ ms) due words
 put-left laws {ms = ms} {due = due} {words = words} put word other so_far = record {
@@ -78,7 +78,7 @@ put-left laws {ms = ms} {due = due} {words = words} put word other so_far = reco
       left-has laws ms put word due words (Out output register) (other, so_far.has output register below);
 }
 
--- one that is taken,
+-- a write that is taken leaves each cell of all outputs its due word
 pub put-taken : Below → {count : ℕ} {ms : List Mark} {due : Choice} {words : Words} (put : Cell) (word : ℕ) → count ≤ 8 →
     AreWords words → IsCell 8 put → due put ≡ word → IsDue count ms due words →
     IsDue count (Put put word ∷ ms) due (with_word words put word)
@@ -88,7 +88,7 @@ put-taken laws {ms = ms} {due = due} {words = words} put word few are there is s
       (is, laws.settings_are_a_map.read words put (Out output register) word are there (omega arith), so_far.has output register below);
 }
 
--- one of WRITE_PROTECT,
+-- a write of WRITE_PROTECT leaves each cell of all outputs its due word
 pub put-protect : Below → {count : ℕ} {ms : List Mark} {due : Choice} {words : Words} (word : ℕ) → IsDue count ms due words →
     IsDue count (Put Protect word ∷ ms) due words
 put-protect laws {ms = ms} {due = due} word so_far = record {
@@ -119,7 +119,7 @@ abbrev pub IsStart : Choice → Cell → List Mark → Type 0
 IsStart due cell ms =
     ((words_since ms cell ≡ None) × (due_before due ms cell ≡ due cell)) ⊎ (cell_accepts cell (due_before due ms cell) ≡ true)
 
--- by the marks
+-- the word that is due before accepted marks is one that its cell accepts, or the chosen one of a cell with no answer
 pub is-start : Below → (due : Choice) (cell : Cell) (ms : List Mark) → AreAccepted ms → IsStart due cell ms
 is-start laws due cell [] accepted = inl (refl, refl)
 is-start laws due cell (Put put word ∷ ms) accepted =

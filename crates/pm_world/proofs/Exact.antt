@@ -68,7 +68,7 @@ possible-is : (cell : Cell) (word : ℕ) (possible : Possible) → may_hold cell
 possible-is cell word Any h = refl
 possible-is cell word (Words words) h = h
 
--- where no words are known, any is possible
+-- any word is possible if no words are known
 any-possible : (ms : List Mark) (cell : Cell) → words_since ms cell ≡ None → possible_of ms cell ≡ Any
 unfolding possible_of
 any-possible ms cell none = ap possible_from none

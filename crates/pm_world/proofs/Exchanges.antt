@@ -29,7 +29,7 @@ pub record Asks (s : State) (arrival : Arrival) (frame heard : List ℕ) (ending
   pub arrives : Arrives s true arrival frame heard ending
   pub needed_is : needed ≡ whole_answer arrives.message
 
--- by what the host shows of the request
+-- the code knows of a request what `Asks` says, by what the host shows of it
 pub arrives-request : (s : State) (arrival : Arrival) (frame heard : List ℕ) (ending : Ending) (needed : ℕ) →
     IsSomeAnd (sending_in s.host) (λ message. IsRequest s.host.setup.addr message frame)
     × IsSomeAnd (sending_in s.host) (λ message. needed ≡ whole_answer message) →

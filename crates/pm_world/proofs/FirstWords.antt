@@ -100,7 +100,7 @@ goods-small : (setup : host.Setup) (before : List host.Entry) (bytes : List ℕ)
 goods-small setup before bytes new ms are no_good small = small
 goods-small setup before bytes new ms are (one_good read word asked good) small = (good-small setup.addr read bytes word are good, small)
 
--- of all that was told
+-- each good answer for a cell in all that was told has a word of two bytes
 marks-small : (setup : host.Setup) (entries : List host.Entry) → AreOfBytes entries → AreSmall (marks setup entries)
 marks-small setup [] are = tt
 marks-small setup (host.Accepted job ∷ before) are =

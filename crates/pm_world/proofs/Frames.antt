@@ -37,7 +37,7 @@ pub record Arrives (s : State) (reads : Bool) (arrival : Arrival) (frame heard :
   pub heard_is : heard ≡ heard_bytes frame arrival
   pub ending_is : ending ≡ heard_ending message arrival
 
--- by what the host shows of a write
+-- a write arrives as `Arrives` says, by what the host shows of it
 pub arrives-write : (s : State) (arrival : Arrival) (frame heard : List ℕ) (ending : Ending) →
     IsSomeAnd (sending_in s.host) (λ message. IsWrite s.host.setup.addr message frame) →
     heard ≡ heard_bytes frame arrival → ending ≡ ending_of Stop arrival → Arrives s false arrival frame heard ending

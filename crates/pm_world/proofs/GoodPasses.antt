@@ -109,7 +109,7 @@ pub record IsReading (config : Config) (passes : ℕ) (cell : Cell) (word pass :
   pub held : held_after config passes events cell ≡ word
   pub entries : (life config passes events).entries ≡ host.Finished acked ∷ (life config passes before).entries
 
--- by its turn
+-- the host reads the cell, which has the word, after an allowed write of it was heard whole
 pub written-turn : Below → {config : Config} {passes : ℕ} {before events : List Event} {cell : Cell} {word pass : ℕ} {acked : Bool} →
     IsLived config passes before → IsLived config passes events →
     (now config passes before).host.stage ≡ Some (Writes cell word pass) →
@@ -156,7 +156,7 @@ pass-done laws {config = config} {passes = passes} {after = after} {cell = cell}
       held = held;
     }
 
--- where the word that is read back isn't the order's, the next pass does it
+-- the next pass does an order whose read gave another word
 pub three-done : Below → {config : Config} {passes : ℕ} {before first middle after : List Event} {cell : Cell} {word pass : ℕ}
     {acked : Bool} → IsLived config passes before → IsLived config passes first → IsLived config passes middle →
     IsLived config passes after →
@@ -207,13 +207,13 @@ abbrev SentDone : Config → ℕ → List Event → List Event → Type 0
 SentDone config passes before after = ((now config passes after).end ≡ Some Done)
     × ((life config passes after).entries ≡ host.Finished true ∷ (life config passes before).entries)
 
--- by its step
+-- the step of an acknowledged write of a command ends the command Done
 next-sent : (s : State) (command : Command) (tries : ℕ) → s.host.stage ≡ Some (SendsCommand command tries) →
     (next s (Finish true)).end ≡ Some Done
 unfolding next step_of
 next-sent s command tries stage = ap (λ o. end_by (finished (idle s.host) o true).step) stage
 
--- by its write
+-- a command is done by its write if that is acknowledged
 pub send-done : Below → {config : Config} {passes : ℕ} {frame : List ℕ} {before after : List Event} {command : Command} {tries : ℕ} →
     IsLived config passes after → (now config passes before).host.stage ≡ Some (SendsCommand command tries) →
     IsWritten frame true before after → SentDone config passes before after

@@ -80,7 +80,7 @@ quiet-reading laws {config = config} {passes = passes} before (Reading output co
     }
 quiet-reading laws before event lived is = cc
 
--- of two, one after the other
+-- two quiet stretches, one after the other, are a quiet one
 pub quiet-both : {config : Config} {passes : ℕ} {before between events : List Event} → IsQuiet config passes before between →
     IsQuiet config passes between events → IsQuiet config passes before events
 quiet-both one two = record {
@@ -123,7 +123,7 @@ pub record WasAnswered (config : Config) (passes : ℕ) (request : Message) (bef
   pub words : (now config passes after).device.words ≡ (now config passes before).device.words
   pub entries : (life config passes after).entries ≡ host.Got answer ∷ (life config passes before).entries
 
--- by one exchange
+-- a request was answered by one exchange that came whole
 at-once : Below → {config : Config} {passes : ℕ} (before : List Event) (request : Message) (arrival : Arrival) (back : Back) →
     IsLived config passes (Exchange arrival back ∷ before) → sending_in (now config passes before).host ≡ Some request →
     comes_whole (now config passes before) request arrival back ≡ true →
@@ -226,7 +226,7 @@ unfolding now state_of host_now known_now table
 now-possibles config passes events = length-map-range_with_len {X = Possible}
     (λ place. possible_of (marks (setup_of config passes) (life config passes events).entries) (cell_in place)) 0 places
 
--- where nothing is known any word is possible
+-- any word is possible at each place if nothing is known
 any-at : (place : ℕ) → place < places → slice_index_or all_any place Any ≡ Any
 unfolding all_any
 any-at place below = get_or-replicate places place Any Any below
@@ -247,7 +247,7 @@ record KnowsOf (known : Known) (cell : Cell) (word : ℕ) (after : Known) : Type
       ≡ cond (not (is_possible word (known_possible known cell))) Any (known_possible known other)
   seen : after.seen ≡ (not (is_possible word (known_possible known cell)) || known.seen)
 
--- by its definition
+-- what is known after a good answer is as `KnowsOf` says, by its definition
 knows-of : Below → (known : Known) (cell : Cell) (word : ℕ) → IsCell 8 cell → length known.possible ≡ places →
     length known.standing ≡ places → KnowsOf known cell word (known_after known (Good cell word))
 knows-of laws known cell word here possibles standings =

@@ -191,12 +191,12 @@ turns laws {config = config} {passes = passes} {after = after} acked (SendsComma
 
 -- ---- all frames
 
--- of how a job ends nothing is lost by a turn
+-- nothing of how a job ends is lost by a turn
 abbrev Keeps : Config → ℕ → List Event → List Event → Stage → Turn → Type 0
 Keeps config passes before after stage (Ends end) = end ≡ good_end config passes before stage
 Keeps config passes before after stage (GoesOn next) = good_end config passes after next ≡ good_end config passes before stage
 
--- by a turn a frame less is left
+-- at least one frame less is left after a turn
 abbrev Fewer : ℕ → Stage → Turn → Type 0
 Fewer passes stage (Ends end) = 1 ≤ frames_from passes stage
 Fewer passes stage (GoesOn next) = 1 + frames_from passes next ≤ frames_from passes stage

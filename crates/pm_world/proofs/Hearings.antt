@@ -108,11 +108,11 @@ pub record CanTake (held : Held) (cell : Cell) (word : ℕ) : Type 0 where
 all_three : {X : Type 0} (a b c : Bool) (x y : X) → a ≡ true → b ≡ true → c ≡ true → cond (a && b && c) x y ≡ x
 all_three a b c x y p q r = rw (p, q, r) refl
 
--- of two tests
+-- a choice by two tests that hold is the first of its values
 both : {X : Type 0} (a b : Bool) (x y : X) → a ≡ true → b ≡ true → cond (a && b) x y ≡ x
 both a b x y p q = rw (p, q) refl
 
--- by either way of writing a cell
+-- a whole write of a cell that a converter takes gives the cell the word, in either form of the write
 pub whole-write : Below → (held : Held) (cell : Cell) (word : ℕ) (bytes : List ℕ) → CanTake held cell word →
     IsWrite held.config.addr (cell_write cell word) bytes → words_after held (Hearing bytes Stop) ≡ with_word held.words cell word
 whole-write laws held (Out output register) word bytes can is =

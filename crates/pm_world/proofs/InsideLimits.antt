@@ -130,7 +130,7 @@ module _ (shape : Shape) (bounds : Bounds) (known : Known) (bytes : List ℕ) (d
     greatest_den = dens (word_end side shape known VoutMax);
   }
 
-  -- where an end isn't below the least limit no word is
+  -- no word lies below the least limit if the lower end doesn't
   ge-of : (register : Reg) → AtMost (micros bounds.least) (shape_value shape (word_end Lowest shape known register)) →
       Ge shape bounds (known register)
   ge-of register end x listed = at_most-trans (micros bounds.least) (shape_value shape (word_end Lowest shape known register))

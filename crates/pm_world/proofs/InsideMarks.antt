@@ -109,7 +109,7 @@ listed-any test (word ∷ words) x listed passes = go (word == x) refl listed (�
       ap (λ (b : Bool). b || list_any test words) (ap test same ∙ passes)
   go false e l more = or_right (test word) (list_any test words) (more l)
 
--- where a test fails of a word that is put, it holds of some word then only where it held of one before
+-- no word passes a test afterwards if none did before and the word that is put doesn't
 none-more : (test : ℕ → Bool) (words later : List ℕ) (word : ℕ) → test word ≡ false →
     ((x : ℕ) → is_listed x later ≡ true → (is_listed x words ≡ true) ⊎ (x ≡ word)) →
     list_any test words ≡ false → list_any test later ≡ false
@@ -196,8 +196,7 @@ good-other ms read cell word other is = ap (λ (b : Bool). possible_from (cond b
 
 -- ---- What an output may be ----
 
--- of an order: a word of a voltage lies within the limits; a byte is one that OPERATION takes, with which the output is
--- inside
+-- an order's word of a voltage lies within the limits; its byte of OPERATION is one that OPERATION takes, with which the output is inside
 pub record Lets (shape : Shape) (bounds : Bounds) (known : Known) (register : Reg) (word : ℕ) : Type 0 where
   pub voltage : is_voltage register ≡ true → IsWithin bounds (shape_value shape word)
   pub byte : is_voltage register ≡ false → (is_operation word ≡ true) × IsInside shape bounds known (word ∷ [])
@@ -222,7 +221,7 @@ kept-lets shape bounds known later register word kept lets = record {
 abbrev Sides : Shape → Bounds → Possible → Possible → Type 0
 Sides shape bounds possible later = (Ge shape bounds possible → Ge shape bounds later) × (Le shape bounds possible → Le shape bounds later)
 
--- where what may be held is the same
+-- a possible word stays on its sides if what may be held is the same
 same-sides : (shape : Shape) (bounds : Bounds) (possible later : Possible) → later ≡ possible → Sides shape bounds possible later
 same-sides shape bounds possible later same = (
   (λ ge. subst (λ (p : Possible). Ge shape bounds p) (sym same) ge),
@@ -297,7 +296,7 @@ module _ (laws : Below) (part : PartRegisters) (shape : Shape) (bounds : Bounds)
     go true e = subst (λ (c : Cell). Sides shape bounds (possible_of ms c) (possible_of (Good read word ∷ ms) c))
         ((laws.cells_are_told_apart read (Out output register)).0 e) (one-sides read word short is)
 
-  -- of a byte that OPERATION takes, and might hold
+  -- a byte that OPERATION takes, and might hold, selects no more than before
   one-select : (cell : Cell) (byte : ℕ) → is_operation byte ≡ true → is_possible byte (possible_of ms cell) ≡ true →
       SelectNoMore (operations (possible_of ms cell)) (operations (possible_of (Good cell byte ∷ ms) cell))
   one-select cell byte taken is holds all =

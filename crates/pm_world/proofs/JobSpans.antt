@@ -32,7 +32,7 @@ use Rattle.pm_world.proofs.Lives.{IsLived, earlier, life-told, now-next}
 use Rattle.pm_world.proofs.Shares.{IsShare, begins, exchanges, finishes, restarts_host as host_restarts, share-is}
 use Rattle.pm_world.specs.Lemmas.{entries-more}
 
--- of two lists
+-- a test that holds of no element of two lists together holds of none of either
 pub any-parts : {X : Type 0} (test : X → Bool) (xs ys : List X) → list_any test (xs ++ ys) ≡ false →
     (list_any test xs ≡ false) × (list_any test ys ≡ false)
 any-parts test [] ys h = (refl, h)
@@ -53,7 +53,7 @@ asks-other s event job is alone = go (asked_by event) is (or_parts (is_some (ask
   go None e h = cc
   go (Some one) e h = cc
 
--- by an event that begins no other job
+-- an event that begins no other job tells the host what came of a frame, or nothing
 pub beside-tells : (s : State) (event : Event) → begins_other event ≡ false → TellsFrame (share_of s event).told
 beside-tells s event alone = by (share-is s event) alone where
   by : {event : Event} {share : Share} → IsShare s event share → begins_other event ≡ false → TellsFrame share.told
@@ -63,7 +63,7 @@ beside-tells s event alone = by (share-is s event) alone where
   by host_restarts alone = cc
   by share alone = tt
 
--- by any event that asks the host for nothing, and doesn't restart it
+-- an event that asks the host for nothing, and doesn't restart it, tells the host what came of a frame, or nothing
 pub beside-frame : (s : State) (event : Event) → asked s event ≡ None → restarts_host event ≡ false → TellsFrame (share_of s event).told
 beside-frame s event none stays = by (share-is s event) none stays where
   by : {event : Event} {share : Share} → IsShare s event share → asked s event ≡ None → restarts_host event ≡ false → TellsFrame share.told
@@ -81,13 +81,13 @@ open-end setup entries some = go (host.end_of setup entries) some where
   go None some = refl
   go (Some end) some = cc
 
--- where a frame's end may be told, a job is open
+-- a job is open while the end of a frame, or what came back for it, may be told
 comes-open : (stage : Option Stage) (test : Message → Bool) → option_map_or test (option_map stage_message stage) false ≡ true →
     IsSome (option_map stage_job stage)
 comes-open None test h = absurd (false≢true h)
 comes-open (Some stage) test h = refl
 
--- whichever it is
+-- a job is open while an entry of a frame may come
 frame-open : (s : Summary) (entry : host.Entry) → may_come s entry ≡ true → is_of_frame entry ≡ true → IsSome (job_in s)
 frame-open s (host.Finished acked) comes frame = comes-open s.stage (λ message. not (is_read_message message)) comes
 frame-open s (host.Got bytes) comes frame = comes-open s.stage is_read_message comes
@@ -101,7 +101,7 @@ pub record Frame (config : Config) (passes : ℕ) (before : List Event) (event :
   pub tells : StepTells (now config passes before).host entry (step_by (now config passes (event ∷ before)).end)
       (now config passes (event ∷ before)).host
 
--- by the life
+-- an event of a life that tells the host what came of a frame does so as `Frame` says
 pub by-frame : Below → (config : Config) (passes : ℕ) (before : List Event) (event : Event) (entry : host.Entry) →
     IsLived config passes (event ∷ before) → (share_of (now config passes before) event).told ≡ Some entry → is_of_frame entry ≡ true →
     Frame config passes before event entry
@@ -148,7 +148,7 @@ pub record Begun (config : Config) (passes : ℕ) (before : List Event) (event :
   pub formats : (now config passes (event ∷ before)).host.formats ≡ (now config passes before).host.formats
   pub going : (now config passes (event ∷ before)).end ≡ None
 
--- by the life
+-- a job is open in a life after the event that it was accepted by
 pub by-acceptance : Below → (config : Config) (passes : ℕ) (before : List Event) (event : Event) (job : host.Job) →
     IsLived config passes (event ∷ before) → asked (now config passes before) event ≡ Some job → Begun config passes before event job
 unfolding now state_of
@@ -169,14 +169,14 @@ by-acceptance laws config passes before event job lived asks =
 abbrev pub IsOrOver : host.Job → Summary → Type 0
 IsOrOver job h = (job_in h ≡ Some job) ⊎ (job_in h ≡ None)
 
--- by a frame
+-- a job that is open stays so or is over after a frame
 frame-job : (job : host.Job) (s new : Summary) (entry : host.Entry) (end : Option JobEnd) → StepTells s entry (step_by end) new →
     IsOrOver job s → IsOrOver job new
 frame-job job s new entry (Some end) tells before = inr tells.0
 frame-job job s new entry None tells (inl is) = inl (tells.0 ∙ is)
 frame-job job s new entry None tells (inr is) = inr (tells.0 ∙ is)
 
--- by any event that begins no other
+-- a job that is open stays so or is over after any event that begins no other
 event-job : Below → (config : Config) (passes : ℕ) (before : List Event) (event : Event) (job : host.Job) →
     IsLived config passes (event ∷ before) → begins_other event ≡ false →
     IsOrOver job (now config passes before).host → IsOrOver job (now config passes (event ∷ before)).host

@@ -28,7 +28,7 @@ use Rattle.pm_world.proofs.SinceRestart.{since-same}
 use Rattle.pm_world.proofs.TakenWhole.{free, now-taken}
 use Rattle.pm_world.specs.Lemmas.{now-config}
 
--- where neither end restarts, the converter didn't since any answer
+-- the converter didn't restart since any answer if neither end restarts
 steady-fresh : (config : Config) (passes : ℕ) (cell : Cell) (events : List Event) → AreSteady events →
     restarted_since config passes cell events ≡ false
 unfolding restarted_since

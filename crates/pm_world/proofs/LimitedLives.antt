@@ -300,7 +300,7 @@ or-then : {A B C : Type 0} → A ⊎ C → (A → B ⊎ C) → B ⊎ C
 or-then (inl a) more = more a
 or-then (inr c) more = inr c
 
--- the same after several events
+-- an own word after several events is one of before, or lies within limits that each word which they order lies within
 stays-newer : (config : Config) (passes : ℕ) (output : ℕ) (bounds : Bounds) (later before : List Event) →
     OrdersWithin config passes later before output bounds →
     (register : Reg) (word : ℕ) → is_voltage register ≡ true → IsOwnWord config passes (later ++ before) (Out output register) word →
@@ -340,7 +340,7 @@ ordered-within g None output register word bounds free is voltage limits = cc
 ordered-within g (Some job) output register word bounds free is voltage limits =
     guarded-voltage g job output register word bounds free is voltage limits
 
--- where each job went through a guard, an own word is the start word or lies within the guard's limits
+-- an own word is the start word or lies within the guard's limits if each job went through the guard
 stays-ordered : Below → {config : Config} {passes : ℕ} {events : List Event} → IsLived config passes events → IsSpelled config →
     (output : ℕ) (bounds : Bounds) (part : PartRegisters) (limits : List (Option Bounds)) → output < config.count →
     slice_index_or limits output None ≡ Some bounds → AreGuarded config passes part limits events →

@@ -62,7 +62,7 @@ unfolding taken_at
 asked-takes config passes before (Deliver arrival) job is = cc
 asked-takes config passes before event job is = refl
 
--- of an event that asks for no job
+-- an event that asks for no job makes of the converter what `Went` says
 went-beside : Below → (config : Config) (passes : ℕ) (before : List Event) (event : Event) → IsLived config passes before →
     event_cause (now config passes before) event ≡ None → asked (now config passes before) event ≡ None →
     Went config passes before event (now config passes before).device (next (now config passes before) event).device
@@ -82,7 +82,7 @@ went-beside laws config passes before (Reading output code word) lived free is =
 went-beside laws config passes before event lived free is =
     inr (stayed _ _ (ap (λ (s : State). s.device) (beside-next (now config passes before) event is)))
 
--- of each event
+-- each event of a life makes of the converter what `Went` says
 pub went : Below → (config : Config) (passes : ℕ) (before : List Event) (event : Event) → IsLived config passes (event ∷ before) →
     Went config passes before event (now config passes before).device (now config passes (event ∷ before)).device
 went laws config passes before event lived =

@@ -51,7 +51,7 @@ as-near : (value : ℕ → Ratio) (rank : ℕ → ℕ) (x : Ratio) (w u : ℕ) �
     (SameValue (value u) (value w) → rank w ≤ rank u) → Before value rank x w u
 as-near value rank x w u near low spelled = record { near = near; lower = λ _. low; spelled = spelled }
 
--- Of two words one comes before the other.
+-- One of two words comes before the other.
 before-total : (value : ℕ → Ratio) (rank : ℕ → ℕ) (x : Ratio) → ((w : ℕ) → 0 < (value w).den) → (w u : ℕ) →
     Before value rank x w u ⊎ Before value rank x u w
 before-total value rank x den w u =
@@ -144,7 +144,7 @@ nearest-true value rank x w first =
     (each-true (λ u. not (is_same (value u) (value w)) || nat_le (rank w) (rank u)) (2 ^ 16)
     (λ u h. implies-true _ _ (λ e. le-leb _ _ ((first u h).spelled ((Decides-int_eq _ _).0 e))))))
 
--- where a number below passes a test, one is found
+-- a number is found if one below passes the test
 found-some : (test : ℕ → Bool) (n w : ℕ) → w < n → test w ≡ true → IsSome (found_below test n)
 unfolding found_below
 found-some test zero w below passes = absurd (omega arith)
@@ -165,22 +165,22 @@ unfolding nearest_word
 found-first value rank x w below first =
     found-some (is_nearest value rank x) (2 ^ 16) w below (nearest-true value rank x w first)
 
--- Where each word has a value, one comes before all.
+-- A nearest word is found if the value of each word has a positive denominator.
 exists-by : (value : ℕ → Ratio) (rank : ℕ → ℕ) (x : Ratio) → ((w : ℕ) → 0 < (value w).den) → IsSome (nearest_word value rank x)
 exists-by value rank x den =
     let best = first_of_all (λ w u. Before value rank x w u) (before-total value rank x den) (before-before value rank x den) 65535 in
     found-first value rank x best.0 best.1 best.2
 
--- Where none has, each does.
+-- Each of two values with the denominator zero is at most the other.
 at_most-nothing : (a b : ℤ) (d e : ℕ) → d ≡ 0 → e ≡ 0 → (a *ℤ pos d) ≤ℤ (b *ℤ pos e)
 at_most-nothing a b d e h k =
     let f = ap (λ (n : ℕ). a *ℤ pos n) h in let g = ap (λ (n : ℕ). b *ℤ pos n) k in omega (arith, ints)
 
--- of two values with the denominator zero each is as near as the other
+-- each of two values with the denominator zero is as near as the other
 near-nothing : (g k d e : ℕ) → d ≡ 0 → e ≡ 0 → g * d ≤ k * e
 near-nothing g k d e p q = let f = ap (λ (n : ℕ). g * n) p in omega arith
 
--- where the value of every word has the denominator zero, there is a nearest word for each number all the same
+-- a nearest word for each number is found all the same if the value of every word has the denominator zero
 exists-nothing : (value : ℕ → Ratio) (x : Ratio) → ((w : ℕ) → (value w).den ≡ 0) → IsSome (nearest_word value one_rank x)
 exists-nothing value x den =
     found-first value one_rank x 0 (lit< tt)

@@ -75,7 +75,7 @@ taken-pends config passes before (Deliver arrival) job is =
     ∙ taken-open config.addr (now config passes before).device.words arrival (open_pending config passes before) job is
 taken-pends config passes before event job is = cc
 
--- where no job is open, the words stay
+-- the words stay while no job is open and the converter doesn't restart
 idle-moves : Below → (config : Config) (passes : ℕ) (before : List Event) (event : Event) (cell : Cell) →
     IsLived config passes (event ∷ before) → restarts_converter event ≡ false →
     job_in (now config passes before).host ≡ None →
@@ -91,7 +91,7 @@ idle-moves laws config passes before event cell lived steady over = go (taken_at
       let nothing = pending-job (now config passes before).host.stage ∙ ap (option_and_then pending_of) over in
       absurd (none-other _ nothing (taken-pends config passes before event job is))
 
--- where an order is, its cell's word stays, or is the ordered one then
+-- the word of an open order's cell stays, or is then the ordered one, if the converter doesn't restart
 order-moves : Below → (config : Config) (passes : ℕ) (before : List Event) (event : Event) (cell : Cell) (word : ℕ) →
     IsLived config passes (event ∷ before) → restarts_converter event ≡ false →
     job_in (now config passes before).host ≡ Some (host.Order cell word) →
@@ -119,7 +119,7 @@ order-moves laws config passes before event cell word lived steady is = go (take
       ∙ (laws.settings_are_a_map.read s.device.words cell cell word known.are there there
       ∙ ap (λ b. cond b word (word_at s.device.words cell)) ((laws.cells_are_told_apart cell cell).1 refl)))
 
--- where a read is sent, it is the turn of one
+-- the turn is that of a read while a read is sent
 turn-reads : (cell : Cell) (word : ℕ) (turn : Bool) (message : Message)
     → Some message ≡ Some (cond turn (cell_write cell word) (cell_read cell)) →
     is_read_message message ≡ true → cond turn None (Some cell) ≡ Some cell
@@ -278,7 +278,7 @@ moves-once laws config passes before event cell word lived alone steady (inl is)
 moves-once laws config passes before event cell word lived alone steady (inr (over, differs)) =
     inl (idle-moves laws config passes before event cell lived steady over)
 
--- where the cell has another word at the end, it had that throughout
+-- a cell that has another word than the ordered one at the end had it throughout
 had-before : Below → (config : Config) (passes : ℕ) (later before : List Event) (cell : Cell) (word read : ℕ) →
     IsLived config passes (later ++ before) → list_any begins_other later ≡ false → list_any restarts_converter later ≡ false →
     OrderGoes cell word (now config passes before) → read ≢ word →
@@ -303,7 +303,7 @@ open-differs laws config passes events job end is ended =
     none-other _ (open-end (setup_of config passes) (life config passes events).entries
     (ap is_some (sym (laws.ends_are_told.job (setup_of config passes) (life config passes events).entries) ∙ is))) ended
 
--- by the whole life
+-- an order that differs never took, over the whole life
 pub differs-never : Below → (config : Config) (passes : ℕ) (events : List Event) → IsLived config passes events →
     DiffersNeverTook config passes events
 differs-never laws config passes events lived = record {

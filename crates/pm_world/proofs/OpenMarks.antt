@@ -23,7 +23,7 @@ pub is-open : (ms : List Mark) → AreOpen ms → are_open ms ≡ true
 is-open [] h = refl
 is-open (mark ∷ ms) h = ap (λ b. b && are_open ms) h.0 ∙ is-open ms h.1
 
--- of marks together
+-- marks together pass the test exactly if both parts do
 pub open-append : (new ms : List Mark) → are_open (new ++ ms) ≡ (are_open new && are_open ms)
 open-append [] ms = refl
 open-append (mark ∷ new) ms =
@@ -74,7 +74,7 @@ from-finds (Some words) h = any-once is_other (reverse words) (any-reverse is_ot
 zero-other : (word : ℕ) → eqb word 0 ≡ true → is_other word ≡ false
 zero-other word h = ap not h
 
--- where WRITE_PROTECT was left open, no other word is found
+-- no other word is found if WRITE_PROTECT was left open
 open-finds : (ms : List Mark) → are_open ms ≡ true → Finds (words_since ms Protect) ≡ false
 open-finds [] h = refl
 open-finds (Restart ∷ ms) h = refl

@@ -81,7 +81,7 @@ put-open (Some (host.Send (ClearFaults output))) told h = refl
 put-open (Some (host.Send StoreUserAll)) told h = refl
 put-open (Some (host.Send RestoreUserAll)) told h = absurd (false≢true h)
 
--- of a job that begins
+-- what a job that begins sends leaves WRITE_PROTECT open exactly if the job does
 first-open : (job : host.Job) → are_open (put_by (Some job) []) ≡ opens_job job
 first-open (host.Order Protect word) = and-true (eqb word 0)
 first-open (host.Order (Out output register) word) = refl
@@ -110,14 +110,14 @@ unfolding now state_of
 life-job laws config passes events lived =
     since-job laws (setup_of config passes) (life config passes events).entries lived.made (life-told config passes events lived.legal)
 
--- where it is left open, nothing else is listed
+-- nothing but 00h is listed for WRITE_PROTECT if it is left open
 left-lists : Below → (config : Config) (passes : ℕ) (events : List Event) → IsLived config passes events →
     left_open config passes events ≡ true → lists_other (possible_at (now config passes events).host Protect) ≡ false
 left-lists laws config passes events lived h =
     ap lists_other (now-possible laws config passes events Protect lived tt)
     ∙ open-lists (marks (setup_of config passes) (since config passes events)) h
 
--- all that is left open
+-- marks together are open if each part is
 open-all : (new ms : List Mark) → are_open new ≡ true → are_open ms ≡ true → are_open (new ++ ms) ≡ true
 open-all new ms a b = open-append new ms ∙ ap₂ (λ x y. x && y) a b
 
@@ -201,7 +201,7 @@ closes-micro s (Out output register) x None job free is = cc
 closes-micro s (Out output register) x (Some word) job free is =
     ap opens_job (sym (same_Some (host.Order (Out output register) word) job is))
 
--- of each event
+-- the job that an event asks for leaves WRITE_PROTECT open exactly if the event doesn't close it
 closes-job : (s : State) (event : Event) (job : host.Job) → asked s event ≡ Some job → event_cause s event ≡ None →
     opens_job job ≡ not (closes event)
 closes-job s (Order Protect word) job is free = ap opens_job (sym (same_Some (host.Order Protect word) job is)) ∙ twice (eqb word 0) where

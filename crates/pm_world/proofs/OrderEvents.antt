@@ -83,21 +83,21 @@ cell-kept : (held : Held) (cell : Cell) (word : ℕ) (there allowed fits : Bool)
 cell-kept held cell word there true fits p q = rw (p, q) refl
 cell-kept held cell word there false fits p q = rw p refl
 
--- of WRITE_PROTECT
+-- a whole write of WRITE_PROTECT with a word that it accepts: by whether it allows that write
 plain-kept : (held : Held) (word : ℕ) (allowed fits : Bool) → fits ≡ true →
     record (kept_in held) { words = cond (allowed && fits) (with_word held.words Protect word) held.words }
     ≡ kept_taken held (where_so allowed (Some (pending.Order Protect word)))
 plain-kept held word true fits q = rw q refl
 plain-kept held word false fits q = refl
 
--- a store, and a restore
+-- a whole write of a store makes what the store does, if WRITE_PROTECT allows it
 store-kept : (held : Held) (allowed : Bool) →
     record (kept_in held) { store = cond allowed (with_outputs held.store held.words) held.store }
     ≡ kept_taken held (where_so allowed (Some pending.Store))
 store-kept held true = refl
 store-kept held false = refl
 
--- likewise
+-- a whole write of a restore makes what the restore does, if WRITE_PROTECT allows it
 restore-kept : (held : Held) (allowed : Bool) →
     record (kept_in held) { words = cond allowed (with_outputs held.words held.store) held.words }
     ≡ kept_taken held (where_so allowed (Some pending.Restore))
@@ -113,7 +113,7 @@ abbrev Makes : Held → Message → Option PendingJob → Type 0
 Makes held message job = (bytes : List ℕ) → IsWrite held.config.addr message bytes →
     kept_after held (Hearing bytes Stop) ≡ kept_taken held job
 
--- of an order
+-- a whole write of an order's cell makes what the order does, if WRITE_PROTECT allows it
 order-makes : Below → (held : Held) (cell : Cell) (word : ℕ) → IsCell held.config.count cell → cell_accepts cell word ≡ true →
     Makes held (cell_write cell word) (where_so (allows held (pending.Order cell word)) (Some (pending.Order cell word)))
 order-makes laws held (Out output register) word there accepted bytes h =
@@ -129,7 +129,7 @@ order-makes laws held (Out output register) word there accepted bytes h =
 order-makes laws held Protect word there accepted bytes h =
     laws.writes_reach_one_cell.plain held word bytes h ∙ plain-kept held word _ _ accepted
 
--- of a command
+-- a whole write of a command makes what the command does, if WRITE_PROTECT allows it
 command-makes : Below → (held : Held) (sent : Command) →
     Makes held (command_message sent) (option_and_then (λ job. where_so (allows held job) (Some job)) (command_pending sent))
 command-makes laws held (ClearFaults output) bytes h = laws.writes_reach_one_cell.clears held output Empty bytes h
@@ -341,7 +341,7 @@ idle-order s free = go s.stage free where
   go None h = refl
   go (Some stage) h = cc
 
--- by the first fault of a job
+-- no order, store or restore is open if `asking_fault` names no fault
 asking-order : (s : Summary) (there : Bool) → asking_fault s there ≡ None → stage_pending s.stage ≡ None
 asking-order s there h = idle-order s (rule-none (is_busy s) _ (or-none (rule (is_busy s) _) _ h).0)
 
@@ -358,7 +358,7 @@ pub record IsFree (s : Summary) (cell : Cell) (word : ℕ) : Type 0 where
   pub there : IsCell s.setup.outputs cell
   pub fits : cell_accepts cell word ≡ true
 
--- by the faults of an order
+-- an order without a fault may be accepted
 pub order-free : (s : Summary) (cell : Cell) (word : ℕ) → order_fault s cell word ≡ None → IsFree s cell word
 order-free s cell word h =
     let first = or-none (cell_fault s cell) _ h in

@@ -40,7 +40,7 @@ answered-reads config request h = cc
 whole-restart : (request : Message) → is_read_message request ≡ true → whole_ending request ≡ Restart
 whole-restart = search rules
 
--- by the converter of a life
+-- the converter of a life answers the host's own request
 pub own-answered : Below → (config : Config) (passes : ℕ) (events : List Event) (request : Message) → IsLived config passes events →
     sending_in (now config passes events).host ≡ Some request → is_answered config request ≡ true →
     IsAnswer config.addr request (payload_for (now config passes events).device request)

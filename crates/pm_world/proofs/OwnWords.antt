@@ -130,7 +130,7 @@ run-own laws config passes events cell word sound here (inl e) =
     inl (e ∙ start-at laws config cell (eight config.count cell sound.few here))
 run-own laws config passes events cell word sound here (inr h) = inr (retold-ordered config passes events cell word h)
 
--- by the life
+-- each cell of a life's converter has a word of its own
 pub life-own : Below → (config : Config) (passes : ℕ) (events : List Event) (cell : Cell) → IsLived config passes events →
     IsCell config.count cell →
     IsOwnWord config passes events cell (word_at (now config passes events).device.words cell)

@@ -324,7 +324,7 @@ keeps-plans laws plans config passes events lived spelled = record {
       come-true laws plans part limits output wants None lived spelled here none since missing over register word refl wanted;
 }
 
--- of a part with every register nothing is missing
+-- nothing is missing of a part with every register
 pub none-missing : WholePartsMissNothing → (config : Config) (words : Words) (output : ℕ) → HoldsMissing all_registers config words output
 none-missing whole config words output register word lacks =
     absurd (let bad = sym (has-none all_registers (shape_for config output) register (not-lacking (has_register all_registers register)

@@ -107,7 +107,7 @@ pub open-asked : Below → (config : Config) (passes : ℕ) (before : List Event
 open-asked laws config passes before event job lived is = pending-open laws config passes (event ∷ before)
     ∙ ap (λ (j : Option host.Job). option_and_then pending_of j) (by-acceptance laws config passes before event job lived is).open'
 
--- where the host is idle none is open
+-- no order, store or restore is open while the host is idle
 pub idle-none : (config : Config) (passes : ℕ) (events : List Event) → is_busy (now config passes events).host ≡ false →
     open_pending config passes events ≡ None
 idle-none config passes events idle = open_pending-is config passes events ∙ go (now config passes events).host.stage idle where
@@ -132,7 +132,7 @@ pending-restore job h = cc
 
 -- ---- The words, event by event ----
 
--- Where a word moved at an event without a restart, and no restore was open, the open job is an order of that word.
+-- The open job is an order of the word that moved at an event, if the converter didn't restart and no restore was open.
 by-move : {config : Config} {passes : ℕ} {before : List Event} {cell : Cell} {word : ℕ} {event : Event} →
     MovesBy config passes before cell word event → restarts_converter event ≡ false →
     (open_pending config passes before ≡ Some pending.Restore → ⊥) →
@@ -141,7 +141,7 @@ by-move (came_back e) steady free = cc
 by-move (ordered arrival takes) steady free = takes.opened
 by-move (restored arrival takes out e) steady free = absurd (free takes.opened)
 
--- Where a word moved at an event, the event asks for no job.
+-- An event at which a word moved asks for no job.
 by-asked : {config : Config} {passes : ℕ} {before : List Event} {cell : Cell} {word : ℕ} {event : Event} → (job : host.Job) →
     MovesBy config passes before cell word event → asked (now config passes before) event ≡ Some job → ⊥
 by-asked job (came_back e) is = cc

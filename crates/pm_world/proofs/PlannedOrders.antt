@@ -72,7 +72,7 @@ is-lacking part shape register word is = go (has_register part register) refl wh
   go true e = absurd (let bad = sym (has-none part shape register e) ∙ is in cc)
   go false e = e
 
--- where a word is wanted of no missing register, the part has each of which one is
+-- the part has each register of which a word is wanted, if none is wanted of a missing one
 wanted-has : (part : PartRegisters) (wants : Wants) → missing_fault part wants ≡ None → (register : Reg) →
     is_some (wants register) ≡ true → has_register part register ≡ true
 wanted-has part wants there Operation some = refl
@@ -167,7 +167,7 @@ module _ (laws : Below) (plans : Plans) {config : Config} {passes : ℕ} {events
           ap (λ (x : Reg). has_register part x) (sym same) ∙ has,
         )
 
-  -- where there is none, each wanted word is known and held
+  -- each wanted word is known and held if the plan has no further order
   pub come-true : (register : Reg) (word : ℕ) → order ≡ None → wants register ≡ Some word →
       (known_word (Out output register) (possible_at (now config passes events).host (Out output register)) ≡ Some word)
       × (held_at config passes events output register ≡ word)

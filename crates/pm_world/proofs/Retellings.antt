@@ -109,7 +109,7 @@ retold-on : (config : Config) (passes : ℕ) (before : List Event) (event : Even
 unfolding retold
 retold-on config passes before event new e = ap (λ (x : List Step). x ++ retold config passes before) e
 
--- these steps are a run that leaves the converter's words, those in its store, and the open job
+-- the steps are a run that leaves the converter's words, those in its store, and the open job
 record Leaves (config : Config) (passes : ℕ) (events : List Event) (steps : List Step) : Type 0 where
   run : IsRun (start_settings config) steps
   words_are : (machine_of (start_settings config) steps).words ≡ (now config passes events).device.words

@@ -20,7 +20,7 @@ taken-few events (Some stop) =
     let t = length-take stop.at events in
     omega (arith, t)
 
--- by a run
+-- a run takes no more events than there are
 pub run-room : (config : Config) (passes : ℕ) (events : List Event) (stop : Option Stop) →
     (now config passes (taken_events events stop)).taken ≤ length events
 run-room config passes events stop =

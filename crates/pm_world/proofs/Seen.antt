@@ -61,7 +61,7 @@ record Surprise (s : State) (setup : host.Setup) (entries : List host.Entry) (ce
   there : IsCell s.device.config.count cell
   impossible : is_possible (word_at s.device.words cell) (possible_of (marks setup entries) cell) ≡ false
 
--- by the good answer
+-- a good answer with a word that wasn't possible is a surprise
 one-surprise : Below → {s : State} {setup : host.Setup} {entries : List host.Entry} (read : Cell) (word : ℕ) → Knows s setup entries →
     read_by (host.open_job setup entries) (host.told_since entries) ≡ Some read → word_at s.device.words read ≡ word →
     not (is_possible word (possible_of (marks setup entries) read)) ≡ true → Surprise s setup entries read
@@ -70,7 +70,7 @@ one-surprise laws {setup = setup} {entries = entries} read word knows asked is s
   impossible = ap (λ w. is_possible w (possible_of (marks setup entries) read)) is ∙ not-true _ surprising;
 }
 
--- by the marks of what came back
+-- what came back is a surprise if its marks have a surprising one
 goods-surprise : Below → {s : State} {setup : host.Setup} {entries : List host.Entry} {bytes : List ℕ} {new : List Mark} →
     AreGoods setup entries bytes new →
     (cell : Cell) → Knows s setup entries → ReadsTrue setup entries bytes s.device.words →
@@ -86,7 +86,7 @@ goods-surprise laws {s = s} {setup = setup} {entries = entries} (one_good read w
       | inr bad ↦ absurd (false≢true bad)
     ]
 
--- by what the host was told
+-- what the host was told is a surprise for a cell if `surprises` says so
 told-surprise : Below → {s : State} {setup : host.Setup} {entries : List host.Entry} (event : Event) (cell : Cell)
     (told : Option host.Entry) → Knows s setup entries →
     event_cause s event ≡ None → (share_of s event).told ≡ told → surprises setup entries cell told ≡ true → Surprise s setup entries cell
@@ -119,7 +119,7 @@ surprise-restarted laws config passes before cell lived surprise = (
     words : Words
     words = (now config passes before).device.words
 
--- by the event
+-- an event that surprises comes after a good answer for the cell and a restart of the converter since
 event-surprise : Below → (config : Config) (passes : ℕ) (before : List Event) (event : Event) (cell : Cell) →
     IsLived config passes (event ∷ before) → surprises_by config passes cell before event ≡ true →
     (has_read config passes cell before ≡ true) × (restarted_since config passes cell before ≡ true)
@@ -195,7 +195,7 @@ first-unseen : (config : Config) (passes : ℕ) → restart_seen_of (marks (setu
 unfolding life
 first-unseen config passes = refl
 
--- by one event after another
+-- a restart that was seen lies between two good answers for a cell, by one event after another
 life-seen : Below → (config : Config) (passes : ℕ) (events : List Event) → IsLived config passes events →
     restart_seen_of (marks (setup_of config passes) (life config passes events).entries) ≡ true →
     (cell : Cell) × IsCell config.count cell × (restarted_between config passes cell events ≡ true)
@@ -267,7 +267,7 @@ since-started config passes cell (event ∷ before) read since =
     go true h older = refl
     go false h older = older h
 
--- where it lies between two good answers
+-- a restart of the converter between two good answers is one since the host's start
 between-started : (config : Config) (passes : ℕ) (cell : Cell) (events : List Event) → restarted_between config passes cell events ≡ true →
     restarted_since_host events ≡ true
 unfolding restarted_between restarted_since_host
@@ -285,7 +285,7 @@ between-started config passes cell (event ∷ before) between =
       | inr older ↦ between-started config passes cell before older
     ]))
 
--- both promises
+-- the host's possible words are as `PossibleIsHeld` says after the events of a life
 pub possible-held : Below → (config : Config) (passes : ℕ) (events : List Event) → IsLived config passes events →
     PossibleIsHeld config passes events (now config passes events)
 unfolding now state_of

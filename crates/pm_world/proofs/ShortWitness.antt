@@ -56,7 +56,7 @@ told-short : (told : Option host.Entry) (entries : List host.Entry) → length (
 told-short None entries = omega arith
 told-short (Some entry) entries = omega arith
 
--- of a life
+-- the transcript of a life has no more entries than there were events
 life-short : (config : Config) (passes : ℕ) (events : List Event) → length (life config passes events).entries ≤ length events
 unfolding life
 life-short config passes [] = omega arith
@@ -75,7 +75,7 @@ short-witness config passes events chosen =
     let c = life-short config passes events in
     omega arith
 
--- where the converter never restarted, it didn't since any good answer
+-- the converter didn't restart since any good answer if it never restarted
 pub never-since : (config : Config) (passes : ℕ) (cell : Cell) (events : List Event) → list_any restarts_converter events ≡ false →
     restarted_since config passes cell events ≡ false
 unfolding restarted_since

@@ -34,7 +34,7 @@ pub record IsKnown (ms : List Mark) (cell : Cell) (restarted : Bool) (words : Wo
   pub held : IsHeld ms cell restarted words
   pub among : IsAmong ms cell restarted words
 
--- the same after the host was told something more, or nothing
+-- what is known of a cell holds after the host was told something more, or nothing
 abbrev pub IsKnownAfter : Setup → List Entry → Cell → Bool → Option Entry → Words → Type 0
 IsKnownAfter setup entries cell restarted told words =
     IsKnown (marks setup (option_to_list told ++ entries)) cell (cond (reads setup entries cell told) false restarted) words
@@ -51,7 +51,7 @@ put-possible laws ms c cell w x h = laws.possible_words_are_followed.put ms c ce
   go true = ap (λ p. p || eqb w x) h
   go false = h
 
--- it confirms nothing
+-- a write that begins confirms nothing
 put-confirms : (b : Bool) (rest : Standing) (word : ℕ) → cond b Unknown rest ≡ Confirmed word → rest ≡ Confirmed word
 put-confirms true rest word h = cc
 put-confirms false rest word h = h
@@ -86,7 +86,7 @@ pub data ArePuts : List Mark → Type 0 where
   one_put : (cell : Cell) (word : ℕ) → ArePuts (Put cell word ∷ [])
   one_restore : ArePuts (Restored ∷ [])
 
--- by the open job
+-- the marks of what begins with an entry are none or one, by the open job
 pub are-puts : (setup : Setup) (entries : List Entry) → ArePuts (puts setup entries)
 unfolding puts
 are-puts setup entries = go (open_job setup entries) where
@@ -117,7 +117,7 @@ pub data AreGoods (setup : Setup) (before : List Entry) (bytes : List ℕ) : Lis
   one_good : (read : Cell) (word : ℕ) → read_by (open_job setup before) (told_since before) ≡ Some read →
       good_word setup.addr read bytes ≡ Some word → AreGoods setup before bytes (Good read word ∷ [])
 
--- by what was asked for
+-- the marks of what came back are none or one, by what was asked for
 pub are-goods : (setup : Setup) (before : List Entry) (bytes : List ℕ) → AreGoods setup before bytes (goods setup before bytes)
 unfolding goods
 are-goods setup before bytes = go (read_by (open_job setup before) (told_since before)) refl where
@@ -157,7 +157,7 @@ good-possible laws ms read cell w x itself other =
     go true e = eq-eqb w x (sym (itself e))
     go false e = by_surprise (is_possible w (possible_of ms read)) (other e)
 
--- of one good answer
+-- what is known holds after one good answer that is true
 good-known : Below → {ms : List Mark} (read : Cell) (w : ℕ) {cell : Cell} {restarted : Bool} {words : Words} →
     word_at words read ≡ w → IsKnown ms cell restarted words →
     IsKnown (Good read w ∷ ms) cell (cond (list_any (is_good_for cell) (Good read w ∷ [])) false restarted) words
@@ -177,7 +177,7 @@ good-known laws {ms = ms} read w {cell = cell} {restarted = restarted} {words = 
     not-read : same_cell read cell ≡ false → cond (same_cell read cell || false) false restarted ≡ false → restarted ≡ false
     not-read e fresh = sym (ap (λ b. cond (b || false) false restarted) e) ∙ fresh
 
--- of none or one
+-- what is known holds after no good answer or one that is true
 goods-known : Below → {setup : Setup} {before : List Entry} {bytes : List ℕ} {new ms : List Mark} → AreGoods setup before bytes new →
     {cell : Cell} {restarted : Bool} {words : Words} → ReadsTrue setup before bytes words → IsKnown ms cell restarted words →
     IsKnown (new ++ ms) cell (cond (list_any (is_good_for cell) new) false restarted) words
@@ -185,7 +185,7 @@ goods-known laws no_good is known = known
 goods-known laws (one_good read word asked good) is known =
     good-known laws read word (is read word asked good) known
 
--- one more entry
+-- what is known holds after a job was accepted
 pub accepted-known : Below → (setup : Setup) (entries : List Entry) (cell : Cell) (restarted : Bool) (words : Words) (job : Job) →
     IsKnown (marks setup entries) cell restarted words → IsKnownAfter setup entries cell restarted (Some (Accepted job)) words
 accepted-known laws setup entries cell restarted words job known =

@@ -103,7 +103,7 @@ direct-is (Ok Direct) h = refl
 direct-is (Ok (Linear exponent)) h = cc
 direct-is (Err fault) h = cc
 
--- where some output is DIRECT, one is
+-- an output is DIRECT if the test of all finds one
 direct-at : (starts : List OutputStart) (count : ℕ) → list_any (λ s. is_direct (mode_of s.mode)) (take count starts) ≡ true →
     (output : ℕ) × (output < count) × (mode_of (get_or (map (λ s. s.mode) starts) output 0) ≡ Ok Direct)
 direct-at starts zero h = cc
@@ -114,7 +114,7 @@ direct-at (s ∷ starts) (suc count) h =
       | inr later ↦ (let found = direct-at starts count later in (suc found.0, (let below = found.1 in omega arith), found.2))
     ]
 
--- where the one has a DIRECT output, the other has
+-- a configuration has a DIRECT output if another one with its count and modes has one
 direct-too : (config other : Config) → other.count ≡ config.count →
     ((output : ℕ) → output < config.count → mode_for other output ≡ mode_for config output) →
     has_direct config ≡ true → has_direct other ≡ true

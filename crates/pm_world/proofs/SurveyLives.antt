@@ -55,7 +55,7 @@ use Rattle.pm_world.proofs.PlannedOrders.{has-none, needed-same}
 use Rattle.pm_world.proofs.Seen.{possible-held}
 use Rattle.pm_world.proofs.SurveyReads.{read-since}
 
--- where one word alone is possible and is held, it is that word
+-- what is possible is one word if that word alone is
 sole-listed : (words : List ℕ) → is_none (sole_of words) ≡ false → words ≡ unwrap_or (sole_of words) 0 ∷ []
 sole-listed [] some = cc
 sole-listed (word ∷ []) some = refl
@@ -91,7 +91,7 @@ accepted-byte cell possible some is = subst (λ (w : ℕ). cell_accepts cell w �
     by true e n = e
     by false e n = cc
 
--- of one byte that it takes nothing else may be
+-- a byte that OPERATION takes and that alone is possible is all that it may be
 one-operation : (byte : ℕ) → is_operation byte ≡ true → operations (only byte) ≡ byte ∷ []
 one-operation byte taken = ap (λ (b : Bool). cond (not b || false) each_selection (byte ∷ [])) taken
 
@@ -194,7 +194,7 @@ module _ (laws : Below) {config : Config} {passes : ℕ} {events : List Event} (
         (known-held-at Operation refl) register ∙ needed)).1 (has-none part (shape_for config output) register has)
     go false lacks = absurd (let bad = sym (unread register lacks) ∙ read in cc)
 
--- where a survey has ended by its own rule
+-- what is needed is known since the converter's last restart if a survey has ended by its own rule
 known-since : Below → SurveysEndKnown → {config : Config} {passes : ℕ} {events : List Event} (part : PartRegisters) (v : Survey)
     (later before : List Event) → IsLived config passes events → IsSpelled config → v.output < config.count →
     events ≡ later ++ before → MissingUnread config passes part v.output events →

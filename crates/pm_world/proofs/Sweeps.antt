@@ -41,7 +41,7 @@ record WasAsked (config : Config) (passes : ℕ) (cell : Cell) (before after : L
   known : (now config passes after).host.known ≡ (now config passes before).host.known
   words : (now config passes after).device.words ≡ (now config passes before).device.words
 
--- by the event
+-- a check that is asked for leaves what the host knows and the converter holds
 asked-so : Below → {config : Config} {passes : ℕ} (cell : Cell) (before : List Event) → IsLived config passes (Check cell ∷ before) →
     WasAsked config passes cell before (Check cell ∷ before)
 unfolding host_next
@@ -207,7 +207,7 @@ due-after laws cell cells other one expected there (waits h) = elim (among-cases
   | inr rest ↦ waits rest
 ]
 
--- where all are settled, each is alone after all checks
+-- each cell is alone after all checks if all were settled before
 all-alone : Below → {config : Config} {passes : ℕ} (cells : List Cell) (before after : List Event) (other : Cell) →
     IsLived config passes after → Sweeps config passes cells before after → AreThere 8 cells → IsCell 8 other →
     ((cell : Cell) → is_among cell cells ≡ true → IsSettled config passes before cell) →
@@ -229,7 +229,7 @@ record Parts (config : Config) (passes : ℕ) (cells others : List Cell) (before
   first : Sweeps config passes cells before middle
   second : Sweeps config passes others middle after
 
--- by one cell after another
+-- checks of two lists of cells are checks of the first and then of the second, by one cell after another
 sweeps-parts : (config : Config) (passes : ℕ) (cells others : List Cell) (before after : List Event) →
     Sweeps config passes (cells ++ others) before after → Parts config passes cells others before after
 sweeps-parts config passes [] others before after s = record { middle = before; first = refl; second = s }
@@ -237,7 +237,7 @@ sweeps-parts config passes (cell ∷ cells) others before after s =
     let rest = sweeps-parts config passes cells others s.0 after s.2 in
     record { middle = rest.middle; first = (s.0, s.1, rest.first); second = rest.second }
 
--- all cells, and all but the last once more
+-- the converter's word is alone possible for each cell after all cells were checked, and all but the last once more
 pub swept : Below → {config : Config} {passes : ℕ} (before after : List Event) (cells : List Cell) (last : Cell) →
     IsLived config passes after → AreThere config.count (last ∷ cells) → Sweeps config passes (cells ++ last ∷ cells) before after →
     (cell : Cell) → is_among cell (last ∷ cells) ≡ true →
@@ -273,7 +273,7 @@ data Awaits (config : Config) (passes : ℕ) (after : List Event) (cells : List 
   saw : (now config passes after).host.known.seen ≡ true → Awaits config passes after cells cell
   still : is_among cell cells ≡ true → is_surprising config passes after cell ≡ true → Awaits config passes after cells cell
 
--- by one check
+-- one check sees a word that isn't possible for a cell, or leaves it to be checked
 awaits : Below → {config : Config} {passes : ℕ} {before after : List Event} (first : Cell) (cells : List Cell) (cell : Cell) →
     Checked config passes first before after → IsCell 8 cell → is_among cell (first ∷ cells) ≡ true →
     is_surprising config passes before cell ≡ true → Awaits config passes after cells cell

@@ -102,11 +102,11 @@ finish-tells s acked may = record {
   kept = refl;
 }
 
--- a request that is heard whole, or not at all, is heard legally
+-- a request that is heard whole is ended by a repeated start
 request-ending : (request : Message) → is_read_message request ≡ true → heard_ending request Whole ≡ Restart
 request-ending request reads = ap (λ b. cond b Restart Stop) reads
 
--- of either
+-- a request that is heard whole, or not at all, is heard legally
 request-heard : (addr : ℕ) (request : Message) (good : Bool) → is_read_message request ≡ true →
     is_legal_hearing (frame_of addr request) (heard_bytes (frame_of addr request) (arrival_for good))
     (heard_ending request (arrival_for good)) ≡ true
@@ -139,7 +139,7 @@ unfolding is_legal_return
 lost-returned addr request whole answer bytes lost =
     or_right (whole && bytes_eq bytes answer) (is_lost addr request bytes) lost
 
--- by whether they are a good answer
+-- what came back returns legally, whether it is a good answer or lost
 came-returned : {config : Config} (s : State) {bytes : List ℕ} → (came : Came config s.host bytes) → IsKin config s.device.config →
     HaveRead config.addr s.host bytes s.device.words →
     let arrival = arrival_for (is_some (good_payload config.addr came.request bytes)) in

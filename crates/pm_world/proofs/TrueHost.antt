@@ -152,7 +152,7 @@ abbrev Inside : ℕ → Option Stage → Type 0
 Inside count (Some (Asks question tries)) = IsQuestion count question
 Inside count stage = Unit {0}
 
--- by the stage of a sound host
+-- what a sound host asks for is there, by its stage
 stage-inside : (s : Summary) (stage : Option Stage) → IsStage s stage → Inside s.setup.outputs stage
 stage-inside s (Some (Asks question tries)) is = is.there
 stage-inside s stage is = tt

@@ -1,4 +1,4 @@
--- Where the host had no good answer for a cell since it started, it lists no words for it, event by event.
+-- The host lists no words for a cell if it had no good answer for it since it started, event by event.
 use Rattle.std.proofs.Common.{◌≡◌, ◌≢◌, inl, inr, ℕ, Bool, true, false, cond, ◌||◌, List, [], ◌∷◌, ◌++◌, Option, Some, None}
 use Rattle.std.proofs.Common.{refl, sym, ap, subst}
 use Rattle.std.specs.Prelude.{option_to_list}
@@ -74,7 +74,7 @@ told-none setup entries cell (Some (host.Got bytes)) unread none =
     (goods-none (marks setup entries) (are-goods setup entries bytes) cell unread none)
 told-none setup entries cell (Some host.Restarted) unread none = refl
 
--- where the host had no good answer since it started, no words are known
+-- no words are known of a cell at the start of a life
 first-none : (config : Config) (passes : ℕ) (cell : Cell) → NoWords (marks (setup_of config passes) (life config passes []).entries) cell
 unfolding life
 first-none config passes cell = refl
@@ -101,7 +101,7 @@ unread-none config passes cell (event ∷ before) unread =
         told-none (setup_of config passes) (life config passes before).entries cell (share_of (now config passes before) event).told
         both.0 (older both.1)
 
--- where words are listed, the cell was read
+-- a cell was read if words are listed for it
 pub listed-read : (config : Config) (passes : ℕ) (cell : Cell) (events : List Event) →
     possible_of (marks (setup_of config passes) (life config passes events).entries) cell ≢ Any → has_read config passes cell events ≡ true
 unfolding possible_of

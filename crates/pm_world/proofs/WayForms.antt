@@ -67,7 +67,7 @@ heard-of h addr cell word arrival at stage =
     ∙ ap (λ a. is_whole (frame_of a (cell_write cell word)) arrival) at)
 
 module _ (laws : Below) (config : Config) (passes : ℕ) where
-  -- of a life
+  -- an order's first write is heard whole in a life exactly if it arrives whole
   sent-heard : (events : List Event) (cell : Cell) (word : ℕ) (arrival : Arrival) →
       IsLived config passes (Deliver arrival ∷ events) → (now config passes events).host.stage ≡ Some (Writes cell word 0) →
       hears_whole (now config passes (Deliver arrival ∷ events)).host arrival
@@ -78,7 +78,7 @@ module _ (laws : Below) (config : Config) (passes : ℕ) where
       (ap (λ (t : State). t.host) (now-next laws config passes events (Deliver arrival) lived) ∙ next-deliver-host s arrival)
       ∙ heard-of s.host config.addr cell word arrival (ap (λ (u : host.Setup). u.addr) (now-setup config passes events)) stage
 
-  -- after a delivery
+  -- the way has its form after a delivery
   delivered-form : (before : List Event) (arrival : Arrival) (way : Way) →
       IsLived config passes (Deliver arrival ∷ before) → FormOf config passes before way →
       FormOf config passes (Deliver arrival ∷ before)
@@ -130,13 +130,13 @@ module _ (laws : Below) (config : Config) (passes : ℕ) where
     go (Some job) e = (job, e)
     go None e = cc
 
-  -- where the job stands then
+  -- the stage after an event that asks for a job is the one that the job begins with
   job-stage : (s : State) (event : Event) (job : host.Job) → asked s event ≡ Some job →
       (next s event).host.stage ≡ (begins s.host job).after.stage
   unfolding host_next
   job-stage s event job asks = ap (λ (t : State). t.host.stage) (asked-next s event job asks)
 
-  -- after a job was accepted
+  -- the way has its form after a job was accepted
   begun-form : (before : List Event) (event : Event) (job : host.Job) →
       IsLived config passes (event ∷ before) → asked (now config passes before) event ≡ Some job →
       FormOf config passes (event ∷ before) (begun (now config passes (event ∷ before)) (now config passes (event ∷ before)).host.stage)

@@ -56,7 +56,7 @@ whole-read config passes request before reads =
           ∙ ap₂ (λ a b. true && a && b) (same_bytes frame) (same_bytes answer);
     }
 
--- of a cell
+-- an exchange that comes whole reads a cell
 pub whole-cell : (config : Config) (passes : ℕ) (cell : Cell) (before : List Event) →
     IsRead config passes (cell_read cell) before (Exchange Whole back.Whole ∷ before)
 whole-cell config passes cell before = whole-read config passes (cell_read cell) before (reads_cell cell)
@@ -75,7 +75,7 @@ whole-sent config passes before cell word allowed = record {
   heard = heard-whole (frame_of config.addr (cell_write cell word));
 }
 
--- such an order is undisturbed
+-- an order whose frames come whole is undisturbed
 pub whole-order : (config : Config) (passes : ℕ) (before : List Event) (cell : Cell) (word : ℕ) (acked : Bool) →
     is_allowed (word_at (now config passes before).device.words Protect) (cell_code cell) ≡ true →
     WasUndisturbed config passes cell word (Exchange Whole back.Whole ∷ Finish acked ∷ Deliver Whole ∷ Order cell word ∷ before)

@@ -382,7 +382,7 @@ module _ (laws : Below) (guards : GuardedOrdersAreWithin) (config : Config) (pas
       (entries-more config passes before event ∙ ap (λ (t : Option host.Entry). option_to_list t ++
       (life config passes before).entries) told)
 
-  -- by what the host was told
+  -- an output stays inside, as `Stays` says, after what the host was told and begins to send
   by-sent : (entry : host.Entry) (told : (share_of (now config passes before) event).told ≡ Some entry) (ms : List Mark) →
       marks (setup_of config passes) (entry ∷ (life config passes before).entries)
       ≡ puts (setup_of config passes) (entry ∷ (life config passes before).entries) ++ ms →

@@ -55,12 +55,12 @@ since-unbroken (host.Finished acked ∷ before) = since-unbroken before
 since-unbroken (host.Got bytes ∷ before) = since-unbroken before
 since-unbroken (host.Restarted ∷ before) = tt
 
--- of marks in two parts
+-- marks in two parts are open in each if they are open together
 open-parts : (new ms : List Mark) → AreOpen (new ++ ms) → AreOpen new × AreOpen ms
 open-parts [] ms all = (tt, all)
 open-parts (mark ∷ new) ms (here, all) = let parts = open-parts new ms all in ((here, parts.0), parts.1)
 
--- the same words are due before what begins to be sent
+-- what begins to be sent changes no due word
 begun-due : {h : Summary} {new : List Mark} (due : Choice) → Begun h new → due_before due new ≡ due
 begun-due due no_write = refl
 begun-due due (one_write cell word sent) = refl

@@ -25,8 +25,8 @@ BandStands config passes events host output = (register : Reg) →
     decides (λ r. possible_at host (Out output r)) register ≡ true → possible_at host (Out output register) ≢ Any →
     restarted_since config passes (Out output register) events ≡ false
 
--- Where the part doesn't have VOUT_MIN or VOUT_MAX, the converter holds there the word at which it stands: one that never
--- cuts. Of a part with every register it says nothing.
+-- The converter holds, in the cell of a VOUT_MIN or VOUT_MAX that the part doesn't have, the word at which that register stands: one that
+-- never cuts. Nothing is asked of a part with every register.
 abbrev pub HoldsMissing : PartRegisters → Config → Words → ℕ → Type 0
 HoldsMissing part config words output = (register : Reg) (word : ℕ) →
     missing_word part (shape_for config output) register ≡ Some word → word_at words (Out output register) ≡ word

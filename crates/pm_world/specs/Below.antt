@@ -8,11 +8,11 @@ use Rattle.pm_host.specs.Laws.{EndsAreTold, FramesAreNamed, JobsAreBounded, Open
 use Rattle.pm_host.specs.Laws.{TranscriptsAreFollowed}
 
 pub record Below : Type 0 where
-  -- of cells and registers
+  -- laws of cells and registers
   pub cells_are_told_apart : CellsAreToldApart
   pub cells_have_places : CellsHavePlaces
   pub registers_are_in_the_table : RegistersAreInTheTable
-  -- of frames
+  -- laws of frames
   pub writes_are_exact : WritesAreExact
   pub requests_are_exact : RequestsAreExact
   pub answers_are_exact : AnswersAreExact
@@ -20,16 +20,16 @@ pub record Below : Type 0 where
   pub betrayal_is_refused : BetrayalIsRefused
   pub damage_is_betrayed : DamageIsBetrayed
   pub bursts_are_betrayed : BurstsAreBetrayed
-  -- of the map of cells, and of the order machine
+  -- laws of the map of cells, and of the order machine
   pub settings_are_a_map : SettingsAreAMap
   pub orders_stay_in_their_cells : OrdersStayInTheirCells
-  -- of the converter
+  -- laws of the converter
   pub pasts_are_followed : PastsAreFollowed
   pub words_have_an_origin : WordsHaveAnOrigin
   pub writes_reach_one_cell : WritesReachOneCell
   pub reads_are_answered : ReadsAreAnswered
   pub sound_configurations_have_no_fault : SoundConfigurationsHaveNoFault
-  -- of the host
+  -- laws of the host
   pub transcripts_are_followed : TranscriptsAreFollowed
   pub ends_are_told : EndsAreTold
   pub jobs_are_bounded : JobsAreBounded

@@ -75,7 +75,7 @@ pub record IsRead (config : Config) (passes : ℕ) (request : Message) (before e
   pub beside : list_all is_reading readings ≡ true
   pub whole : comes_whole (now config passes (readings ++ before)) request arrival back ≡ true
 
--- where the open job stands, and what the converter holds in a cell
+-- the stage of the open job, and what the converter holds in a cell
 abbrev pub stage_after : Config → ℕ → List Event → Option Stage
 stage_after config passes events = (now config passes events).host.stage
 
@@ -131,7 +131,7 @@ pub record Checks (config : Config) (passes : ℕ) (cell : Cell) (before after :
   pub beside : list_all is_reading readings ≡ true
   pub read : IsRead config passes (cell_read cell) (Check cell ∷ readings ++ before) after
 
--- these cells were, one after another, in this order
+-- each of the cells was asked for and read as `Checks` says, one after another, in this order
 abbrev pub Sweeps : Config → ℕ → List Cell → List Event → List Event → Type 0
 Sweeps config passes [] before after = after ≡ before
 Sweeps config passes (cell ∷ cells) before after = (middle : List Event)
@@ -216,7 +216,7 @@ pub record GoodFrames (config : Config) (passes : ℕ) (events : List Event) : T
       IsWritten (frame_of config.addr (command_message command)) true before after →
       ((now config passes after).end ≡ Some Done)
       × ((life config passes after).entries ≡ Finished true ∷ (life config passes before).entries)
-  -- where its write isn't acknowledged it is sent again, and in the last try it is unknown whether it was carried out
+  -- a command whose write isn't acknowledged is sent again, and in the last try it is unknown whether it was carried out
   pub resend : (later before after : List Event) (command : Command) (tries : ℕ) → events ≡ later ++ after →
       stage_after config passes before ≡ Some (Sends command tries) → tries + 1 < passes →
       IsWritten (frame_of config.addr (command_message command)) false before after →

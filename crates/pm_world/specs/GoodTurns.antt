@@ -107,8 +107,8 @@ good_end config passes before (Reads cell word pass) =
     order_end (not (pass + 1 == passes) && is_allowed (held_after config passes before Protect) (cell_code cell)) word
     (held_after config passes before cell)
 
--- Of any open job, and whatever went before: each frame that comes whole makes of it just what its stage says (`turn`). So
--- once its frames come whole there are no more of them than the job had left (`few`), and it ends just as said (`ends`).
+-- Each frame of an open job that comes whole makes of the job just what its stage says, whatever went before (`turn`). Once its frames come
+-- whole there are no more of them than the job had left (`few`), and it ends just as said (`ends`).
 pub record OpenJobsEnd : Type 0 where
   pub turn : (config : Config) (passes : ℕ) (before after : List Event) (stage : Stage) (acked : Bool) →
       IsSpelled config → IsLived config passes after → stage_after config passes before ≡ Some stage →

@@ -49,7 +49,7 @@ is_whole frame arrival =
 abbrev pub sent_by : Event → List Arrival → List Event → List Event
 sent_by order arrivals before = map (λ arrival. Deliver arrival) arrivals ++ order ∷ before
 
--- these, the end of that write, acknowledged or not, and an exchange that nothing disturbs
+-- an order, deliveries of its write, the end of that write, acknowledged or not, and an exchange that nothing disturbs
 abbrev pub honest : Event → List Arrival → Bool → List Event → List Event
 honest order arrivals acked before =
     Exchange Whole back.Whole ∷ Finish acked ∷ sent_by order arrivals before

@@ -128,8 +128,8 @@ ConfirmedSettingsAreHeld = (config : Config) (passes : ℕ) (events : List Event
     IsLived config passes events →
     ConfirmedIsHeld config passes events (now config passes events)
 
--- Where the host lists the words that are possible for a cell, the converter's is among them, unless that
--- restarted since the host's last good answer for the cell. A restart that the host saw happened.
+-- The converter's word is among those that the host lists as possible for a cell, unless the converter restarted since the host's last good
+-- answer for the cell. A restart that the host saw happened.
 pub record PossibleWordsAreHeld : Type 0 where
   pub held : (config : Config) (passes : ℕ) (events : List Event) →
       IsLived config passes events →

@@ -69,7 +69,7 @@ abbrev pub taken_events : List Event → Option Stop → List Event
 taken_events events None = reverse events
 taken_events events (Some stop) = reverse (take stop.at events)
 
--- the same of events that come upon a world
+-- a run of events from a world stops at an event of its list, with the cause that this event has there
 abbrev pub StopsFrom : State → List Event → Option Stop → Type 0
 StopsFrom s events None = Unit {0}
 StopsFrom s events (Some stop) =

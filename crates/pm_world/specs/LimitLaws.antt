@@ -22,9 +22,8 @@ LivesStayLimited = (config : Config) (passes : ℕ) (events : List Event) →
     IsSpelled config → IsLived config passes events →
     StaysLimited config passes events
 
--- Where the host gives a band, what the converter commands lies in it, unless that restarted since the good answers
--- that the band rests on. Of a part with fewer registers the band rests on this too: the converter's cell of a missing one
--- holds a word that never cuts.
+-- What the converter commands lies in the band that the host gives, unless the converter restarted since the good answers that the band
+-- rests on. The band of a part with fewer registers rests on this too: the converter's cell of a missing one holds a word that never cuts.
 abbrev pub BandsAreHeld : Type 0
 BandsAreHeld = (config : Config) (passes : ℕ) (part : PartRegisters) (events : List Event) (output : ℕ) (band : Band) →
     IsSpelled config → IsLived config passes events →

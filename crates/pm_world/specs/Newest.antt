@@ -18,9 +18,9 @@ use Rattle.pm_world.specs.Legal.{frame_of}
 use Rattle.pm_world.specs.Life.{now}
 use Rattle.pm_world.specs.Moves.{MovesBy, MovesByTheOpenJob, StoreIsOfOneMoment, StoresBy, store_at, words_at}
 
--- Of the newest event: what moved a cell (`moves`) and the store (`stores`), and of which moment the store is then
--- (`moment`). Of the newest frames, where nothing disturbed them: a check is done (`check`), an order by a whole pass
--- (`order`) or by its read (`read_back`), and a command that was acknowledged (`send`).
+-- What moved a cell at the newest event (`moves`), what moved the store (`stores`), and the moment that the store is of then (`moment`).
+-- What the newest frames did if nothing disturbed them: a check is done (`check`), an order by a whole pass (`order`) or by its read
+-- (`read_back`), and a command that was acknowledged (`send`).
 pub record NewestEventsAreParts : Type 0 where
   pub moves : (config : Config) (passes : ℕ) (before : List Event) (event : Event) (cell : Cell) →
       MovesByTheOpenJob config passes (event ∷ before) → IsCell config.count cell →

@@ -37,6 +37,6 @@ closes _ = false
 abbrev pub stays_open : Bool → Event → Possible → Bool
 stays_open before event possible = restarts_host event || before && not (closes event || lists_other possible)
 
--- the same of what a run found so far, by the world after the event
+-- what a run found so far and one more event make of whether WRITE_PROTECT is left open, by the world after the event
 abbrev pub follows_open : Openness → Event → State → Openness
 follows_open found event s = record { left = stays_open found.left event (possible_at s.host Protect) }

@@ -74,16 +74,15 @@ IsReadSince config passes output wants events = (register : Reg) →
     has_read config passes (Out output register) events ≡ true →
     restarted_since config passes (Out output register) events ≡ false
 
--- Of these events: the host is idle before the later ones of them, and what it has read by then of what the plan needs
--- was read since the converter's last restart. From then on no restore is asked for, each order of the output is the
--- plan's next one by what the host knows as it is accepted, or the last one again, and the converter doesn't restart.
--- Then, of any two moments, the output commands at the later one what it commands at the earlier one, or what is wanted
--- (`held`): whatever was lost, cut, damaged, repeated or falsely acknowledged, however orders ended, and whatever else
--- was asked for, orders of other outputs too. What has been read by the end was read since the converter's last restart
--- (`read`). Where that is so and the plan has no further order, each wanted word is the only one that the host calls
--- possible, and the one that the converter holds (`come_true`). What is to be held at the end stays what it was, so that
--- a register of which no word is wanted keeps its word (`goal`). Where the part doesn't have VOUT_MIN or VOUT_MAX, the
--- converter's cell holds the word that never cuts, before the later events and so after them (`missing`).
+-- The host is idle before the later ones of these events, and what it has read by then of what the plan needs was read since the
+-- converter's last restart. From then on no restore is asked for, each order of the output is the plan's next one by what the host knows as
+-- it is accepted, or the last one again, and the converter doesn't restart. Of any two moments from then on, the output commands at the
+-- later one what it commands at the earlier one, or what is wanted (`held`): whatever was lost, cut, damaged, repeated or falsely
+-- acknowledged, however orders ended, and whatever else was asked for, orders of other outputs too. What has been read by the end was read
+-- since the converter's last restart (`read`). Each wanted word, if that is so and the plan has no further order, is the only one that the
+-- host calls possible, and the one that the converter holds (`come_true`). What is to be held at the end stays what it was, so that a
+-- register of which no word is wanted keeps its word (`goal`). The converter's cell of a VOUT_MIN or VOUT_MAX that the part doesn't have
+-- holds the word that never cuts, before the later events and so after them (`missing`).
 pub record KeepsPlans (config : Config) (passes : ℕ) (events : List Event) : Type 0 where
   pub held : (part : PartRegisters) (output : ℕ) (wants : Wants) (newer later before : List Event) →
       events ≡ (newer ++ later) ++ before → output < config.count → wants Operation ≡ None →

@@ -197,7 +197,8 @@ abbrev pub Steps : State → Event → Result (Unit {0}) Cause → State → Typ
 Steps old event (Ok done) new = IsTaken old event × (new ≡ next old event)
 Steps old event (Err cause) new = (cause_of old event ≡ Some cause) × (new ≡ old)
 
--- the same of the parts of that call, which know that the world isn't full, and don't count
+-- what a part of that call does, which knows that the world isn't full: the event happens, and isn't counted, where no cause is against it;
+-- otherwise the first cause is answered and nothing changes
 abbrev pub Acts : State → Event → Result (Unit {0}) Cause → State → Type 0
 Acts old event (Ok done) new =
     (event_cause old event ≡ None) × HasWord old event × (new ≡ shared old (share_of old event))

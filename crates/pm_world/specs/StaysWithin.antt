@@ -56,10 +56,10 @@ abbrev pub IsFresh : Config → ℕ → List Event → Type 0
 IsFresh config passes events = (cell : Cell) → has_read config passes cell events ≡ true →
     restarted_since config passes cell events ≡ false
 
--- Where a host that is idle says that an output's band lies within limits, it goes on to say so, whatever is lost, cut,
--- damaged, repeated or falsely acknowledged: while each job goes through a guard with these limits, neither end
--- restarts, no restore is asked for, and the output isn't turned off by a byte with which it may lie outside. The
--- converter's words are those of a program, and it didn't restart since the answers that the host rests on.
+-- A host that is idle and says that an output's band lies within limits goes on to say so, whatever is lost, cut, damaged, repeated or
+-- falsely acknowledged: while each job goes through a guard with these limits, neither end restarts, no restore is asked for, and the
+-- output isn't turned off by a byte with which it may lie outside. The converter's words are those of a program, and it didn't restart
+-- since the answers that the host rests on.
 abbrev pub WithinStaysWithin : Type 0
 WithinStaysWithin = (config : Config) (passes : ℕ) (part : PartRegisters) (output : ℕ) (bounds : Bounds) (limits : List (Option Bounds))
     (later before : List Event) →

@@ -82,12 +82,12 @@ pub record IsOneValue (band : Band) (config : Config) (passes : ℕ) (events : L
   pub least : band.least ≡ commands config passes events output
   pub greatest : band.greatest ≡ commands config passes events output
 
--- Of these events. Where each needed register of an output is known by an answer since the converter's last restart, it
--- holds the word that is known (`words`), and the band has one value, which is what the output commands (`one`). So it is
--- where a survey ends by its own rule, and the converter didn't restart since the first of its reads (`known`); then all
--- that its plan needs is read, so that the plan may begin (`ready`). However it ended, what the output commands lies in
--- the band, where the converter didn't restart since the answers for the registers that decide and that it hasn't read
--- (`band`). Where the part doesn't have VOUT_MIN or VOUT_MAX, the converter's cell holds the word that never cuts.
+-- Each needed register of an output holds the word that is known of it (`words`), and the band has one value, which is what the output
+-- commands (`one`), if each is known by an answer since the converter's last restart. They are known so after a survey that ended by its
+-- own rule, if the converter didn't restart since the first of its reads (`known`); then all that its plan needs is read, so that the plan
+-- may begin (`ready`). What the output commands, however the survey ended, lies in the band if the converter didn't restart since the
+-- answers for the registers that decide and that it hasn't read (`band`). The converter's cell of a VOUT_MIN or VOUT_MAX that the part
+-- doesn't have holds the word that never cuts.
 pub record KeepsSurveys (config : Config) (passes : ℕ) (events : List Event) : Type 0 where
   pub words : (part : PartRegisters) (output : ℕ) (wants : Wants) (register : Reg) → output < config.count →
       HoldsMissing part config (now config passes events).device.words output →

@@ -13,12 +13,12 @@ pub enum Arrival {
     Whole,
     /// Its first bytes, of this number, or all where there are no more, ended by a stop.
     Cut(u8),
-    /// These bytes in its place, ended so.
+    /// Bytes that come in its place, with this ending.
     Bytes(Frame, Ending),
 }
 
 impl Arrival {
-    // The bytes that it brings are bytes, which it hands the prover.
+    // law: the numbers that an arrival brings fit into bytes
     pub(crate) fn spell(&self)
         ensures { ArrivesInBytes self.now }
     {

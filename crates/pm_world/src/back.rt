@@ -10,12 +10,12 @@ pub enum Back {
     Whole,
     /// Its first bytes, of this number, or all where there are no more.
     Cut(u8),
-    /// These bytes in its place.
+    /// Bytes that come in its place.
     Bytes(Frame),
 }
 
 impl Back {
-    // The bytes that it brings are bytes, which it hands the prover.
+    // law: the numbers that come back fit into bytes
     pub(crate) fn spell(&self)
         ensures { ReturnsInBytes self.now }
     {

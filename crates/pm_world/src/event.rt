@@ -13,7 +13,7 @@ use pm_table::{Cell, Code};
 pub enum Event {
     /// The host is asked to write a word to a cell and to read it back.
     Order(Cell, u16),
-    /// The same for a voltage, in microvolts.
+    /// The host is asked to write the word of a voltage, in microvolts, to a cell and to read it back.
     OrderMicro(Cell, i64),
     /// The host is asked to read a cell.
     Check(Cell),
@@ -73,7 +73,7 @@ impl Event {
         })
     }
 
-    // What it carries are bytes, and words of two, which it hands the prover.
+    // law: the numbers that an event carries fit into bytes, and its words into two
     pub(crate) fn spell(&self)
         ensures { CarriesBytes self.now }
     {

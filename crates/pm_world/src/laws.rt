@@ -104,10 +104,10 @@ pub fn possible_words_are_exact()
     lower_laws();
 }
 
-/// Where a host holds the format of an output's voltages, it is the converter's, and it holds what its
-/// last learn of that output found since its start (`agree`). An order in microvolts that is taken is
-/// the order of the nearest word in that format (`nearest`). The configuration's numbers are those
-/// that its bytes spell, as they are in a program.
+/// A format that a host holds of an output's voltages is the converter's, and a host holds the format that
+/// its last learn of that output found since its start (`agree`). An order in microvolts that is taken is the
+/// order of the nearest word in that format (`nearest`). The configuration's numbers are those that its bytes
+/// spell, as they are in a program.
 pub fn learned_formats_are_true()
     ensures { LearnedFormatsAreTrue }
 {
@@ -177,21 +177,20 @@ pub fn honest_orders_go_through()
     lower_laws();
 }
 
-/// Where other bytes come in place of a write's frame, and what changed lies within eight neighbouring
-/// bits, or is one, two or three bits of at most 15 bytes, or an odd number of bits, they are a legal
-/// hearing, however they end (`heard`). Likewise where they come in place of the answer to the host's
-/// own request, they are a legal return (`came_back`). And where other bytes come in place of a request,
-/// changed within eight neighbouring bits and ended by a repeated start, whatever a converter answers
-/// to them is a legal return (`answered`).
+/// Other bytes in place of a write's frame are a legal hearing, however they end, if what changed lies within
+/// eight neighbouring bits, or is one, two or three bits of at most 15 bytes, or an odd number of bits
+/// (`heard`). Bytes changed so in place of the answer to the host's own request are a legal return
+/// (`came_back`). Whatever a converter answers to other bytes in place of a request, changed within eight
+/// neighbouring bits and ended by a repeated start, is a legal return (`answered`).
 pub fn betrayed_damage_is_legal()
     ensures { BetrayedDamageIsLegal }
 {
     lower_laws();
 }
 
-/// So such damage stops no run: a world that isn't full takes the delivery of a write that is
-/// damaged so (`delivered`), the exchange of a whole request whose answer is (`exchanged`), and that of
-/// a request which is, whose answer comes back whole (`misheard`).
+/// Damage that [`betrayed_damage_is_legal`] names stops no run: a world that isn't full takes the delivery of
+/// a write that is damaged so (`delivered`), the exchange of a whole request whose answer is (`exchanged`),
+/// and that of a request which is, whose answer comes back whole (`misheard`).
 pub fn betrayed_damage_is_taken()
     ensures { BetrayedDamageIsTaken }
 {
@@ -234,8 +233,8 @@ pub fn bands_are_exact()
     lower_laws();
 }
 
-/// Where an order differs, and the converter didn't restart since it was accepted, it never took: its cell had the
-/// word that was read at each moment since then, and that isn't the ordered one.
+/// An order that differs never took, if the converter didn't restart since the order was accepted: its cell
+/// had the word that was read at each moment since then, and that isn't the ordered one.
 pub fn differing_orders_never_took()
     ensures { DifferingOrdersNeverTook }
 {
@@ -288,11 +287,12 @@ pub fn good_frames_end_jobs()
     lower_laws();
 }
 
-/// Of any open job, and whatever went before: each frame that comes whole makes of it just what its stage says, with what
-/// the converter holds and whether the write was acknowledged (`turn`): its end, or its next stage. Once its frames come
-/// whole, a command's acknowledged, there are no more of them than the job had left (`few`), and it ends as its stage says
-/// (`ends`): a check and a command Done, a learn Learned. An order ends Done where WRITE_PROTECT allows it and a write of
-/// it isn't over, or where the converter holds its word, and otherwise Differs with the word that the converter holds.
+/// Each frame of an open job that comes whole makes of the job just what its stage says, whatever went
+/// before, with what the converter holds and whether the write was acknowledged (`turn`): its end, or its
+/// next stage. Once its frames come whole, a command's acknowledged, there are no more of them than the job
+/// had left (`few`), and it ends as its stage says (`ends`): a check and a command Done, a learn Learned. An
+/// order ends Done where WRITE_PROTECT allows it and a write of it isn't over, or where the converter holds
+/// its word, and otherwise Differs with the word that the converter holds.
 pub fn open_jobs_end()
     ensures { OpenJobsEnd }
 {

@@ -110,7 +110,7 @@ pub(crate) fn hear_replied(device: &mut Converter, reply: &Heard, bytes: &[u8], 
     ensures after { device.new ≡ device_next device.old (Hearing bytes.now ending) }
     ensures kept { device.old.config ≡ device.new.config }
 {
-    // Hands the prover what silence and an answer leave.
+    // law: silence and an answer leave a converter as it was
     refusals_set_one_bit();
     match reply {
         Heard::Answer(_) | Heard::Silent => {}

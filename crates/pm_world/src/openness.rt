@@ -46,7 +46,6 @@ pub fn run_open(
     ensures decides { IfOk result (λ run. IsTrue run.2 ↔ AreOpen (marks (setup_of c passes)
         (since_restart (life c passes (taken_events events.now run.1)).entries))) }
 {
-    // These hand their laws to the prover.
     lives_are_followed();
     events_are_lived();
     open_lists_are_followed();

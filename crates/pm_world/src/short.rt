@@ -19,7 +19,7 @@ pub fn words_are_short(device: &Converter, output: u8)
     }
 }
 
-// So has that of one of them.
+// The word of one register of an output has 16 bits.
 fn word_is_short(device: &Converter, output: u8, register: Reg)
     requires { output < device.now.config.count }
     ensures { word_at device.now.words (Out output register) < 2 ^ 16 }

@@ -1,6 +1,6 @@
 use crate::cause::Cause;
 
-/// Where a run stopped: the events before this place were taken, and the one there wasn't.
+/// The stop of a run: the events before this place were taken, and the one there wasn't.
 #[derive(Clone, Copy, Debug, PartialEq, Eq)]
 pub struct Stop {
     /// How many events were taken, which is the place of the one that wasn't.

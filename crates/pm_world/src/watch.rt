@@ -12,7 +12,7 @@ pub(crate) trait Watch: Copy {
     /// What is found with one more event, by the world then.
     ghost follows: { Self → Happening → State → Self };
 
-    /// The same.
+    /// What is found with one more event, by the world then: `follows`.
     fn follow(self, event: &Event, world: &World) -> Self
         ensures { result ≡ follows self event.now world.now };
 }

@@ -139,7 +139,6 @@ pub fn run_way(
     ensures room { IfOk result (λ run.
         (now c passes (taken_events events.now run.1)).taken ≤ length events.now) }
 {
-    // These hand their laws to the prover.
     lives_are_followed();
     events_are_lived();
     ways_are_followed();

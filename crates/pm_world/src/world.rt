@@ -82,7 +82,7 @@ impl World {
         ensures short { OnOk result (StartsShort c) }
         ensures fault { result_err result ≡ setup_fault c passes }
     {
-        spell(c); // hands the prover that the configuration's numbers are those of bytes
+        spell(c); // law: a configuration's numbers fit into bytes
         let device = Converter::new(c)?;
         let host = Host::new(c.addr, c.count, passes)?;
         Ok(World {
@@ -186,7 +186,6 @@ impl World {
         ensures came { IfOk result (λ run.
             AreOfBytes (since_restart (life c passes (taken_events events.now run.1)).entries)) }
     {
-        // These calls hand their laws to the prover, and do nothing else.
         events_are_lived();
         lives_are_orders();
         settings_move_by_the_open_job();
@@ -219,7 +218,6 @@ impl World {
         ensures room { IfOk result (λ run.
             (now c passes (taken_events events.now run.1)).taken ≤ length events.now) }
     {
-        // Hands its law to the prover.
         lives_are_followed();
         let mut world = World::new(c, passes)?;
         let (stop, Unwatched) = world.run_up(events, Unwatched);
@@ -237,11 +235,11 @@ impl World {
         ensures config { self.new.device.config ≡ self.old.device.config }
         ensures bytes { CarriesBytes e.now }
     {
-        e.spell(); // hands the prover that its numbers are those of bytes
+        e.spell(); // law: an event's numbers fit into bytes, and its words into two
         if self.taken >= EVENT_LIMIT {
             return Err(Cause::Full);
         }
-        transcripts_are_followed(); // hands the prover that the host's setup stays
+        transcripts_are_followed(); // law: a host's setup stays
         self.act(e)?;
         self.taken += 1;
         Ok(())

@@ -34,7 +34,7 @@ fn agrees(rt: &impl Abort, world: &World, watch: &Watch, at: usize) {
     is_true(rt, watch.is_explained, &at);
 }
 
-// Where the converter didn't restart since the last good answer, what is said of a cell is true.
+// What is said of a cell is true if the converter didn't restart since the last good answer.
 fn is_known(rt: &impl Abort, world: &World, cell: Cell, restarted: bool, at: usize) {
     let held = world.word(cell);
     let is_held = match world.says(cell) {

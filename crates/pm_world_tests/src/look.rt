@@ -10,7 +10,7 @@ pub trait Look {
     /// The base configuration.
     fn base() -> Config;
 
-    /// The same with another WRITE_PROTECT.
+    /// The base configuration with another WRITE_PROTECT.
     fn with_protect(protect: u16) -> Config;
 
     /// A world at its start.

@@ -329,7 +329,7 @@ impl Walk {
         }
     }
 
-    // Where a plan is done, each wanted word is held, and the output commands what is wanted.
+    // Each wanted word is held once a plan is done, and the output commands what is wanted.
     fn is_as_wanted(&self, rt: &impl Abort, output: u8) {
         let course = &self.courses[usize::from(output % 2)];
         if course.end != End::Done {

@@ -38,7 +38,7 @@ impl Converter {
         }
     }
 
-    /// The same of every output.
+    /// Latches for every output that its selected value is outside its limits, if it is.
     pub(super) fn latch_all(&mut self)
         ensures { self.new ≡ record self.old {
           cut = each_output (λ output. cut_at self.old.cut output
@@ -59,7 +59,7 @@ impl Converter {
         self.cut[place] = self.is_output_cut(place);
     }
 
-    /// The same of every output.
+    /// Clears the latch of every output; what is outside its limits now shows at once.
     pub(super) fn unlatch_all(&mut self)
         ensures { self.new ≡ record self.old {
           cut = each_output (spec_is_output_cut self.old.config self.old.words);

@@ -21,7 +21,6 @@ impl Converter {
     pub fn read(image: &Image) -> Option<Converter>
         ensures { result ≡ device_of image.now }
     {
-        // Hands its law to the prover.
         sound_configurations_have_no_fault();
         if !image.is_current() {
             return None;
@@ -61,7 +60,6 @@ impl Converter {
         ensures device { device_of image.new ≡ Some self.now }
         ensures written { image.new ≡ image_of self.now }
     {
-        // Hands its law to the prover.
         sound_configurations_have_no_fault();
         *image = Image {
             mark: Image::MARK,

@@ -87,7 +87,7 @@ impl Converter {
         }
     }
 
-    // The same of a code that isn't a cell's.
+    // The word of a register whose code isn't a cell's.
     fn plain_register(&self, output: u8, code: Code) -> u16
         requires { output < self.now.config.count }
         ensures { result ≡ spec.plain_register self.now output code.0 }

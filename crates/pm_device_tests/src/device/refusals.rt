@@ -189,7 +189,7 @@ fn what_is_for_another_device_is_not_heard(rt: HostRuntime) -> Result<(), Fail> 
     Ok(())
 }
 
-// So many outputs, of which the third is DIRECT.
+// A converter with so many outputs, of which the third is DIRECT.
 fn with_third(count: u8) -> Result<Converter, ConfigFault> {
     let direct = OutputStart {
         mode: 0x40,

@@ -116,7 +116,7 @@ fn agree<F: NumFormat>(rt: &impl Abort, format: &F, plain: Plain, numbers: &[(i3
     }
 }
 
-// The same for 8 scattered numbers, `(k - center) / den` with k below 2^20.
+// The words for 8 scattered numbers, `(k - center) / den` with k below 2^20, are those that the search finds.
 fn agree_on_scattered<F: NumFormat>(
     rt: &impl Abort,
     format: &F,

@@ -3,7 +3,7 @@
 use crate::checks::agrees;
 use pm_table::{TableFault, VoutMode};
 
-// By single bits, one fault after another in their order.
+// The mode of a byte by single bits, one fault after another in their order.
 fn slow_mode(byte: u8) -> Result<VoutMode, TableFault> {
     if byte & 0b1000_0000 != 0 {
         return Err(TableFault::RelativeMode);

@@ -75,7 +75,7 @@ fn word_in<F: NumFormat>(format: &F, x: Frac) -> Result<u16, NumFault>
     ensures found { IfOk result
         (λ word. spec_nearest_word (F.value format.now) (F.rank format.now) x ≡ Some word) }
 {
-    // Hands its law to the prover.
+    // law: what the nearest words of a format are
     nearest_words_hold(format);
     match format.nearest(x) {
         Ok(word) => Ok(word),

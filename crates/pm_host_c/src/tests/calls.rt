@@ -1,4 +1,5 @@
-//! The calls, with no contract of their own: what a test says is run, and the prover needn't carry it.
+//! The calls of the tests, without contracts: what a test says is run, and no proof carries the calls'
+//! contracts.
 
 use crate::answer::{PayloadImage, pm_packet_read_answer};
 use crate::format_numbers::FormatNumbers;
@@ -51,7 +52,7 @@ pub(super) fn host(passes: u8) -> GuardImage {
     image
 }
 
-// The same of a part that has these of VOUT_MAX, both margins and VOUT_MIN.
+// A host of a part that has these of VOUT_MAX, both margins and VOUT_MIN.
 pub(super) fn host_with(passes: u8, has: [u8; 4]) -> GuardImage {
     let mut image = GuardImage::blank();
     let registers = RegistersImage {

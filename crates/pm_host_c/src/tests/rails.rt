@@ -136,7 +136,8 @@ fn surveyed() -> GuardImage {
     surveyed_with(6, &[])
 }
 
-// The same where the job of this number had another answer.
+// A host that carried out all that a survey for VOLTS asks for, where the job of this number had another
+// answer.
 fn surveyed_with(other: usize, came: &[u8]) -> GuardImage {
     let mut image = host(2);
     let mut asks = blank();

@@ -170,7 +170,7 @@ static ENDS: [(&[(usize, Wrong)], u16, ApplyEnd, usize, [u16; 2]); 12] = [
     ),
     // An order that differs is given once more.
     (&[(6, Lost)], 60, ApplyEnd::Reached, 18, [0x34CD, 0x3770]),
-    // Where it differs again, that is the end.
+    // An order that differs again is the end.
     (
         &[(6, Lost), (8, Lost)],
         60,

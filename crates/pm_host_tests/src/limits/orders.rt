@@ -158,7 +158,7 @@ static UNLEARNED: [(Call, Option<LimitFault>); 12] = [
     (Word(Reg::Operation, 0x40), None),
 ];
 
-// And after it: the number before the limits.
+// Orders in microvolts after the format is known: the refusals of a number come before those of the limits.
 static NUMBERS: [(Call, Option<LimitFault>); 6] = [
     (Micro(Reg::VoutCommand, 1_000_000_000_000_001), TOO_LARGE),
     (Micro(Reg::VoutCommand, 1_000_000_000_000_000), GREATEST),

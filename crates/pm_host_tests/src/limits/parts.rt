@@ -117,7 +117,7 @@ fn a_part_without_vout_max_is_cut_by_vout_min_alone(rt: HostRuntime) {
     is_band(&rt, &guard, 4000, 4300);
 }
 
-// Where the part has the register and it wasn't read, nothing is known to lie within.
+// Nothing is known to lie within the limits if the part has the register and it wasn't read.
 #[test]
 fn a_register_that_is_there_has_to_be_read(rt: HostRuntime) {
     let mut guard = guard_of(PartRegisters::all());

@@ -22,7 +22,7 @@ static PLANS: [(bool, [u16; 6], Wishes, &[(Reg, u16)]); 10] = [
             (Reg::VoutMin, 6144),
         ],
     ),
-    // and back
+    // 2 V in 1.5 V to 2.5 V, to 1 V in 0.5 V to 1.5 V
     (
         false,
         [0x80, 8192, 10240, 0, 0, 6144],

@@ -50,7 +50,7 @@ pub(super) fn knowing(least: i64, falling: bool, held: &Held, protect: Option<u8
     guard
 }
 
-// The same words of each register.
+// Words of registers that are all known.
 pub(super) fn each(words: &[u16; 6]) -> Held {
     [
         Some(words[0]),

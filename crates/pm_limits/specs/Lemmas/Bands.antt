@@ -27,7 +27,7 @@ use Rattle.pm_limits.specs.Lemmas.Farthest.{HaveDens, farthest_of-listed, reache
 use Rattle.pm_num.specs.Lemmas.Order.{not-above}
 use Rattle.pm_limits.specs.Lemmas.Selected.{each-selected}
 
--- where the value of every word has a positive denominator, the value of each listed word has
+-- the value of each listed word has a positive denominator if the value of every word has
 pub all-dens : (value : ℕ → Ratio) → ((word : ℕ) → 0 < (value word).den) → (words : List ℕ) → HaveDens value words
 all-dens value dens [] = tt
 all-dens value dens (word ∷ words) = (dens word, all-dens value dens words)

@@ -111,7 +111,7 @@ farthest_of-listed side value (word ∷ words) listed (d, dens) is = go (word ==
       subst (λ w. Reaches side (value (farthest side value word words)) (value w)) it (farthest-first side value word words d dens)
   go false e is' = farthest-others side value word words listed d dens is'
 
--- where some word is listed, the farthest has a positive denominator
+-- the value of the farthest word has a positive denominator if the listed words' have one and some word is listed
 pub farthest_of-den : (side : Side) (value : ℕ → Ratio) (words : List ℕ) (listed : ℕ) → HaveDens value words →
     is_listed listed words ≡ true → 0 < (value (farthest_of side value words)).den
 farthest_of-den side value [] listed dens is = absurd (let bad : false ≡ true = is in (cc))

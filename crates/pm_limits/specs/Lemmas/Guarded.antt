@@ -119,7 +119,7 @@ guarded-on g output byte free on =
     go true No on' none = cc
     go true NotKnown on' none = cc
 
--- where the limits say nothing, the host alone refuses
+-- the host alone refuses an order if the limits say nothing and the part doesn't lack what it needs
 alone : (g : Guarded) (cell : Cell) (word : ℕ) → missing_ordered g.registers cell word ≡ None →
     judged g.registers (limits_at g (output_of cell)) g.host cell word ≡ None →
     guarded_order g.registers (limits_at g (output_of cell)) g.host cell word ≡ of_host (order_fault g.host cell word)
@@ -160,7 +160,7 @@ guarded-off g output byte off = alone g (Out output Operation) byte
     (Some (unsure_fault (format_at g.host output))) None)
     off)
 
--- where an output has no limits, they say nothing
+-- the limits of an output that has none say nothing
 judged-free : (g : Guarded) (output : ℕ) (register : Reg) (word : ℕ) → limits_at g output ≡ None →
     judged g.registers (limits_at g output) g.host (Out output register) word ≡ None
 judged-free g output Operation word none =

@@ -78,7 +78,7 @@ module _ {R W T : Type 0} (engine : Engine T) (run : Run R W) (none : engine.ear
   unmade input Read whole of why some read sound same = absurd of
   unmade input Write whole of why some read sound same = absurd of
 
--- where no read failed
+-- a text is read so far, early or not, if no read failed
 pub read_so_far : (old new : Option (List ℕ)) (failed : Bool) (early : Option (List ℕ → List ℕ)) (text : List ℕ) → IsFalse failed
     → IsReadSoFar old new failed early text
 read_so_far old new failed None text read = read

@@ -7,8 +7,8 @@ use Rattle.std.proofs.lemmas.Result.{IfOk-equal}
 
 pub ruleset joins = (append_assoc, IfOk-equal)
 
--- the same with signed numbers, as they are passed on to `push_signed`
+-- the rules of `joins` with signed numbers, as they are passed on to `push_signed`
 pub ruleset signed_joins = (append_assoc, IfOk-equal, to_z-of_z)
 
--- the same with a number of one digit, whose text is that of its digit
+-- the rules of `joins` with a number of one digit, whose text is that of its digit
 pub ruleset digit_joins = (append_assoc, IfOk-equal, decimal_digit)

@@ -53,7 +53,7 @@ front_kept byte (x ∷ rest) bytes = refl
 space_no_digit : (x : ℕ) → is_space x ≡ true → is_hex_digit x ≡ false
 space_no_digit x space = let at : x ≡ 32 = grind (arith, nat_tests) in ap is_hex_digit at
 
--- where a line has more than one byte
+-- a line that has more than one byte
 module _ (x y : ℕ) (rest : List ℕ)
     (later : bytes_of (slice_split is_space (y ∷ rest)) ≡ nothing_behind (behind_pairs (y ∷ rest)) (paired_bytes (y ∷ rest)))
     (last : bytes_of (slice_split is_space rest) ≡ nothing_behind (behind_pairs rest) (paired_bytes rest)) where

@@ -14,7 +14,7 @@ pub record IsLater (a b c : Option (List ℕ)) (before part later all : List ℕ
   pub short : AppendsFront b c part
   pub parts : all ≡ before ++ (part ++ later)
 
--- where a prefix of a later part was written, a prefix of the whole was
+-- a prefix of the whole was written if a prefix of a later part was
 pub AppendsFront-later : (a b c : Option (List ℕ)) (before part later all : List ℕ) → IsLater a b c before part later all
     → AppendsFront a c all
 AppendsFront-later a b c before part later all is =

@@ -114,7 +114,7 @@ at_most_from_cross {v} {c} {s} x p le =
     let h = times-swap x.num c v.den in
     le_from_times (v.num *ℤ pos x.den) (x.num *ℤ pos v.den) c p.common (omega (arith, ints))
 
--- Where a number over c is at most x its cross product with x is.
+-- s times x.den is at most x.num times c if the number s over c is at most x.
 pub cross_from_at_most : {v : Ratio} {c : ℕ} {s : ℤ} (x : Ratio) → Over c s v → AtMost v x → (s *ℤ pos x.den) ≤ℤ (x.num *ℤ pos c)
 cross_from_at_most {v} {c} {s} x p le =
     let e = cross_over v x c s p in
@@ -132,7 +132,7 @@ at_least_from_cross {v} {c} {s} x p le =
     let h = times-swap x.num c v.den in
     le_from_times (x.num *ℤ pos v.den) (v.num *ℤ pos x.den) c p.common (omega (arith, ints))
 
--- Where x is at most a number over c its cross product with that is.
+-- x.num times c is at most s times x.den if x is at most the number s over c.
 pub cross_from_at_least : {v : Ratio} {c : ℕ} {s : ℤ} (x : Ratio) → Over c s v → AtMost x v → (x.num *ℤ pos c) ≤ℤ (s *ℤ pos x.den)
 cross_from_at_least {v} {c} {s} x p le =
     let e = cross_over v x c s p in

@@ -20,7 +20,7 @@ impl Model for Events {
 }
 
 impl Events {
-    /// These events.
+    /// The events of this list.
     pub fn new(items: Vec<Event>) -> Events
         ensures { result ≡ items.items }
     {

@@ -18,7 +18,7 @@ struct One<'a> {
     left: Option<&'a str>,
 }
 
-/// The same of two entries.
+/// What was read of a text: two entries, each where any text was left, and what is left of it.
 #[derive(Clone, Copy)]
 struct Two<'a> {
     first: Option<ReadingFormat>,
@@ -26,7 +26,7 @@ struct Two<'a> {
     left: Option<&'a str>,
 }
 
-/// The same of four.
+/// What was read of a text: four entries, each where any text was left, and what is left of it.
 #[derive(Clone, Copy)]
 struct Four<'a> {
     first: Option<ReadingFormat>,

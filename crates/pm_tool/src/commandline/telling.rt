@@ -188,7 +188,7 @@ fn format_in(text: &str) -> Option<AnyFormat>
     format_made(format)
 }
 
-// The same of a text that was read.
+// The format that was read of a text, where it can be.
 fn format_made(format: FormatText) -> Option<AnyFormat>
     requires { HasExponent format }
     ensures { option_map shape_of result ≡ shape_named format }

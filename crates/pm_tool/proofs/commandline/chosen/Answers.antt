@@ -13,7 +13,7 @@ use Rattle.pm_tool.specs.Commandline.{Asks, Given, HasValuesOf, UnlessMemory, nu
 use Rattle.pm_tool.proofs.GivenOptions.{first_text, number_met, number_passes, row}
 use Rattle.pm_tool.proofs.commandline.chosen.Goals as goal
 
--- where the parser meets a subcommand and finds no fault, what is chosen is that subcommand, unless memory ran out
+-- the subcommand that the parser meets is chosen if the parser finds no fault, unless memory ran out
 met : (r : Result Chosen Error) (words : List Text) {name : Text} {rows : List Row} (P : Chosen → Type 0)
     → IfOk r (λ chosen. IsSomeAnd (subcommand_of pmb words) (λ met. Asks met.0 met.1 chosen))
     → FailsBy (fault_of pmb words) r → subcommand_of pmb words ≡ Some (name, rows) → fault_of pmb words ≡ []
@@ -23,7 +23,7 @@ met (Ok chosen) words P named kinds found none gives =
 met (Err e) words P named kinds found none gives =
     ⊎_elim (λ memory. memory) (λ other. absurd other) (subst (λ (k : Kinds). HasKind k e) none kinds)
 
--- where the parser finds a fault, the call refuses
+-- the call refuses if the parser finds a fault
 refused : (r : Result Chosen Error) (words : List Text) (kind : ErrorKind) (kinds : Kinds) → FailsBy (fault_of pmb words) r
     → fault_of pmb words ≡ kind ∷ kinds → IsErrAnd r (HasKind (kind ∷ kinds))
 refused (Ok chosen) words kind kinds fails is = let e : kind ∷ kinds ≡ [] = sym is ∙ fails in absurd (cc)
@@ -90,7 +90,7 @@ decode_chosen rows Replay asks = apart 100 114 (ap first_byte asks) refl
 decode_chosen rows Decode asks = refl
 decode_chosen rows (Number format word micro) asks = apart 100 110 (ap first_byte asks.0) refl
 
--- where `number` is met, it is chosen, with the texts that were given for its options
+-- `number` is chosen if it is met, with the texts that were given for its options
 given_chosen : (given : List Given) (chosen : Chosen) → Asks (codes "number") (map row given) chosen → HasValuesOf given chosen
 given_chosen given Hear asks = apart 110 104 (ap first_byte asks) refl
 given_chosen given Replay asks = apart 110 114 (ap first_byte asks) refl

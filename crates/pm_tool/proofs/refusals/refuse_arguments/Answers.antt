@@ -4,7 +4,7 @@ use Rattle.std.specs.declared.io.ErrorKind.TheVariants.{OutOfMemory}
 use Rattle.pm_tool.specs.Refusals.{Says, no_words, no_words_status, program_line}
 use Rattle.pm_tool.proofs.refusals.refuse_arguments.Goals as goal
 
--- where the words can't be had, other than for want of memory, the arguments are bad
+-- the arguments are bad if the words can't be had, other than for want of memory
 other_words : (kind : ErrorKind) → kind ≢ OutOfMemory → (no_words_status kind ≡ 2) × (no_words kind ≡ codes "bad arguments")
 other_words OutOfMemory other = absurd (other refl)
 other_words _ other = (refl, refl)

@@ -1,4 +1,4 @@
--- Where nothing is known, each number is 0.
+-- The numbers of what is known are each 0 if nothing is known.
 use Rattle.std.proofs.Common.{rules}
 use Rattle.pm_host.specs.Image.{known_held}
 use Rattle.pm_host.specs.Memory.{IsKnown}

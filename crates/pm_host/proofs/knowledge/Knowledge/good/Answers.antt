@@ -1,4 +1,4 @@
--- Where the word wasn't possible, nothing is known of the others.
+-- Nothing is known of the other cells if the word wasn't possible.
 use Rattle.std.proofs.Common.{refl, rules}
 use Rattle.pm_host.specs.Memory.{IsKnown}
 use Rattle.pm_host.proofs.MemoryLemmas.{surprised-known}

@@ -1,4 +1,4 @@
--- Where no format is known, each number is 0.
+-- The numbers of the formats are each 0 if no format is known.
 use Rattle.std.proofs.Common.{rules}
 use Rattle.pm_host.specs.Image.{formats_held}
 use Rattle.pm_host.specs.Memory.{AreFormats}
