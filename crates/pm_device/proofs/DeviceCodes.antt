@@ -12,7 +12,7 @@ use Rattle.pm_table.specs.Laws.{PayloadsAreShort}
 use Rattle.pm_table.specs.Protection.{is_allowed}
 use Rattle.pm_frame.specs.declared.message.Message.{Message}
 use Rattle.pm_frame.specs.declared.message.Message.TheVariants.{PagePlusWrite, PagePlusRead}
-use Rattle.pm_frame.specs.declared.payload.Payload.{Payload}
+use Rattle.pm_frame.specs.declared.message.Payload.{Payload}
 use Rattle.pm_frame.specs.Laws.{WritesAreExact, RequestsAreExact}
 use Rattle.pm_frame.specs.Layout.{IsWrite}
 use Rattle.pm_frame.specs.View.{message_code}
@@ -21,9 +21,9 @@ use Rattle.pm_device.specs.declared.act.Act.{Act}
 use Rattle.pm_device.specs.declared.act.Act.TheVariants.{Put, Select, ClearFaults, ClearVout, ClearCml, Store, Restore}
 use Rattle.pm_device.specs.declared.config.Config.{Config}
 use Rattle.pm_device.specs.declared.fault.DeviceFault.TheVariants.{UnsupportedCode, UnsupportedData, BadPage, Protected}
-use Rattle.pm_device.specs.declared.ending.Ending.{Ending}
-use Rattle.pm_device.specs.declared.ending.Ending.TheVariants.{Stop, Restart}
-use Rattle.pm_device.specs.declared.heard.Heard.TheVariants.{Answer}
+use Rattle.pm_device.specs.declared.converter.Ending.{Ending}
+use Rattle.pm_device.specs.declared.converter.Ending.TheVariants.{Stop, Restart}
+use Rattle.pm_device.specs.declared.converter.Heard.TheVariants.{Answer}
 use Rattle.pm_device.specs.declared.verdict.Verdict.{Verdict}
 use Rattle.pm_device.specs.declared.verdict.Verdict.TheVariants.{Refuses, Takes, Answers}
 use Rattle.pm_device.specs.Held.{Held, is_output_reading, output_readings, place_among}

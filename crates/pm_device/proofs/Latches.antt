@@ -17,9 +17,9 @@ use Rattle.pm_model.specs.Settings.{Words}
 use Rattle.pm_device.specs.declared.act.Act.{Act}
 use Rattle.pm_device.specs.declared.act.Act.TheVariants.{Put, Select, ClearFaults, ClearVout, ClearCml, Store, Restore}
 use Rattle.pm_device.specs.declared.config.Config.{Config}
-use Rattle.pm_device.specs.declared.ending.Ending.{Ending}
-use Rattle.pm_device.specs.declared.ending.Ending.TheVariants.{Stop}
-use Rattle.pm_device.specs.declared.heard.Heard.TheVariants.{Taken}
+use Rattle.pm_device.specs.declared.converter.Ending.{Ending}
+use Rattle.pm_device.specs.declared.converter.Ending.TheVariants.{Stop}
+use Rattle.pm_device.specs.declared.converter.Heard.TheVariants.{Taken}
 use Rattle.pm_device.specs.declared.verdict.Verdict.{Verdict}
 use Rattle.pm_device.specs.declared.verdict.Verdict.TheVariants.{Ignores, Refuses, Takes, Answers}
 use Rattle.pm_device.specs.Held.{Held, CmlFaults, no_faults}

@@ -19,9 +19,9 @@ use Rattle.pm_model.specs.Settings.{Words, AreWords, word_at, with_word}
 use Rattle.pm_device.specs.declared.act.Act.{Act}
 use Rattle.pm_device.specs.declared.act.Act.TheVariants.{Put, Select, ClearFaults, ClearVout, ClearCml, Store, Restore}
 use Rattle.pm_device.specs.declared.config.Config.{Config}
-use Rattle.pm_device.specs.declared.ending.Ending.{Ending}
-use Rattle.pm_device.specs.declared.ending.Ending.TheVariants.{Stop}
-use Rattle.pm_device.specs.declared.heard.Heard.TheVariants.{Taken}
+use Rattle.pm_device.specs.declared.converter.Ending.{Ending}
+use Rattle.pm_device.specs.declared.converter.Ending.TheVariants.{Stop}
+use Rattle.pm_device.specs.declared.converter.Heard.TheVariants.{Taken}
 use Rattle.pm_device.specs.declared.verdict.Verdict.TheVariants.{Takes}
 use Rattle.pm_device.specs.Start.{start_word, start_words, IsSound}
 use Rattle.pm_device.specs.Verdict.{written_word, output_in, act_in, verdict_of}

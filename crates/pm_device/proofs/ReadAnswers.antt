@@ -20,9 +20,9 @@ use Rattle.pm_frame.specs.Layout.{IsRequest, IsAnswer, answer_length, is_read_me
 use Rattle.pm_frame.specs.View.{message_in, payload_in}
 use Rattle.pm_model.specs.Settings.{word_at}
 use Rattle.pm_device.specs.declared.fault.DeviceFault.TheVariants.{UnsupportedData, BadPage}
-use Rattle.pm_device.specs.declared.ending.Ending.TheVariants.{Restart}
-use Rattle.pm_device.specs.declared.heard.Heard.{Heard}
-use Rattle.pm_device.specs.declared.heard.Heard.TheVariants.{Answer, Refused}
+use Rattle.pm_device.specs.declared.converter.Ending.TheVariants.{Restart}
+use Rattle.pm_device.specs.declared.converter.Heard.{Heard}
+use Rattle.pm_device.specs.declared.converter.Heard.TheVariants.{Answer, Refused}
 use Rattle.pm_device.specs.declared.verdict.Verdict.TheVariants.{Refuses, Answers}
 use Rattle.pm_device.specs.Held.{Held}
 use Rattle.pm_device.specs.Laws.{AnswersWith}

@@ -5,7 +5,7 @@ use Rattle.pm_model.specs.Settings.{Words, restart_words, with_word, with_output
 use Rattle.pm_device.specs.declared.act.Act.{Act}
 use Rattle.pm_device.specs.declared.act.Act.TheVariants.{Put, Select, Store, Restore}
 use Rattle.pm_device.specs.declared.config.Config.{Config}
-use Rattle.pm_device.specs.declared.ending.Ending.{Ending}
+use Rattle.pm_device.specs.declared.converter.Ending.{Ending}
 use Rattle.pm_device.specs.declared.verdict.Verdict.{Verdict}
 use Rattle.pm_device.specs.declared.verdict.Verdict.TheVariants.{Takes}
 use Rattle.pm_device.specs.Held.{Held}

@@ -13,7 +13,7 @@ use Rattle.pm_table.specs.Protection.{is_allowed}
 use Rattle.pm_frame.specs.declared.fault.FrameFault.TheVariants.{UnknownCode}
 use Rattle.pm_frame.specs.declared.message.Message.{Message}
 use Rattle.pm_frame.specs.declared.message.Message.TheVariants.{WriteByte, PagePlusWrite, ReadCommand, PagePlusRead, ReadCoefficients}
-use Rattle.pm_frame.specs.declared.payload.Payload.{Payload}
+use Rattle.pm_frame.specs.declared.message.Payload.{Payload}
 use Rattle.pm_frame.specs.Fault.{write_fault, request_fault}
 use Rattle.pm_frame.specs.Layout.{AreBytes, IsWrite, IsRequest, IsAnswer, write_address, read_address}
 use Rattle.pm_frame.specs.View.{payload_in, message_code}
@@ -22,9 +22,9 @@ use Rattle.pm_model.specs.Commanded.{is_cut}
 use Rattle.pm_device.specs.declared.config.Config.{Config}
 use Rattle.pm_device.specs.declared.fault.DeviceFault.{DeviceFault}
 use Rattle.pm_device.specs.declared.fault.DeviceFault.TheVariants.{UnsupportedCode, UnsupportedData}
-use Rattle.pm_device.specs.declared.ending.Ending.{Ending}
-use Rattle.pm_device.specs.declared.ending.Ending.TheVariants.{Stop, Restart}
-use Rattle.pm_device.specs.declared.heard.Heard.TheVariants.{Silent, Taken, Answer, Refused}
+use Rattle.pm_device.specs.declared.converter.Ending.{Ending}
+use Rattle.pm_device.specs.declared.converter.Ending.TheVariants.{Stop, Restart}
+use Rattle.pm_device.specs.declared.converter.Heard.TheVariants.{Silent, Taken, Answer, Refused}
 use Rattle.pm_device.specs.Held.{Held, no_faults, is_device_reading, is_output_reading, mode_for, reading_at, value_for}
 use Rattle.pm_device.specs.Start.{IsSound, config_fault, has_direct}
 use Rattle.pm_device.specs.Verdict.{is_answered, names_no_output, output_in, payload_word, verdict_of, write_verdict, written_word}

@@ -11,9 +11,9 @@ use Rattle.pm_frame.specs.declared.message.Message.{Message}
 use Rattle.pm_frame.specs.declared.message.Message.TheVariants.{ReadCommand, PagePlusRead, ReadCoefficients}
 use Rattle.pm_frame.specs.Layout.{sent, answered, with_pec}
 use Rattle.pm_model.specs.Settings.{word_at}
-use Rattle.pm_device.specs.declared.ending.Ending.{Ending}
-use Rattle.pm_device.specs.declared.heard.Heard.{Heard}
-use Rattle.pm_device.specs.declared.heard.Heard.TheVariants.{Silent, Taken, Answer, Refused}
+use Rattle.pm_device.specs.declared.converter.Ending.{Ending}
+use Rattle.pm_device.specs.declared.converter.Heard.{Heard}
+use Rattle.pm_device.specs.declared.converter.Heard.TheVariants.{Silent, Taken, Answer, Refused}
 use Rattle.pm_device.specs.declared.verdict.Verdict.{Verdict}
 use Rattle.pm_device.specs.declared.verdict.Verdict.TheVariants.{Ignores, Refuses, Takes, Answers}
 use Rattle.pm_device.specs.Held.{Held, mode_for, reading_at}

@@ -13,8 +13,8 @@ use Rattle.pm_frame.specs.declared.fault.FrameFault.TheVariants as frame
 use Rattle.pm_frame.specs.declared.message.Message.{Message}
 use Rattle.pm_frame.specs.declared.message.Message.TheVariants.{WriteByte, WriteWord, PagePlusWrite, ReadCommand, PagePlusRead}
 use Rattle.pm_frame.specs.declared.message.Message.TheVariants.{ReadCoefficients}
-use Rattle.pm_frame.specs.declared.payload.Payload.{Payload}
-use Rattle.pm_frame.specs.declared.payload.Payload.TheVariants.{Empty, Byte, Word}
+use Rattle.pm_frame.specs.declared.message.Payload.{Payload}
+use Rattle.pm_frame.specs.declared.message.Payload.TheVariants.{Empty, Byte, Word}
 use Rattle.pm_frame.specs.Fault.{write_fault, request_fault}
 use Rattle.pm_frame.specs.Layout.{is_read_message, fits_layout}
 use Rattle.pm_frame.specs.View.{message_in, message_page, message_code}
@@ -24,8 +24,8 @@ use Rattle.pm_device.specs.declared.act.Act.TheVariants.{Put, Select, ClearFault
 use Rattle.pm_device.specs.declared.config.Config.{Config}
 use Rattle.pm_device.specs.declared.fault.DeviceFault.TheVariants.{Frame, UnsupportedCode, UnsupportedData, BadPage, Protected, Nested}
 use Rattle.pm_device.specs.declared.fault.DeviceFault.TheVariants.{ReadOnly}
-use Rattle.pm_device.specs.declared.ending.Ending.{Ending}
-use Rattle.pm_device.specs.declared.ending.Ending.TheVariants.{Stop, Restart}
+use Rattle.pm_device.specs.declared.converter.Ending.{Ending}
+use Rattle.pm_device.specs.declared.converter.Ending.TheVariants.{Stop, Restart}
 use Rattle.pm_device.specs.declared.verdict.Verdict.{Verdict}
 use Rattle.pm_device.specs.declared.verdict.Verdict.TheVariants.{Ignores, Refuses, Takes, Answers}
 use Rattle.pm_device.specs.Start.{has_direct}

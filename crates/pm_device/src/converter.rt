@@ -13,11 +13,11 @@ ghost use Rattle.pm_device.specs.Reply.{reply_of};
 use crate::cml_latches::CmlLatches;
 use crate::config::{Config, config_fault};
 use crate::config_fault::ConfigFault;
-use crate::ending::Ending;
+use crate::fault::DeviceFault;
 use crate::formats::formats_of;
-use crate::heard::Heard;
 use crate::readings::Readings;
 use crate::starts::start_settings;
+use pm_frame::Frame;
 use pm_model::{Formats, Plain};
 use pm_num::Frac;
 use pm_table::{Cell, Code, Operation, Reg};
@@ -28,6 +28,28 @@ mod effect;
 mod image;
 mod replies;
 mod status;
+
+/// What a converter answers to what it heard.
+#[derive(Clone, Debug, PartialEq, Eq, Drop)]
+pub enum Heard {
+    /// Nothing: the frame is for another device.
+    Silent,
+    /// A write was taken.
+    Taken,
+    /// A read is answered with these bytes.
+    Answer(Frame),
+    /// Refused; no setting changed.
+    Refused(DeviceFault),
+}
+
+/// How the bytes that a converter heard ended.
+#[derive(Clone, Copy, Debug, PartialEq, Eq)]
+pub enum Ending {
+    /// A stop: the bytes are a write.
+    Stop,
+    /// A repeated start follows: the bytes are the request of a read.
+    Restart,
+}
 
 /// The model of a power converter with one to eight outputs.
 ///

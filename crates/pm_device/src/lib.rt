@@ -46,10 +46,8 @@ mod cml_latches;
 mod config;
 mod config_fault;
 mod converter;
-mod ending;
 mod fault;
 mod formats;
-mod heard;
 mod image;
 mod laws;
 mod output_start;
@@ -60,10 +58,8 @@ mod verdict;
 
 pub use config::Config;
 pub use config_fault::ConfigFault;
-pub use converter::Converter;
-pub use ending::Ending;
+pub use converter::{Converter, Ending, Heard};
 pub use fault::DeviceFault;
-pub use heard::Heard;
 pub use image::{ConfigImage, Image, LatchesImage, OutputImage, ReadingsImage};
 pub use laws::{
     device_codes_ignore_pages, frames_for_others_are_silent, latches_stay, pasts_are_followed,

@@ -7,7 +7,7 @@ ghost use Rattle.pm_device.specs.Verdict as spec;
 
 use crate::act::Act;
 use crate::config::Config;
-use crate::ending::Ending;
+use crate::converter::Ending;
 use crate::fault::DeviceFault;
 use pm_frame::{FrameFault, FrameView, Message, Payload, read_request, read_write};
 use pm_model::Plain;

@@ -9,8 +9,8 @@ use Rattle.pm_table.specs.declared.cell.Cell.{Cell}
 use Rattle.pm_table.specs.declared.cell.Cell.TheVariants.{Out, Protect}
 use Rattle.pm_table.specs.Cell.{is_cell}
 use Rattle.pm_device.specs.declared.config_fault.ConfigFault.{ConfigFault}
-use Rattle.pm_device.specs.declared.heard.Heard.{Heard}
-use Rattle.pm_device.specs.declared.heard.Heard.TheVariants.{Silent, Taken, Answer, Refused}
+use Rattle.pm_device.specs.declared.converter.Heard.{Heard}
+use Rattle.pm_device.specs.declared.converter.Heard.TheVariants.{Silent, Taken, Answer, Refused}
 use Rattle.pm_device.specs.FaultWords.{config_fault_number, device_fault_number}
 use Rattle.pm_device.specs.Held.{Held, is_device_reading, is_output_reading, is_reading}
 use Rattle.pm_device_c.specs.Part.{commanded_now}

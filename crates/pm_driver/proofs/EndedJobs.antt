@@ -12,9 +12,9 @@ use Rattle.pm_table.specs.Laws.{CellsAreToldApart}
 use Rattle.pm_frame.specs.declared.message.Message.{Message}
 use Rattle.pm_device.specs.declared.config.Config.{Config}
 use Rattle.pm_device.specs.Held.{shape_for}
-use Rattle.pm_host.specs.declared.job_end.JobEnd.{JobEnd}
-use Rattle.pm_host.specs.declared.job_end.JobEnd.TheVariants.{Done, Differs, Unknown, Learned}
-use Rattle.pm_host.specs.declared.standing.Standing.TheVariants.{Confirmed}
+use Rattle.pm_host.specs.declared.job.JobEnd.{JobEnd}
+use Rattle.pm_host.specs.declared.job.JobEnd.TheVariants.{Done, Differs, Unknown, Learned}
+use Rattle.pm_host.specs.declared.knowledge.Standing.TheVariants.{Confirmed}
 use Rattle.pm_host.specs.Answers.{good_word}
 use Rattle.pm_host.specs.Laws.{TranscriptsAreFollowed}
 use Rattle.pm_host.specs.Marks.{Good, goods, marks, put_by, puts}

@@ -13,9 +13,9 @@ use Rattle.pm_device.specs.Held.{Held as Converter}
 use Rattle.pm_device.specs.Laws.{WordsHaveAnOrigin}
 use Rattle.pm_host.specs.declared.job.Job.{Job as Asked}
 use Rattle.pm_host.specs.declared.job.Job.TheVariants as job
-use Rattle.pm_host.specs.declared.job_end.JobEnd.{JobEnd}
-use Rattle.pm_host.specs.declared.job_end.JobEnd.TheVariants.{Done}
-use Rattle.pm_host.specs.declared.standing.Standing.TheVariants.{Confirmed}
+use Rattle.pm_host.specs.declared.job.JobEnd.{JobEnd}
+use Rattle.pm_host.specs.declared.job.JobEnd.TheVariants.{Done}
+use Rattle.pm_host.specs.declared.knowledge.Standing.TheVariants.{Confirmed}
 use Rattle.pm_host.specs.Jobs.{accepted_job}
 use Rattle.pm_host.specs.Cells.{table}
 use Rattle.pm_host.specs.Known.{HasPlaces, known_after, known_now}

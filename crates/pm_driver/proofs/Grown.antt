@@ -5,7 +5,7 @@ use Rattle.pm_device.specs.declared.config.Config.{Config}
 use Rattle.pm_device.specs.Effect as device
 use Rattle.pm_device.specs.Held.{Held}
 use Rattle.pm_device.specs.History.{next as device_next}
-use Rattle.pm_host.specs.declared.job_end.JobEnd.{JobEnd}
+use Rattle.pm_host.specs.declared.job.JobEnd.{JobEnd}
 use Rattle.pm_host.specs.Summary.{Summary}
 use Rattle.pm_host.specs.Transcript.{Entry}
 use Rattle.pm_world.specs.Lemmas.{entries-more}

@@ -18,9 +18,9 @@ use Rattle.pm_frame.specs.Fault.{write_fault, request_fault}
 use Rattle.pm_frame.specs.Laws.{BetrayalIsRefused, RequestsAreExact}
 use Rattle.pm_frame.specs.Layout.{IsRequest, is_read_message}
 use Rattle.pm_frame.specs.View.{message_in}
-use Rattle.pm_device.specs.declared.ending.Ending.{Ending}
-use Rattle.pm_device.specs.declared.ending.Ending.TheVariants.{Stop, Restart}
-use Rattle.pm_device.specs.declared.heard.Heard.{Heard}
+use Rattle.pm_device.specs.declared.converter.Ending.{Ending}
+use Rattle.pm_device.specs.declared.converter.Ending.TheVariants.{Stop, Restart}
+use Rattle.pm_device.specs.declared.converter.Heard.{Heard}
 use Rattle.pm_device.specs.Effect as device
 use Rattle.pm_device.specs.Held.{CmlFaults, Held}
 use Rattle.pm_device.specs.History.{after, next as device_next}
@@ -34,9 +34,9 @@ use Rattle.pm_host.specs.declared.stage.Stage.{Stage}
 use Rattle.pm_host.specs.declared.stage.Stage.TheVariants.{Asks, Reads, Sends, Writes}
 use Rattle.pm_host.specs.Messages.{cell_read, cell_write, command_message, values_written}
 use Rattle.pm_host.specs.Summary.{Summary, sending_in, stage_message}
-use Rattle.pm_world.specs.declared.arrival.Arrival.{Arrival}
-use Rattle.pm_world.specs.declared.arrival.Arrival.TheVariants as arrival
-use Rattle.pm_world.specs.declared.back.Back.{Back}
+use Rattle.pm_world.specs.declared.event.Arrival.{Arrival}
+use Rattle.pm_world.specs.declared.event.Arrival.TheVariants as arrival
+use Rattle.pm_world.specs.declared.event.Back.{Back}
 use Rattle.pm_world.specs.Legal.{answer_in, back_bytes, ending_of, heard_bytes, is_heard_whole, is_legal_hearing, is_legal_return}
 use Rattle.pm_world.specs.State.{device_after}
 use Rattle.pm_driver.specs.Acts.{IsNoWrite}

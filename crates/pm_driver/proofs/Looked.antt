@@ -12,7 +12,7 @@ use Rattle.pm_table.specs.Rules.{rule}
 use Rattle.pm_frame.specs.declared.fault.FrameFault.{FrameFault}
 use Rattle.pm_frame.specs.declared.fault.FrameFault.TheVariants.{NotOurs, Short, WrongDirection}
 use Rattle.pm_frame.specs.declared.message.Message.{Message}
-use Rattle.pm_device.specs.declared.ending.Ending.TheVariants.{Restart}
+use Rattle.pm_device.specs.declared.converter.Ending.TheVariants.{Restart}
 use Rattle.pm_device.specs.Effect as device
 use Rattle.pm_device.specs.Effect.{kept_in}
 use Rattle.pm_device.specs.History.{after, next as device_next}

@@ -12,13 +12,13 @@ use Rattle.pm_table.specs.Coefficients.{coefficients_of}
 use Rattle.pm_table.specs.Format.{shape_in}
 use Rattle.pm_table.specs.VoutMode.{mode_of}
 use Rattle.pm_frame.specs.declared.message.Message.{Message}
-use Rattle.pm_host.specs.declared.job_end.JobEnd.{JobEnd}
-use Rattle.pm_host.specs.declared.job_end.JobEnd.TheVariants.{Done, Differs, Unknown}
+use Rattle.pm_host.specs.declared.job.JobEnd.{JobEnd}
+use Rattle.pm_host.specs.declared.job.JobEnd.TheVariants.{Done, Differs, Unknown}
 use Rattle.pm_host.specs.declared.question.Question.{Question}
 use Rattle.pm_host.specs.declared.question.Question.TheVariants.{Word, Mode, Coefficients}
 use Rattle.pm_host.specs.declared.stage.Stage.{Stage}
 use Rattle.pm_host.specs.declared.stage.Stage.TheVariants.{Asks, Reads, Sends}
-use Rattle.pm_host.specs.declared.step.Step.TheVariants.{Next}
+use Rattle.pm_host.specs.declared.host.Step.TheVariants.{Next}
 use Rattle.pm_host.specs.Answers.{good_payload, good_word, word_in}
 use Rattle.pm_host.specs.Marks.{Good}
 use Rattle.pm_host.specs.Question.{question_message}

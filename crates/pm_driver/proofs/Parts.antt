@@ -1,6 +1,6 @@
 -- What happens to a converter, in parts.
 use Rattle.std.proofs.Common.{◌≡◌, ℕ, Bool, true, List, [], ◌∷◌, ◌++◌, refl, sym, ◌∙◌, ap, subst}
-use Rattle.pm_device.specs.declared.ending.Ending.TheVariants.{Restart}
+use Rattle.pm_device.specs.declared.converter.Ending.TheVariants.{Restart}
 use Rattle.pm_device.specs.Effect as device
 use Rattle.pm_device.specs.Held.{Held}
 use Rattle.pm_device.specs.History.{next as device_next}

@@ -3,10 +3,10 @@ use Rattle.std.proofs.Common.{◌≡◌, ◌≤◌, ◌+◌, ◌||◌, ◌&&◌,
 use Rattle.std.proofs.Common.{Ok, Err, is_none, is_some, length, inl, inr, refl, sym, ◌∙◌, ap, ap₂, subst}
 use Rattle.std.specs.Prelude.{bytes_eq, nat_lt, replicate, slice_get}
 use Rattle.std.proofs.lemmas.List.{length-replicate}
-use Rattle.pm_device.specs.declared.ending.Ending.TheVariants.{Stop, Restart}
+use Rattle.pm_device.specs.declared.converter.Ending.TheVariants.{Stop, Restart}
 use Rattle.pm_device.specs.Effect as device
 use Rattle.pm_device.specs.History.{next as device_next}
-use Rattle.pm_world.specs.declared.arrival.Arrival.TheVariants.{Whole}
+use Rattle.pm_world.specs.declared.event.Arrival.TheVariants.{Whole}
 use Rattle.pm_world.specs.Legal.{is_legal_return}
 use Rattle.pm_driver.specs.declared.adapter.WriteEnd.TheVariants as write
 use Rattle.pm_driver.specs.declared.adapter.ReadEnd.TheVariants as read

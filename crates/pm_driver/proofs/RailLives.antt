@@ -14,7 +14,7 @@ use Rattle.pm_device.specs.declared.config.Config.{Config}
 use Rattle.pm_device.specs.Held.{Held as Converter}
 use Rattle.pm_host.specs.declared.job.Job.{Job as Asked}
 use Rattle.pm_host.specs.declared.job.Job.TheVariants as job
-use Rattle.pm_host.specs.declared.job_end.JobEnd.{JobEnd}
+use Rattle.pm_host.specs.declared.job.JobEnd.{JobEnd}
 use Rattle.pm_host.specs.Jobs.{accepted_job}
 use Rattle.pm_host.specs.Refusals.{is_busy}
 use Rattle.pm_host.specs.Summary.{Summary}

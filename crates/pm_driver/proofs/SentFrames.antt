@@ -7,20 +7,20 @@ use Rattle.std.specs.Option.{option_or}
 use Rattle.pm_frame.specs.declared.message.Message.{Message}
 use Rattle.pm_frame.specs.Fault.{whole_answer}
 use Rattle.pm_frame.specs.Layout.{IsRequest, IsWrite, sent, with_pec}
-use Rattle.pm_device.specs.declared.ending.Ending.TheVariants.{Stop, Restart}
+use Rattle.pm_device.specs.declared.converter.Ending.TheVariants.{Stop, Restart}
 use Rattle.pm_device.specs.Effect as device
 use Rattle.pm_device.specs.Held.{Held}
 use Rattle.pm_device.specs.History.{next as device_next}
 use Rattle.pm_device.specs.Reply.{reply_of}
-use Rattle.pm_host.specs.declared.job_end.JobEnd.{JobEnd}
-use Rattle.pm_host.specs.declared.step.Step.{Step}
-use Rattle.pm_host.specs.declared.step.Step.TheVariants.{Next, Ended}
+use Rattle.pm_host.specs.declared.job.JobEnd.{JobEnd}
+use Rattle.pm_host.specs.declared.host.Step.{Step}
+use Rattle.pm_host.specs.declared.host.Step.TheVariants.{Next, Ended}
 use Rattle.pm_host.specs.Refusals.{is_busy}
 use Rattle.pm_host.specs.Summary.{Summary, sending_in, next as host_next, step_of}
 use Rattle.pm_host.specs.Transcript.{Finished, Got}
 use Rattle.pm_device.specs.declared.config.Config.{Config}
-use Rattle.pm_world.specs.declared.arrival.Arrival.{Arrival}
-use Rattle.pm_world.specs.declared.back.Back.{Back}
+use Rattle.pm_world.specs.declared.event.Arrival.{Arrival}
+use Rattle.pm_world.specs.declared.event.Back.{Back}
 use Rattle.pm_world.specs.declared.cause.Cause.TheVariants.{WrongKind, NotBetrayed}
 use Rattle.pm_world.specs.declared.event.Event.{Event}
 use Rattle.pm_world.specs.declared.event.Event.TheVariants.{Deliver, Exchange, Finish, Reading, RestartDevice}

@@ -13,8 +13,8 @@ use Rattle.pm_host.specs.declared.fault.HostFault.{HostFault}
 use Rattle.pm_host.specs.declared.fault.HostFault.TheVariants.{Busy, UnknownOutput}
 use Rattle.pm_host.specs.declared.job.Job.{Job}
 use Rattle.pm_host.specs.declared.job.Job.TheVariants.{Check, Learn, Order, OrderMicro, Send}
-use Rattle.pm_host.specs.declared.job_end.JobEnd.{JobEnd}
-use Rattle.pm_host.specs.declared.job_end.JobEnd.TheVariants.{Done, Differs, Learned, Unknown}
+use Rattle.pm_host.specs.declared.job.JobEnd.{JobEnd}
+use Rattle.pm_host.specs.declared.job.JobEnd.TheVariants.{Done, Differs, Learned, Unknown}
 use Rattle.pm_host.specs.Refusals.{is_busy}
 use Rattle.pm_host.specs.Summary.{Summary, format_at}
 use Rattle.pm_limits.specs.Guard.{Guarded, guard_fault, limits_at, of_host}

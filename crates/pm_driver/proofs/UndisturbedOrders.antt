@@ -19,7 +19,7 @@ use Rattle.pm_frame.specs.Layout.{IsRequest, IsWrite, read_address}
 use Rattle.pm_model.specs.Settings.{word_at}
 use Rattle.pm_device.specs.Held.{Held}
 use Rattle.pm_host.specs.declared.job.Job.TheVariants as asked
-use Rattle.pm_host.specs.declared.job_end.JobEnd.TheVariants.{Done, Differs}
+use Rattle.pm_host.specs.declared.job.JobEnd.TheVariants.{Done, Differs}
 use Rattle.pm_host.specs.Lemmas.{reads_cell, writes_cell}
 use Rattle.pm_host.specs.Answers.{good_payload, good_word, word_in}
 use Rattle.pm_host.specs.Marks.{Good}
@@ -27,8 +27,8 @@ use Rattle.pm_host.specs.Messages.{cell_read}
 use Rattle.pm_host.specs.Refusals.{cell_fault, is_busy, job_fault, order_fault}
 use Rattle.pm_host.specs.Summary.{Summary, ends, idle, marked, next as host_next, read_back, writes as writes_again}
 use Rattle.pm_host.specs.Transcript.{Accepted, Entry, Finished, Got, Order, Setup, end_of}
-use Rattle.pm_world.specs.declared.arrival.Arrival.TheVariants.{Whole}
-use Rattle.pm_world.specs.declared.back.Back.TheVariants as back
+use Rattle.pm_world.specs.declared.event.Arrival.TheVariants.{Whole}
+use Rattle.pm_world.specs.declared.event.Back.TheVariants as back
 use Rattle.pm_world.specs.declared.event.Event.{Event}
 use Rattle.pm_world.specs.declared.event.Event.TheVariants as event
 use Rattle.pm_world.specs.GoodBus.{GoodFramesEndJobs}

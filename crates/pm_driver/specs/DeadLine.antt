@@ -3,7 +3,7 @@ use Rattle.std.specs.Prelude.{◌≡◌, false, []}
 use Rattle.pm_device.specs.Held.{Held}
 use Rattle.pm_device.specs.History.{next as device_next}
 use Rattle.pm_device.specs.Effect.{Hearing}
-use Rattle.pm_device.specs.declared.ending.Ending.TheVariants.{Stop}
+use Rattle.pm_device.specs.declared.converter.Ending.TheVariants.{Stop}
 use Rattle.pm_driver.specs.Acts.{Call, Wrote, Read}
 
 -- Over it nothing is acknowledged, and nothing comes back; the converter hears nothing of a write, and of a request a frame of no

@@ -6,7 +6,7 @@ use Rattle.pm_device.specs.declared.config.Config.{Config}
 use Rattle.pm_device.specs.Held.{Held}
 use Rattle.pm_host.specs.declared.job.Job.{Job}
 use Rattle.pm_host.specs.declared.job.Job.TheVariants.{Check}
-use Rattle.pm_host.specs.declared.job_end.JobEnd.TheVariants.{Done}
+use Rattle.pm_host.specs.declared.job.JobEnd.TheVariants.{Done}
 use Rattle.pm_rail.specs.declared.survey.Survey.{Survey}
 use Rattle.pm_rail.specs.Survey.{nothing_read}
 use Rattle.pm_rail.specs.SurveyLength.{reads_in}

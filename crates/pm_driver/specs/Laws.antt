@@ -7,7 +7,7 @@ use Rattle.pm_device.specs.Held.{Held}
 use Rattle.pm_device.specs.Start.{IsSound}
 use Rattle.pm_device.specs.History as history
 use Rattle.pm_device.specs.Laws.{RequestsLatchAtMost}
-use Rattle.pm_host.specs.declared.job_end.JobEnd.{JobEnd}
+use Rattle.pm_host.specs.declared.job.JobEnd.{JobEnd}
 use Rattle.pm_host.specs.Refusals.{IsSetup}
 use Rattle.pm_host.specs.Summary.{start}
 use Rattle.pm_host.specs.Transcript.{Job, last_job}

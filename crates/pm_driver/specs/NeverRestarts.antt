@@ -4,7 +4,7 @@ use Rattle.pm_table.specs.declared.cell.Cell.{Cell}
 use Rattle.pm_device.specs.Held.{Held}
 use Rattle.pm_host.specs.declared.fault.HostFault.{HostFault}
 use Rattle.pm_host.specs.declared.job.Job.{Job}
-use Rattle.pm_host.specs.declared.job_end.JobEnd.{JobEnd}
+use Rattle.pm_host.specs.declared.job.JobEnd.{JobEnd}
 use Rattle.pm_limits.specs.declared.fault.LimitFault.{LimitFault}
 use Rattle.pm_driver.specs.Acts.{Call}
 use Rattle.pm_driver.specs.Driven.{Driving, HasNoRestartSince, Runs}

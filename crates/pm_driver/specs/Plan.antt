@@ -1,13 +1,13 @@
 -- What a simulated bus does, frame by frame, by its plan of faults: this project's own choice.
 use Rattle.std.specs.Prelude.{◌≡◌, ◌+◌, ℕ, Bool, true, false, not, ◌||◌, ◌==◌, nat_lt, cond, if◌then◌else◌, is_some, slice_get, take, length, List, [], ◌∷◌, Option, Some, None}
-use Rattle.pm_device.specs.declared.ending.Ending.TheVariants.{Stop, Restart}
+use Rattle.pm_device.specs.declared.converter.Ending.TheVariants.{Stop, Restart}
 use Rattle.pm_device.specs.Effect as device
 use Rattle.pm_device.specs.Held.{Held}
 use Rattle.pm_device.specs.History.{next as device_next}
-use Rattle.pm_world.specs.declared.arrival.Arrival.{Arrival}
-use Rattle.pm_world.specs.declared.arrival.Arrival.TheVariants as arrival
-use Rattle.pm_world.specs.declared.back.Back.{Back}
-use Rattle.pm_world.specs.declared.back.Back.TheVariants as back
+use Rattle.pm_world.specs.declared.event.Arrival.{Arrival}
+use Rattle.pm_world.specs.declared.event.Arrival.TheVariants as arrival
+use Rattle.pm_world.specs.declared.event.Back.{Back}
+use Rattle.pm_world.specs.declared.event.Back.TheVariants as back
 use Rattle.pm_world.specs.Legal.{back_bytes, ending_of, heard_bytes, is_heard_whole, is_legal_hearing, is_legal_return}
 use Rattle.pm_driver.specs.declared.adapter.WriteEnd.{WriteEnd}
 use Rattle.pm_driver.specs.declared.adapter.WriteEnd.TheVariants as write

@@ -7,8 +7,8 @@ use Rattle.pm_table.specs.Protection.{is_allowed}
 use Rattle.pm_model.specs.Settings.{word_at}
 use Rattle.pm_device.specs.Held.{Held}
 use Rattle.pm_host.specs.declared.job.Job.TheVariants.{Order}
-use Rattle.pm_host.specs.declared.job_end.JobEnd.{JobEnd}
-use Rattle.pm_host.specs.declared.job_end.JobEnd.TheVariants.{Done}
+use Rattle.pm_host.specs.declared.job.JobEnd.{JobEnd}
+use Rattle.pm_host.specs.declared.job.JobEnd.TheVariants.{Done}
 use Rattle.pm_limits.specs.declared.fault.LimitFault.{LimitFault}
 use Rattle.pm_driver.specs.Driven.{Driving, HasLife, Runs}
 use Rattle.pm_driver.specs.NeverRestarts.{patient_device, patient_gives, patient_restarts}

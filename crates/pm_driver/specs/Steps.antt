@@ -1,17 +1,17 @@
 -- What sending one frame comes to, for the loop that sends them all.
 use Rattle.std.specs.Prelude.{◌≡◌, ℕ, true, List, [], ◌∷◌, Option, Some, None, length}
 use Rattle.pm_device.specs.Held.{Held}
-use Rattle.pm_host.specs.declared.job_end.JobEnd.{JobEnd}
-use Rattle.pm_host.specs.declared.step.Step.{Step}
-use Rattle.pm_host.specs.declared.step.Step.TheVariants.{Next}
+use Rattle.pm_host.specs.declared.job.JobEnd.{JobEnd}
+use Rattle.pm_host.specs.declared.host.Step.{Step}
+use Rattle.pm_host.specs.declared.host.Step.TheVariants.{Next}
 use Rattle.pm_host.specs.Refusals.{is_busy, job_fault}
 use Rattle.pm_host.specs.Summary.{Summary, next as host_next, step_of}
 use Rattle.pm_host.specs.Transcript.{Job, Accepted, Restarted}
 use Rattle.pm_device.specs.declared.config.Config.{Config}
-use Rattle.pm_world.specs.declared.arrival.Arrival.{Arrival}
-use Rattle.pm_world.specs.declared.arrival.Arrival.TheVariants.{Whole}
-use Rattle.pm_world.specs.declared.back.Back.{Back}
-use Rattle.pm_world.specs.declared.back.Back.TheVariants as back
+use Rattle.pm_world.specs.declared.event.Arrival.{Arrival}
+use Rattle.pm_world.specs.declared.event.Arrival.TheVariants.{Whole}
+use Rattle.pm_world.specs.declared.event.Back.{Back}
+use Rattle.pm_world.specs.declared.event.Back.TheVariants as back
 use Rattle.pm_world.specs.declared.event.Event.{Event}
 use Rattle.pm_world.specs.declared.event.Event.TheVariants.{Exchange, Finish}
 use Rattle.pm_world.specs.State.{end_by}

@@ -7,7 +7,7 @@ use Rattle.pm_table.specs.declared.reg.Reg.{Reg}
 use Rattle.pm_model.specs.Commanded.{commanded}
 use Rattle.pm_device.specs.declared.config.Config.{Config}
 use Rattle.pm_device.specs.Held.{Held, value_for}
-use Rattle.pm_host.specs.declared.possible.Possible.TheVariants.{Any}
+use Rattle.pm_host.specs.declared.knowledge.Possible.TheVariants.{Any}
 use Rattle.pm_host.specs.Jobs.{accepted_job}
 use Rattle.pm_host.specs.Summary.{possible_at}
 use Rattle.pm_limits.specs.declared.band.Band.{Band}

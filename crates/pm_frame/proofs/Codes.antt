@@ -4,8 +4,8 @@ use Rattle.std.proofs.lemmas.Bool.{eqb-true, false≢true}
 use Rattle.std.specs.Option.{option_map_or}
 use Rattle.pm_table.specs.Codes as command
 use Rattle.pm_table.specs.Commands.{Line, line_of, is_ever_written, is_known, is_written, is_read}
-use Rattle.pm_frame.specs.declared.direction.Direction.{Direction}
-use Rattle.pm_frame.specs.declared.direction.Direction.TheVariants.{Write, Read}
+use Rattle.pm_frame.specs.declared.rules.Direction.{Direction}
+use Rattle.pm_frame.specs.declared.rules.Direction.TheVariants.{Write, Read}
 use Rattle.pm_frame.specs.Fault.{codes_of}
 
 -- a test that fails at one code tells another code from it

@@ -8,8 +8,8 @@ use Rattle.std.specs.Prelude.{slice_range}
 use Rattle.pm_table.specs.Codes as command
 use Rattle.pm_table.specs.Commands.{payload_length}
 use Rattle.pm_frame.specs.declared.message.Message.TheVariants.{PagePlusWrite, ReadCommand, ReadCoefficients}
-use Rattle.pm_frame.specs.declared.payload.Payload.{Payload}
-use Rattle.pm_frame.specs.declared.payload.Payload.TheVariants.{Empty, Byte, Word}
+use Rattle.pm_frame.specs.declared.message.Payload.{Payload}
+use Rattle.pm_frame.specs.declared.message.Payload.TheVariants.{Empty, Byte, Word}
 use Rattle.pm_frame.specs.Layout.{payload_bytes, sent, write_address, fits_layout, is_read_message, is_plain_write}
 use Rattle.pm_frame.specs.View.{payload_in, plain_write, message_in, message_code, message_payload}
 use Rattle.pm_frame.proofs.RuleLemmas.{eqb-below}

@@ -8,7 +8,7 @@ use Rattle.std.proofs.lemmas.List.{get_or_append_left}
 use Rattle.std.specs.Option.{option_or}
 use Rattle.pm_table.specs.Codes as command
 use Rattle.pm_table.specs.Commands.{is_read, is_written}
-use Rattle.pm_frame.specs.declared.direction.Direction.TheVariants.{Read}
+use Rattle.pm_frame.specs.declared.rules.Direction.TheVariants.{Read}
 use Rattle.pm_frame.specs.declared.fault.FrameFault.TheVariants.{Long, WrongCount}
 use Rattle.pm_frame.specs.declared.message.Message.{Message}
 use Rattle.pm_frame.specs.declared.message.Message.TheVariants.{SendByte, WriteByte, WriteWord, PagePlusWrite, ReadCommand, PagePlusRead}

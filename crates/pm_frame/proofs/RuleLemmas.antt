@@ -3,7 +3,7 @@ use Rattle.std.proofs.Common.{◌≡◌, ℕ, ◌-◌, ◌<◌, true, false, not
 use Rattle.std.proofs.Common.{length-append, take, get_or, refl, sym, ◌∙◌, ap, arith}
 use Rattle.std.proofs.lemmas.Bool.{eq-eqb, ne_eqb, eqb-true, not-false, or_parts, or_from, not_from_true, le-ltb}
 use Rattle.std.proofs.lemmas.List.{take-append-le, get_or-append_right, take_all}
-use Rattle.pm_frame.specs.declared.direction.Direction.{Direction}
+use Rattle.pm_frame.specs.declared.rules.Direction.{Direction}
 use Rattle.pm_frame.specs.declared.fault.FrameFault.TheVariants.{NotOurs, Short, Long, WrongPec, UnknownCode, WrongDirection, Nested}
 use Rattle.pm_frame.specs.Fault.{address_fault, opening_fault, length_fault, pec_fault, codes_of, carried_fault, plain_fault}
 use Rattle.pm_table.specs.Rules.{rule}

@@ -4,7 +4,7 @@ use Rattle.std.proofs.lemmas.Nat.{xor_lt}
 use Rattle.std.specs.Int.Bits.{xor_self, xor_zero_l, xor_zero_r}
 use Rattle.pm_table.specs.Codes as command
 use Rattle.pm_frame.specs.declared.message.Message.TheVariants.{PagePlusWrite, ReadCommand, PagePlusRead}
-use Rattle.pm_frame.specs.declared.payload.Payload.{Payload}
+use Rattle.pm_frame.specs.declared.message.Payload.{Payload}
 use Rattle.pm_frame.specs.LateAnswers.{request_code}
 use Rattle.pm_frame.specs.Layout.{payload_bytes, sent, write_address}
 use Rattle.pm_frame.specs.Lemmas.{cancel_left, pec_of-lt}

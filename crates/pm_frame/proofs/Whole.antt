@@ -5,8 +5,8 @@ use Rattle.pm_table.specs.Codes as command
 use Rattle.pm_frame.specs.declared.message.Message.{Message}
 use Rattle.pm_frame.specs.declared.message.Message.TheVariants.{SendByte, WriteByte, WriteWord, PagePlusWrite, ReadCommand, PagePlusRead}
 use Rattle.pm_frame.specs.declared.message.Message.TheVariants.{ReadCoefficients}
-use Rattle.pm_frame.specs.declared.payload.Payload.{Payload}
-use Rattle.pm_frame.specs.declared.payload.Payload.TheVariants.{Empty, Byte, Word}
+use Rattle.pm_frame.specs.declared.message.Payload.{Payload}
+use Rattle.pm_frame.specs.declared.message.Payload.TheVariants.{Empty, Byte, Word}
 use Rattle.pm_frame.specs.Layout.{AreBytes, IsWrite, IsRequest, payload_bytes, with_pec, sent, write_address, is_plain_write, fits_layout}
 use Rattle.pm_frame.specs.Layout.{is_read_message}
 use Rattle.pm_frame.specs.Whole.{IsWhole}

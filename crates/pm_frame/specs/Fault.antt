@@ -8,8 +8,8 @@ use Rattle.std.specs.Option.{option_or}
 use Rattle.pm_table.specs.Codes as command
 use Rattle.pm_table.specs.Commands.{is_known, is_read, is_written, payload_length}
 use Rattle.pm_table.specs.Rules.{first, rule}
-use Rattle.pm_frame.specs.declared.direction.Direction.{Direction}
-use Rattle.pm_frame.specs.declared.direction.Direction.TheVariants.{Write, Read}
+use Rattle.pm_frame.specs.declared.rules.Direction.{Direction}
+use Rattle.pm_frame.specs.declared.rules.Direction.TheVariants.{Write, Read}
 use Rattle.pm_frame.specs.declared.fault.FrameFault.{FrameFault}
 use Rattle.pm_frame.specs.declared.fault.FrameFault.TheVariants.{NotOurs, Short, Long, WrongCount, WrongPec, UnknownCode, WrongDirection}
 use Rattle.pm_frame.specs.declared.fault.FrameFault.TheVariants.{Nested}

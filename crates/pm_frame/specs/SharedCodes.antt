@@ -2,7 +2,7 @@
 -- is SMBus's; the layouts are those of this crate.
 use Rattle.std.specs.Prelude.{◌≡◌, ◌↔◌, ◌<◌, ◌^◌, ℕ, List, [], ◌∷◌, length, bit_xor}
 use Rattle.pm_frame.specs.declared.message.Message.TheVariants.{PagePlusWrite, ReadCommand, PagePlusRead}
-use Rattle.pm_frame.specs.declared.payload.Payload.{Payload}
+use Rattle.pm_frame.specs.declared.message.Payload.{Payload}
 use Rattle.pm_frame.specs.LateAnswers.{request_code}
 use Rattle.pm_frame.specs.Layout.{payload_bytes, sent}
 use Rattle.pm_frame.specs.Pec.{pec_of}

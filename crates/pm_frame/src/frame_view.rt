@@ -2,8 +2,7 @@ ghost use Rattle.std.specs.Prelude.{◌≡◌};
 ghost use Rattle.pm_frame.specs.Whole.{IsWhole};
 ghost use Rattle.pm_frame.specs.View.{message_in, message_page, message_code, message_payload, payload_in, plain_write as spec_plain_write};
 
-use crate::message::Message;
-use crate::payload::Payload;
+use crate::message::{Message, Payload};
 use crate::places::{CARRIED, CARRIED_PAYLOAD, CODE, PAGE, PAYLOAD};
 use pm_table::Code;
 use std::marker::Model;

@@ -31,15 +31,12 @@
 //! ```
 #![tactic(auto)]
 
-mod betrayal;
 mod block_read;
-mod direction;
 mod fault;
 mod frame_view;
 mod laws;
 mod message;
 mod packet_error_code;
-mod payload;
 mod places;
 mod plain_read;
 mod received;
@@ -48,7 +45,6 @@ mod rules;
 mod sent;
 
 use arrayvec::ArrayVec;
-pub use betrayal::is_betrayed;
 pub use block_read::read_block;
 pub use fault::FrameFault;
 pub use frame_view::FrameView;
@@ -57,9 +53,8 @@ pub use laws::{
     damage_is_betrayed, damage_is_refused, few_changes_are_betrayed, late_answers_pass,
     requests_are_exact, writes_are_exact,
 };
-pub use message::{Message, fits};
-pub use packet_error_code::{pec, pec_after};
-pub use payload::Payload;
+pub use message::{Message, Payload, fits};
+pub use packet_error_code::{is_betrayed, pec, pec_after};
 pub use plain_read::{MOST_READ, code_request, read_plain};
 pub use received::{read_answer, read_request, read_write};
 pub use sent::{answer, write_part};

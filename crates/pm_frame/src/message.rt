@@ -2,10 +2,35 @@ ghost use Rattle.std.specs.Prelude.{◌≡◌, ◌≤◌, ◌&&◌, ◌==◌, if
 ghost use Rattle.pm_table.specs.Commands.{payload_length};
 ghost use Rattle.pm_frame.specs.Layout.{fits_layout, is_plain_write};
 
-use crate::direction::Direction;
-use crate::payload::Payload;
 use crate::row::Row;
+use crate::rules::Direction;
 use pm_table::Code;
+
+/// What a write carries beside its code.
+#[derive(Clone, Copy, Debug, PartialEq, Eq)]
+pub enum Payload {
+    /// No byte.
+    Empty,
+    /// One byte.
+    Byte(u8),
+    /// Two bytes, which go over the bus low byte first.
+    Word(u16),
+}
+
+impl Payload {
+    ghost use Rattle.pm_frame.specs.Layout.{payload_bytes};
+
+    /// How many bytes it has.
+    pub(crate) fn len(self) -> usize
+        ensures { result ≡ length (payload_bytes self) }
+    {
+        match self {
+            Payload::Empty => 0,
+            Payload::Byte(_) => 1,
+            Payload::Word(_) => 2,
+        }
+    }
+}
 
 /// What a packet says, whatever its bytes: one variant for each of the seven layouts of SMBus and
 /// PMBus 1.3 Part II that this project has. `aw` is twice the address, `ar` one more; RS is the

@@ -8,7 +8,6 @@ ghost use Rattle.pm_frame.specs.Layout.{IsWrite, IsRequest, IsAnswer, fits_layou
 ghost use Rattle.pm_frame.specs.View.{message_in, answer_payload};
 ghost use Rattle.pm_frame.specs.Fault.{write_fault, request_fault, block_request_fault, answer_fault, whole_answer};
 
-use crate::direction::Direction;
 use crate::fault::FrameFault;
 use crate::frame_view::FrameView;
 use crate::message::Message;
@@ -16,6 +15,7 @@ use crate::packet_error_code::pec;
 use crate::places::{ANSWER_COUNT, CARRIED, COUNT};
 use crate::row::Row;
 use crate::rules;
+use crate::rules::Direction;
 use crate::sent::{read_address, sent, write_address};
 use pm_table::{Code, payloads_are_short};
 

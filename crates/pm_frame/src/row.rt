@@ -3,7 +3,7 @@ ghost use Rattle.pm_table.specs.Commands.{attributes_of, is_known, payload_lengt
 ghost use Rattle.pm_frame.specs.Fault.{codes_of};
 ghost use Rattle.pm_frame.specs.Layout as layout;
 
-use crate::direction::Direction;
+use crate::rules::Direction;
 use pm_table::{Attributes, Code};
 
 /// A code with what the command table says of it, which is looked up once for each packet.

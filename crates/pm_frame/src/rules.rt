@@ -1,18 +1,25 @@
 //! The rules of a packet's bytes, one after another as the faults are ordered. Each one refuses with
 //! its fault and nothing else.
-
+ghost use Rattle.pm_table.specs.Codes as command;
+ghost use Rattle.pm_frame.specs.Fault as fault;
 ghost use Rattle.std.specs.Prelude.{◌≡◌, ◌≢◌, ◌≤◌, ◌++◌, ℕ, List, length, slice_index, OnOk, IfOk};
 ghost use Rattle.std.specs.Result.{result_err};
-ghost use Rattle.pm_table.specs.Codes as command;
 ghost use Rattle.pm_frame.specs.Pec.{pec_of};
-ghost use Rattle.pm_frame.specs.Fault as fault;
 
-use crate::direction::Direction;
 use crate::fault::FrameFault;
 use crate::packet_error_code::pec_after;
 use crate::places::{CARRIED, CODE, COUNT};
 use crate::row::Row;
 use pm_table::Code;
+
+/// Which way a packet goes, as its code sees it.
+#[derive(Clone, Copy)]
+pub(crate) enum Direction {
+    /// The host writes.
+    Write,
+    /// The host reads.
+    Read,
+}
 
 /// F1: the first byte is the one that is wanted.
 #[tactic(auto, unfolding(crate::specs::Fault::address_fault))]

@@ -8,9 +8,8 @@ ghost use Rattle.pm_frame.specs.Layout.{IsWrite, IsRequest, IsAnswer, fits_layou
 ghost use Rattle.pm_frame.specs.Layout.{sent as sent_bytes, answered as answered_bytes, payload_bytes};
 
 use crate::Frame;
-use crate::message::Message;
+use crate::message::{Message, Payload};
 use crate::packet_error_code::{pec, pec_after};
-use crate::payload::Payload;
 use pm_table::{Code, payloads_are_short};
 
 /// What the host puts on the wire for the message to the device of this address: a whole packet,

@@ -13,7 +13,7 @@ use Rattle.pm_table.specs.VoutMode.{mode_of}
 use Rattle.pm_table.specs.RuleLemmas.{or-none}
 use Rattle.pm_frame.specs.Layout.{is_read_message}
 use Rattle.pm_host.specs.declared.stage.Stage.{Stage}
-use Rattle.pm_host.specs.declared.job_end.JobEnd.{JobEnd}
+use Rattle.pm_host.specs.declared.job.JobEnd.{JobEnd}
 use Rattle.pm_host.specs.Answers.{good_payload, good_word, good_mode, word_in}
 use Rattle.pm_host.specs.Known.{known_more}
 use Rattle.pm_host.specs.Marks.{Mark, Good, put_by, read_by}

@@ -7,7 +7,7 @@ use Rattle.pm_num.specs.AnyFormat.{Shape}
 use Rattle.pm_table.specs.Cell.{cell_accepts, IsCell}
 use Rattle.pm_table.specs.Laws.{CellsHavePlaces}
 use Rattle.pm_host.specs.declared.stage.Stage.{Stage}
-use Rattle.pm_host.specs.declared.step.Step.{Step}
+use Rattle.pm_host.specs.declared.host.Step.{Step}
 use Rattle.pm_host.specs.Answers.{good_word}
 use Rattle.pm_host.specs.Cells.{is_command}
 use Rattle.pm_host.specs.Known.{Known, known_after, known_now, known_more}

@@ -5,10 +5,10 @@ use Rattle.std.specs.Option.{option_map}
 use Rattle.std.proofs.lemmas.List.{reverse-append}
 use Rattle.pm_table.specs.declared.cell.Cell.{Cell}
 use Rattle.pm_table.specs.declared.cell.Cell.TheVariants.{Protect}
-use Rattle.pm_host.specs.declared.possible.Possible.{Possible}
-use Rattle.pm_host.specs.declared.possible.Possible.TheVariants.{Any, Words}
-use Rattle.pm_host.specs.declared.standing.Standing.{Standing}
-use Rattle.pm_host.specs.declared.standing.Standing.TheVariants.{Confirmed, Unknown}
+use Rattle.pm_host.specs.declared.knowledge.Possible.{Possible}
+use Rattle.pm_host.specs.declared.knowledge.Possible.TheVariants.{Any, Words}
+use Rattle.pm_host.specs.declared.knowledge.Standing.{Standing}
+use Rattle.pm_host.specs.declared.knowledge.Standing.TheVariants.{Confirmed, Unknown}
 use Rattle.pm_table.specs.Cell.{IsCell, place_of, places, same_cell}
 use Rattle.pm_table.specs.Laws.{CellsHavePlaces}
 use Rattle.pm_host.specs.Cells.{table}

@@ -11,11 +11,11 @@ use Rattle.pm_table.specs.Cell.{cell_accepts, IsCell}
 use Rattle.pm_table.specs.Laws.{CellsHavePlaces}
 use Rattle.pm_frame.specs.declared.message.Message.{Message}
 use Rattle.pm_host.specs.declared.command.Command.TheVariants.{RestoreUserAll}
-use Rattle.pm_host.specs.declared.possible.Possible.{Possible}
-use Rattle.pm_host.specs.declared.possible.Possible.TheVariants.{Any, Words}
+use Rattle.pm_host.specs.declared.knowledge.Possible.{Possible}
+use Rattle.pm_host.specs.declared.knowledge.Possible.TheVariants.{Any, Words}
 use Rattle.pm_host.specs.declared.question.Question.TheVariants.{Mode, Coefficients}
 use Rattle.pm_host.specs.declared.stage.Stage.TheVariants.{Writes, Reads, Asks}
-use Rattle.pm_host.specs.declared.standing.Standing.TheVariants as standing
+use Rattle.pm_host.specs.declared.knowledge.Standing.TheVariants as standing
 use Rattle.pm_host.specs.Frames.{CanSend, writes_output, writes_protect, reads_output, reads_protect, reads_mode, reads_coefficients}
 use Rattle.pm_host.specs.Frames.{sends_command}
 use Rattle.pm_host.specs.Marks.{Mark, Put, Restored, marks, puts, goods, put_by}

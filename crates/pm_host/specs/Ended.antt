@@ -1,15 +1,15 @@
 -- What the end of a job says of what the host then knows, and which job is open: this project's own choice.
 use Rattle.std.specs.Prelude.{◌≡◌, ◌≢◌, ℕ, true, false, Option, Some, None, IsSome, IsSomeAnd, option_map}
 use Rattle.pm_table.specs.declared.cell.Cell.{Cell}
-use Rattle.pm_host.specs.declared.job_end.JobEnd.{JobEnd}
-use Rattle.pm_host.specs.declared.job_end.JobEnd.TheVariants.{Done, Differs, Unknown, Learned}
+use Rattle.pm_host.specs.declared.job.JobEnd.{JobEnd}
+use Rattle.pm_host.specs.declared.job.JobEnd.TheVariants.{Done, Differs, Unknown, Learned}
 use Rattle.pm_host.specs.declared.question.Question.{Question}
 use Rattle.pm_host.specs.declared.question.Question.TheVariants.{Word, Mode, Coefficients}
 use Rattle.pm_host.specs.declared.stage.Stage.{Stage}
 use Rattle.pm_host.specs.declared.stage.Stage.TheVariants.{Writes, Reads, Asks, Sends}
-use Rattle.pm_host.specs.declared.standing.Standing.TheVariants as standing
-use Rattle.pm_host.specs.declared.step.Step.{Step}
-use Rattle.pm_host.specs.declared.step.Step.TheVariants.{Next, Ended}
+use Rattle.pm_host.specs.declared.knowledge.Standing.TheVariants as standing
+use Rattle.pm_host.specs.declared.host.Step.{Step}
+use Rattle.pm_host.specs.declared.host.Step.TheVariants.{Next, Ended}
 use Rattle.pm_host.specs.Answers.{good_word}
 use Rattle.pm_host.specs.Possible.{is_possible, only}
 use Rattle.pm_host.specs.Summary.{Summary, possible_at, standing_at, format_at}

@@ -5,8 +5,8 @@ use Rattle.pm_num.specs.FaultWords.{num_fault_number, num_fault_words}
 use Rattle.pm_host.specs.declared.fault.HostFault.{HostFault}
 use Rattle.pm_host.specs.declared.fault.HostFault.TheVariants.{OutputCount, Passes, Busy, UnknownOutput, BadWord, TooUncertain}
 use Rattle.pm_host.specs.declared.fault.HostFault.TheVariants.{FormatUnknown, Num}
-use Rattle.pm_host.specs.declared.untold.Untold.{Untold}
-use Rattle.pm_host.specs.declared.untold.Untold.TheVariants.{NothingSent, WrongKind}
+use Rattle.pm_host.specs.declared.fault.Untold.{Untold}
+use Rattle.pm_host.specs.declared.fault.Untold.TheVariants.{NothingSent, WrongKind}
 
 -- the fault of a number is told as that
 abbrev pub host_fault_words : HostFault → List ℕ

@@ -10,8 +10,8 @@ use Rattle.pm_frame.specs.View.{message_code}
 use Rattle.pm_table.specs.declared.reg.Reg.{Reg}
 use Rattle.pm_table.specs.declared.cell.Cell.TheVariants.{Out}
 use Rattle.pm_host.specs.declared.command.Command.TheVariants.{RestoreUserAll}
-use Rattle.pm_host.specs.declared.possible.Possible.TheVariants.{Any}
-use Rattle.pm_host.specs.declared.standing.Standing.TheVariants.{Unknown}
+use Rattle.pm_host.specs.declared.knowledge.Possible.TheVariants.{Any}
+use Rattle.pm_host.specs.declared.knowledge.Standing.TheVariants.{Unknown}
 use Rattle.pm_host.specs.Ended.{job_in, StepTells}
 use Rattle.pm_host.specs.Frames.{CanSend, frames_of}
 use Rattle.pm_host.specs.Marks.{Mark, Put, Good, Restored, Restart, marks}

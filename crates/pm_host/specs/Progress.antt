@@ -4,8 +4,8 @@ use Rattle.pm_host.specs.declared.progress.Progress.{Progress}
 use Rattle.pm_host.specs.declared.progress.Progress.TheVariants.{At, Over}
 use Rattle.pm_host.specs.declared.stage.Stage.{Stage}
 use Rattle.pm_host.specs.declared.state.State.{State}
-use Rattle.pm_host.specs.declared.step.Step.{Step}
-use Rattle.pm_host.specs.declared.step.Step.TheVariants.{Next, Ended}
+use Rattle.pm_host.specs.declared.host.Step.{Step}
+use Rattle.pm_host.specs.declared.host.Step.TheVariants.{Next, Ended}
 use Rattle.pm_host.specs.Image.{held}
 use Rattle.pm_host.specs.Summary.{Change}
 

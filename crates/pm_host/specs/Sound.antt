@@ -6,7 +6,7 @@ use Rattle.pm_host.specs.declared.command.Command.{Command}
 use Rattle.pm_host.specs.declared.question.Question.{Question}
 use Rattle.pm_host.specs.declared.stage.Stage.{Stage}
 use Rattle.pm_host.specs.declared.stage.Stage.TheVariants.{Writes, Reads, Asks, Sends}
-use Rattle.pm_host.specs.declared.standing.Standing.TheVariants.{Unknown}
+use Rattle.pm_host.specs.declared.knowledge.Standing.TheVariants.{Unknown}
 use Rattle.pm_host.specs.Cells.{is_command}
 use Rattle.pm_host.specs.Possible.{is_possible}
 use Rattle.pm_host.specs.Question.{IsQuestion}

@@ -2,8 +2,8 @@
 -- own choice.
 use Rattle.std.specs.Prelude.{List, [], ◌∷◌, if◌then◌else◌}
 use Rattle.pm_table.specs.declared.cell.Cell.{Cell}
-use Rattle.pm_host.specs.declared.standing.Standing.{Standing}
-use Rattle.pm_host.specs.declared.standing.Standing.TheVariants.{Confirmed, Unknown}
+use Rattle.pm_host.specs.declared.knowledge.Standing.{Standing}
+use Rattle.pm_host.specs.declared.knowledge.Standing.TheVariants.{Confirmed, Unknown}
 use Rattle.pm_table.specs.Cell.{same_cell, is_output_cell}
 use Rattle.pm_host.specs.Marks.{Mark, Put, Good, Restored, Restart}
 

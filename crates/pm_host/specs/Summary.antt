@@ -13,16 +13,16 @@ use Rattle.pm_table.specs.VoutMode.{mode_of}
 use Rattle.pm_table.specs.Format.{shape_in}
 use Rattle.pm_frame.specs.declared.message.Message.{Message}
 use Rattle.pm_host.specs.declared.command.Command.{Command}
-use Rattle.pm_host.specs.declared.possible.Possible.{Possible}
-use Rattle.pm_host.specs.declared.standing.Standing.{Standing}
+use Rattle.pm_host.specs.declared.knowledge.Possible.{Possible}
+use Rattle.pm_host.specs.declared.knowledge.Standing.{Standing}
 use Rattle.pm_host.specs.declared.question.Question.{Question}
 use Rattle.pm_host.specs.declared.question.Question.TheVariants.{Word, Mode, Coefficients}
 use Rattle.pm_host.specs.declared.stage.Stage.{Stage}
 use Rattle.pm_host.specs.declared.stage.Stage.TheVariants.{Writes, Reads, Asks, Sends}
-use Rattle.pm_host.specs.declared.job_end.JobEnd.{JobEnd}
-use Rattle.pm_host.specs.declared.job_end.JobEnd.TheVariants.{Done, Differs, Unknown, Learned}
-use Rattle.pm_host.specs.declared.step.Step.{Step}
-use Rattle.pm_host.specs.declared.step.Step.TheVariants.{Next, Ended}
+use Rattle.pm_host.specs.declared.job.JobEnd.{JobEnd}
+use Rattle.pm_host.specs.declared.job.JobEnd.TheVariants.{Done, Differs, Unknown, Learned}
+use Rattle.pm_host.specs.declared.host.Step.{Step}
+use Rattle.pm_host.specs.declared.host.Step.TheVariants.{Next, Ended}
 use Rattle.pm_host.specs.Answers.{good_payload, good_word, word_in}
 use Rattle.pm_host.specs.Known.{Known, known_possible, known_standing, known_after, known_more, nothing_known}
 use Rattle.pm_host.specs.Marks.{Mark, Put, Good, send_marks}

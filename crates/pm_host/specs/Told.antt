@@ -2,10 +2,10 @@
 use Rattle.std.specs.Prelude.{Bool, true, false, not}
 use Rattle.pm_frame.specs.Layout.{is_read_message}
 use Rattle.pm_host.specs.declared.stage.Stage.{Stage}
-use Rattle.pm_host.specs.declared.step.Step.{Step}
-use Rattle.pm_host.specs.declared.step.Step.TheVariants.{Next, Ended}
-use Rattle.pm_host.specs.declared.told.Told.{Told}
-use Rattle.pm_host.specs.declared.told.Told.TheVariants as told
+use Rattle.pm_host.specs.declared.host.Step.{Step}
+use Rattle.pm_host.specs.declared.host.Step.TheVariants.{Next, Ended}
+use Rattle.pm_host.specs.declared.host.Told.{Told}
+use Rattle.pm_host.specs.declared.host.Told.TheVariants as told
 use Rattle.pm_host.specs.Summary.{stage_message}
 use Rattle.pm_host.specs.Transcript.{Entry, Accepted, Finished, Got, Restarted}
 

@@ -2,8 +2,8 @@
 use Rattle.std.specs.Prelude.{◌≡◌, ◌≤◌, true, IsSomeAnd, None}
 use Rattle.pm_frame.specs.Fault.{whole_answer}
 use Rattle.pm_frame.specs.Layout.{IsWrite, IsRequest}
-use Rattle.pm_host.specs.declared.turn.Turn.{Turn}
-use Rattle.pm_host.specs.declared.turn.Turn.TheVariants.{Idle, Write, Request}
+use Rattle.pm_host.specs.declared.host.Turn.{Turn}
+use Rattle.pm_host.specs.declared.host.Turn.TheVariants.{Idle, Write, Request}
 use Rattle.pm_host.specs.Frames.{frames_left}
 use Rattle.pm_host.specs.Refusals.{sends_write, sends_read}
 use Rattle.pm_host.specs.Summary.{Summary, sending_in}

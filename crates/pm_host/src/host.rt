@@ -18,20 +18,53 @@ ghost use Rattle.pm_host.specs.Turn.{Shows};
 
 use crate::command::Command;
 use crate::fault::HostFault;
-use crate::job::Job;
-use crate::possible::Possible;
+use crate::job::{Job, JobEnd};
+use crate::knowledge::{Possible, Standing};
 use crate::progress::Progress;
 use crate::sending::Sending;
 use crate::stage::Stage;
-use crate::standing::Standing;
 use crate::state::State;
-use crate::step::Step;
-use crate::told::Told;
-use crate::turn::Turn;
 use pm_frame::Frame;
 use pm_num::AnyFormat;
 use pm_table::{Cell, cells_have_places};
 use std::marker::Model;
+
+/// What a call of `told` brings.
+#[derive(Clone, Copy, Debug, PartialEq, Eq)]
+pub enum Step {
+    /// The job is open: `turn` shows its next frame.
+    Next,
+    /// The job has ended: nothing is being sent.
+    Ended(JobEnd),
+}
+
+/// What is to be sent now.
+#[derive(Clone, Copy, Debug, PartialEq, Eq)]
+pub enum Turn<'a> {
+    /// No job is open: nothing.
+    Idle,
+    /// A write: the whole packet, which a stop ends. `told` then wants `Told::Finished`.
+    Write(&'a Frame),
+    /// The request of a read, which a repeated start ends. `told` then wants `Told::Got` with what came
+    /// back.
+    Request {
+        /// The bytes before the repeated start, address first.
+        frame: &'a Frame,
+        /// How many bytes a whole answer has, 3 to 8, with the read address that the host sends, which
+        /// is the first of them: the device sends `bytes - 1`.
+        bytes: usize,
+    },
+}
+
+/// What became of the frame that was sent.
+#[derive(Clone, Copy, Debug, PartialEq, Eq)]
+pub enum Told<'a> {
+    /// A write was sent. `acked` says whether every byte was acknowledged; the host never takes that
+    /// for the cell's having the word.
+    Finished { acked: bool },
+    /// A request was sent, and these bytes came back: none where there was no answer.
+    Got(&'a [u8]),
+}
 
 /// The host: it says which frame to send next, and is told what came of it. It believes a setting only
 /// after a good answer, one that has the layout of an answer to its own request, which the packet

@@ -6,11 +6,44 @@ ghost use Rattle.pm_host.specs.Known.{HasPlaces, known_possible, known_standing,
 ghost use Rattle.pm_host.specs.Marks.{Put, Good, Restored};
 ghost use Rattle.pm_host.specs.Memory.{AreWords, IsKnown, IsSaid};
 
-use crate::possible::Possible;
-use crate::standing::Standing;
 use crate::standing_image::StandingImage;
 use crate::words_image::WordsImage;
+use arrayvec::ArrayVec;
 use pm_table::Cell;
+
+/// The words that a cell may hold, as far as the host knows.
+#[derive(Clone, Debug, PartialEq, Eq, Drop)]
+pub enum Possible {
+    /// Any word: the host has no good answer for the cell since it started, saw a restart or, where the
+    /// cell is an output's, last began to send a restore.
+    Any,
+    /// One of these: the word of the last good answer for the cell, and then the words that were put
+    /// on the wire for it since, each once, in the order in which they first came.
+    Words(ArrayVec<u16, 16>),
+}
+
+impl Possible {
+    /// Whether the cell may hold this word.
+    pub fn allows(&self, word: u16) -> bool
+        ensures { result ≡ is_possible word self.now }
+    {
+        match self {
+            Possible::Any => true,
+            Possible::Words(words) => words.contains(&word),
+        }
+    }
+}
+
+/// What the host says of a cell's word.
+#[derive(Clone, Copy, Debug, PartialEq, Eq)]
+pub enum Standing {
+    /// The host read this word from the cell, and has since begun no write of the cell and, where it is
+    /// an output's, no restore.
+    Confirmed(u16),
+    /// The host started after its last read of the cell, or has since begun to write the cell or, where
+    /// it is an output's, to send a restore, or never read it.
+    Unknown,
+}
 
 /// What the host knows of each cell, as plain numbers; a cell stands at `Cell::place`. It is laid out as callers in C
 /// keep it, since every call works on a caller's memory in place and copies none of it.

@@ -46,46 +46,32 @@ mod format_image;
 mod host;
 mod image;
 mod job;
-mod job_end;
 mod knowledge;
 mod laws;
 mod messages;
-mod possible;
 mod progress;
 mod question;
 mod sending;
 mod stage;
-mod standing;
 mod standing_image;
 mod state;
-mod step;
-mod told;
-mod turn;
-mod untold;
 mod words_image;
 
 pub use command::Command;
-pub use fault::HostFault;
+pub use fault::{HostFault, Untold};
 pub use format_image::FormatImage;
-pub use host::Host;
+pub use host::{Host, Step, Told, Turn};
 pub use image::{Image, NoHost, StageImage};
-pub use job::Job;
-pub use job_end::JobEnd;
-pub use knowledge::Knowledge;
+pub use job::{Job, JobEnd};
+pub use knowledge::{Knowledge, Possible, Standing};
 pub use laws::{
     ends_are_told, frames_are_named, images_are_meanings, jobs_are_bounded,
     open_orders_are_uncertain, open_restores_are_uncertain, possible_words_are_followed,
     transcripts_are_followed,
 };
-pub use possible::Possible;
 pub use progress::Progress;
 pub use question::Question;
 pub use stage::Stage;
-pub use standing::Standing;
 pub use standing_image::StandingImage;
 pub use state::{State, nearest_word};
-pub use step::Step;
-pub use told::Told;
-pub use turn::Turn;
-pub use untold::Untold;
 pub use words_image::WordsImage;

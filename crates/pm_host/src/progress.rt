@@ -1,9 +1,9 @@
 ghost use Rattle.std.specs.Prelude.{◌≡◌};
 ghost use Rattle.pm_host.specs.Progress.{stage_after, step_after};
 
-use crate::job_end::JobEnd;
+use crate::host::Step;
+use crate::job::JobEnd;
 use crate::stage::Stage;
-use crate::step::Step;
 
 /// A job's next stage or its end, once its frame was sent.
 #[derive(Clone, Copy, Debug, PartialEq, Eq)]

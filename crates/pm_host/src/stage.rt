@@ -3,9 +3,9 @@ ghost use Rattle.pm_frame.specs.Layout.{fits_layout};
 ghost use Rattle.pm_host.specs.Summary.{stage_message};
 
 use crate::command::Command;
+use crate::host::Told;
 use crate::messages::{cell_read, cell_write, command_message};
 use crate::question::Question;
-use crate::told::Told;
 use pm_frame::Message;
 use pm_table::Cell;
 

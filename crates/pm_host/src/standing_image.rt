@@ -1,7 +1,7 @@
 ghost use Rattle.std.specs.Prelude.{◌≡◌};
 ghost use Rattle.pm_host.specs.Image.{standing_held};
 
-use crate::standing::Standing;
+use crate::knowledge::Standing;
 
 /// What the host says of a cell's word, as plain numbers.
 #[repr(C)]

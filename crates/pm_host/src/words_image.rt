@@ -3,7 +3,7 @@ ghost use Rattle.pm_host.specs.Image.{listing, words_held};
 ghost use Rattle.pm_host.specs.Memory.{AreWords};
 ghost use Rattle.pm_host.specs.Possible.{is_possible, has_room, joined, only as spec_only};
 
-use crate::possible::Possible;
+use crate::knowledge::Possible;
 use arrayvec::ArrayVec;
 
 /// The words that a cell may hold, as plain numbers: the first `count` of `words`, where that is 1 to

@@ -7,9 +7,9 @@ use Rattle.pm_frame.specs.declared.fault.FrameFault.TheVariants.{Nested}
 use Rattle.pm_frame.specs.FaultWords.{frame_fault_number, frame_fault_words}
 use Rattle.pm_host.specs.declared.fault.HostFault.TheVariants.{OutputCount, Passes, Busy, UnknownOutput, BadWord, TooUncertain, Num}
 use Rattle.pm_host.specs.declared.fault.HostFault.TheVariants as host
-use Rattle.pm_host.specs.declared.job_end.JobEnd.TheVariants.{Done, Differs, Unknown, Learned}
-use Rattle.pm_host.specs.declared.step.Step.{Step}
-use Rattle.pm_host.specs.declared.step.Step.TheVariants.{Next, Ended}
+use Rattle.pm_host.specs.declared.job.JobEnd.TheVariants.{Done, Differs, Unknown, Learned}
+use Rattle.pm_host.specs.declared.host.Step.{Step}
+use Rattle.pm_host.specs.declared.host.Step.TheVariants.{Next, Ended}
 use Rattle.pm_device.specs.declared.fault.DeviceFault.{DeviceFault}
 use Rattle.pm_device.specs.declared.fault.DeviceFault.TheVariants as device
 use Rattle.pm_device.specs.declared.config_fault.ConfigFault.{ConfigFault}

@@ -2,8 +2,8 @@
 use Rattle.std.proofs.Common.{◌≡◌, true, Some}
 use Rattle.pm_host.specs.declared.stage.Stage.{Stage}
 use Rattle.pm_host.specs.declared.state.State.{State}
-use Rattle.pm_host.specs.declared.told.Told.{Told}
-use Rattle.pm_host.specs.declared.told.Told.TheVariants.{Finished, Got}
+use Rattle.pm_host.specs.declared.host.Told.{Told}
+use Rattle.pm_host.specs.declared.host.Told.TheVariants.{Finished, Got}
 use Rattle.pm_host.specs.Image.{held, host_of}
 use Rattle.pm_host.specs.Refusals.{may_come}
 use Rattle.pm_host.specs.Summary.{Summary, next, step_of}

@@ -5,8 +5,8 @@ use Rattle.pm_num.specs.declared.fault.NumFault.TheVariants.{TooLarge}
 use Rattle.pm_host.specs.declared.fault.HostFault.TheVariants.{FormatUnknown, UnknownOutput}
 use Rattle.pm_host.specs.Summary.{format_at}
 use Rattle.pm_limits.specs.declared.band.Band.{Band}
-use Rattle.pm_limits.specs.declared.within.Within.{Within}
-use Rattle.pm_limits.specs.declared.within.Within.TheVariants.{Yes, No, NotKnown}
+use Rattle.pm_limits.specs.declared.guard.Within.{Within}
+use Rattle.pm_limits.specs.declared.guard.Within.TheVariants.{Yes, No, NotKnown}
 use Rattle.pm_limits.specs.Band.{band_at, within_of}
 use Rattle.pm_limits.specs.Guard.{Guarded, limits_at, narrow_fault}
 use Rattle.pm_host_c.specs.declared.limits.BandImage.{BandImage}

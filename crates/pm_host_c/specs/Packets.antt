@@ -6,8 +6,8 @@ use Rattle.pm_frame.specs.declared.fault.FrameFault.{FrameFault}
 use Rattle.pm_frame.specs.declared.message.Message.{Message}
 use Rattle.pm_frame.specs.declared.message.Message.TheVariants.{SendByte, WriteByte, WriteWord, PagePlusWrite, ReadCommand, PagePlusRead}
 use Rattle.pm_frame.specs.declared.message.Message.TheVariants.{ReadCoefficients}
-use Rattle.pm_frame.specs.declared.payload.Payload.{Payload}
-use Rattle.pm_frame.specs.declared.payload.Payload.TheVariants.{Empty, Byte, Word}
+use Rattle.pm_frame.specs.declared.message.Payload.{Payload}
+use Rattle.pm_frame.specs.declared.message.Payload.TheVariants.{Empty, Byte, Word}
 use Rattle.pm_frame.specs.Fault.{answer_fault}
 use Rattle.pm_frame.specs.FaultWords.{frame_fault_number}
 use Rattle.pm_frame.specs.Layout.{fits_layout, is_read_message}

@@ -7,9 +7,9 @@ use Rattle.pm_table.specs.Cell.{cell_at, cell_code}
 use Rattle.pm_host.specs.declared.fault.HostFault.TheVariants.{Busy, UnknownOutput}
 use Rattle.pm_host.specs.declared.job.Job.{Job}
 use Rattle.pm_host.specs.declared.job.Job.TheVariants.{Check, Learn}
-use Rattle.pm_host.specs.declared.job_end.JobEnd.{JobEnd}
-use Rattle.pm_host.specs.declared.job_end.JobEnd.TheVariants.{Done, Differs, Unknown, Learned}
-use Rattle.pm_host.specs.declared.step.Step.TheVariants.{Ended}
+use Rattle.pm_host.specs.declared.job.JobEnd.{JobEnd}
+use Rattle.pm_host.specs.declared.job.JobEnd.TheVariants.{Done, Differs, Unknown, Learned}
+use Rattle.pm_host.specs.declared.host.Step.TheVariants.{Ended}
 use Rattle.pm_host.specs.FaultWords.{host_fault_number}
 use Rattle.pm_host.specs.Image.{host_of}
 use Rattle.pm_host.specs.Refusals.{is_busy}

@@ -1,9 +1,7 @@
 //! The names of the numbers that calls answer, each from the type whose number it is.
-
 ghost use Rattle.std.specs.Prelude.{◌≡◌, ◌≢◌, ◌≤◌, length, option_map, IfSome, IsSomeAnd};
 ghost use Rattle.pm_host_c.specs.Names.{config_words, device_words, end_words, frame_words, limit_words, own_words, plan_words, refusal_words as spec_refusal_words, named_number, HasText};
 
-use crate::name_image::NameImage;
 use crate::numbers::{ACCEPTED, NO_NAME};
 use pm_device::{ConfigFault, DeviceFault};
 use pm_frame::FrameFault;
@@ -12,6 +10,28 @@ use pm_limits::LimitFault;
 use pm_num::NumFault;
 use pm_rail::PlanFault;
 use pm_table::{Cell, Reg, TableFault};
+
+/// How many bytes a name has room for.
+const ROOM: usize = 32;
+
+/// A name as a text of C: its characters, and zeros behind them.
+#[repr(C)]
+#[derive(Clone, Copy, Debug)]
+pub struct NameImage {
+    /// At most 31 characters, each of ASCII, and zeros to the end.
+    pub text: [u8; ROOM],
+}
+
+impl NameImage {
+    /// Puts these characters, and zeros to the end.
+    pub(crate) fn put(&mut self, words: &str)
+        requires { length words.now ≤ 31 }
+        ensures { HasText words.now self.new }
+    {
+        self.text = [0; ROOM];
+        self.text[..words.len()].copy_from_slice(words.as_bytes());
+    }
+}
 
 /// The letter and the name of a refusal: `H6 TooUncertain`. E7h where the number is no refusal's.
 #[unsafe(no_mangle)]

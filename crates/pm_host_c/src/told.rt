@@ -1,14 +1,33 @@
 //! What became of the frame that a host is sending.
-
 ghost use Rattle.std.specs.Prelude.{◌≡◌, not, ◌==◌};
 ghost use Rattle.pm_host.specs.Told.{entry_told};
 ghost use Rattle.pm_host.specs.Transcript.{Finished, Got};
-ghost use Rattle.pm_host_c.specs.Host.{TellsHost};
+ghost use Rattle.pm_host_c.specs.Host.{TellsHost, IsSent, memory_number};
+ghost use Rattle.pm_host.specs.Image.{host_of};
 
 use crate::guard_image::GuardImage;
 use crate::host_step::{HostStep, no_step, step_after};
-use crate::numbers::{NO_HOST, OTHER_FRAME};
+use crate::numbers::{ACCEPTED, NO_HOST, OTHER_FRAME};
+use crate::sending_image::SendingImage;
 use pm_host::Told;
+
+/// The frame that is to be sent now. E0h where the memory holds no host; then, and where no job is
+/// open, it is nothing.
+#[unsafe(no_mangle)]
+pub extern "C" fn pm_host_frame(host: &GuardImage, sending: &mut SendingImage) -> u8
+    ensures number { result ≡ memory_number (host_of host.now.host) }
+    ensures frame { IsSent (host_of host.now.host) sending.new }
+{
+    let Ok(stage) = host.host.read_stage() else {
+        sending.clear();
+        return NO_HOST;
+    };
+    match stage {
+        Some(stage) => sending.put(host.host.state.address, &stage.message()),
+        None => sending.clear(),
+    }
+    ACCEPTED
+}
 
 /// A write was sent, and acknowledged or not (0). E0h, E2h where no write is being sent.
 #[unsafe(no_mangle)]

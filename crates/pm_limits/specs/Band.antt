@@ -10,16 +10,16 @@ use Rattle.pm_table.specs.declared.reg.Reg.TheVariants.{Operation, VoutMax, Vout
 use Rattle.pm_table.specs.declared.cell.Cell.TheVariants.{Out}
 use Rattle.pm_table.specs.Cell.{is_operation, same_register}
 use Rattle.pm_model.specs.Commanded.{selected_register, limited}
-use Rattle.pm_host.specs.declared.possible.Possible.{Possible}
-use Rattle.pm_host.specs.declared.possible.Possible.TheVariants.{Any, Words}
+use Rattle.pm_host.specs.declared.knowledge.Possible.{Possible}
+use Rattle.pm_host.specs.declared.knowledge.Possible.TheVariants.{Any, Words}
 use Rattle.pm_host.specs.Possible.{only}
 use Rattle.pm_host.specs.Summary.{Summary, possible_at, format_at}
 use Rattle.pm_limits.specs.declared.band.Band.{Band}
 use Rattle.pm_limits.specs.declared.part_registers.PartRegisters.{PartRegisters}
-use Rattle.pm_limits.specs.declared.side.Side.{Side}
-use Rattle.pm_limits.specs.declared.side.Side.TheVariants.{Lowest, Highest}
-use Rattle.pm_limits.specs.declared.within.Within.{Within}
-use Rattle.pm_limits.specs.declared.within.Within.TheVariants.{Yes, No, NotKnown}
+use Rattle.pm_limits.specs.declared.ends.Side.{Side}
+use Rattle.pm_limits.specs.declared.ends.Side.TheVariants.{Lowest, Highest}
+use Rattle.pm_limits.specs.declared.guard.Within.{Within}
+use Rattle.pm_limits.specs.declared.guard.Within.TheVariants.{Yes, No, NotKnown}
 use Rattle.pm_limits.specs.Bounds.{Bounds}
 use Rattle.pm_limits.specs.Ends.{end_of, farthest_of}
 use Rattle.pm_limits.specs.Part.{missing_word}

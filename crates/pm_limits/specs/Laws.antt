@@ -16,9 +16,9 @@ use Rattle.pm_host.specs.Jobs.{accepted_job, begin_fault}
 use Rattle.pm_host.specs.Possible.{is_possible}
 use Rattle.pm_host.specs.Summary.{Summary, format_at, possible_at}
 use Rattle.pm_host.specs.Transcript.{Order}
-use Rattle.pm_limits.specs.declared.within.Within.TheVariants.{Yes}
-use Rattle.pm_limits.specs.declared.side.Side.{Side}
-use Rattle.pm_limits.specs.declared.side.Side.TheVariants.{Lowest, Highest}
+use Rattle.pm_limits.specs.declared.guard.Within.TheVariants.{Yes}
+use Rattle.pm_limits.specs.declared.ends.Side.{Side}
+use Rattle.pm_limits.specs.declared.ends.Side.TheVariants.{Lowest, Highest}
 use Rattle.pm_limits.specs.Band.{HasDens, Known, band_on, decides, end_choice, end_with, known_of, operations, within_of}
 use Rattle.pm_limits.specs.Bounds.{Bounds, IsWithin}
 use Rattle.pm_limits.specs.Ends.{Reaches, format_end}

@@ -4,8 +4,8 @@ use Rattle.pm_num.specs.Ratio.{Ratio}
 use Rattle.pm_table.specs.declared.reg.Reg.{Reg}
 use Rattle.pm_table.specs.declared.reg.Reg.TheVariants.{MarginHigh, MarginLow}
 use Rattle.pm_model.specs.Commanded.{selected_register}
-use Rattle.pm_limits.specs.declared.side.Side.{Side}
-use Rattle.pm_limits.specs.declared.side.Side.TheVariants.{Lowest, Highest}
+use Rattle.pm_limits.specs.declared.ends.Side.{Side}
+use Rattle.pm_limits.specs.declared.ends.Side.TheVariants.{Lowest, Highest}
 use Rattle.pm_limits.specs.declared.ends.WordEnds.{WordEnds}
 use Rattle.pm_limits.specs.declared.ends.OutputEnds.{OutputEnds}
 

@@ -1,6 +1,6 @@
 ghost use Rattle.std.specs.Prelude.{◌≡◌, ◌<◌, None, MatchOption};
 ghost use Rattle.std.specs.List.{list_any};
-ghost use Rattle.pm_host.specs.declared.possible.Possible.TheVariants.{Any};
+ghost use Rattle.pm_host.specs.declared.knowledge.Possible.TheVariants.{Any};
 ghost use Rattle.pm_host.specs.Image.{held, listing};
 ghost use Rattle.pm_num.specs.AnyFormat.{shape_of};
 ghost use Rattle.pm_table.specs.declared.cell.Cell.TheVariants.{Out};
@@ -8,9 +8,8 @@ ghost use Rattle.pm_table.specs.declared.reg.Reg.TheVariants.{Operation};
 ghost use Rattle.pm_host.specs.Summary.{possible_at};
 ghost use Rattle.pm_limits.specs.Band.{band_at, band_on as spec_band_on, band_with, is_untaken as spec_is_untaken, known_of, may_select_avsbus as spec_may_select_avsbus, operations as spec_operations, selects_avsbus as spec_selects_avsbus};
 
-use crate::ends::{OutputEnds, format_in};
+use crate::ends::{OutputEnds, Side, format_in};
 use crate::part_registers::PartRegisters;
-use crate::side::Side;
 use pm_host::{Host, State};
 use pm_num::{AnyFormat, Frac};
 use pm_table::{Cell, Reg};

@@ -1,5 +1,4 @@
 //! The words of an output's registers whose values lie farthest out on a side.
-
 ghost use Rattle.std.specs.Prelude.{◌≡◌, ◌<◌, ℕ, None, option_map};
 ghost use Rattle.pm_host.specs.Image.{held};
 ghost use Rattle.pm_num.specs.AnyFormat.{any_value, shape_of};
@@ -10,13 +9,33 @@ ghost use Rattle.pm_model.specs.Commanded.{limited as spec_limited, selected_reg
 ghost use Rattle.pm_limits.specs.Band.{known_of, word_end};
 ghost use Rattle.pm_limits.specs.Ends.{candidates as spec_candidates, format_end as spec_format_end, shape_ends, farthest as spec_farthest, end_of, farthest_of as spec_farthest_of, is_farther as spec_is_farther};
 ghost use Rattle.pm_limits.specs.OutputEnds.{end_in, selected_value, word_on};
-ghost use Rattle.pm_limits.specs.declared.side.Side.{Side};
+ghost use Rattle.pm_limits.specs.declared.ends.Side.{Side};
 
 use crate::part_registers::PartRegisters;
-use crate::side::Side;
 use pm_host::State;
 use pm_num::{AnyFormat, Frac, NumFormat};
 use pm_table::{Cell, Operation, Reg};
+
+/// A side of a band.
+#[derive(Clone, Copy, Debug, PartialEq, Eq)]
+pub enum Side {
+    /// Towards lower voltages.
+    Lowest,
+    /// Towards higher ones.
+    Highest,
+}
+
+impl Side {
+    /// Whether the value of the other word lies farther out on this side.
+    pub(crate) fn is_farther(self, format: &AnyFormat, word: u16, other: u16) -> bool
+        ensures { result ≡ spec_is_farther self (any_value format.now word) (any_value format.now other) }
+    {
+        match self {
+            Side::Lowest => format.is_above(word, other),
+            Side::Highest => format.is_above(other, word),
+        }
+    }
+}
 
 // The words of the ends of each format, in one order or the other.
 static LINEAR11_ENDS: [u16; 2] = [0x7C00, 0x7BFF];

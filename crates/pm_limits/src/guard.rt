@@ -1,5 +1,16 @@
 mod calls;
 
+/// Whether an output's voltage lies within its limits, by what is known.
+#[derive(Clone, Copy, Debug, PartialEq, Eq)]
+pub enum Within {
+    /// The whole band lies within the limits, or the output has none.
+    Yes,
+    /// The whole band lies below the limits, or above them.
+    No,
+    /// The band lies partly within, or there is none: the format isn't known, or a byte of AVSBus is possible for OPERATION.
+    NotKnown,
+}
+
 ghost use Rattle.std.specs.Prelude.{◌≡◌, ◌<◌, Some, None, IfOk, OnOk, OnErr, [], ◌∷◌, option_map, replicate, slice_set};
 ghost use Rattle.std.specs.Result.{result_err};
 ghost use Rattle.pm_table.specs.Address.{IsAddress};
@@ -19,7 +30,6 @@ use crate::judgement::{
 };
 use crate::limits::Limits;
 use crate::part_registers::PartRegisters;
-use crate::within::Within;
 use pm_host::{Host, HostFault, Job};
 use pm_table::Cell;
 use std::marker::Model;

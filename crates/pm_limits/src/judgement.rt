@@ -19,9 +19,9 @@ ghost use Rattle.pm_limits.specs.Guard.{IsJudged, is_beyond as spec_is_beyond, j
 use crate::band::{Band, band_on};
 use crate::ends::format_in;
 use crate::fault::LimitFault;
+use crate::guard::Within;
 use crate::limits::Limits;
 use crate::part_registers::PartRegisters;
-use crate::within::Within;
 use pm_host::{HostFault, Job, Stage, State, nearest_word};
 use pm_num::{AnyFormat, Linear11, NumFormat};
 use pm_table::{Cell, Operation, Reg};

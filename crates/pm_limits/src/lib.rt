@@ -31,17 +31,14 @@ mod judgement;
 mod laws;
 mod limits;
 mod part_registers;
-mod side;
-mod within;
 
 pub use band::{Band, band_in, band_of};
+pub use ends::Side;
 pub use fault::LimitFault;
-pub use guard::Guard;
+pub use guard::{Guard, Within};
 pub use judgement::{judge, narrower_limits, ordered_output, within_limits};
 pub use laws::{
     bands_are_ends, guarded_orders_are_within, missing_limits_cut_nothing, whole_parts_miss_nothing,
 };
 pub use limits::Limits;
 pub use part_registers::PartRegisters;
-pub use side::Side;
-pub use within::Within;

@@ -7,7 +7,7 @@ ghost use Rattle.pm_limits.specs.Guard.{narrower_fault};
 
 use crate::band::Band;
 use crate::fault::LimitFault;
-use crate::within::Within;
+use crate::guard::Within;
 use pm_host::HostFault;
 use pm_num::{Frac, NumFault, micro};
 use std::cmp::Ordering;

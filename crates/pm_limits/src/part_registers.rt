@@ -2,8 +2,7 @@ ghost use Rattle.std.specs.Prelude.{◌≡◌};
 ghost use Rattle.pm_num.specs.AnyFormat.{shape_of};
 ghost use Rattle.pm_limits.specs.Part.{all_registers, has_register, missing_word};
 
-use crate::ends::format_end;
-use crate::side::Side;
+use crate::ends::{Side, format_end};
 use pm_num::AnyFormat;
 use pm_table::Reg;
 

@@ -1,14 +1,34 @@
 //! The bytes that texts write in hexadecimal.
-ghost use Rattle.std.specs.Prelude.{◌≡◌, ◌⊎◌, ◌<◌, ℕ, List, ◌++◌, Some, None, Err, length};
-ghost use Rattle.std.specs.Prelude.{OnOk, OnErr, IfOk, IfErr, IsErrOf, option_map};
+ghost use Rattle.std.specs.Prelude.{◌≡◌, ◌⊎◌, ◌<◌, ℕ, List, ◌++◌, Some, None, Err, length, OnOk, OnErr, IfOk, IfErr, IsErrOf, option_map, ◌==◌, position};
 ghost use Rattle.pm_lines.specs.Bytes.{bytes_of};
 ghost use Rattle.pm_lines.specs.Lines.{words_of};
 ghost use Rattle.pm_lines.specs.Pairs.{behind_pairs, paired_bytes};
+ghost use Rattle.std.specs.List.{before_first, after_first};
 
 use crate::fault::TextFault;
 use crate::hex_digit::{pair_of, spaced_pair};
-use crate::line::Line;
+use crate::lines::Line;
+use memchr::memchr;
 use std::alloc::AllocError;
+
+/// What stands before the first byte that is the mark, and what follows it: all bytes and none,
+/// where there is no mark.
+pub fn cut_at(bytes: &[u8], mark: u8) -> (&[u8], &[u8])
+    ensures before { result.0.now ≡ before_first (λ byte. byte == mark) bytes.now }
+    ensures after { result.1.now ≡ after_first (λ byte. byte == mark) bytes.now }
+{
+    match first_place(bytes, mark) {
+        Some(at) => (&bytes[..at], &bytes[at + 1..]),
+        None => (bytes, &[]),
+    }
+}
+
+// The place of the first byte that is the mark.
+fn first_place(bytes: &[u8], mark: u8) -> Option<usize>
+    ensures { result ≡ position (λ byte. byte == mark) bytes.now }
+{
+    memchr(mark, bytes)
+}
 
 /// Appends the bytes that a line's words write in hexadecimal. Each word is an even number of digits,
 /// of either case.

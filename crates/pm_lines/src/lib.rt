@@ -16,13 +16,10 @@
 #![tactic(auto)]
 
 mod bytes;
-mod cut;
 mod digits;
 mod fault;
 mod hex_digit;
 mod laws;
-mod line;
-mod line_end;
 mod lines;
 mod number_text;
 mod sink;
@@ -30,19 +27,16 @@ mod source;
 mod text;
 mod words;
 
-pub use bytes::push_bytes;
-pub use cut::cut_at;
+pub use bytes::{cut_at, push_bytes};
 pub use digits::{read_byte, read_i8, read_i16, read_i64, read_u8, read_word};
 pub use fault::TextFault;
 pub use hex_digit::{byte_of, four_pairs, is_digit, pair_of, spaced_pair};
 pub use laws::ends_follow_the_input;
-pub use line::Line;
-pub use line_end::with_line_end;
-pub use lines::{Lines, is_blank, without_carriage_return};
+pub use lines::{Line, Lines, is_blank, without_carriage_return};
 pub use number_text::{
     hex_digits, push_decimal, push_hex, push_hex_number, push_hex_word, push_signed,
 };
 pub use sink::Sink;
 pub use source::Source;
-pub use text::{MAX_TEXT, read_text};
+pub use text::{MAX_TEXT, read_text, with_line_end};
 pub use words::Words;

@@ -2,10 +2,18 @@ ghost use Rattle.std.specs.Prelude.{◌≡◌, ◌<◌, ◌≤◌, ◌+◌, ◌^
 ghost use Rattle.std.specs.List.{list_all};
 ghost use Rattle.pm_lines.specs.Lines.{lines_of, unskipped_from, is_line_feed, is_skipped, is_space, without_return};
 
-use crate::cut::cut_at;
-use crate::line::Line;
+use crate::bytes::cut_at;
 use memchr::memchr_iter;
 use std::marker::Model;
+
+/// A line of a text, without what ended it. The first line of a text has number 1.
+#[derive(Clone, Copy, Debug)]
+pub struct Line<'a> {
+    /// The line's number.
+    pub number: u64,
+    /// The line's bytes.
+    pub text: &'a [u8],
+}
 
 /// The lines of a text that are not skipped, one after another. A line ends at a line feed or at the
 /// text's end, and a carriage return before either is no part of it. Lines that are empty, have

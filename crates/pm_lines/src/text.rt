@@ -1,10 +1,25 @@
-ghost use Rattle.std.specs.Prelude.{◌≡◌, ◌↔◌, IsTrue, IsFalse, MatchResult};
+ghost use Rattle.std.specs.Prelude.{◌≡◌, ◌↔◌, IsTrue, IsFalse, MatchResult, ◌++◌, [], ◌∷◌, ◌⊎◌, IfOk, string_bytes};
 ghost use Rattle.pm_lines.specs.Streams.{BreaksOff, IsWholeText, max_text};
+ghost use Rattle.pm_lines.specs.Lines.{EndsLine};
 
 use crate::fault::TextFault;
 use crate::source::Source;
-use std::alloc::Global;
+use std::alloc::{AllocError, Global};
 use std::io::Read;
+
+/// A text with a line feed at its end: the same one where it has that, otherwise with one more byte.
+pub fn with_line_end(text: String) -> Result<String, AllocError>
+    ensures ends { IfOk result (λ whole. EndsLine (string_bytes whole)) }
+    ensures same { IfOk result (λ whole. (string_bytes whole ≡ string_bytes text)
+        ⊎ (string_bytes whole ≡ string_bytes text ++ 10 ∷ [])) }
+{
+    if text.as_bytes().ends_with(b"\n") {
+        return Ok(text);
+    }
+    let mut whole = text;
+    whole.push('\n')?;
+    Ok(whole)
+}
 
 /// The most bytes that a text may have.
 pub const MAX_TEXT: usize = 1_048_576;

@@ -2,7 +2,7 @@ ghost use Rattle.std.specs.Prelude.{◌≡◌, ◌≢◌, true, false, [], ◌�
 ghost use Rattle.std.specs.List.{before_first, after_first};
 ghost use Rattle.pm_lines.specs.Lines.{has_space_first, is_next, is_one_word, is_space, words_of};
 
-use crate::line::Line;
+use crate::lines::Line;
 use std::marker::Model;
 
 /// The words of a line, one after another: what stands between its spaces. A word isn't empty.

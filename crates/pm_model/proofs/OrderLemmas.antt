@@ -9,8 +9,8 @@ use Rattle.pm_table.specs.declared.cell.Cell.TheVariants.{Out, Protect}
 use Rattle.pm_table.specs.Cell.{IsCell, same_cell}
 use Rattle.pm_table.specs.Laws.{CellsAreToldApart}
 use Rattle.pm_table.specs.Lemmas.{IsCell-eight}
-use Rattle.pm_model.specs.declared.pending_job.PendingJob.{PendingJob}
-use Rattle.pm_model.specs.declared.pending_job.PendingJob.TheVariants.{Order, Store, Restore}
+use Rattle.pm_model.specs.declared.order_machine.PendingJob.{PendingJob}
+use Rattle.pm_model.specs.declared.order_machine.PendingJob.TheVariants.{Order, Store, Restore}
 use Rattle.pm_model.specs.Settings.{Settings, Words, AreWords, word_at, with_word, with_outputs}
 use Rattle.pm_model.specs.Laws.{SettingsAreAMap}
 use Rattle.pm_model.specs.OrderMachine.{Step, Accept, Take, End, Back, words_taken, store_taken, machine_of, CanTake, IsRun}

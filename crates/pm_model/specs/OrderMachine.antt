@@ -6,8 +6,8 @@ use Rattle.std.specs.Prelude.{◌≡◌, ◌⊎◌, ℕ, true, List, [], ◌∷�
 use Rattle.std.specs.List.{Contains}
 use Rattle.pm_table.specs.declared.cell.Cell.{Cell}
 use Rattle.pm_table.specs.Cell.{cell_accepts, IsCell}
-use Rattle.pm_model.specs.declared.pending_job.PendingJob.{PendingJob}
-use Rattle.pm_model.specs.declared.pending_job.PendingJob.TheVariants.{Order, Store, Restore}
+use Rattle.pm_model.specs.declared.order_machine.PendingJob.{PendingJob}
+use Rattle.pm_model.specs.declared.order_machine.PendingJob.TheVariants.{Order, Store, Restore}
 use Rattle.pm_model.specs.Settings.{Settings, Words, restart_words, word_at, with_word, with_outputs}
 
 pub data Step : Type 0 where

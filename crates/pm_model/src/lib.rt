@@ -26,16 +26,12 @@
 //! ```
 #![tactic(auto)]
 
-mod formats;
 mod laws;
 mod order_machine;
-mod pending_job;
 mod plain;
 
-pub use formats::Formats;
 pub use laws::{
     commands_are_limited, orders_stay_in_their_cells, outputs_stand_alone, settings_are_a_map,
 };
-pub use order_machine::OrderMachine;
-pub use pending_job::PendingJob;
-pub use plain::Plain;
+pub use order_machine::{OrderMachine, PendingJob};
+pub use plain::{Formats, Plain};

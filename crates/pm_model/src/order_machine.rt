@@ -1,14 +1,28 @@
 //! The order machine.
-
 ghost use Rattle.std.specs.Prelude.{◌≡◌, ◌↔◌, None, Some, true, IsTrue};
 ghost use Rattle.pm_table.specs.Cell.{cell_accepts, IsCell};
 ghost use Rattle.pm_model.specs.Settings.{word_at};
 ghost use Rattle.pm_model.specs.OrderMachine.{Accept, Take, End, Back, begun, stepped, CanTake};
 
-use crate::pending_job::PendingJob;
 use crate::plain::Plain;
 use pm_table::Cell;
 use std::marker::Model;
+
+/// A job that isn't over.
+#[derive(Clone, Copy, Debug, PartialEq, Eq)]
+pub enum PendingJob {
+    /// An order of a word for a cell.
+    Order {
+        /// The cell that gets the word.
+        cell: Cell,
+        /// The word, one that the cell accepts.
+        word: u16,
+    },
+    /// The outputs' words are copied to the store.
+    Store,
+    /// The outputs' words come back from the store.
+    Restore,
+}
 
 /// The settings of a converter and its store under jobs alone: one job at a time is pending, takes any
 /// number of times, and ends. A job is an order of a word for a cell, a store of the outputs' words, or

@@ -5,11 +5,20 @@ ghost use Rattle.pm_table.specs.declared.reg.Reg.{Reg as Register};
 ghost use Rattle.pm_model.specs.Settings.{are_accepted as spec_are_accepted, is_accepted_at as spec_is_accepted_at, settings_in, word_at, with_outputs as spec_with_outputs, with_word, AreSettings, AreWords};
 ghost use Rattle.pm_model.specs.Commanded.{commanded, greatest_value, least_value, is_above as spec_is_above, is_outside as spec_is_outside, is_cut, scale_at, selected};
 
-use crate::formats::Formats;
 use crate::laws::{commands_are_limited, settings_are_a_map};
 use pm_num::{AnyFormat, Frac, NumFormat};
 use pm_table::{Cell, Operation, Reg, cells_are_told_apart, cells_have_places};
 use std::marker::Model;
+
+/// What the words of each output's voltages stand for: of VOUT_COMMAND, its two limits and both
+/// margins.
+#[derive(Clone, Copy, Debug, PartialEq, Eq)]
+pub struct Formats {
+    /// How many outputs there are.
+    pub count: u8,
+    /// The outputs' formats; those from `count` on mean nothing.
+    pub each: [AnyFormat; 8],
+}
 
 /// The settings of a converter with one to eight outputs: a word for each cell that there is.
 #[derive(Clone, Debug, Drop)]

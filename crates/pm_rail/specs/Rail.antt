@@ -1,8 +1,8 @@
 -- Whether an output is on, by what a host knows: this project's own choice.
 use Rattle.std.specs.Prelude.{ℕ, Bool, true, not, ◌&&◌, if◌then◌else◌, List, [], ◌∷◌}
 use Rattle.pm_table.specs.Operation.{has_on, is_operation}
-use Rattle.pm_host.specs.declared.possible.Possible.{Possible}
-use Rattle.pm_host.specs.declared.possible.Possible.TheVariants.{Any, Words}
+use Rattle.pm_host.specs.declared.knowledge.Possible.{Possible}
+use Rattle.pm_host.specs.declared.knowledge.Possible.TheVariants.{Any, Words}
 use Rattle.pm_rail.specs.declared.power.Power.{Power}
 use Rattle.pm_rail.specs.declared.power.Power.TheVariants.{On, Off, NotKnown}
 

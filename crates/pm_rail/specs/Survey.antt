@@ -10,8 +10,8 @@ use Rattle.pm_table.specs.Cell.{registers}
 use Rattle.pm_table.specs.Rules.{first, rule}
 use Rattle.pm_host.specs.declared.job.Job.{Job}
 use Rattle.pm_host.specs.declared.job.Job.TheVariants.{Check, Learn}
-use Rattle.pm_host.specs.declared.job_end.JobEnd.{JobEnd}
-use Rattle.pm_host.specs.declared.job_end.JobEnd.TheVariants.{Done, Learned}
+use Rattle.pm_host.specs.declared.job.JobEnd.{JobEnd}
+use Rattle.pm_host.specs.declared.job.JobEnd.TheVariants.{Done, Learned}
 use Rattle.pm_num.specs.AnyFormat.{Shape}
 use Rattle.pm_host.specs.Summary.{Summary, format_at}
 use Rattle.pm_limits.specs.declared.part_registers.PartRegisters.{PartRegisters}

@@ -4,8 +4,8 @@ use Rattle.std.specs.List.{count_by}
 use Rattle.pm_table.specs.declared.cell.Cell.{Cell}
 use Rattle.pm_table.specs.Cell.{cell_accepts, registers}
 use Rattle.pm_host.specs.declared.job.Job.TheVariants.{Check, Learn}
-use Rattle.pm_host.specs.declared.job_end.JobEnd.{JobEnd}
-use Rattle.pm_host.specs.declared.job_end.JobEnd.TheVariants.{Done}
+use Rattle.pm_host.specs.declared.job.JobEnd.{JobEnd}
+use Rattle.pm_host.specs.declared.job.JobEnd.TheVariants.{Done}
 use Rattle.pm_host.specs.Known.{HasPlaces, known_after}
 use Rattle.pm_host.specs.Marks.{Good}
 use Rattle.pm_host.specs.Possible.{is_possible}

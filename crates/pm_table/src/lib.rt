@@ -23,7 +23,6 @@ mod cells;
 mod coefficients;
 mod commands;
 mod fault;
-mod format;
 mod laws;
 mod names;
 mod operation;
@@ -35,10 +34,9 @@ mod vout_mode;
 pub use address::address_ok;
 pub use cell::{Cell, cell_of};
 pub use cells::Cells;
-pub use coefficients::Coefficients;
+pub use coefficients::{Coefficients, format_of};
 pub use commands::{Attributes, Code, Info, known};
 pub use fault::TableFault;
-pub use format::format_of;
 pub use laws::{
     cells_are_told_apart, cells_have_places, payloads_are_short, registers_are_in_the_table,
 };

@@ -12,7 +12,7 @@ use Rattle.pm_host.specs.Refusals.{IsSetup}
 use Rattle.pm_world.specs.declared.event.Event.{Event}
 use Rattle.pm_world.specs.declared.cause.Cause.{Cause}
 use Rattle.pm_setup.specs.declared.setup_fault.SetupFault.{SetupFault}
-use Rattle.pm_world.specs.declared.stop.Stop.{Stop}
+use Rattle.pm_world.specs.declared.cause.Stop.{Stop}
 use Rattle.pm_world.specs.Laws.{LivesAreFollowed}
 use Rattle.pm_world.specs.Setup.{setup_fault, setup_of, start}
 use Rattle.pm_world.specs.Life.{AreTaken, StopsAt, StopsFrom, after_all, now, taken_events}
@@ -26,12 +26,12 @@ use Rattle.pm_text.specs.Readers.{Rest, row}
 use Rattle.pm_text.specs.ScenarioText.{as_text_fault, events_in, header, rest_of, scenario_by, scenario_of, text_fault, with_events}
 use Rattle.pm_text.specs.declared.scenario.fault.ScenarioFault.{ScenarioFault}
 use Rattle.pm_text.specs.declared.scenario.header.Header.{Header}
-use Rattle.pm_text.specs.declared.ran.Ran.{Ran}
+use Rattle.pm_text.specs.declared.runs.Ran.{Ran}
 use Rattle.pm_text.specs.declared.scenario.Scenario.{Scenario}
 use Rattle.pm_text.specs.Kinds.{form_of, version_of}
 use Rattle.pm_text.specs.Report.{report_text}
 use Rattle.pm_text.specs.Replay.{IsRun, Lives, end_by, ran_by, replay_by, replay_of, run_of, stop_after, taken_by, told, told_or}
-use Rattle.pm_text.specs.declared.replay_end.ReplayEnd.{ReplayEnd}
+use Rattle.pm_text.specs.declared.replays.ReplayEnd.{ReplayEnd}
 
 -- ---- where a run stops
 

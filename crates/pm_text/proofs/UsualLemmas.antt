@@ -6,8 +6,8 @@ use Rattle.std.specs.Int.{w64, from_be_bytes, to_be_bytes}
 use Rattle.std.proofs.lemmas.List.{length-take-le, take-append-drop}
 use Rattle.std.proofs.lemmas.Nat.{be_bytes_8}
 use Rattle.pm_lines.specs.Lines.{words_of}
-use Rattle.pm_world.specs.declared.arrival.Arrival.TheVariants as arrives
-use Rattle.pm_world.specs.declared.back.Back.TheVariants as returns
+use Rattle.pm_world.specs.declared.event.Arrival.TheVariants as arrives
+use Rattle.pm_world.specs.declared.event.Back.TheVariants as returns
 use Rattle.pm_world.specs.declared.event.Event.TheVariants.{Deliver, Exchange, Finish}
 use Rattle.pm_text.specs.EventLines.{arrival, back, deliver_rest, event_line, exchange_rest, finish_rest}
 use Rattle.pm_text.specs.Readers.{line_as, word}

@@ -7,7 +7,7 @@ use Rattle.pm_world.specs.State.{State, cause_of}
 use Rattle.pm_world.specs.declared.event.Event.{Event}
 use Rattle.pm_world.specs.declared.cause.Cause.{Cause}
 use Rattle.pm_setup.specs.declared.setup_fault.SetupFault.{SetupFault}
-use Rattle.pm_world.specs.declared.stop.Stop.{Stop}
+use Rattle.pm_world.specs.declared.cause.Stop.{Stop}
 use Rattle.pm_lines.specs.Engine.{Engine}
 use Rattle.pm_lines.specs.Lines.{Numbered}
 use Rattle.pm_lines.specs.declared.fault.TextFault.{TextFault}
@@ -15,9 +15,9 @@ use Rattle.pm_lines.specs.declared.fault.TextFault.TheVariants.{Syntax, BadHex, 
 use Rattle.pm_text.specs.Kinds.{form_of}
 use Rattle.pm_text.specs.Report.{report_text}
 use Rattle.pm_text.specs.ScenarioText.{events_in, scenario_of}
-use Rattle.pm_text.specs.declared.ran.Ran.{Ran}
-use Rattle.pm_text.specs.declared.replay_end.ReplayEnd.{ReplayEnd}
-use Rattle.pm_text.specs.declared.replay_end.ReplayEnd.TheVariants.{Ran as AllTaken, Stopped}
+use Rattle.pm_text.specs.declared.runs.Ran.{Ran}
+use Rattle.pm_text.specs.declared.replays.ReplayEnd.{ReplayEnd}
+use Rattle.pm_text.specs.declared.replays.ReplayEnd.TheVariants.{Ran as AllTaken, Stopped}
 use Rattle.pm_text.specs.declared.form.Form.{Form}
 use Rattle.pm_text.specs.declared.scenario.fault.ScenarioFault.{ScenarioFault}
 use Rattle.pm_text.specs.declared.scenario.Scenario.{Scenario}

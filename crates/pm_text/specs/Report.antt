@@ -15,15 +15,15 @@ use Rattle.pm_model.specs.Settings.{word_at}
 use Rattle.pm_device.specs.Held.{value_for}
 use Rattle.pm_device.specs.Status.{is_on, status_byte, status_cml, status_vout, status_word}
 use Rattle.pm_host.specs.Summary.{possible_at, standing_at}
-use Rattle.pm_host.specs.declared.possible.Possible.{Possible}
-use Rattle.pm_host.specs.declared.possible.Possible.TheVariants.{Any, Words}
-use Rattle.pm_host.specs.declared.standing.Standing.{Standing}
-use Rattle.pm_host.specs.declared.standing.Standing.TheVariants.{Confirmed, Unknown}
-use Rattle.pm_host.specs.declared.job_end.JobEnd.{JobEnd}
-use Rattle.pm_host.specs.declared.job_end.JobEnd.TheVariants as ended
+use Rattle.pm_host.specs.declared.knowledge.Possible.{Possible}
+use Rattle.pm_host.specs.declared.knowledge.Possible.TheVariants.{Any, Words}
+use Rattle.pm_host.specs.declared.knowledge.Standing.{Standing}
+use Rattle.pm_host.specs.declared.knowledge.Standing.TheVariants.{Confirmed, Unknown}
+use Rattle.pm_host.specs.declared.job.JobEnd.{JobEnd}
+use Rattle.pm_host.specs.declared.job.JobEnd.TheVariants as ended
 use Rattle.pm_world.specs.FaultWords.{cause_text}
 use Rattle.pm_world.specs.State.{State}
-use Rattle.pm_world.specs.declared.stop.Stop.{Stop}
+use Rattle.pm_world.specs.declared.cause.Stop.{Stop}
 use Rattle.pm_lines.specs.Numbers.{hex_byte, hex_word}
 use Rattle.pm_text.specs.Kinds.{registers_of}
 use Rattle.pm_text.specs.declared.form.Form.{Form}

@@ -25,8 +25,6 @@
 mod base;
 mod form;
 mod laws;
-mod ran;
-mod replay_end;
 mod replays;
 mod report;
 mod runs;
@@ -40,11 +38,10 @@ pub use pm_lines::{MAX_TEXT, Sink, Source, TextFault};
 pub use pm_trace::{
     ByteList, DecodeEnd, Decoder, Fed, Shown, TraceLine, read_trace_line, render_line,
 };
-pub use ran::Ran;
-pub use replay_end::ReplayEnd;
-pub use replays::replay;
+pub use replays::{ReplayEnd, replay};
 pub use report::outputs::microvolts;
 pub use report::render_report;
+pub use runs::Ran;
 pub use scenario::cells::cell as read_cell;
 pub use scenario::event_line::finish as read_finish;
 pub use scenario::events::Events;

@@ -7,13 +7,21 @@ ghost use Rattle.pm_lines.specs.Faults.{IsOfInput};
 ghost use Rattle.pm_lines.specs.Streams.{max_text};
 ghost use Rattle.pm_text.specs.Replay.{IsReplay, end_by, replay_of, replaying, run_of as run_spec, taken_by};
 
-use crate::replay_end::ReplayEnd;
 use crate::report::render_report;
 use crate::runs::run_text;
 use pm_lines::{Sink, Source, TextFault, read_text};
 use pm_world::Stop;
 use std::alloc::Global;
 use std::io::{Read, Write};
+
+/// How a replay ended that was reported.
+#[derive(Clone, Copy, Debug, PartialEq, Eq)]
+pub enum ReplayEnd {
+    /// All events were taken.
+    Ran,
+    /// An event wasn't taken, which the report's first line tells.
+    Stopped,
+}
 
 /// Reads a scenario, lets its events happen between a host and a converter, up to the first that isn't
 /// taken, and writes the report. Neither stream may have failed before.

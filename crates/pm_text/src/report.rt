@@ -8,7 +8,7 @@ pub(crate) mod outputs;
 mod settings;
 
 use crate::form::Form;
-use crate::ran::Ran;
+use crate::runs::Ran;
 use outputs::push_outputs;
 use pm_host::JobEnd;
 use pm_lines::{TextFault, push_decimal, push_hex, push_hex_word};

@@ -1,13 +1,12 @@
 //! The run of a scenario's text: each event happens as its line is read, and none is kept.
+ghost use Rattle.pm_text.specs.EventLines as spec;
 ghost use Rattle.std.specs.Prelude.{◌≡◌, ◌≤◌, length, Err, IfOk, IfErr};
 ghost use Rattle.pm_lines.specs.Streams.{max_text};
-ghost use Rattle.pm_text.specs.EventLines as spec;
 ghost use Rattle.pm_text.specs.Readers.{IsRead, line_as};
 ghost use Rattle.pm_text.specs.Replay.{IsOfRun, IsRun, Lives, replay_of};
 ghost use Rattle.pm_text.specs.ScenarioText.{Judges};
 
 use crate::form::Form;
-use crate::ran::Ran;
 use crate::scenario::event_line::event_line;
 use crate::scenario::fault::ScenarioFault;
 use crate::scenario::header::read_header;
@@ -15,6 +14,19 @@ use crate::scenario::rows::Rows;
 use crate::scenario::usual_line::usual_event;
 use pm_lines::{Line, TextFault};
 use pm_world::{Event, Stop, World, lives_are_followed};
+
+/// What a run of events came to.
+#[derive(Drop)]
+pub struct Ran {
+    /// The version of the scenario, in which the report is written: 1, and every other number is 2.
+    pub version: u8,
+    /// The world after the events that were taken.
+    pub world: World,
+    /// How many events were taken.
+    pub taken: u64,
+    /// The place at which the run stopped, and why; `None` if all events were taken.
+    pub stop: Option<Stop>,
+}
 
 /// What the events of a text's scenario come to, or the text's first fault, or why no world is made.
 pub(crate) fn run_text(text: &[u8]) -> Result<Ran, TextFault>

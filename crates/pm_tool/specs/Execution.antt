@@ -22,8 +22,8 @@ use Rattle.pm_decode.specs.declared.hints.Hint.{Hint}
 use Rattle.pm_decode.specs.declared.hints.Hint.TheVariants.{Beyond, NoTimes, NoGoodPacket}
 use Rattle.pm_decode.specs.declared.options.TellOptions.{TellOptions}
 use Rattle.pm_text.specs.Replay.{replaying}
-use Rattle.pm_text.specs.declared.replay_end.ReplayEnd.{ReplayEnd}
-use Rattle.pm_text.specs.declared.replay_end.ReplayEnd.TheVariants.{Ran as AllTaken, Stopped}
+use Rattle.pm_text.specs.declared.replays.ReplayEnd.{ReplayEnd}
+use Rattle.pm_text.specs.declared.replays.ReplayEnd.TheVariants.{Ran as AllTaken, Stopped}
 use Rattle.pm_tool.specs.Refusals.{Says, no_words, no_words_status, program_line, text_refusal}
 use Rattle.pm_tool.specs.Usage.{usage_status, IsSaid}
 use Rattle.pm_tool.specs.Commandline.{Asks, pmb}

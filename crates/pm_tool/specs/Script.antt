@@ -6,7 +6,7 @@ use Rattle.pm_device.specs.Effect.{Event, Hearing, Restarted, Reading}
 use Rattle.pm_device.specs.Held.{Held}
 use Rattle.pm_device.specs.History.{next, start_of}
 use Rattle.pm_device.specs.Reply.{reply_of}
-use Rattle.pm_device.specs.declared.ending.Ending.TheVariants.{Stop, Restart}
+use Rattle.pm_device.specs.declared.converter.Ending.TheVariants.{Stop, Restart}
 use Rattle.pm_model.specs.Settings.{word_at}
 use Rattle.pm_table.specs.declared.cell.Cell.TheVariants.{Out}
 use Rattle.pm_table.specs.declared.reg.Reg.TheVariants.{VoutCommand}

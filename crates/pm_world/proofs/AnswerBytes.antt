@@ -24,10 +24,10 @@ use Rattle.pm_frame.specs.Pec.{pec_of}
 use Rattle.pm_frame.specs.Lemmas.{bytes-more, pec_of-lt}
 use Rattle.pm_model.specs.Settings.{word_at}
 use Rattle.pm_device.specs.declared.fault.DeviceFault.TheVariants.{BadPage, UnsupportedData}
-use Rattle.pm_device.specs.declared.ending.Ending.{Ending}
-use Rattle.pm_device.specs.declared.ending.Ending.TheVariants.{Stop, Restart}
-use Rattle.pm_device.specs.declared.heard.Heard.{Heard}
-use Rattle.pm_device.specs.declared.heard.Heard.TheVariants.{Silent, Taken, Answer, Refused}
+use Rattle.pm_device.specs.declared.converter.Ending.{Ending}
+use Rattle.pm_device.specs.declared.converter.Ending.TheVariants.{Stop, Restart}
+use Rattle.pm_device.specs.declared.converter.Heard.{Heard}
+use Rattle.pm_device.specs.declared.converter.Heard.TheVariants.{Silent, Taken, Answer, Refused}
 use Rattle.pm_device.specs.Held.{Held, reading_at}
 use Rattle.pm_device.specs.Laws.{ReadsAreAnswered, RepliesFollowEndings}
 use Rattle.pm_device.specs.Reply.{answer_bytes, payload_for, plain_register, register_bytes, register_word, reply_of, reply_to}

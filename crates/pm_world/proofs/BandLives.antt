@@ -17,8 +17,8 @@ use Rattle.pm_model.specs.Commanded.{commanded}
 use Rattle.pm_model.specs.Settings.{word_at}
 use Rattle.pm_device.specs.declared.config.Config.{Config}
 use Rattle.pm_device.specs.Held.{shape_for}
-use Rattle.pm_host.specs.declared.possible.Possible.{Possible}
-use Rattle.pm_host.specs.declared.possible.Possible.TheVariants.{Any, Words}
+use Rattle.pm_host.specs.declared.knowledge.Possible.{Possible}
+use Rattle.pm_host.specs.declared.knowledge.Possible.TheVariants.{Any, Words}
 use Rattle.pm_host.specs.Marks.{Mark, Put, Good, Restored, Restart, marks}
 use Rattle.pm_host.specs.Possible.{is_listed, is_possible, once, only, possible_from, possible_of, words_since}
 use Rattle.pm_host.specs.Summary.{Summary, format_at, possible_at}
@@ -26,8 +26,8 @@ use Rattle.pm_host.specs.Transcript.{Entry}
 use Rattle.std.proofs.lemmas.List.{length-reverse}
 use Rattle.std.proofs.lemmas.Bool.Decides.{nat_tests}
 use Rattle.pm_limits.specs.declared.band.Band.{Band}
-use Rattle.pm_limits.specs.declared.side.Side.{Side}
-use Rattle.pm_limits.specs.declared.side.Side.TheVariants.{Lowest, Highest}
+use Rattle.pm_limits.specs.declared.ends.Side.{Side}
+use Rattle.pm_limits.specs.declared.ends.Side.TheVariants.{Lowest, Highest}
 use Rattle.pm_limits.specs.Band.{InBand, Known, band_at, band_with, decides, each_selection, end_choice, end_with, is_untaken, known_of}
 use Rattle.pm_limits.specs.Band.{may_select_avsbus, operations, reach, side_end}
 use Rattle.pm_limits.specs.declared.part_registers.PartRegisters.{PartRegisters}

@@ -23,8 +23,8 @@ use Rattle.pm_host.specs.Refusals.{micro_word}
 use Rattle.pm_host.specs.Summary.{Summary, format_at}
 use Rattle.pm_host.specs.Transcript as host
 use Rattle.pm_world.specs.Below.{Below}
-use Rattle.pm_world.specs.declared.back.Back.{Back}
-use Rattle.pm_world.specs.declared.back.Back.TheVariants as back
+use Rattle.pm_world.specs.declared.event.Back.{Back}
+use Rattle.pm_world.specs.declared.event.Back.TheVariants as back
 use Rattle.pm_world.specs.declared.event.Event.{Event}
 use Rattle.pm_world.specs.declared.event.Event.TheVariants.{Order, OrderMicro}
 use Rattle.pm_world.specs.Bytes.{CarriesBytes, CarryBytes, ReturnsInBytes, StartsShort}

@@ -11,7 +11,7 @@ use Rattle.pm_frame.specs.Fault.{whole_answer}
 use Rattle.pm_frame.specs.Layout.{is_read_message}
 use Rattle.pm_model.specs.Settings.{Words, word_at}
 use Rattle.pm_device.specs.declared.config.Config.{Config}
-use Rattle.pm_device.specs.declared.ending.Ending.TheVariants.{Restart}
+use Rattle.pm_device.specs.declared.converter.Ending.TheVariants.{Restart}
 use Rattle.pm_device.specs.Held.{Held}
 use Rattle.pm_device.specs.Reply.{reply_of}
 use Rattle.pm_host.specs.declared.question.Question.TheVariants.{Word}
@@ -26,8 +26,8 @@ use Rattle.pm_host.specs.Sound.{IsStage}
 use Rattle.pm_host.specs.Summary.{Summary, possible_at, sending_in, stage_message}
 use Rattle.pm_host.specs.Transcript as host
 use Rattle.pm_world.specs.Below.{Below}
-use Rattle.pm_world.specs.declared.arrival.Arrival.{Arrival}
-use Rattle.pm_world.specs.declared.back.Back.{Back}
+use Rattle.pm_world.specs.declared.event.Arrival.{Arrival}
+use Rattle.pm_world.specs.declared.event.Back.{Back}
 use Rattle.pm_world.specs.declared.event.Event.{Event}
 use Rattle.pm_world.specs.Confirmed.{restarts_converter, restarted_since}
 use Rattle.pm_world.specs.Legal.{answer_in, back_bytes, frame_of, heard_bytes, heard_ending, is_heard_whole, is_legal_return}

@@ -19,8 +19,8 @@ use Rattle.pm_host.specs.Transcript as host
 use Rattle.pm_world.specs.declared.event.Event.{Event}
 use Rattle.pm_world.specs.declared.event.Event.TheVariants.{Deliver, Exchange, Finish, OrderMicro, RestartDevice}
 use Rattle.pm_world.specs.declared.cause.Cause.TheVariants.{Full, WrongKind}
-use Rattle.pm_world.specs.declared.arrival.Arrival.{Arrival}
-use Rattle.pm_world.specs.declared.back.Back.{Back}
+use Rattle.pm_world.specs.declared.event.Arrival.{Arrival}
+use Rattle.pm_world.specs.declared.event.Back.{Back}
 use Rattle.pm_world.specs.Confirmed.{restarts_converter}
 use Rattle.pm_world.specs.Job.{asked_by, refusal_of}
 use Rattle.pm_world.specs.State.{HasWord, State, asked, counted, event_cause, exchange_cause, next, refused, rule, share_beside, share_of}

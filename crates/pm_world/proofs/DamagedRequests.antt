@@ -15,9 +15,9 @@ use Rattle.pm_frame.specs.Damage.{DifferWithinEight, message_bit}
 use Rattle.pm_frame.specs.Fault.{whole_answer}
 use Rattle.pm_frame.specs.Layout.{AreBytes, answered}
 use Rattle.pm_frame.specs.Pec.{pec_of}
-use Rattle.pm_device.specs.declared.ending.Ending.TheVariants.{Restart}
-use Rattle.pm_device.specs.declared.heard.Heard.{Heard}
-use Rattle.pm_device.specs.declared.heard.Heard.TheVariants.{Answer}
+use Rattle.pm_device.specs.declared.converter.Ending.TheVariants.{Restart}
+use Rattle.pm_device.specs.declared.converter.Heard.{Heard}
+use Rattle.pm_device.specs.declared.converter.Heard.TheVariants.{Answer}
 use Rattle.pm_device.specs.Held.{Held}
 use Rattle.pm_device.specs.Reply.{payload_for, reply_of}
 use Rattle.pm_world.specs.Below.{Below}

@@ -24,7 +24,7 @@ use Rattle.pm_host.specs.Summary.{Summary, sending_in, stage_message}
 use Rattle.pm_host.specs.Transcript as host
 use Rattle.pm_host.specs.Lemmas.{writes_cell}
 use Rattle.pm_world.specs.Below.{Below}
-use Rattle.pm_world.specs.declared.arrival.Arrival.TheVariants.{Whole}
+use Rattle.pm_world.specs.declared.event.Arrival.TheVariants.{Whole}
 use Rattle.pm_world.specs.declared.event.Event.TheVariants.{Deliver}
 use Rattle.pm_world.specs.declared.cause.Cause.TheVariants.{WrongKind, NotBetrayed}
 use Rattle.pm_world.specs.Legal.{frame_of, heard_ending, is_legal_hearing}

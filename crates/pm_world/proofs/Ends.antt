@@ -3,11 +3,11 @@ use Rattle.std.proofs.Common.{◌≡◌, ℕ, Option, Some, None, Ok, refl, sym,
 use Rattle.std.specs.Prelude.{IsSomeAnd, option_and_then}
 use Rattle.std.specs.Option.{option_or}
 use Rattle.pm_device.specs.Held.{Held}
-use Rattle.pm_host.specs.declared.job_end.JobEnd.{JobEnd}
+use Rattle.pm_host.specs.declared.job.JobEnd.{JobEnd}
 use Rattle.pm_host.specs.declared.job.Job.{Job as Asked}
 use Rattle.pm_host.specs.Jobs.{Begins, accepted_job, begin_fault}
 use Rattle.pm_host.specs.Summary.{Summary, next as host_next, step_of}
-use Rattle.pm_host.specs.declared.step.Step.TheVariants.{Next}
+use Rattle.pm_host.specs.declared.host.Step.TheVariants.{Next}
 use Rattle.pm_host.specs.Transcript.{Entry, Accepted, Job, Order}
 use Rattle.pm_world.specs.declared.event.Event.{Event}
 use Rattle.pm_world.specs.Job.{asked_by}

@@ -4,13 +4,13 @@ use Rattle.std.specs.Prelude.{IsSomeAnd}
 use Rattle.std.specs.Option.{option_or}
 use Rattle.pm_frame.specs.declared.message.Message.{Message}
 use Rattle.pm_frame.specs.Layout.{IsWrite, is_read_message}
-use Rattle.pm_device.specs.declared.ending.Ending.{Ending}
-use Rattle.pm_device.specs.declared.ending.Ending.TheVariants.{Stop, Restart}
+use Rattle.pm_device.specs.declared.converter.Ending.{Ending}
+use Rattle.pm_device.specs.declared.converter.Ending.TheVariants.{Stop, Restart}
 use Rattle.pm_device.specs.Held.{Held}
 use Rattle.pm_device.specs.Effect.{Hearing}
 use Rattle.pm_device.specs.History.{next as device_next}
 use Rattle.pm_host.specs.Summary.{sending_in}
-use Rattle.pm_world.specs.declared.arrival.Arrival.{Arrival}
+use Rattle.pm_world.specs.declared.event.Arrival.{Arrival}
 use Rattle.pm_world.specs.declared.event.Event.TheVariants.{Deliver}
 use Rattle.pm_world.specs.declared.cause.Cause.TheVariants.{WrongKind, NotBetrayed}
 use Rattle.pm_world.specs.Legal.{frame_of, heard_bytes, ending_of, heard_ending, is_legal_hearing}

@@ -17,7 +17,7 @@ use Rattle.pm_table.specs.Format.{shape_in}
 use Rattle.pm_table.specs.VoutMode.{mode_of}
 use Rattle.pm_frame.specs.Layout.{fits_layout}
 use Rattle.pm_device.specs.declared.config.Config.{Config}
-use Rattle.pm_device.specs.declared.ending.Ending.TheVariants.{Restart}
+use Rattle.pm_device.specs.declared.converter.Ending.TheVariants.{Restart}
 use Rattle.pm_device.specs.Held.{mode_for, shape_for}
 use Rattle.pm_device.specs.Reply.{register_bytes, reply_of}
 use Rattle.pm_host.specs.declared.question.Question.TheVariants.{Mode, Coefficients}

@@ -10,9 +10,9 @@ use Rattle.pm_table.specs.Protection.{is_allowed}
 use Rattle.pm_model.specs.Settings.{Words, word_at}
 use Rattle.pm_device.specs.declared.config.Config.{Config}
 use Rattle.pm_host.specs.declared.command.Command.{Command}
-use Rattle.pm_host.specs.declared.job_end.JobEnd.TheVariants.{Done}
+use Rattle.pm_host.specs.declared.job.JobEnd.TheVariants.{Done}
 use Rattle.pm_host.specs.declared.stage.Stage.TheVariants.{Reads, Sends as SendsCommand, Writes}
-use Rattle.pm_host.specs.declared.standing.Standing.TheVariants.{Confirmed}
+use Rattle.pm_host.specs.declared.knowledge.Standing.TheVariants.{Confirmed}
 use Rattle.pm_host.specs.Messages.{cell_read, cell_write}
 use Rattle.pm_host.specs.Possible.{only}
 use Rattle.pm_host.specs.Sound.{IsOrdering, IsStage}

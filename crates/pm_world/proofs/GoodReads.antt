@@ -11,16 +11,16 @@ use Rattle.pm_table.specs.Cell.{IsCell, cell_accepts, cell_in, place_of, places,
 use Rattle.pm_frame.specs.declared.message.Message.{Message}
 use Rattle.pm_model.specs.Settings.{word_at}
 use Rattle.pm_device.specs.declared.config.Config.{Config}
-use Rattle.pm_device.specs.declared.ending.Ending.TheVariants.{Restart}
+use Rattle.pm_device.specs.declared.converter.Ending.TheVariants.{Restart}
 use Rattle.pm_device.specs.Effect as device
 use Rattle.pm_device.specs.Held.{Held}
 use Rattle.pm_device.specs.Reply.{reply_of}
-use Rattle.pm_host.specs.declared.possible.Possible.{Possible}
-use Rattle.pm_host.specs.declared.possible.Possible.TheVariants.{Any}
+use Rattle.pm_host.specs.declared.knowledge.Possible.{Possible}
+use Rattle.pm_host.specs.declared.knowledge.Possible.TheVariants.{Any}
 use Rattle.pm_host.specs.declared.question.Question.TheVariants.{Word}
 use Rattle.pm_host.specs.declared.stage.Stage.TheVariants.{Asks, Reads, Writes}
-use Rattle.pm_host.specs.declared.standing.Standing.TheVariants.{Confirmed, Unknown}
-use Rattle.pm_host.specs.declared.job_end.JobEnd.TheVariants.{Done, Differs}
+use Rattle.pm_host.specs.declared.knowledge.Standing.TheVariants.{Confirmed, Unknown}
+use Rattle.pm_host.specs.declared.job.JobEnd.TheVariants.{Done, Differs}
 use Rattle.pm_host.specs.Answers.{good_payload, good_word, word_in}
 use Rattle.pm_host.specs.Cells.{table}
 use Rattle.pm_host.specs.Known.{Known, all_any, known_after, known_now, known_possible, known_standing}
@@ -34,8 +34,8 @@ use Rattle.pm_host.specs.Summary.{next as host_next, read_another, read_back, se
 use Rattle.pm_host.specs.Transcript as host
 use Rattle.pm_host.specs.Lemmas.{all_any-length}
 use Rattle.pm_world.specs.Below.{Below}
-use Rattle.pm_world.specs.declared.arrival.Arrival.{Arrival}
-use Rattle.pm_world.specs.declared.back.Back.{Back}
+use Rattle.pm_world.specs.declared.event.Arrival.{Arrival}
+use Rattle.pm_world.specs.declared.event.Back.{Back}
 use Rattle.pm_world.specs.declared.event.Event.{Event}
 use Rattle.pm_world.specs.declared.event.Event.TheVariants.{Exchange, Reading}
 use Rattle.pm_world.specs.GoodBus.{IsRead, ReadDone, WasRead, comes_whole, held_after, is_reading}

@@ -12,13 +12,13 @@ use Rattle.pm_table.specs.declared.cell.Cell.TheVariants.{Out, Protect}
 use Rattle.pm_table.specs.Cell.{IsCell, cell_accepts, cell_code, is_voltage, register_code}
 use Rattle.pm_table.specs.Protection.{is_allowed}
 use Rattle.pm_frame.specs.declared.message.Message.{Message}
-use Rattle.pm_frame.specs.declared.payload.Payload.TheVariants.{Byte, Word}
+use Rattle.pm_frame.specs.declared.message.Payload.TheVariants.{Byte, Word}
 use Rattle.pm_frame.specs.Betrayal.{is_betrayed}
 use Rattle.pm_frame.specs.Fault.{write_fault, request_fault}
 use Rattle.pm_frame.specs.Layout.{IsWrite, IsRequest, is_read_message, fits_layout, sent, with_pec}
 use Rattle.pm_model.specs.Settings.{word_at, with_word}
-use Rattle.pm_device.specs.declared.ending.Ending.{Ending}
-use Rattle.pm_device.specs.declared.ending.Ending.TheVariants.{Stop, Restart}
+use Rattle.pm_device.specs.declared.converter.Ending.{Ending}
+use Rattle.pm_device.specs.declared.converter.Ending.TheVariants.{Stop, Restart}
 use Rattle.pm_device.specs.Held.{Held}
 use Rattle.pm_device.specs.Verdict.{payload_word}
 use Rattle.pm_device.specs.Effect.{Hearing, Kept, kept_in, kept_after, words_after}

@@ -9,8 +9,8 @@ use Rattle.pm_table.specs.declared.cell.Cell.{Cell}
 use Rattle.pm_table.specs.declared.cell.Cell.TheVariants.{Out, Protect}
 use Rattle.pm_table.specs.Cell.{cell_accepts, IsCell, same_cell}
 use Rattle.pm_frame.specs.declared.message.Message.{Message}
-use Rattle.pm_model.specs.declared.pending_job.PendingJob.{PendingJob}
-use Rattle.pm_model.specs.declared.pending_job.PendingJob.TheVariants as pending
+use Rattle.pm_model.specs.declared.order_machine.PendingJob.{PendingJob}
+use Rattle.pm_model.specs.declared.order_machine.PendingJob.TheVariants as pending
 use Rattle.pm_model.specs.OrderMachine.{words_taken}
 use Rattle.pm_model.specs.Settings.{Words, AreWords, word_at, with_outputs, with_word}
 use Rattle.pm_device.specs.declared.config.Config.{Config}
@@ -19,10 +19,10 @@ use Rattle.pm_device.specs.Effect as device
 use Rattle.pm_device.specs.History.{now as device_now}
 use Rattle.pm_host.specs.declared.command.Command.{Command}
 use Rattle.pm_host.specs.declared.command.Command.TheVariants.{StoreUserAll, RestoreUserAll}
-use Rattle.pm_host.specs.declared.possible.Possible.TheVariants.{Any}
+use Rattle.pm_host.specs.declared.knowledge.Possible.TheVariants.{Any}
 use Rattle.pm_host.specs.declared.stage.Stage.{Stage}
 use Rattle.pm_host.specs.declared.stage.Stage.TheVariants.{Writes, Reads, Sends}
-use Rattle.pm_host.specs.declared.standing.Standing.TheVariants.{Confirmed, Unknown}
+use Rattle.pm_host.specs.declared.knowledge.Standing.TheVariants.{Confirmed, Unknown}
 use Rattle.pm_host.specs.Answers.{good_payload, good_word, word_in}
 use Rattle.pm_host.specs.Marks.{read_by, marks}
 use Rattle.pm_host.specs.Messages.{cell_read}
@@ -34,8 +34,8 @@ use Rattle.pm_host.specs.Summary.{Summary, sending_in, stage_message, possible_a
 use Rattle.pm_host.specs.Transcript as host
 use Rattle.pm_host.specs.Lemmas.{reads_cell as is-request}
 use Rattle.pm_world.specs.Below.{Below}
-use Rattle.pm_world.specs.declared.arrival.Arrival.{Arrival}
-use Rattle.pm_world.specs.declared.back.Back.{Back}
+use Rattle.pm_world.specs.declared.event.Arrival.{Arrival}
+use Rattle.pm_world.specs.declared.event.Back.{Back}
 use Rattle.pm_world.specs.declared.event.Event.{Event}
 use Rattle.pm_world.specs.declared.event.Event.TheVariants.{Deliver}
 use Rattle.pm_world.specs.Confirmed.{reads_cell, restarts_converter, restarted_since, ConfirmedIsHeld}

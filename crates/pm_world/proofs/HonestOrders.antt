@@ -13,7 +13,7 @@ use Rattle.pm_host.specs.Transcript as host
 use Rattle.pm_world.specs.Below.{Below}
 use Rattle.pm_world.specs.declared.event.Event.{Event}
 use Rattle.pm_world.specs.declared.event.Event.TheVariants.{Deliver, Finish}
-use Rattle.pm_world.specs.declared.arrival.Arrival.{Arrival}
+use Rattle.pm_world.specs.declared.event.Arrival.{Arrival}
 use Rattle.pm_world.specs.GoodBus.{IsWritten, delivers_whole, is_beside}
 use Rattle.pm_world.specs.Honest.{WentThrough, honest, is_whole, sent_by}
 use Rattle.pm_world.specs.Legal.{frame_of}

@@ -12,13 +12,13 @@ use Rattle.pm_table.specs.declared.reg.Reg.TheVariants.{VoutMax, VoutMin}
 use Rattle.pm_table.specs.Cell.{is_voltage}
 use Rattle.pm_table.specs.Operation.{selected_register}
 use Rattle.pm_model.specs.Commanded.{limited}
-use Rattle.pm_host.specs.declared.possible.Possible.{Possible}
-use Rattle.pm_host.specs.declared.possible.Possible.TheVariants.{Any, Words as Listed}
+use Rattle.pm_host.specs.declared.knowledge.Possible.{Possible}
+use Rattle.pm_host.specs.declared.knowledge.Possible.TheVariants.{Any, Words as Listed}
 use Rattle.pm_host.specs.Possible.{is_listed, is_possible}
 use Rattle.pm_limits.specs.declared.band.Band.{Band}
-use Rattle.pm_limits.specs.declared.side.Side.{Side}
-use Rattle.pm_limits.specs.declared.within.Within.TheVariants as within
-use Rattle.pm_limits.specs.declared.side.Side.TheVariants.{Lowest, Highest}
+use Rattle.pm_limits.specs.declared.ends.Side.{Side}
+use Rattle.pm_limits.specs.declared.guard.Within.TheVariants as within
+use Rattle.pm_limits.specs.declared.ends.Side.TheVariants.{Lowest, Highest}
 use Rattle.pm_limits.specs.Band.{HasDens, Known, band_with, band_within, end_with, is_yes, operation_end, reach, word_end}
 use Rattle.pm_limits.specs.Bounds.{Bounds}
 use Rattle.pm_limits.specs.Ends.{candidates, shape_ends}

@@ -10,7 +10,7 @@ use Rattle.pm_frame.specs.declared.message.Message.{Message}
 use Rattle.pm_frame.specs.Layout.{is_read_message}
 use Rattle.pm_device.specs.declared.config.Config.{Config}
 use Rattle.pm_host.specs.declared.job.Job.{Job}
-use Rattle.pm_host.specs.declared.job_end.JobEnd.{JobEnd}
+use Rattle.pm_host.specs.declared.job.JobEnd.{JobEnd}
 use Rattle.pm_host.specs.Jobs.{accepted_job}
 use Rattle.pm_host.specs.declared.stage.Stage.{Stage}
 use Rattle.pm_host.specs.Ended.{job_in, stage_job, StepTells}

@@ -6,8 +6,8 @@ use Rattle.pm_table.specs.declared.cell.Cell.TheVariants.{Out}
 use Rattle.pm_table.specs.declared.reg.Reg.{Reg}
 use Rattle.pm_table.specs.Cell.{cell_accepts, IsCell}
 use Rattle.pm_device.specs.declared.config.Config.{Config}
-use Rattle.pm_host.specs.declared.possible.Possible.{Possible}
-use Rattle.pm_host.specs.declared.possible.Possible.TheVariants.{Any, Words}
+use Rattle.pm_host.specs.declared.knowledge.Possible.{Possible}
+use Rattle.pm_host.specs.declared.knowledge.Possible.TheVariants.{Any, Words}
 use Rattle.pm_host.specs.Marks.{marks}
 use Rattle.pm_host.specs.Possible.{is_possible, possible_of}
 use Rattle.pm_host.specs.Refusals.{IsSetup}

@@ -23,8 +23,8 @@ use Rattle.pm_table.specs.Cell.{is_voltage}
 use Rattle.pm_table.specs.Format.{is_decimal, shape_in}
 use Rattle.pm_table.specs.VoutMode.{mode_of}
 use Rattle.pm_model.specs.Commanded.{commanded, limited, selected_register}
-use Rattle.pm_model.specs.declared.pending_job.PendingJob.{PendingJob}
-use Rattle.pm_model.specs.declared.pending_job.PendingJob.TheVariants as pending
+use Rattle.pm_model.specs.declared.order_machine.PendingJob.{PendingJob}
+use Rattle.pm_model.specs.declared.order_machine.PendingJob.TheVariants as pending
 use Rattle.pm_model.specs.OrderMachine.{Accept, End}
 use Rattle.pm_device.specs.declared.config.Config.{Config}
 use Rattle.pm_device.specs.Held.{mode_for, shape_for, value_for}

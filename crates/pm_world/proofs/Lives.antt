@@ -10,7 +10,7 @@ use Rattle.pm_device.specs.Held.{Held}
 use Rattle.pm_device.specs.Effect as device
 use Rattle.pm_device.specs.History.{now as device_now}
 use Rattle.pm_device.specs.Start.{IsSound}
-use Rattle.pm_host.specs.declared.job_end.JobEnd.{JobEnd}
+use Rattle.pm_host.specs.declared.job.JobEnd.{JobEnd}
 use Rattle.pm_host.specs.Now.{now as host_now, AreTold}
 use Rattle.pm_host.specs.Refusals.{IsSetup, may_come, sends_write}
 use Rattle.pm_host.specs.Summary.{Summary, step_by, sending_in}

@@ -7,8 +7,8 @@ use Rattle.pm_table.specs.declared.cell.Cell.TheVariants.{Out, Protect}
 use Rattle.pm_table.specs.declared.reg.Reg.{Reg}
 use Rattle.pm_table.specs.Cell.{IsCell, same_cell}
 use Rattle.pm_table.specs.Protection.{is_allowed}
-use Rattle.pm_model.specs.declared.pending_job.PendingJob.{PendingJob}
-use Rattle.pm_model.specs.declared.pending_job.PendingJob.TheVariants.{Order, Store, Restore}
+use Rattle.pm_model.specs.declared.order_machine.PendingJob.{PendingJob}
+use Rattle.pm_model.specs.declared.order_machine.PendingJob.TheVariants.{Order, Store, Restore}
 use Rattle.pm_model.specs.OrderMachine.{IsAccepted, words_taken, store_taken}
 use Rattle.pm_model.specs.Settings.{AreWords, Words, with_outputs, word_at}
 use Rattle.pm_device.specs.declared.config.Config.{Config}
@@ -20,7 +20,7 @@ use Rattle.pm_host.specs.Refusals.{IsSetup}
 use Rattle.pm_host.specs.Summary.{sending_in}
 use Rattle.pm_host.specs.Transcript as host
 use Rattle.pm_world.specs.Below.{Below}
-use Rattle.pm_world.specs.declared.arrival.Arrival.{Arrival}
+use Rattle.pm_world.specs.declared.event.Arrival.{Arrival}
 use Rattle.pm_world.specs.declared.event.Event.{Event}
 use Rattle.pm_world.specs.declared.event.Event.TheVariants.{Deliver, Exchange, Reading, RestartDevice}
 use Rattle.pm_world.specs.Honest.{is_whole}

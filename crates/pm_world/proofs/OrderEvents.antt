@@ -13,14 +13,14 @@ use Rattle.pm_frame.specs.declared.message.Message.{Message}
 use Rattle.pm_frame.specs.declared.message.Message.TheVariants.{SendByte}
 use Rattle.pm_table.specs.Codes as command
 use Rattle.pm_table.specs.Lemmas.{is_cell-there}
-use Rattle.pm_frame.specs.declared.payload.Payload.TheVariants.{Empty}
+use Rattle.pm_frame.specs.declared.message.Payload.TheVariants.{Empty}
 use Rattle.pm_frame.specs.Layout.{IsWrite, is_read_message, fits_layout}
-use Rattle.pm_model.specs.declared.pending_job.PendingJob.{PendingJob}
-use Rattle.pm_model.specs.declared.pending_job.PendingJob.TheVariants as pending
+use Rattle.pm_model.specs.declared.order_machine.PendingJob.{PendingJob}
+use Rattle.pm_model.specs.declared.order_machine.PendingJob.TheVariants as pending
 use Rattle.pm_model.specs.OrderMachine.{words_taken, store_taken}
 use Rattle.pm_model.specs.Settings.{Words, with_outputs, with_word, word_at}
-use Rattle.pm_device.specs.declared.ending.Ending.{Ending}
-use Rattle.pm_device.specs.declared.ending.Ending.TheVariants.{Stop}
+use Rattle.pm_device.specs.declared.converter.Ending.{Ending}
+use Rattle.pm_device.specs.declared.converter.Ending.TheVariants.{Stop}
 use Rattle.pm_device.specs.Held.{Held}
 use Rattle.pm_device.specs.Effect as device
 use Rattle.pm_device.specs.Effect.{Hearing, Kept, kept_in, kept_after}
@@ -37,8 +37,8 @@ use Rattle.pm_host.specs.Summary.{Summary, next as host_next, sending_in, stage_
 use Rattle.pm_host.specs.Transcript as host
 use Rattle.pm_host.specs.Lemmas.{reads_question}
 use Rattle.pm_world.specs.Below.{Below}
-use Rattle.pm_world.specs.declared.arrival.Arrival.{Arrival}
-use Rattle.pm_world.specs.declared.back.Back.{Back as Return}
+use Rattle.pm_world.specs.declared.event.Arrival.{Arrival}
+use Rattle.pm_world.specs.declared.event.Back.{Back as Return}
 use Rattle.pm_world.specs.declared.cause.Cause.TheVariants.{NotBetrayed, WrongKind}
 use Rattle.pm_world.specs.Honest.{is_whole}
 use Rattle.pm_world.specs.Legal.{ending_of, frame_of, heard_bytes, heard_ending, is_legal_hearing, is_restart}

@@ -8,7 +8,7 @@ use Rattle.pm_frame.specs.declared.message.Message.{Message}
 use Rattle.pm_frame.specs.declared.message.Message.TheVariants.{ReadCommand, PagePlusRead, ReadCoefficients}
 use Rattle.pm_frame.specs.Layout.{IsAnswer, is_read_message}
 use Rattle.pm_device.specs.declared.config.Config.{Config}
-use Rattle.pm_device.specs.declared.ending.Ending.TheVariants.{Restart}
+use Rattle.pm_device.specs.declared.converter.Ending.TheVariants.{Restart}
 use Rattle.pm_device.specs.History.{now as device_now}
 use Rattle.pm_device.specs.Reply.{payload_for, reply_of}
 use Rattle.pm_device.specs.Verdict.{is_answered}
@@ -19,7 +19,7 @@ use Rattle.pm_host.specs.Frames.{sends_command}
 use Rattle.pm_host.specs.Messages.{cell_read, command_message}
 use Rattle.pm_host.specs.Summary.{sending_in}
 use Rattle.pm_world.specs.Below.{Below}
-use Rattle.pm_world.specs.declared.arrival.Arrival.TheVariants.{Whole}
+use Rattle.pm_world.specs.declared.event.Arrival.TheVariants.{Whole}
 use Rattle.pm_world.specs.declared.event.Event.{Event}
 use Rattle.pm_world.specs.Legal.{answer_in, frame_of, whole_ending}
 use Rattle.pm_world.specs.Life.{life, now, state_of}

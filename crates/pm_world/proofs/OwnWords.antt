@@ -9,8 +9,8 @@ use Rattle.pm_table.specs.declared.cell.Cell.TheVariants.{Out}
 use Rattle.pm_table.specs.declared.reg.Reg.TheVariants.{Operation, VoutMax, VoutMin}
 use Rattle.pm_table.specs.Cell.{IsCell}
 use Rattle.pm_model.specs.Commanded.{selected_register, selected, is_cut, commanded}
-use Rattle.pm_model.specs.declared.pending_job.PendingJob.{PendingJob}
-use Rattle.pm_model.specs.declared.pending_job.PendingJob.TheVariants as pending
+use Rattle.pm_model.specs.declared.order_machine.PendingJob.{PendingJob}
+use Rattle.pm_model.specs.declared.order_machine.PendingJob.TheVariants as pending
 use Rattle.pm_model.specs.OrderMachine.{Step, Accept, Take, End, Back, IsOwnWord as IsMachineOwn}
 use Rattle.pm_model.specs.Settings.{Words, AreWords, word_at}
 use Rattle.pm_device.specs.declared.config.Config.{Config}

@@ -10,7 +10,7 @@ use Rattle.pm_table.specs.declared.reg.Reg.{Reg}
 use Rattle.pm_table.specs.declared.reg.Reg.TheVariants.{Operation}
 use Rattle.pm_table.specs.Cell.{same_register}
 use Rattle.pm_table.specs.RuleLemmas.{rule-none}
-use Rattle.pm_model.specs.declared.pending_job.PendingJob.TheVariants as pending
+use Rattle.pm_model.specs.declared.order_machine.PendingJob.TheVariants as pending
 use Rattle.pm_model.specs.Commanded.{commanded, selected}
 use Rattle.pm_model.specs.Settings.{Words}
 use Rattle.pm_device.specs.declared.config.Config.{Config}

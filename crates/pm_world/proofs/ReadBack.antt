@@ -7,7 +7,7 @@ use Rattle.pm_frame.specs.declared.message.Message.{Message}
 use Rattle.pm_frame.specs.Layout.{IsRequest, IsAnswer, fits_layout}
 use Rattle.pm_frame.specs.View.{answer_payload, payload_in}
 use Rattle.pm_model.specs.Settings.{word_at}
-use Rattle.pm_device.specs.declared.ending.Ending.TheVariants.{Restart}
+use Rattle.pm_device.specs.declared.converter.Ending.TheVariants.{Restart}
 use Rattle.pm_device.specs.Held.{Held}
 use Rattle.pm_device.specs.Reply.{register_bytes, reply_of}
 use Rattle.pm_device.specs.Verdict.{payload_word}

@@ -4,8 +4,8 @@ use Rattle.std.proofs.Common.{sym, ◌∙◌, ap, subst}
 use Rattle.std.specs.Option.{option_map_or}
 use Rattle.pm_frame.specs.declared.message.Message.{Message}
 use Rattle.pm_frame.specs.Layout.{fits_layout}
-use Rattle.pm_model.specs.declared.pending_job.PendingJob.{PendingJob}
-use Rattle.pm_model.specs.declared.pending_job.PendingJob.TheVariants as pending
+use Rattle.pm_model.specs.declared.order_machine.PendingJob.{PendingJob}
+use Rattle.pm_model.specs.declared.order_machine.PendingJob.TheVariants as pending
 use Rattle.pm_model.specs.OrderMachine.{Step, Accept, Take, End, Back, IsRun, machine_of, words_taken, store_taken, CanAccept, CanTake}
 use Rattle.pm_model.specs.Settings.{Settings, Words}
 use Rattle.pm_device.specs.declared.config.Config.{Config}
@@ -18,7 +18,7 @@ use Rattle.pm_host.specs.Refusals.{IsSetup}
 use Rattle.pm_host.specs.Summary.{next as host_next, sending_in, idle}
 use Rattle.pm_host.specs.Transcript as host
 use Rattle.pm_world.specs.Below.{Below}
-use Rattle.pm_world.specs.declared.arrival.Arrival.{Arrival}
+use Rattle.pm_world.specs.declared.event.Arrival.{Arrival}
 use Rattle.pm_world.specs.declared.event.Event.{Event}
 use Rattle.pm_world.specs.declared.event.Event.TheVariants.{Deliver, Finish, Exchange, RestartDevice, RestartHost, Reading}
 use Rattle.pm_world.specs.Life.{life, now, state_of}

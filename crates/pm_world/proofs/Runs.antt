@@ -3,7 +3,7 @@ use Rattle.std.proofs.Common.{arith, ◌≡◌, ◌≤◌, ℕ, List, length, re
 use Rattle.std.proofs.lemmas.List.{length-reverse, length-take}
 use Rattle.pm_device.specs.declared.config.Config.{Config}
 use Rattle.pm_world.specs.declared.event.Event.{Event}
-use Rattle.pm_world.specs.declared.stop.Stop.{Stop}
+use Rattle.pm_world.specs.declared.cause.Stop.{Stop}
 use Rattle.pm_world.specs.Life.{now, taken_events}
 use Rattle.pm_world.specs.State.{State}
 use Rattle.pm_world.proofs.TakenWhole.{now-taken}

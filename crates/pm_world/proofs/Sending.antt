@@ -14,8 +14,8 @@ use Rattle.pm_table.specs.Protection.{is_allowed}
 use Rattle.pm_frame.specs.declared.message.Message.{Message}
 use Rattle.pm_frame.specs.Layout.{fits_layout, is_read_message}
 use Rattle.pm_model.specs.Settings.{Words, AreWords, word_at, with_word}
-use Rattle.pm_device.specs.declared.ending.Ending.{Ending}
-use Rattle.pm_device.specs.declared.ending.Ending.TheVariants.{Stop, Restart}
+use Rattle.pm_device.specs.declared.converter.Ending.{Ending}
+use Rattle.pm_device.specs.declared.converter.Ending.TheVariants.{Stop, Restart}
 use Rattle.pm_device.specs.Effect as device
 use Rattle.pm_device.specs.Effect.{Kept, words_after}
 use Rattle.pm_host.specs.declared.stage.Stage.TheVariants.{Writes}
@@ -26,7 +26,7 @@ use Rattle.pm_host.specs.Transcript as host
 use Rattle.pm_host.specs.Lemmas.{writes_cell}
 use Rattle.pm_world.specs.Below.{Below}
 use Rattle.pm_world.specs.declared.event.Event.TheVariants.{Deliver}
-use Rattle.pm_world.specs.declared.arrival.Arrival.{Arrival}
+use Rattle.pm_world.specs.declared.event.Arrival.{Arrival}
 use Rattle.pm_world.specs.declared.cause.Cause.TheVariants.{WrongKind, NotBetrayed}
 use Rattle.pm_world.specs.Honest.{is_whole}
 use Rattle.pm_world.specs.Legal.{frame_of, heard_bytes, ending_of, heard_ending, is_legal_hearing, is_restart}

@@ -6,8 +6,8 @@ use Rattle.pm_frame.specs.declared.message.Message.{Message}
 use Rattle.pm_device.specs.Effect as device
 use Rattle.pm_host.specs.Summary.{sending_in}
 use Rattle.pm_host.specs.Transcript as host
-use Rattle.pm_world.specs.declared.arrival.Arrival.{Arrival}
-use Rattle.pm_world.specs.declared.back.Back.{Back}
+use Rattle.pm_world.specs.declared.event.Arrival.{Arrival}
+use Rattle.pm_world.specs.declared.event.Back.{Back}
 use Rattle.pm_world.specs.declared.event.Event.{Event}
 use Rattle.pm_world.specs.declared.event.Event.TheVariants.{Deliver, Exchange, Finish, Reading, RestartDevice, RestartHost}
 use Rattle.pm_world.specs.State.{Share, State, asked, delivered, exchanged, hears, nothing, share_beside, share_of, tells}

@@ -10,7 +10,7 @@ use Rattle.pm_table.specs.declared.cell.Cell.TheVariants.{Out, Protect}
 use Rattle.pm_device.specs.declared.config.Config.{Config}
 use Rattle.pm_host.specs.Marks.{Mark, puts}
 use Rattle.pm_host.specs.Transcript as host
-use Rattle.pm_world.specs.declared.arrival.Arrival.TheVariants.{Whole}
+use Rattle.pm_world.specs.declared.event.Arrival.TheVariants.{Whole}
 use Rattle.pm_world.specs.declared.event.Event.{Event}
 use Rattle.pm_world.specs.declared.event.Event.TheVariants.{Deliver}
 use Rattle.pm_world.specs.Confirmed.{reads_cell, restarted_since, restarts_converter}

@@ -7,8 +7,8 @@ use Rattle.std.proofs.lemmas.Bool.{eq-eqb}
 use Rattle.pm_table.specs.declared.cell.Cell.{Cell}
 use Rattle.pm_table.specs.Cell.{is_output_cell, same_cell}
 use Rattle.pm_model.specs.Settings.{Words, word_at}
-use Rattle.pm_host.specs.declared.standing.Standing.{Standing}
-use Rattle.pm_host.specs.declared.standing.Standing.TheVariants.{Confirmed, Unknown}
+use Rattle.pm_host.specs.declared.knowledge.Standing.{Standing}
+use Rattle.pm_host.specs.declared.knowledge.Standing.TheVariants.{Confirmed, Unknown}
 use Rattle.pm_host.specs.Answers.{good_word}
 use Rattle.pm_host.specs.declared.command.Command.{Command}
 use Rattle.pm_host.specs.declared.command.Command.TheVariants.{RestoreUserAll}

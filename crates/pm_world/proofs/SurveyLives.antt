@@ -17,13 +17,13 @@ use Rattle.pm_model.specs.Commanded.{commanded, limited, selected}
 use Rattle.pm_model.specs.Settings.{Words, word_at}
 use Rattle.pm_device.specs.declared.config.Config.{Config}
 use Rattle.pm_device.specs.Held.{shape_for}
-use Rattle.pm_host.specs.declared.possible.Possible.{Possible}
-use Rattle.pm_host.specs.declared.possible.Possible.TheVariants.{Any, Words as Listed}
+use Rattle.pm_host.specs.declared.knowledge.Possible.{Possible}
+use Rattle.pm_host.specs.declared.knowledge.Possible.TheVariants.{Any, Words as Listed}
 use Rattle.pm_host.specs.Possible.{is_possible, only}
 use Rattle.pm_host.specs.Summary.{format_at, possible_at}
 use Rattle.pm_limits.specs.declared.band.Band.{Band}
-use Rattle.pm_limits.specs.declared.side.Side.{Side}
-use Rattle.pm_limits.specs.declared.side.Side.TheVariants.{Lowest, Highest}
+use Rattle.pm_limits.specs.declared.ends.Side.{Side}
+use Rattle.pm_limits.specs.declared.ends.Side.TheVariants.{Lowest, Highest}
 use Rattle.pm_limits.specs.Band as limits
 use Rattle.pm_limits.specs.Band.{InBand, Known, band_at, decides, each_selection, end_with, is_untaken, operations}
 use Rattle.pm_limits.specs.Part.{has_register, missing_word}

@@ -14,8 +14,8 @@ use Rattle.pm_table.specs.Rules.{first, rule}
 use Rattle.pm_device.specs.declared.config.Config.{Config}
 use Rattle.pm_host.specs.declared.job.Job.{Job}
 use Rattle.pm_host.specs.declared.job.Job.TheVariants as job
-use Rattle.pm_host.specs.declared.job_end.JobEnd.{JobEnd}
-use Rattle.pm_host.specs.declared.job_end.JobEnd.TheVariants.{Done, Learned}
+use Rattle.pm_host.specs.declared.job.JobEnd.{JobEnd}
+use Rattle.pm_host.specs.declared.job.JobEnd.TheVariants.{Done, Learned}
 use Rattle.pm_host.specs.Answers.{good_word}
 use Rattle.pm_host.specs.Ended.{EndTells, StepTells, job_in, word_told}
 use Rattle.pm_host.specs.Jobs.{accepted_job}

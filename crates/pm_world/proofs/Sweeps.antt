@@ -6,8 +6,8 @@ use Rattle.pm_table.specs.declared.cell.Cell.{Cell}
 use Rattle.pm_table.specs.Cell.{IsCell, same_cell}
 use Rattle.pm_model.specs.Settings.{Words, word_at}
 use Rattle.pm_device.specs.declared.config.Config.{Config}
-use Rattle.pm_host.specs.declared.possible.Possible.{Possible}
-use Rattle.pm_host.specs.declared.possible.Possible.TheVariants.{Any}
+use Rattle.pm_host.specs.declared.knowledge.Possible.{Possible}
+use Rattle.pm_host.specs.declared.knowledge.Possible.TheVariants.{Any}
 use Rattle.pm_host.specs.declared.question.Question.TheVariants.{Word}
 use Rattle.pm_host.specs.declared.stage.Stage.TheVariants.{Asks}
 use Rattle.pm_host.specs.Known.{Known, known_possible}

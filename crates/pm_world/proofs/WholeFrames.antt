@@ -11,11 +11,11 @@ use Rattle.pm_frame.specs.declared.message.Message.{Message}
 use Rattle.pm_frame.specs.Layout.{is_read_message}
 use Rattle.pm_model.specs.Settings.{word_at}
 use Rattle.pm_device.specs.declared.config.Config.{Config}
-use Rattle.pm_device.specs.declared.ending.Ending.TheVariants.{Restart, Stop}
+use Rattle.pm_device.specs.declared.converter.Ending.TheVariants.{Restart, Stop}
 use Rattle.pm_host.specs.Messages.{cell_read, cell_write}
 use Rattle.pm_host.specs.Lemmas.{reads_cell}
-use Rattle.pm_world.specs.declared.arrival.Arrival.TheVariants.{Whole}
-use Rattle.pm_world.specs.declared.back.Back.TheVariants as back
+use Rattle.pm_world.specs.declared.event.Arrival.TheVariants.{Whole}
+use Rattle.pm_world.specs.declared.event.Back.TheVariants as back
 use Rattle.pm_world.specs.declared.event.Event.{Event}
 use Rattle.pm_world.specs.declared.event.Event.TheVariants.{Deliver, Exchange, Finish, Order}
 use Rattle.pm_world.specs.GoodBus.{IsRead, IsWritten}

@@ -15,16 +15,16 @@ use Rattle.pm_table.specs.declared.reg.Reg.{Reg}
 use Rattle.pm_table.specs.declared.reg.Reg.TheVariants.{Operation}
 use Rattle.pm_table.specs.Cell.{cell_accepts, is_operation, is_voltage}
 use Rattle.pm_table.specs.Operation.{has_on}
-use Rattle.pm_model.specs.declared.pending_job.PendingJob.{PendingJob}
-use Rattle.pm_model.specs.declared.pending_job.PendingJob.TheVariants as pending
+use Rattle.pm_model.specs.declared.order_machine.PendingJob.{PendingJob}
+use Rattle.pm_model.specs.declared.order_machine.PendingJob.TheVariants as pending
 use Rattle.pm_device.specs.declared.config.Config.{Config}
 use Rattle.pm_device.specs.Held.{shape_for}
 use Rattle.pm_host.specs.declared.command.Command.{Command}
 use Rattle.pm_host.specs.declared.command.Command.TheVariants.{RestoreUserAll}
 use Rattle.pm_host.specs.declared.job.Job.{Job}
 use Rattle.pm_host.specs.declared.job.Job.TheVariants as job
-use Rattle.pm_host.specs.declared.possible.Possible.{Possible}
-use Rattle.pm_host.specs.declared.possible.Possible.TheVariants.{Any, Words}
+use Rattle.pm_host.specs.declared.knowledge.Possible.{Possible}
+use Rattle.pm_host.specs.declared.knowledge.Possible.TheVariants.{Any, Words}
 use Rattle.pm_host.specs.Answers.{good_word}
 use Rattle.pm_host.specs.Jobs.{accepted_job}
 use Rattle.pm_host.specs.Marks.{Good, Mark, Put, Restored, goods, marks, put_by, puts, read_by, send_marks}
@@ -35,8 +35,8 @@ use Rattle.pm_host.specs.Transcript as host
 use Rattle.pm_host.specs.declared.fault.HostFault.TheVariants.{BadWord}
 use Rattle.pm_limits.specs.declared.fault.LimitFault.{LimitFault}
 use Rattle.pm_limits.specs.declared.fault.LimitFault.TheVariants.{Host}
-use Rattle.pm_limits.specs.declared.side.Side.{Side}
-use Rattle.pm_limits.specs.declared.within.Within.{Within}
+use Rattle.pm_limits.specs.declared.ends.Side.{Side}
+use Rattle.pm_limits.specs.declared.guard.Within.{Within}
 use Rattle.pm_limits.specs.Band as limits
 use Rattle.pm_limits.specs.Band.{HasDens, Known, band_on, band_with, band_within, each_selection, is_untaken, is_yes, may_select_avsbus}
 use Rattle.pm_limits.specs.Band.{operation_end, operations, within_of, word_end}

@@ -19,7 +19,7 @@ use Rattle.pm_host.specs.Refusals.{may_come}
 use Rattle.pm_host.specs.Summary.{Summary, sending_in}
 use Rattle.pm_host.specs.Transcript as host
 use Rattle.pm_world.specs.Below.{Below}
-use Rattle.pm_world.specs.declared.back.Back.TheVariants.{Bytes}
+use Rattle.pm_world.specs.declared.event.Back.TheVariants.{Bytes}
 use Rattle.pm_world.specs.declared.event.Event.{Event}
 use Rattle.pm_world.specs.declared.event.Event.TheVariants.{Finish, Exchange}
 use Rattle.pm_world.specs.Life.{now}

@@ -5,10 +5,10 @@ use Rattle.pm_table.specs.declared.reg.Reg.{Reg}
 use Rattle.pm_model.specs.Settings.{Words, word_at}
 use Rattle.pm_device.specs.declared.config.Config.{Config}
 use Rattle.pm_device.specs.Held.{shape_for}
-use Rattle.pm_host.specs.declared.possible.Possible.TheVariants.{Any}
+use Rattle.pm_host.specs.declared.knowledge.Possible.TheVariants.{Any}
 use Rattle.pm_host.specs.Summary.{Summary, possible_at}
 use Rattle.pm_limits.specs.declared.part_registers.PartRegisters.{PartRegisters}
-use Rattle.pm_limits.specs.declared.side.Side.{Side}
+use Rattle.pm_limits.specs.declared.ends.Side.{Side}
 use Rattle.pm_limits.specs.Band.{decides, end_choice, known_of}
 use Rattle.pm_limits.specs.Part.{missing_word}
 use Rattle.pm_world.specs.declared.event.Event.{Event}

@@ -2,7 +2,7 @@
 -- H3 Busy`. This project's own choice.
 use Rattle.std.specs.Prelude.{ℕ, List, ◌++◌, codes}
 use Rattle.pm_host.specs.FaultWords.{host_fault_words, untold_words}
-use Rattle.pm_host.specs.declared.untold.Untold.TheVariants as untold
+use Rattle.pm_host.specs.declared.fault.Untold.TheVariants as untold
 use Rattle.pm_world.specs.declared.cause.Cause.{Cause}
 use Rattle.pm_world.specs.declared.cause.Cause.TheVariants.{Full, NothingSent, WrongKind, NotBetrayed, Host}
 

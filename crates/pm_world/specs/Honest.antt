@@ -12,10 +12,10 @@ use Rattle.pm_table.specs.Coefficients.{coefficients_of, coefficient_bytes}
 use Rattle.pm_table.specs.Protection.{is_allowed}
 use Rattle.pm_model.specs.Settings.{word_at}
 use Rattle.pm_device.specs.declared.config.Config.{Config}
-use Rattle.pm_device.specs.declared.ending.Ending.TheVariants.{Stop}
+use Rattle.pm_device.specs.declared.converter.Ending.TheVariants.{Stop}
 use Rattle.pm_device.specs.Held.{mode_for, shape_for, value_for}
-use Rattle.pm_host.specs.declared.standing.Standing.TheVariants.{Confirmed}
-use Rattle.pm_host.specs.declared.job_end.JobEnd.TheVariants.{Done, Learned}
+use Rattle.pm_host.specs.declared.knowledge.Standing.TheVariants.{Confirmed}
+use Rattle.pm_host.specs.declared.job.JobEnd.TheVariants.{Done, Learned}
 use Rattle.pm_host.specs.Answers.{good_word}
 use Rattle.pm_host.specs.Frames.{frames_of}
 use Rattle.pm_host.specs.Messages.{cell_write}
@@ -24,9 +24,9 @@ use Rattle.pm_host.specs.Transcript.{Accepted, Finished, Got, format_of_output}
 use Rattle.pm_host.specs.Transcript as host
 use Rattle.pm_world.specs.declared.event.Event.{Event}
 use Rattle.pm_world.specs.declared.event.Event.TheVariants.{OrderMicro, Deliver, Finish, Exchange}
-use Rattle.pm_world.specs.declared.arrival.Arrival.{Arrival}
-use Rattle.pm_world.specs.declared.arrival.Arrival.TheVariants.{Whole}
-use Rattle.pm_world.specs.declared.back.Back.TheVariants as back
+use Rattle.pm_world.specs.declared.event.Arrival.{Arrival}
+use Rattle.pm_world.specs.declared.event.Arrival.TheVariants.{Whole}
+use Rattle.pm_world.specs.declared.event.Back.TheVariants as back
 use Rattle.pm_world.specs.Ended.{begins_other}
 use Rattle.pm_world.specs.Legal.{frame_of, heard_bytes, ending_of, is_restart}
 use Rattle.pm_world.specs.Life.{life, now}

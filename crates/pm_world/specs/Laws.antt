@@ -11,8 +11,8 @@ use Rattle.pm_frame.specs.Layout.{AreBytes, IsWrite, IsRequest, IsAnswer, is_rea
 use Rattle.pm_model.specs.Commanded.{commanded}
 use Rattle.pm_model.specs.Settings.{word_at}
 use Rattle.pm_device.specs.declared.config.Config.{Config}
-use Rattle.pm_device.specs.declared.ending.Ending.{Ending}
-use Rattle.pm_device.specs.declared.ending.Ending.TheVariants.{Restart}
+use Rattle.pm_device.specs.declared.converter.Ending.{Ending}
+use Rattle.pm_device.specs.declared.converter.Ending.TheVariants.{Restart}
 use Rattle.pm_device.specs.Held.{Held, value_for}
 use Rattle.pm_device.specs.Reply.{payload_for, reply_of}
 use Rattle.pm_device.specs.Start.{IsSound, start_word}
@@ -23,9 +23,9 @@ use Rattle.pm_host.specs.Now.{AreTold}
 use Rattle.pm_host.specs.Refusals.{IsSetup}
 use Rattle.pm_host.specs.Summary.{possible_at, sending_in}
 use Rattle.pm_host.specs.Transcript.{Order}
-use Rattle.pm_world.specs.declared.arrival.Arrival.{Arrival}
-use Rattle.pm_world.specs.declared.arrival.Arrival.TheVariants as arrival
-use Rattle.pm_world.specs.declared.back.Back.TheVariants as back
+use Rattle.pm_world.specs.declared.event.Arrival.{Arrival}
+use Rattle.pm_world.specs.declared.event.Arrival.TheVariants as arrival
+use Rattle.pm_world.specs.declared.event.Back.TheVariants as back
 use Rattle.pm_world.specs.declared.event.Event.{Event}
 use Rattle.pm_world.specs.declared.event.Event.TheVariants.{Deliver, Exchange}
 use Rattle.pm_world.specs.Confirmed.{ConfirmedIsHeld, restarted_since, restarts_converter}

@@ -5,14 +5,14 @@ use Rattle.std.specs.List.{starts_with}
 use Rattle.pm_frame.specs.declared.message.Message.{Message}
 use Rattle.pm_frame.specs.Layout.{is_read_message, sent, with_pec}
 use Rattle.pm_frame.specs.Betrayal.{is_betrayed}
-use Rattle.pm_device.specs.declared.ending.Ending.{Ending}
-use Rattle.pm_device.specs.declared.ending.Ending.TheVariants.{Stop, Restart}
-use Rattle.pm_device.specs.declared.heard.Heard.{Heard}
-use Rattle.pm_device.specs.declared.heard.Heard.TheVariants.{Silent, Taken, Answer, Refused}
-use Rattle.pm_world.specs.declared.arrival.Arrival.{Arrival}
-use Rattle.pm_world.specs.declared.arrival.Arrival.TheVariants.{Whole, Cut, Bytes}
-use Rattle.pm_world.specs.declared.back.Back.{Back}
-use Rattle.pm_world.specs.declared.back.Back.TheVariants as back
+use Rattle.pm_device.specs.declared.converter.Ending.{Ending}
+use Rattle.pm_device.specs.declared.converter.Ending.TheVariants.{Stop, Restart}
+use Rattle.pm_device.specs.declared.converter.Heard.{Heard}
+use Rattle.pm_device.specs.declared.converter.Heard.TheVariants.{Silent, Taken, Answer, Refused}
+use Rattle.pm_world.specs.declared.event.Arrival.{Arrival}
+use Rattle.pm_world.specs.declared.event.Arrival.TheVariants.{Whole, Cut, Bytes}
+use Rattle.pm_world.specs.declared.event.Back.{Back}
+use Rattle.pm_world.specs.declared.event.Back.TheVariants as back
 
 -- the bytes of the frame that a host sends for a message: all of a write, a request up to its
 -- repeated start

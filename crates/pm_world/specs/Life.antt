@@ -7,7 +7,7 @@ use Rattle.pm_device.specs.History.{now as device_now}
 use Rattle.pm_host.specs.Now.{now as host_now}
 use Rattle.pm_host.specs.Transcript as host
 use Rattle.pm_world.specs.declared.event.Event.{Event}
-use Rattle.pm_world.specs.declared.stop.Stop.{Stop}
+use Rattle.pm_world.specs.declared.cause.Stop.{Stop}
 use Rattle.pm_world.specs.Setup.{setup_of}
 use Rattle.pm_world.specs.State.{State, Share, share_of, next, cause_of, IsTaken}
 

@@ -8,7 +8,7 @@ use Rattle.pm_table.specs.Protection.{is_allowed}
 use Rattle.pm_model.specs.Settings.{word_at}
 use Rattle.pm_device.specs.declared.config.Config.{Config}
 use Rattle.pm_host.specs.declared.command.Command.{Command}
-use Rattle.pm_host.specs.declared.job_end.JobEnd.TheVariants.{Done}
+use Rattle.pm_host.specs.declared.job.JobEnd.TheVariants.{Done}
 use Rattle.pm_host.specs.declared.question.Question.TheVariants.{Word}
 use Rattle.pm_host.specs.declared.stage.Stage.TheVariants.{Asks, Reads, Sends, Writes}
 use Rattle.pm_host.specs.Messages.{cell_read, cell_write, command_message}

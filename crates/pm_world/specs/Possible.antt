@@ -7,7 +7,7 @@ use Rattle.pm_table.specs.declared.cell.Cell.{Cell}
 use Rattle.pm_table.specs.Cell.{IsCell, same_cell}
 use Rattle.pm_model.specs.Settings.{word_at}
 use Rattle.pm_device.specs.declared.config.Config.{Config}
-use Rattle.pm_host.specs.declared.possible.Possible.TheVariants.{Any}
+use Rattle.pm_host.specs.declared.knowledge.Possible.TheVariants.{Any}
 use Rattle.pm_host.specs.Marks.{Mark, Good, goods, marks}
 use Rattle.pm_host.specs.Possible.{is_possible, possible_of, restart_seen_of}
 use Rattle.pm_host.specs.Summary.{possible_at}

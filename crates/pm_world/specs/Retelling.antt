@@ -10,8 +10,8 @@ use Rattle.pm_table.specs.declared.reg.Reg.TheVariants.{Operation, VoutMax, Vout
 use Rattle.pm_table.specs.Cell.{cell_code}
 use Rattle.pm_table.specs.Protection.{is_allowed}
 use Rattle.pm_frame.specs.declared.message.Message.{Message}
-use Rattle.pm_model.specs.declared.pending_job.PendingJob.{PendingJob}
-use Rattle.pm_model.specs.declared.pending_job.PendingJob.TheVariants as pending
+use Rattle.pm_model.specs.declared.order_machine.PendingJob.{PendingJob}
+use Rattle.pm_model.specs.declared.order_machine.PendingJob.TheVariants as pending
 use Rattle.pm_model.specs.Commanded.{selected_register, limited}
 use Rattle.pm_model.specs.OrderMachine.{Step, Accept, Take, End, Back, IsRun, machine_of}
 use Rattle.pm_model.specs.Settings.{Settings, Words, word_at}
@@ -23,7 +23,7 @@ use Rattle.pm_host.specs.declared.command.Command.TheVariants.{StoreUserAll, Res
 use Rattle.pm_host.specs.Command.{command_code}
 use Rattle.pm_host.specs.Messages.{cell_write, command_message}
 use Rattle.pm_host.specs.Transcript as host
-use Rattle.pm_world.specs.declared.arrival.Arrival.{Arrival}
+use Rattle.pm_world.specs.declared.event.Arrival.{Arrival}
 use Rattle.pm_world.specs.declared.event.Event.{Event}
 use Rattle.pm_world.specs.declared.event.Event.TheVariants.{Deliver, Finish, Exchange, RestartDevice, RestartHost}
 use Rattle.pm_world.specs.Honest.{is_whole}

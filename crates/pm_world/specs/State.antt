@@ -10,16 +10,16 @@ use Rattle.pm_device.specs.History.{next as device_next}
 use Rattle.pm_device.specs.Reply.{reply_of}
 pub use Rattle.pm_table.specs.Rules.{rule}
 use Rattle.pm_host.specs.declared.fault.HostFault.{HostFault}
-use Rattle.pm_host.specs.declared.job_end.JobEnd.{JobEnd}
-use Rattle.pm_host.specs.declared.step.Step.{Step}
-use Rattle.pm_host.specs.declared.step.Step.TheVariants.{Next, Ended}
+use Rattle.pm_host.specs.declared.job.JobEnd.{JobEnd}
+use Rattle.pm_host.specs.declared.host.Step.{Step}
+use Rattle.pm_host.specs.declared.host.Step.TheVariants.{Next, Ended}
 use Rattle.pm_host.specs.Summary.{Summary, sending_in, next as host_next, step_of}
 use Rattle.pm_host.specs.Refusals.{micro_word}
 use Rattle.pm_host.specs.Transcript as host
 use Rattle.pm_world.specs.declared.event.Event.{Event}
 use Rattle.pm_world.specs.declared.event.Event.TheVariants.{OrderMicro, Deliver, Finish, Exchange, RestartDevice, RestartHost, Reading}
-use Rattle.pm_world.specs.declared.arrival.Arrival.{Arrival}
-use Rattle.pm_world.specs.declared.back.Back.{Back}
+use Rattle.pm_world.specs.declared.event.Arrival.{Arrival}
+use Rattle.pm_world.specs.declared.event.Back.{Back}
 use Rattle.pm_world.specs.declared.cause.Cause.{Cause}
 use Rattle.pm_world.specs.declared.cause.Cause.TheVariants.{Full, NothingSent, WrongKind, NotBetrayed, Host as Refuses}
 use Rattle.pm_world.specs.Job.{job_of, refusal_of}

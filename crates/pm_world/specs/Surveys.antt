@@ -7,8 +7,8 @@ use Rattle.pm_table.specs.declared.reg.Reg.{Reg}
 use Rattle.pm_device.specs.declared.config.Config.{Config}
 use Rattle.pm_device.specs.Held.{shape_for}
 use Rattle.pm_host.specs.declared.job.Job.{Job}
-use Rattle.pm_host.specs.declared.job_end.JobEnd.{JobEnd}
-use Rattle.pm_host.specs.declared.possible.Possible.TheVariants.{Any}
+use Rattle.pm_host.specs.declared.job.JobEnd.{JobEnd}
+use Rattle.pm_host.specs.declared.knowledge.Possible.TheVariants.{Any}
 use Rattle.pm_host.specs.Summary.{possible_at}
 use Rattle.pm_limits.specs.declared.band.Band.{Band}
 use Rattle.pm_limits.specs.declared.part_registers.PartRegisters.{PartRegisters}

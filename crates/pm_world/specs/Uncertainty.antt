@@ -16,17 +16,17 @@ use Rattle.pm_device.specs.Held.{mode_for, shape_for}
 use Rattle.pm_device.specs.Start.{IsSound, start_of}
 use Rattle.pm_host.specs.declared.command.Command.{Command}
 use Rattle.pm_host.specs.declared.command.Command.TheVariants.{ClearFaults, StoreUserAll, RestoreUserAll}
-use Rattle.pm_host.specs.declared.possible.Possible.{Possible}
-use Rattle.pm_host.specs.declared.possible.Possible.TheVariants.{Any, Words}
+use Rattle.pm_host.specs.declared.knowledge.Possible.{Possible}
+use Rattle.pm_host.specs.declared.knowledge.Possible.TheVariants.{Any, Words}
 use Rattle.pm_host.specs.Answers.{good_payload}
 use Rattle.pm_host.specs.Marks.{Mark, Put, Good, Restored, Restart, puts, goods}
 use Rattle.pm_host.specs.Possible.{is_listed}
 use Rattle.pm_host.specs.Summary.{Summary, possible_at}
 use Rattle.pm_host.specs.Transcript.{Setup, Job, Entry, Accepted, Finished, Got, Restarted, sending_of}
 use Rattle.pm_host.specs.Transcript as host
-use Rattle.pm_world.specs.declared.arrival.Arrival.{Arrival}
-use Rattle.pm_world.specs.declared.arrival.Arrival.TheVariants.{Whole, Cut}
-use Rattle.pm_world.specs.declared.back.Back.TheVariants.{Bytes}
+use Rattle.pm_world.specs.declared.event.Arrival.{Arrival}
+use Rattle.pm_world.specs.declared.event.Arrival.TheVariants.{Whole, Cut}
+use Rattle.pm_world.specs.declared.event.Back.TheVariants.{Bytes}
 use Rattle.pm_world.specs.declared.event.Event.{Event}
 use Rattle.pm_world.specs.declared.event.Event.TheVariants.{Order, Check, Learn, Clear, Store, Restore, Deliver, Finish, Exchange}
 use Rattle.pm_world.specs.declared.event.Event.TheVariants.{RestartHost}

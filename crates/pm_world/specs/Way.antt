@@ -18,10 +18,10 @@ use Rattle.pm_host.specs.Messages.{cell_write}
 use Rattle.pm_host.specs.Refusals.{IsSetup}
 use Rattle.pm_host.specs.Summary.{Summary, sending_in}
 use Rattle.pm_host.specs.Transcript.{Order}
-use Rattle.pm_world.specs.declared.arrival.Arrival.{Arrival}
-use Rattle.pm_world.specs.declared.arrival.Arrival.TheVariants.{Whole}
-use Rattle.pm_world.specs.declared.back.Back.{Back}
-use Rattle.pm_world.specs.declared.back.Back.TheVariants as back
+use Rattle.pm_world.specs.declared.event.Arrival.{Arrival}
+use Rattle.pm_world.specs.declared.event.Arrival.TheVariants.{Whole}
+use Rattle.pm_world.specs.declared.event.Back.{Back}
+use Rattle.pm_world.specs.declared.event.Back.TheVariants as back
 use Rattle.pm_world.specs.declared.event.Event.{Event}
 use Rattle.pm_world.specs.declared.event.Event.TheVariants.{Deliver, Exchange, Finish}
 use Rattle.pm_world.specs.declared.way.Way.{Way}

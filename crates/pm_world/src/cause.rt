@@ -1,8 +1,17 @@
-ghost use Rattle.std.specs.Prelude.{◌≡◌};
 ghost use Rattle.pm_world.specs.declared.cause.Cause.TheVariants as causes;
+ghost use Rattle.std.specs.Prelude.{◌≡◌};
 
 use pm_host::{HostFault, Untold};
 use thiserror::Error;
+
+/// The stop of a run: the events before this place were taken, and the one there wasn't.
+#[derive(Clone, Copy, Debug, PartialEq, Eq)]
+pub struct Stop {
+    /// How many events were taken, which is the place of the one that wasn't.
+    pub at: usize,
+    /// Why it wasn't.
+    pub cause: Cause,
+}
 
 /// Why an event isn't taken: the first that applies, in the order of these.
 #[derive(Clone, Copy, Debug, PartialEq, Eq, Error)]

@@ -1,12 +1,59 @@
 ghost use Rattle.std.specs.Prelude.{◌≡◌, Some};
-ghost use Rattle.pm_world.specs.Bytes.{CarriesBytes};
+ghost use Rattle.pm_world.specs.Bytes.{CarriesBytes, ArrivesInBytes, ReturnsInBytes};
 ghost use Rattle.pm_world.specs.Job.{asked_by, event_of};
 
-use crate::arrival::Arrival;
-use crate::back::Back;
 use crate::laws::spell_word;
+use crate::legal::spelled;
+use pm_device::Ending;
+use pm_frame::Frame;
 use pm_host::{Command, Job};
 use pm_table::{Cell, Code};
+
+/// What comes back to the host of the converter's answer to a request.
+#[derive(Clone, Debug, PartialEq, Eq, Drop)]
+pub enum Back {
+    /// The answer; no bytes where the converter gave none.
+    Whole,
+    /// Its first bytes, of this number, or all where there are no more.
+    Cut(u8),
+    /// Bytes that come in its place.
+    Bytes(Frame),
+}
+
+impl Back {
+    // law: the numbers that come back fit into bytes
+    pub(crate) fn spell(&self)
+        ensures { ReturnsInBytes self.now }
+    {
+        if let Back::Bytes(bytes) = self {
+            let _ = spelled(bytes.as_slice());
+        }
+    }
+}
+
+/// How a frame that the host sends arrives at the converter. Bytes go over the wire in their order,
+/// so a cut frame is a prefix of it.
+#[derive(Clone, Debug, PartialEq, Eq, Drop)]
+pub enum Arrival {
+    /// All of its bytes, ended as the host ends them: a write by a stop, a request by a repeated
+    /// start.
+    Whole,
+    /// Its first bytes, of this number, or all where there are no more, ended by a stop.
+    Cut(u8),
+    /// Bytes that come in its place, with this ending.
+    Bytes(Frame, Ending),
+}
+
+impl Arrival {
+    // law: the numbers that an arrival brings fit into bytes
+    pub(crate) fn spell(&self)
+        ensures { ArrivesInBytes self.now }
+    {
+        if let Arrival::Bytes(bytes, _) = self {
+            let _ = spelled(bytes.as_slice());
+        }
+    }
+}
 
 /// What happens in a world.
 #[derive(Clone, Debug, PartialEq, Eq, Drop)]

@@ -28,8 +28,6 @@
 //! ```
 #![tactic(auto)]
 
-mod arrival;
-mod back;
 mod cause;
 mod event;
 mod laws;
@@ -37,15 +35,12 @@ mod legal;
 mod openness;
 mod rail_laws;
 mod short;
-mod stop;
 mod watch;
 mod way;
 mod world;
 
-pub use arrival::Arrival;
-pub use back::Back;
-pub use cause::Cause;
-pub use event::Event;
+pub use cause::{Cause, Stop};
+pub use event::{Arrival, Back, Event};
 pub use laws::{
     answers_come_in_bytes, bands_are_exact, bands_are_held, betrayed_damage_is_legal,
     betrayed_damage_is_taken, causes_decide, confirmed_settings_are_held,
@@ -64,6 +59,5 @@ pub use openness::run_open;
 pub use pm_setup::SetupFault;
 pub use rail_laws::{plans_hold_in_lives, surveys_hold_in_lives, within_stays_within};
 pub use short::words_are_short;
-pub use stop::Stop;
 pub use way::{Way, run_way};
 pub use world::World;

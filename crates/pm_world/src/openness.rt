@@ -17,9 +17,9 @@ ghost use Rattle.pm_world.specs.Possible.{restarts_host as spec_restarts_host};
 ghost use Rattle.pm_world.specs.Setup.{setup_fault, setup_of};
 ghost use Rattle.pm_world.specs.Uncertainty.{AreOpen, since_restart};
 
+use crate::cause::Stop;
 use crate::event::Event;
 use crate::laws::{events_are_lived, lives_are_followed, open_lists_are_followed};
-use crate::stop::Stop;
 use crate::watch::Watch;
 use crate::world::World;
 use pm_device::Config;

@@ -11,12 +11,10 @@ ghost use Rattle.pm_world.specs.Lived.{IsLived};
 ghost use Rattle.pm_world.specs.Setup.{setup_fault, setup_of};
 ghost use Rattle.pm_world.specs.Way.{begun as spec_begun, delivered_on, exchanged_on, finished_on, hears_whole as spec_hears_whole, way_after, way_of};
 
-use crate::arrival::Arrival;
-use crate::back::Back;
-use crate::event::Event;
+use crate::cause::Stop;
+use crate::event::{Arrival, Back, Event};
 use crate::laws::{events_are_lived, lives_are_followed, ways_are_followed};
 use crate::legal::{heard_bytes, heard_ending};
-use crate::stop::Stop;
 use crate::watch::Watch;
 use crate::world::World;
 use pm_device::{Config, Ending};

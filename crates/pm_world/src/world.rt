@@ -23,7 +23,7 @@ ghost use Rattle.pm_model.specs.Settings.{word_at};
 ghost use Rattle.pm_device.specs.Held.{value_for};
 ghost use Rattle.pm_world.specs.Retelling.{IsOrderRun, IsOwnWord, CommandsOwn};
 
-use crate::cause::Cause;
+use crate::cause::{Cause, Stop};
 use crate::event::Event;
 use crate::laws::{
     answers_come_in_bytes, confirmed_settings_are_held, differing_orders_never_took,
@@ -31,7 +31,6 @@ use crate::laws::{
     learned_formats_are_true, lives_are_followed, lives_are_orders, lives_stay_limited,
     possible_words_are_held, settings_move_by_the_open_job, spell,
 };
-use crate::stop::Stop;
 use crate::watch::{Unwatched, Watch};
 use pm_device::{Config, Converter};
 use pm_host::{Host, JobEnd, transcripts_are_followed};

@@ -26,9 +26,9 @@ use Rattle.pm_frame.specs.Laws.{BetrayalIsRefused}
 use Rattle.pm_frame.specs.Layout.{answered, is_read_message, read_address, sent, with_pec, write_address}
 use Rattle.pm_frame.specs.View.{message_in}
 use Rattle.pm_device.specs.declared.config.Config.{Config}
-use Rattle.pm_device.specs.declared.ending.Ending.{Ending}
-use Rattle.pm_device.specs.declared.ending.Ending.TheVariants.{Stop, Restart}
-use Rattle.pm_device.specs.declared.heard.Heard.TheVariants.{Answer}
+use Rattle.pm_device.specs.declared.converter.Ending.{Ending}
+use Rattle.pm_device.specs.declared.converter.Ending.TheVariants.{Stop, Restart}
+use Rattle.pm_device.specs.declared.converter.Heard.TheVariants.{Answer}
 use Rattle.pm_device.specs.Effect as device
 use Rattle.pm_device.specs.Held.{CmlFaults, Held}
 use Rattle.pm_device.specs.History.{after, is_for_other, next as device_next}
@@ -41,10 +41,10 @@ use Rattle.pm_host.specs.declared.stage.Stage.{Stage}
 use Rattle.pm_host.specs.declared.stage.Stage.TheVariants.{Asks, Reads, Sends, Writes}
 use Rattle.pm_host.specs.Summary.{stage_message}
 use Rattle.pm_world.specs.Legal.{frame_of, is_legal_hearing}
-use Rattle.pm_world.specs.declared.arrival.Arrival.{Arrival}
-use Rattle.pm_world.specs.declared.arrival.Arrival.TheVariants as arrives
-use Rattle.pm_world.specs.declared.back.Back.{Back}
-use Rattle.pm_world.specs.declared.back.Back.TheVariants as returns
+use Rattle.pm_world.specs.declared.event.Arrival.{Arrival}
+use Rattle.pm_world.specs.declared.event.Arrival.TheVariants as arrives
+use Rattle.pm_world.specs.declared.event.Back.{Back}
+use Rattle.pm_world.specs.declared.event.Back.TheVariants as returns
 use Rattle.pm_world.specs.declared.cause.Cause.TheVariants.{NotBetrayed, WrongKind}
 use Rattle.pm_world.specs.declared.event.Event.{Event}
 use Rattle.pm_world.specs.declared.event.Event.TheVariants.{Check, Clear, Deliver, Exchange, Finish, Learn, Order, OrderMicro, Reading}

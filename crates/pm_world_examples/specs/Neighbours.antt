@@ -6,15 +6,15 @@ use Rattle.pm_frame.specs.declared.message.Message.{Message}
 use Rattle.pm_frame.specs.Betrayal.{is_betrayed}
 use Rattle.pm_frame.specs.Layout.{read_address}
 use Rattle.pm_device.specs.declared.config.Config.{Config}
-use Rattle.pm_device.specs.declared.ending.Ending.{Ending}
+use Rattle.pm_device.specs.declared.converter.Ending.{Ending}
 use Rattle.pm_device.specs.Effect as device
 use Rattle.pm_device.specs.Effect.{kept_in}
 use Rattle.pm_device.specs.Held.{CmlFaults, Held}
 use Rattle.pm_device.specs.History.{is_for_other, next as device_next}
 use Rattle.pm_device.specs.Start.{IsSound}
 use Rattle.pm_host.specs.Refusals.{IsSetup}
-use Rattle.pm_world.specs.declared.arrival.Arrival.TheVariants.{Whole}
-use Rattle.pm_world.specs.declared.back.Back.TheVariants.{Bytes}
+use Rattle.pm_world.specs.declared.event.Arrival.TheVariants.{Whole}
+use Rattle.pm_world.specs.declared.event.Back.TheVariants.{Bytes}
 use Rattle.pm_world.specs.declared.event.Event.{Event}
 use Rattle.pm_world.specs.declared.event.Event.TheVariants.{Exchange}
 use Rattle.pm_world.specs.Legal.{frame_of, is_legal_hearing, is_restart}

@@ -6,7 +6,7 @@ ghost use Rattle.std.specs.List.{list_any};
 ghost use Rattle.pm_host.specs.Marks.{marks};
 ghost use Rattle.pm_limits.specs.declared.band.Band.{Band};
 ghost use Rattle.pm_limits.specs.declared.part_registers.PartRegisters.{PartRegisters};
-ghost use Rattle.pm_limits.specs.declared.side.Side.{Side};
+ghost use Rattle.pm_limits.specs.declared.ends.Side.{Side};
 ghost use Rattle.pm_limits.specs.Band.{InBand, band_at, side_end};
 ghost use Rattle.pm_world.specs.Bands.{AreShort, BandStands, HoldsMissing, MissingUntold, end_choices};
 ghost use Rattle.pm_world_examples.specs.ByName.{IsReached};

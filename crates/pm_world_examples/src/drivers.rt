@@ -6,7 +6,7 @@ ghost use Rattle.pm_table.specs.declared.cell.Cell.{Cell as Place};
 ghost use Rattle.pm_table.specs.Cell.{IsCell};
 ghost use Rattle.pm_model.specs.Settings.{word_at};
 ghost use Rattle.pm_device.specs.History.{start_of};
-ghost use Rattle.pm_host.specs.declared.standing.Standing.TheVariants.{Confirmed};
+ghost use Rattle.pm_host.specs.declared.knowledge.Standing.TheVariants.{Confirmed};
 ghost use Rattle.pm_host.specs.Summary.{standing_at};
 ghost use Rattle.pm_driver.specs.NeverRestarts.{NeverRestarts, PatientNeverRestarts};
 ghost use Rattle.pm_driver.specs.Plan.{restarts_of};

@@ -4,7 +4,7 @@ ghost use Rattle.std.specs.Prelude.{◌≡◌, true};
 ghost use Rattle.pm_table.specs.Cell.{IsCell};
 ghost use Rattle.pm_table.specs.declared.cell.Cell.{Cell as AnyCell};
 ghost use Rattle.pm_model.specs.Settings.{word_at};
-ghost use Rattle.pm_device.specs.declared.heard.Heard.TheVariants.{Silent};
+ghost use Rattle.pm_device.specs.declared.converter.Heard.TheVariants.{Silent};
 ghost use Rattle.pm_device.specs.History.{is_for_other};
 
 use pm_device::{Converter, Ending, Heard, frames_for_others_are_silent, requests_latch_at_most};

@@ -6,7 +6,7 @@ ghost use Rattle.pm_table.specs.declared.cell.Cell.{Cell as AnyCell};
 ghost use Rattle.pm_device.specs.Start.{IsSound};
 ghost use Rattle.pm_host.specs.Refusals.{IsSetup};
 ghost use Rattle.pm_host.specs.Transcript.{Order};
-ghost use Rattle.pm_world.specs.declared.arrival.Arrival.{Arrival};
+ghost use Rattle.pm_world.specs.declared.event.Arrival.{Arrival};
 ghost use Rattle.pm_world.specs.declared.event.Event.{Event as Happening};
 ghost use Rattle.pm_world_examples.specs.ByName.{GoesThrough, IsAhead};
 ghost use Rattle.pm_world.specs.Honest.{honest, sent_by};

@@ -4,9 +4,7 @@ ghost use Rattle.pm_table.specs.Commands.{payload_length};
 ghost use Rattle.pm_device.specs.Verdict.{IsFit, verdict_of, names_no_output};
 ghost use Rattle.pm_device.specs.Reply as spec;
 
-use crate::converter::Converter;
-use crate::ending::Ending;
-use crate::heard::Heard;
+use crate::converter::{Converter, Ending, Heard};
 use crate::verdict::Verdict;
 use pm_frame::{Frame, Message, answer};
 use pm_table::{Code, cell_of, payloads_are_short};

@@ -1,7 +1,7 @@
 //! The converter's end of a bus: what it hears of a frame, and what comes back of its answer.
 
 ghost use Rattle.std.specs.Prelude.{◌≡◌, ◌≤◌, [], length, take};
-ghost use Rattle.pm_device.specs.declared.ending.Ending.TheVariants.{Stop};
+ghost use Rattle.pm_device.specs.declared.converter.Ending.TheVariants.{Stop};
 ghost use Rattle.pm_device.specs.Effect as effect;
 ghost use Rattle.pm_device.specs.History.{next as device_next};
 ghost use Rattle.pm_driver.specs.Plan.{asked, delivered, delivered_some, disturbed, returned};

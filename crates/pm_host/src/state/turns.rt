@@ -17,7 +17,7 @@ ghost use Rattle.pm_host.specs.Summary.{possible_at, another as spec_another, ma
 use crate::answers::{byte_in, good_answer, word_in};
 use crate::command::Command;
 use crate::format_image::FormatImage;
-use crate::job_end::JobEnd;
+use crate::job::JobEnd;
 use crate::progress::Progress;
 use crate::question::Question;
 use crate::stage::Stage;

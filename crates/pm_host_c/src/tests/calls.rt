@@ -13,17 +13,15 @@ use crate::known_cells::{KnownCell, KnownCells, pm_host_known_cells};
 use crate::limits::{
     BandImage, pm_host_band, pm_host_limits, pm_host_limits_state, pm_host_set_limits,
 };
-use crate::name_image::NameImage;
-use crate::names::{pm_end_name, pm_refusal_name};
+use crate::names::{NameImage, pm_end_name, pm_refusal_name};
 use crate::other_read::{BlockImage, pm_read_block, pm_read_plain};
 use crate::packet::{Packet, pm_packet_read_request, pm_packet_read_write, pm_packet_write};
 use crate::plan::{PlanOrderImage, pm_host_next, pm_host_plan};
 use crate::rail::{RailImage, pm_host_rail};
-use crate::sending::pm_host_frame;
 use crate::sending_image::SendingImage;
 use crate::survey::{pm_host_survey, pm_survey_for, pm_survey_new, pm_survey_told};
 use crate::survey_image::SurveyImage;
-use crate::told::{pm_host_read_ended, pm_host_write_ended};
+use crate::told::{pm_host_frame, pm_host_read_ended, pm_host_write_ended};
 use crate::voltages::{pm_at_least, pm_at_most, pm_host_format, pm_microvolts, pm_nearest_word};
 use crate::wanted_image::WantedImage;
 use pm_host::{StandingImage, WordsImage};

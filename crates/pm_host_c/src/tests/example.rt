@@ -5,9 +5,8 @@ use super::checks::equal;
 use crate::guard_image::GuardImage;
 use crate::host::{pm_host_new, pm_host_order};
 use crate::host_step::HostStep;
-use crate::sending::pm_host_frame;
 use crate::sending_image::SendingImage;
-use crate::told::{pm_host_read_ended, pm_host_write_ended};
+use crate::told::{pm_host_frame, pm_host_read_ended, pm_host_write_ended};
 
 // 3.3 V for VOUT_COMMAND of output 0, by a host of a part at address 58h with two outputs.
 fn ordered(host: &mut GuardImage, frame: &mut SendingImage) -> HostStep {

@@ -14,11 +14,11 @@ use Rattle.pm_table.specs.declared.cell.Cell.TheVariants.{Out}
 use Rattle.pm_table.specs.Cell.{same_register}
 use Rattle.pm_model.specs.Commanded.{commanded, limited, selected, selected_register}
 use Rattle.pm_model.specs.Settings.{Words, word_at}
-use Rattle.pm_host.specs.declared.possible.Possible.{Possible}
-use Rattle.pm_host.specs.declared.possible.Possible.TheVariants.{Any, Words as Listed}
+use Rattle.pm_host.specs.declared.knowledge.Possible.{Possible}
+use Rattle.pm_host.specs.declared.knowledge.Possible.TheVariants.{Any, Words as Listed}
 use Rattle.pm_host.specs.Possible.{is_listed, is_possible}
-use Rattle.pm_limits.specs.declared.side.Side.{Side}
-use Rattle.pm_limits.specs.declared.side.Side.TheVariants.{Lowest, Highest}
+use Rattle.pm_limits.specs.declared.ends.Side.{Side}
+use Rattle.pm_limits.specs.declared.ends.Side.TheVariants.{Lowest, Highest}
 use Rattle.pm_limits.specs.Band.{HasDens, Known, decides, each_selection, end_choice, end_with, is_selected, is_untaken, operation_end}
 use Rattle.pm_limits.specs.Band.{operations, reach, word_end}
 use Rattle.pm_limits.specs.Ends.{Reaches, end_of, farthest_of, format_end, shape_ends}

@@ -2,8 +2,8 @@
 use Rattle.std.specs.Prelude.{◌≡◌, ◌<◌, Bool, true, false, cond, ◌&&◌, ◌||◌, refl}
 use Rattle.pm_num.specs.Ratio.{Ratio, AtMost, is_above}
 use Rattle.pm_model.specs.Commanded.{limited}
-use Rattle.pm_limits.specs.declared.side.Side.{Side}
-use Rattle.pm_limits.specs.declared.side.Side.TheVariants.{Lowest, Highest}
+use Rattle.pm_limits.specs.declared.ends.Side.{Side}
+use Rattle.pm_limits.specs.declared.ends.Side.TheVariants.{Lowest, Highest}
 use Rattle.pm_limits.specs.Ends.{Reaches}
 use Rattle.pm_num.specs.Lemmas.Order.{above-at-most, at-most, same}
 use Rattle.pm_num.specs.Lemmas.Over.{at_most-trans}

@@ -4,8 +4,8 @@ use Rattle.std.proofs.Common.{arith, subst}
 use Rattle.std.proofs.lemmas.Bool.Decides.{nat_tests}
 use Rattle.pm_num.specs.Ratio.{Ratio}
 use Rattle.pm_host.specs.Possible.{is_listed}
-use Rattle.pm_limits.specs.declared.side.Side.{Side}
-use Rattle.pm_limits.specs.declared.side.Side.TheVariants.{Lowest, Highest}
+use Rattle.pm_limits.specs.declared.ends.Side.{Side}
+use Rattle.pm_limits.specs.declared.ends.Side.TheVariants.{Lowest, Highest}
 use Rattle.pm_limits.specs.Ends.{Reaches, farther, farthest, farthest_of, is_farther}
 use Rattle.pm_num.specs.Lemmas.Order.{above-at-most, at-most, same}
 use Rattle.pm_num.specs.Lemmas.Over.{at_most-trans}

@@ -23,8 +23,8 @@ use Rattle.pm_host.specs.Summary.{format_at}
 use Rattle.pm_host.specs.Transcript.{Order}
 use Rattle.pm_limits.specs.declared.fault.LimitFault.{LimitFault}
 use Rattle.pm_limits.specs.declared.fault.LimitFault.TheVariants.{BelowLimit, AboveLimit, MissingRegister}
-use Rattle.pm_limits.specs.declared.within.Within.{Within}
-use Rattle.pm_limits.specs.declared.within.Within.TheVariants.{Yes, No, NotKnown}
+use Rattle.pm_limits.specs.declared.guard.Within.{Within}
+use Rattle.pm_limits.specs.declared.guard.Within.TheVariants.{Yes, No, NotKnown}
 use Rattle.pm_limits.specs.Band.{band_on, is_yes, within_of}
 use Rattle.pm_limits.specs.Bounds.{Bounds, IsWithin, outside_fault}
 use Rattle.pm_limits.specs.Guard.{Guarded, guard_fault, guarded_order, judged, limits_at, missing_cell, missing_ordered, of_host}

@@ -16,15 +16,15 @@ use Rattle.pm_table.specs.RuleLemmas.{or-none, none-rule}
 use Rattle.pm_host.specs.declared.job.Job.TheVariants.{Order}
 use Rattle.pm_host.specs.declared.fault.HostFault.{HostFault}
 use Rattle.pm_host.specs.declared.fault.HostFault.TheVariants.{Busy, UnknownOutput, BadWord, TooUncertain}
-use Rattle.pm_host.specs.declared.possible.Possible.{Possible}
-use Rattle.pm_host.specs.declared.possible.Possible.TheVariants.{Any, Words}
+use Rattle.pm_host.specs.declared.knowledge.Possible.{Possible}
+use Rattle.pm_host.specs.declared.knowledge.Possible.TheVariants.{Any, Words}
 use Rattle.pm_host.specs.Possible.{has_room, is_listed, only}
 use Rattle.pm_host.specs.Refusals.{cell_fault, is_busy, order_fault}
 use Rattle.pm_host.specs.Summary.{Summary, format_at, possible_at}
 use Rattle.pm_limits.specs.declared.fault.LimitFault.TheVariants as limit
 use Rattle.pm_limits.specs.Bounds.{Bounds}
 use Rattle.pm_limits.specs.declared.part_registers.PartRegisters.{PartRegisters}
-use Rattle.pm_limits.specs.declared.side.Side.TheVariants.{Lowest, Highest}
+use Rattle.pm_limits.specs.declared.ends.Side.TheVariants.{Lowest, Highest}
 use Rattle.pm_limits.specs.Ends.{format_end}
 use Rattle.pm_limits.specs.Guard.{Guarded, guard_fault, judged, limits_at, missing_ordered, of_host, voltage_limit}
 use Rattle.pm_limits.specs.Part.{has_register, missing_word}

@@ -17,8 +17,8 @@ use Rattle.pm_table.specs.RuleLemmas.{map-none, or-none}
 use Rattle.pm_model.specs.Commanded.{Scale}
 use Rattle.pm_limits.specs.Bounds.{Bounds}
 use Rattle.pm_limits.specs.Lemmas.Selected.{each-selected}
-use Rattle.pm_host.specs.declared.possible.Possible.{Possible}
-use Rattle.pm_host.specs.declared.possible.Possible.TheVariants.{Any, Words}
+use Rattle.pm_host.specs.declared.knowledge.Possible.{Possible}
+use Rattle.pm_host.specs.declared.knowledge.Possible.TheVariants.{Any, Words}
 use Rattle.pm_host.specs.Possible.{is_listed, is_possible}
 use Rattle.pm_host.specs.Refusals.{is_busy}
 use Rattle.pm_host.specs.Summary.{Summary, format_at}

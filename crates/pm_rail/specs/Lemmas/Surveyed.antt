@@ -17,7 +17,7 @@ use Rattle.pm_host.specs.declared.job.Job.TheVariants.{Check, Learn}
 use Rattle.pm_num.specs.AnyFormat.{Shape}
 use Rattle.pm_host.specs.Summary.{Summary, format_at, possible_at}
 use Rattle.pm_limits.specs.declared.part_registers.PartRegisters.{PartRegisters}
-use Rattle.pm_limits.specs.declared.side.Side.TheVariants.{Lowest, Highest}
+use Rattle.pm_limits.specs.declared.ends.Side.TheVariants.{Lowest, Highest}
 use Rattle.pm_limits.specs.Ends.{format_end}
 use Rattle.pm_limits.specs.Part.{all_registers, has_register, missing_word}
 use Rattle.pm_rail.specs.declared.survey.Survey.{Survey}

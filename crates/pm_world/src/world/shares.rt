@@ -8,9 +8,8 @@ ghost use Rattle.pm_host.specs.Transcript as told;
 ghost use Rattle.pm_world.specs.declared.event.Event.TheVariants as event;
 ghost use Rattle.pm_world.specs.State.{Acts, shared, tells, hears};
 
-use crate::arrival::Arrival;
-use crate::back::Back;
 use crate::cause::Cause;
+use crate::event::{Arrival, Back};
 use crate::legal::{
     answer_in, back_bytes, hear_replied, heard_bytes, heard_ending, is_heard_whole,
     is_legal_hearing, is_legal_return,

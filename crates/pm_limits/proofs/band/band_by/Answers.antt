@@ -5,8 +5,8 @@ use Rattle.pm_num.specs.Ratio.{Ratio}
 use Rattle.pm_table.specs.declared.reg.Reg.TheVariants.{VoutMin}
 use Rattle.pm_model.specs.Commanded.{limited}
 use Rattle.pm_host.specs.Image.{held}
-use Rattle.pm_limits.specs.declared.side.Side.{Side}
-use Rattle.pm_limits.specs.declared.side.Side.TheVariants.{Lowest, Highest}
+use Rattle.pm_limits.specs.declared.ends.Side.{Side}
+use Rattle.pm_limits.specs.declared.ends.Side.TheVariants.{Lowest, Highest}
 use Rattle.pm_limits.specs.Band.{end_with, known_of, reach, word_end}
 use Rattle.pm_limits.specs.Ends.{farthest_of}
 use Rattle.pm_limits.specs.OutputEnds.{selected_value, word_on}

@@ -1,7 +1,7 @@
 -- No byte changes nothing, whatever a converter holds.
 use Rattle.std.proofs.Common.{◌≡◌, [], refl}
 use Rattle.pm_frame.specs.Fault.{write_fault, opening_fault, address_fault}
-use Rattle.pm_device.specs.declared.ending.Ending.TheVariants.{Stop}
+use Rattle.pm_device.specs.declared.converter.Ending.TheVariants.{Stop}
 use Rattle.pm_device.specs.Effect as device
 use Rattle.pm_device.specs.Held.{Held}
 use Rattle.pm_device.specs.History.{next, after}

@@ -1,6 +1,6 @@
 use Rattle.std.specs.Prelude.{◌≡◌, ◌<◌, refl, Option, Some, None, Ok}
 use Rattle.std.proofs.Common.{◌∙◌, ap, arith, sym, subst}
-use Rattle.pm_host.specs.declared.job_end.JobEnd.{JobEnd}
+use Rattle.pm_host.specs.declared.job.JobEnd.{JobEnd}
 use Rattle.pm_rail.specs.declared.orders.PlanOrder.{PlanOrder}
 use Rattle.pm_rail.specs.Survey.{due_job}
 use Rattle.pm_driver.specs.declared.apply_end.ApplyEnd.{ApplyEnd}

@@ -1,8 +1,8 @@
 -- The lists are written at the place of the cell, and seen through what their numbers mean.
 use Rattle.std.proofs.Common.{rules, ap, sym, ◌∙◌, map, set, get_or}
 use Rattle.std.proofs.lemmas.List.{map-set}
-use Rattle.pm_host.specs.declared.possible.Possible.TheVariants.{Any}
-use Rattle.pm_host.specs.declared.standing.Standing.TheVariants.{Unknown}
+use Rattle.pm_host.specs.declared.knowledge.Possible.TheVariants.{Any}
+use Rattle.pm_host.specs.declared.knowledge.Standing.TheVariants.{Unknown}
 use Rattle.pm_host.specs.Image.{known_held, standing_held, words_held}
 use Rattle.pm_host.proofs.MemoryLemmas.{set-known}
 use Rattle.pm_host.proofs.Written.{written-there}

@@ -1,7 +1,7 @@
 use Rattle.std.proofs.Common.{◌∙◌, ◌-◌, [], ◌∷◌, length, sym, take}
 use Rattle.std.proofs.lemmas.Bool.Decides.{Decides-eqb}
 use Rattle.std.proofs.lemmas.Slice.Eq.{ends_is}
-use Rattle.pm_lines.proofs.line_end.with_line_end.Goals as goal
+use Rattle.pm_lines.proofs.text.with_line_end.Goals as goal
 
 pub returns-then-ends_with-clause-ends : goal.returns-then-ends_with-clause-ends
 returns-then-ends_with-clause-ends c =

@@ -1,6 +1,6 @@
 use Rattle.std.proofs.Common.{◌==◌}
 use Rattle.pm_lines.proofs.CutLemmas.{first_is}
-use Rattle.pm_lines.proofs.cut.first_place.Goals as goal
+use Rattle.pm_lines.proofs.bytes.first_place.Goals as goal
 
 pub returns : goal.returns
 returns c = first_is (λ byte. byte == c.args.mark) c.args.bytes.now c.memchr.result c.memchr.ensures
