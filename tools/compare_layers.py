@@ -27,8 +27,8 @@ STRUCTS = {
     "limits": ("LimitsImage", "pm_host_c/src/guard_image.rt"), "band": ("BandImage", "pm_host_c/src/limits.rt"),
     "rail": ("RailImage", "pm_host_c/src/rail.rt"), "plan_order": ("PlanOrderImage", "pm_host_c/src/plan.rt"),
     "wish": ("WishImage", "pm_host_c/src/wanted_image.rt"), "wanted": ("WantedImage", "pm_host_c/src/wanted_image.rt"),
-    "format": ("FormatNumbers", "pm_host_c/src/format_numbers.rt"), "name": ("NameImage", "pm_host_c/src/name_image.rt"),
-    "packet": ("Packet", "pm_host_c/src/packet.rt"), "payload": ("PayloadImage", "pm_host_c/src/answer.rt"),
+    "format": ("FormatNumbers", "pm_host_c/src/format_numbers.rt"), "name": ("NameImage", "pm_host_c/src/names.rt"),
+    "packet": ("PacketImage", "pm_host_c/src/packet.rt"), "payload": ("PayloadImage", "pm_host_c/src/answer.rt"),
     "block": ("BlockImage", "pm_host_c/src/other_read.rt"),
     "part_output": ("OutputImage", "pm_device/src/image.rt"), "part_config": ("ConfigImage", "pm_device/src/image.rt"),
     "part_reply": ("ReplyImage", "pm_device_c/src/reply_image.rt"),
@@ -227,8 +227,7 @@ def kind_of(kind):
 
 def structs():
     for name, (own, path) in STRUCTS.items():
-        image = {"HostStep": "StepImage", "FormatNumbers": "FormatImage", "KnownCell": "CellImage", "KnownCells": "KnownImage",
-                 "Packet": "PacketImage"}.get(own, own)
+        image = {"HostStep": "StepImage", "FormatNumbers": "FormatImage", "KnownCell": "CellImage", "KnownCells": "KnownImage"}.get(own, own)
         text = without_comments(read("crates", path)).replace("OUTPUTS", "8")
         layers = {"pmhost.h": fields_of_c(name), "python": fields_of_python(image), "rust": fields_of_rust(RUST, image)}
         plain = {layer: [(field, kind_of(kind), count) for field, kind, count in found] for layer, found in layers.items()}

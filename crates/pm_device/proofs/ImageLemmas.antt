@@ -6,7 +6,7 @@ use Rattle.pm_table.specs.declared.cell.Cell.TheVariants.{Protect}
 use Rattle.pm_model.specs.Settings.{Settings, settings_in, word_at}
 use Rattle.pm_device.specs.declared.config.Config.{Config}
 use Rattle.pm_device.specs.declared.config_fault.ConfigFault.{ConfigFault}
-use Rattle.pm_device.specs.declared.image.Image.{Image}
+use Rattle.pm_device.specs.declared.image.PartImage.{PartImage}
 use Rattle.pm_device.specs.Held.{CmlFaults, Held, Measured}
 use Rattle.pm_device.specs.Image.{config_held, device_of, held, is_current, is_set, latches_held, may_hold, readings_held}
 use Rattle.pm_device.specs.Start.{config_fault}
@@ -21,41 +21,41 @@ right-fails false b e = refl
 right-fails true b e = e
 
 -- a failed test is of no converter
-failed : (image : Image) → (is_current image && may_hold (held image)) ≡ false → device_of image ≡ None
+failed : (image : PartImage) → (is_current image && may_hold (held image)) ≡ false → device_of image ≡ None
 unfolding device_of
 failed image e = ap (λ (b : Bool). cond b (Some (held image)) None) e
 
 -- another layout
-pub none-current : (image : Image) → is_current image ≡ false → device_of image ≡ None
+pub none-current : (image : PartImage) → is_current image ≡ false → device_of image ≡ None
 none-current image e = failed image (left-fails (is_current image) (may_hold (held image)) e)
 
 -- something that no converter may hold
-not-held : (image : Image) → may_hold (held image) ≡ false → device_of image ≡ None
+not-held : (image : PartImage) → may_hold (held image) ≡ false → device_of image ≡ None
 not-held image e = failed image (right-fails (is_current image) (may_hold (held image)) e)
 
 -- a configuration that is refused
-pub none-config : (image : Image) → is_none (config_fault (config_held image.config)) ≡ false →
+pub none-config : (image : PartImage) → is_none (config_fault (config_held image.config)) ≡ false →
     device_of image ≡ None
 none-config image e = not-held image (left-fails _ _ e)
 
 -- words that are no settings
-pub none-settings : (image : Image) → settings_in image.config.outputs image.words ≡ None → device_of image ≡ None
+pub none-settings : (image : PartImage) → settings_in image.config.outputs image.words ≡ None → device_of image ≡ None
 none-settings image e = not-held image (right-fails (is_none (config_fault (config_held image.config))) _
     (left-fails _ _ (left-fails _ _ (ap (λ (s : Option Settings). is_some s) e))))
 
 -- an image whose words of the store are no settings is of no converter
-pub none-store : (image : Image) → settings_in image.config.outputs image.store ≡ None → device_of image ≡ None
+pub none-store : (image : PartImage) → settings_in image.config.outputs image.store ≡ None → device_of image ≡ None
 none-store image e = not-held image (right-fails (is_none (config_fault (config_held image.config))) _
     (left-fails _ _ (right-fails _ _ (ap (λ (s : Option Settings). is_some s) e))))
 
 -- another WRITE_PROTECT in the store than its start word
-pub none-protect : (image : Image) → (word_at image.store Protect == image.config.protect) ≡ false →
+pub none-protect : (image : PartImage) → (word_at image.store Protect == image.config.protect) ≡ false →
     device_of image ≡ None
 none-protect image e = not-held image (right-fails (is_none (config_fault (config_held image.config))) _
     (right-fails _ _ (left-fails _ _ e)))
 
 -- a PAGE with no output
-pub none-page : (image : Image) → nat_lt image.page image.config.outputs ≡ false → device_of image ≡ None
+pub none-page : (image : PartImage) → nat_lt image.page image.config.outputs ≡ false → device_of image ≡ None
 none-page image e = not-held image (right-fails (is_none (config_fault (config_held image.config))) _
     (right-fails _ _ (right-fails _ _ e)))
 
@@ -75,20 +75,20 @@ may-hold h may = and_from _ _ (ap (λ (f : Option ConfigFault). is_none f) may.c
     (and_from _ _ (eq-eqb _ _ may.protect) (lt-ltb h.page h.config.count may.page)))
 
 -- an image of this layout is that of the converter
-pub some-held : (image : Image) → is_current image ≡ true → MayHold (held image) →
+pub some-held : (image : PartImage) → is_current image ≡ true → MayHold (held image) →
     device_of image ≡ Some (held image)
 unfolding device_of
 some-held image current may =
     ap (λ (b : Bool). cond b (Some (held image)) None) (and_from _ _ current (may-hold (held image) may))
 
 -- an image of these numbers is that of a converter that may hold them
-pub read-back : (image : Image) (h : Held) → is_current image ≡ true → held image ≡ h → MayHold h →
+pub read-back : (image : PartImage) (h : Held) → is_current image ≡ true → held image ≡ h → MayHold h →
     device_of image ≡ Some h
 read-back image h current same may =
     some-held image current (subst (λ (x : Held). MayHold x) (sym same) may) ∙ ap (λ (x : Held). Some x) same
 
 -- what an image holds is this where each part is
-pub same-held : (image : Image) (h : Held) → config_held image.config ≡ h.config → image.words ≡ h.words →
+pub same-held : (image : PartImage) (h : Held) → config_held image.config ≡ h.config → image.words ≡ h.words →
     image.store ≡ h.store → image.page ≡ h.page → readings_held image.readings ≡ h.readings →
     map is_set image.cut ≡ h.cut → latches_held image.latches ≡ h.faults → held image ≡ h
 same-held image h config words store page readings cut faults =

@@ -5,7 +5,7 @@ use Rattle.pm_table.specs.Cell.{register_number}
 use Rattle.pm_model.specs.Settings.{settings_in, word_at}
 use Rattle.pm_device.specs.declared.config.Config.{Config}
 use Rattle.pm_device.specs.declared.output_start.OutputStart.{OutputStart}
-use Rattle.pm_device.specs.declared.image.Image.{Image}
+use Rattle.pm_device.specs.declared.image.PartImage.{PartImage}
 use Rattle.pm_device.specs.declared.image.ConfigImage.{ConfigImage}
 use Rattle.pm_device.specs.declared.image.LatchesImage.{LatchesImage}
 use Rattle.pm_device.specs.declared.image.OutputImage.{OutputImage}
@@ -43,7 +43,7 @@ latches_held image = record {
 }
 
 -- what a converter of these numbers holds
-abbrev pub held : Image → Held
+abbrev pub held : PartImage → Held
 held image = record {
   config = config_held image.config;
   words = image.words;
@@ -62,7 +62,7 @@ abbrev pub image_version : ℕ
 image_version = 1
 
 -- the image has this layout
-abbrev pub is_current : Image → Bool
+abbrev pub is_current : PartImage → Bool
 is_current image = image.mark == image_mark && image.version == image_version
 
 -- a converter may hold this: its configuration isn't refused, its cells and those of its store are settings of as
@@ -73,5 +73,5 @@ may_hold h = is_none (config_fault h.config)
     && (word_at h.store Protect == h.config.protect && nat_lt h.page h.config.count))
 
 -- the converter whose image it is
-unfoldable pub device_of : Image → Option Held
+unfoldable pub device_of : PartImage → Option Held
 device_of image = if is_current image && may_hold (held image) then Some (held image) else None

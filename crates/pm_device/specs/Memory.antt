@@ -3,7 +3,7 @@
 use Rattle.std.specs.Prelude.{ℕ, Bool, if◌then◌else◌, map}
 use Rattle.pm_device.specs.declared.config.Config.{Config}
 use Rattle.pm_device.specs.declared.output_start.OutputStart.{OutputStart}
-use Rattle.pm_device.specs.declared.image.Image.{Image}
+use Rattle.pm_device.specs.declared.image.PartImage.{PartImage}
 use Rattle.pm_device.specs.declared.image.ConfigImage.{ConfigImage}
 use Rattle.pm_device.specs.declared.image.LatchesImage.{LatchesImage}
 use Rattle.pm_device.specs.declared.image.OutputImage.{OutputImage}
@@ -46,7 +46,7 @@ abbrev pub readings_image : Measured → ReadingsImage
 readings_image readings = record { device = readings.device; outputs = readings.outputs }
 
 -- a converter that holds this
-abbrev pub image_of : Held → Image
+abbrev pub image_of : Held → PartImage
 image_of h = record {
   mark = image_mark;
   version = image_version;

@@ -143,7 +143,7 @@ pub struct ReadingsImage {
 /// may be copied.
 #[repr(C)]
 #[derive(Clone, Copy, Debug)]
-pub struct Image {
+pub struct PartImage {
     /// 5443h, the bytes 'CT'.
     pub mark: u16,
     /// The number of this layout.
@@ -189,7 +189,7 @@ pub(crate) fn flags_of(bits: &[bool; 8]) -> [u8; 8]
     bits.map(|bit| flag(bit))
 }
 
-impl Image {
+impl PartImage {
     /// The mark of an image.
     pub const MARK: u16 = 0x5443;
 
@@ -200,12 +200,12 @@ impl Image {
     pub(crate) fn is_current(&self) -> bool
         ensures { result ≡ is_current self.now }
     {
-        self.mark == Image::MARK && self.version == Image::VERSION
+        self.mark == PartImage::MARK && self.version == PartImage::VERSION
     }
 
     /// Zeros, which are the image of no converter.
     #[tactic(auto, unfolding(crate::specs::Image::device_of))]
-    pub fn blank() -> Image
+    pub fn blank() -> PartImage
         ensures { device_of result ≡ None }
     {
         let output = OutputImage {
@@ -213,7 +213,7 @@ impl Image {
             unused: 0,
             words: [0; Reg::COUNT],
         };
-        Image {
+        PartImage {
             mark: 0,
             version: 0,
             config: ConfigImage {

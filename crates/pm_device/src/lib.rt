@@ -60,7 +60,7 @@ pub use config::Config;
 pub use config_fault::ConfigFault;
 pub use converter::{Converter, Ending, Heard};
 pub use fault::DeviceFault;
-pub use image::{ConfigImage, Image, LatchesImage, OutputImage, ReadingsImage};
+pub use image::{ConfigImage, LatchesImage, OutputImage, PartImage, ReadingsImage};
 pub use laws::{
     device_codes_ignore_pages, frames_for_others_are_silent, latches_stay, pasts_are_followed,
     reads_are_answered, refusals_set_one_bit, registers_say_what_calls_say, replies_follow_endings,

@@ -9,13 +9,13 @@ ghost use Rattle.pm_device_c.specs.Numbers.{cell_number, commanded_number, outpu
 ghost use Rattle.pm_device_c.specs.Part.{commanded_now, flag_of, IsStored, IsWord};
 
 use crate::numbers::{ACCEPTED, NO_CELL, NO_OUTPUT, NO_PART};
-use pm_device::{Converter, Image};
+use pm_device::{Converter, PartImage};
 use pm_table::{Cell, Code, cell_of};
 
 /// The word of a cell: a register of an output, or WRITE_PROTECT (10h), whatever the output. E5h, E1h, 4 where the
 /// output isn't there.
 #[unsafe(no_mangle)]
-pub extern "C" fn pm_part_word(part: &Image, output: u8, code: u8, word: &mut u16) -> u8
+pub extern "C" fn pm_part_word(part: &PartImage, output: u8, code: u8, word: &mut u16) -> u8
     ensures number { result ≡ cell_number (device_of part.now) (cell_at code output) }
     ensures word { result ≡ 0 → IsWord (device_of part.now) (cell_at code output) word.new }
     ensures refused { result ≢ 0 → word.new ≡ word.old }
@@ -36,7 +36,7 @@ pub extern "C" fn pm_part_word(part: &Image, output: u8, code: u8, word: &mut u1
 /// The word that a register of an output has in the store. E5h, E1h also for WRITE_PROTECT, which isn't stored, 4 where
 /// the output isn't there.
 #[unsafe(no_mangle)]
-pub extern "C" fn pm_part_stored_word(part: &Image, output: u8, code: u8, word: &mut u16) -> u8
+pub extern "C" fn pm_part_stored_word(part: &PartImage, output: u8, code: u8, word: &mut u16) -> u8
     ensures number { result ≡ stored_number (device_of part.now) (cell_at code output) }
     ensures word { result ≡ 0 → IsStored (device_of part.now) (cell_at code output) word.new }
     ensures refused { result ≢ 0 → word.new ≡ word.old }
@@ -57,7 +57,7 @@ pub extern "C" fn pm_part_stored_word(part: &Image, output: u8, code: u8, word: 
 
 /// PAGE. E5h.
 #[unsafe(no_mangle)]
-pub extern "C" fn pm_part_page(part: &Image, page: &mut u8) -> u8
+pub extern "C" fn pm_part_page(part: &PartImage, page: &mut u8) -> u8
     ensures number { result ≡ there_number (device_of part.now) }
     ensures page { result ≡ 0 → IsSomeAnd (device_of part.now) (λ held. page.new ≡ held.page) }
     ensures refused { result ≢ 0 → page.new ≡ page.old }
@@ -72,7 +72,11 @@ pub extern "C" fn pm_part_page(part: &Image, page: &mut u8) -> u8
 /// The whole microvolts that an output commands, on or off, rounded down. E5h, 4 where the output isn't there, N5 as
 /// 15h exactly where what it commands is beyond 10^15 microvolts in size.
 #[unsafe(no_mangle)]
-pub extern "C" fn pm_part_commanded_microvolts(part: &Image, output: u8, microvolts: &mut i64) -> u8
+pub extern "C" fn pm_part_commanded_microvolts(
+    part: &PartImage,
+    output: u8,
+    microvolts: &mut i64,
+) -> u8
     ensures number { result ≡ commanded_number (device_of part.now) output }
     ensures floor { result ≡ 0 → IsSomeAnd (device_of part.now)
         (λ held. IsMicroFloor (commanded_now held output) microvolts.new) }
@@ -95,7 +99,7 @@ pub extern "C" fn pm_part_commanded_microvolts(part: &Image, output: u8, microvo
 
 /// 1 where OPERATION has an output on, otherwise 0. E5h, 4 where the output isn't there.
 #[unsafe(no_mangle)]
-pub extern "C" fn pm_part_on_state(part: &Image, output: u8, on: &mut u8) -> u8
+pub extern "C" fn pm_part_on_state(part: &PartImage, output: u8, on: &mut u8) -> u8
     ensures number { result ≡ output_number (device_of part.now) output }
     ensures on { result ≡ 0 → IsSomeAnd (device_of part.now) (λ held. on.new ≡ flag_of (is_on held output)) }
     ensures refused { result ≢ 0 → on.new ≡ on.old }

@@ -13,7 +13,7 @@ ghost use Rattle.pm_device_c.specs.Sizes.{part_size};
 
 use crate::numbers::{ACCEPTED, NO_OUTPUT, NO_PART, NO_READING};
 use crate::reply_image::ReplyImage;
-use pm_device::{ConfigImage, Converter, Ending, Image, is_reading};
+use pm_device::{ConfigImage, Converter, Ending, PartImage, is_reading};
 use pm_table::Code;
 use std::mem::size_of;
 
@@ -22,13 +22,13 @@ use std::mem::size_of;
 pub extern "C" fn pm_part_size() -> usize
     ensures { result ≡ part_size }
 {
-    size_of::<Image>()
+    size_of::<PartImage>()
 }
 
 /// Makes a part of a configuration, whatever stood in the memory: as a converter starts. V1 to V5 as 51h to 55h, and
 /// then nothing changes.
 #[unsafe(no_mangle)]
-pub extern "C" fn pm_part_new(part: &mut Image, config: &ConfigImage) -> u8
+pub extern "C" fn pm_part_new(part: &mut PartImage, config: &ConfigImage) -> u8
     ensures number { result ≡ made_number (config_fault (config_held config.now)) }
     ensures made { result ≡ 0 → device_of part.new ≡ Some (start_of (config_held config.now)) }
     ensures written { result ≡ 0 → part.new ≡ image_of (start_of (config_held config.now)) }
@@ -49,7 +49,7 @@ pub extern "C" fn pm_part_new(part: &mut Image, config: &ConfigImage) -> u8
 /// where the memory holds no part, and then nothing changes.
 #[unsafe(no_mangle)]
 pub extern "C" fn pm_part_hear(
-    part: &mut Image,
+    part: &mut PartImage,
     bytes: &[u8],
     is_request: u8,
     reply: &mut ReplyImage,
@@ -90,7 +90,7 @@ fn ending(is_request: u8) -> Ending
 /// The part restarts, as after a loss of its supply: each cell of an output has its word in the store, WRITE_PROTECT
 /// its start word, PAGE is 0, and what is latched is clear but for what shows at once. E5h.
 #[unsafe(no_mangle)]
-pub extern "C" fn pm_part_restart(part: &mut Image) -> u8
+pub extern "C" fn pm_part_restart(part: &mut PartImage) -> u8
     ensures number { result ≡ there_number (device_of part.old) }
     ensures after { device_of part.new ≡ option_map (λ held. next held Restarted) (device_of part.old) }
     ensures written { IfSome (device_of part.old) (λ held. part.new ≡ image_of (next held Restarted)) }
@@ -109,7 +109,7 @@ pub extern "C" fn pm_part_restart(part: &mut Image) -> u8
 /// Gives a reading another word: a READ code of an output, or one of the device, for which the output isn't looked at.
 /// E5h, E8h, 4 where the output isn't there.
 #[unsafe(no_mangle)]
-pub extern "C" fn pm_part_set_reading(part: &mut Image, output: u8, code: u8, word: u16) -> u8
+pub extern "C" fn pm_part_set_reading(part: &mut PartImage, output: u8, code: u8, word: u16) -> u8
     ensures number { result ≡ reading_number (device_of part.old) output code }
     ensures after { result ≡ 0 → device_of part.new
         ≡ option_map (λ held. next held (Reading output code word)) (device_of part.old) }

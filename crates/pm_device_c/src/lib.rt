@@ -10,7 +10,7 @@
 //!
 //! ```
 //! // A write of 3.3 V for VOUT_COMMAND of output 0, and the request for it, which a repeated start ends.
-//! fn answered(part: &mut Image, config: &ConfigImage, reply: &mut ReplyImage) -> [u8; 3] {
+//! fn answered(part: &mut PartImage, config: &ConfigImage, reply: &mut ReplyImage) -> [u8; 3] {
 //!     let made = pm_part_new(part, config); // 0
 //!     let write = &[0xB0, 0x05, 0x04, 0x00, 0x21, 0xCD, 0x34, 0x5A];
 //!     let taken = pm_part_hear(part, write, 0, reply); // 82h

@@ -6,11 +6,11 @@ ghost use Rattle.pm_device.specs.Status.{status_byte, status_cml, status_vout, s
 ghost use Rattle.pm_device_c.specs.Numbers.{output_number, there_number};
 
 use crate::numbers::{ACCEPTED, NO_OUTPUT, NO_PART};
-use pm_device::{Converter, Image};
+use pm_device::{Converter, PartImage};
 
 /// STATUS_BYTE of an output. E5h, 4 where the output isn't there.
 #[unsafe(no_mangle)]
-pub extern "C" fn pm_part_status_byte(part: &Image, output: u8, status: &mut u8) -> u8
+pub extern "C" fn pm_part_status_byte(part: &PartImage, output: u8, status: &mut u8) -> u8
     ensures number { result ≡ output_number (device_of part.now) output }
     ensures status { result ≡ 0 → IsSomeAnd (device_of part.now) (λ held. status.new ≡ status_byte held output) }
     ensures refused { result ≢ 0 → status.new ≡ status.old }
@@ -27,7 +27,7 @@ pub extern "C" fn pm_part_status_byte(part: &Image, output: u8, status: &mut u8)
 
 /// STATUS_WORD of an output. E5h, 4 where the output isn't there.
 #[unsafe(no_mangle)]
-pub extern "C" fn pm_part_status_word(part: &Image, output: u8, status: &mut u16) -> u8
+pub extern "C" fn pm_part_status_word(part: &PartImage, output: u8, status: &mut u16) -> u8
     ensures number { result ≡ output_number (device_of part.now) output }
     ensures status { result ≡ 0 → IsSomeAnd (device_of part.now) (λ held. status.new ≡ status_word held output) }
     ensures refused { result ≢ 0 → status.new ≡ status.old }
@@ -44,7 +44,7 @@ pub extern "C" fn pm_part_status_word(part: &Image, output: u8, status: &mut u16
 
 /// STATUS_VOUT of an output. E5h, 4 where the output isn't there.
 #[unsafe(no_mangle)]
-pub extern "C" fn pm_part_status_vout(part: &Image, output: u8, status: &mut u8) -> u8
+pub extern "C" fn pm_part_status_vout(part: &PartImage, output: u8, status: &mut u8) -> u8
     ensures number { result ≡ output_number (device_of part.now) output }
     ensures status { result ≡ 0 → IsSomeAnd (device_of part.now) (λ held. status.new ≡ status_vout held output) }
     ensures refused { result ≢ 0 → status.new ≡ status.old }
@@ -61,7 +61,7 @@ pub extern "C" fn pm_part_status_vout(part: &Image, output: u8, status: &mut u8)
 
 /// STATUS_CML, the device's. E5h.
 #[unsafe(no_mangle)]
-pub extern "C" fn pm_part_status_cml(part: &Image, status: &mut u8) -> u8
+pub extern "C" fn pm_part_status_cml(part: &PartImage, status: &mut u8) -> u8
     ensures number { result ≡ there_number (device_of part.now) }
     ensures status { result ≡ 0 → IsSomeAnd (device_of part.now) (λ held. status.new ≡ status_cml held) }
     ensures refused { result ≢ 0 → status.new ≡ status.old }

@@ -7,7 +7,7 @@ use self::calls::{
 };
 use self::checks::{equal, is_true};
 use crate::events::{pm_part_new, pm_part_size};
-use pm_device::{ConfigImage, Image};
+use pm_device::{ConfigImage, PartImage};
 
 // PAGE 1; VOUT_COMMAND 34CD by PAGE; the same by PAGE_PLUS for output 0; STORE_USER_ALL; a request for VOUT_COMMAND of
 // output 0 by PAGE_PLUS.
@@ -143,7 +143,7 @@ fn a_configuration_is_refused_by_its_first_fault(rt: HostRuntime) {
 }
 
 // A part with one number changed.
-fn changed(change: u8) -> Image {
+fn changed(change: u8) -> PartImage {
     let mut image = part();
     match change {
         0 => image.mark = 0,
@@ -162,7 +162,7 @@ fn changed(change: u8) -> Image {
 }
 
 // Whether each call says that the memory holds no part.
-fn is_refused(image: &mut Image) -> bool {
+fn is_refused(image: &mut PartImage) -> bool {
     let numbers = [
         hear(image, REQUEST, 1).0,
         restart(image),
@@ -179,7 +179,7 @@ fn is_refused(image: &mut Image) -> bool {
 // What stands for an output that isn't there means nothing, so the last change is none.
 #[test]
 fn memory_that_holds_no_part_is_refused(rt: HostRuntime) {
-    is_true(&rt, is_refused(&mut Image::blank()), &"zeros");
+    is_true(&rt, is_refused(&mut PartImage::blank()), &"zeros");
     for change in 0..10 {
         is_true(&rt, is_refused(&mut changed(change)), &change);
     }

@@ -12,7 +12,7 @@ use Rattle.pm_table.specs.Coefficients.{coefficients_of}
 use Rattle.pm_table.specs.Format.{shape_in}
 use Rattle.pm_table.specs.VoutMode.{mode_of}
 use Rattle.pm_host.specs.declared.format_image.FormatImage.{FormatImage}
-use Rattle.pm_host.specs.declared.image.Image.{Image}
+use Rattle.pm_host.specs.declared.image.HostImage.{HostImage}
 use Rattle.pm_host.specs.declared.knowledge.Knowledge.{Knowledge}
 use Rattle.pm_host.specs.declared.knowledge.Possible.{Possible}
 use Rattle.pm_host.specs.declared.knowledge.Possible.TheVariants.{Any, Words}
@@ -133,7 +133,7 @@ abbrev pub image_version : ℕ
 image_version = 6
 
 -- the image has this layout
-abbrev pub is_current : Image → Bool
+abbrev pub is_current : HostImage → Bool
 is_current image = image.mark == image_mark && image.version == image_version
 
 -- the host of these numbers, where they are a host's
@@ -141,6 +141,6 @@ abbrev pub sound_in : State → Option Stage → Option Summary
 sound_in state stage = if is_sound (held stage state) then Some (held stage state) else None
 
 -- the host whose image it is
-unfoldable pub host_of : Image → Option Summary
+unfoldable pub host_of : HostImage → Option Summary
 host_of image =
     if is_current image then option_and_then (sound_in image.state) (stage_held image.stage) else None

@@ -9,7 +9,7 @@ use Rattle.pm_table.specs.Coefficients.{coefficient_bytes}
 use Rattle.pm_host.specs.declared.command.Command.{Command}
 use Rattle.pm_host.specs.declared.command.Command.TheVariants.{ClearFaults}
 use Rattle.pm_host.specs.declared.format_image.FormatImage.{FormatImage}
-use Rattle.pm_host.specs.declared.image.Image.{Image}
+use Rattle.pm_host.specs.declared.image.HostImage.{HostImage}
 use Rattle.pm_host.specs.declared.image.StageImage.{StageImage}
 use Rattle.pm_host.specs.declared.knowledge.Knowledge.{Knowledge}
 use Rattle.pm_host.specs.declared.knowledge.Possible.{Possible}
@@ -115,7 +115,7 @@ pub record IsState (state : State) : Type 0 where
   pub known : IsKnown state.known
 
 -- a host is, with where its open job stands
-pub record IsImage (image : Image) : Type 0 where
+pub record IsImage (image : HostImage) : Type 0 where
   pub stage : option_map stage_image (stage_held image.stage) ≡ Some image.stage
   pub state : IsState image.state
 
@@ -130,7 +130,7 @@ state_image s = record {
   known = known_image s.known;
 }
 
-abbrev pub image_of : Summary → Image
+abbrev pub image_of : Summary → HostImage
 image_of s = record {
   mark = image_mark;
   version = image_version;
@@ -140,4 +140,4 @@ image_of s = record {
 
 -- the memory of a host that is written so is that of what it holds
 abbrev pub ImagesAreMeanings : Type 0
-ImagesAreMeanings = (image : Image) (s : Summary) → IsImage image → host_of image ≡ Some s → image ≡ image_of s
+ImagesAreMeanings = (image : HostImage) (s : Summary) → IsImage image → host_of image ≡ Some s → image ≡ image_of s

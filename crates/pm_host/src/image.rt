@@ -28,7 +28,7 @@ pub struct NoHost;
 /// the open job stands, and the state. It has no padding, holds no address of memory, and may be copied.
 #[repr(C)]
 #[derive(Debug, Drop)]
-pub struct Image {
+pub struct HostImage {
     /// 504Dh, the bytes 'PM'.
     pub mark: u16,
     /// The number of this layout.
@@ -39,7 +39,7 @@ pub struct Image {
     pub state: State,
 }
 
-impl Image {
+impl HostImage {
     /// The mark of an image.
     pub const MARK: u16 = 0x504D;
 
@@ -48,10 +48,10 @@ impl Image {
 
     /// Zeros, which are the image of no host.
     #[tactic(auto, unfolding(crate::specs::Image::host_of))]
-    pub fn blank() -> Image
+    pub fn blank() -> HostImage
         ensures { host_of result ≡ None }
     {
-        Image {
+        HostImage {
             mark: 0,
             version: 0,
             stage: StageImage::of(None),
@@ -69,8 +69,8 @@ impl Image {
         ensures written { OnOk result (IsImage self.new) }
     {
         self.state.start(addr, outputs, passes)?;
-        self.mark = Image::MARK;
-        self.version = Image::VERSION;
+        self.mark = HostImage::MARK;
+        self.version = HostImage::VERSION;
         self.write_stage(None);
         Ok(())
     }
@@ -85,7 +85,7 @@ impl Image {
         ensures current { OnOk result (is_current self.now ≡ true) }
         ensures other { OnErr result (host_of self.now ≡ None) }
     {
-        if self.mark != Image::MARK || self.version != Image::VERSION {
+        if self.mark != HostImage::MARK || self.version != HostImage::VERSION {
             return Err(NoHost);
         }
         let stage = self.stage.stage()?;

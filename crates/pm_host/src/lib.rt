@@ -61,7 +61,7 @@ pub use command::Command;
 pub use fault::{HostFault, Untold};
 pub use format_image::FormatImage;
 pub use host::{Host, Step, Told, Turn};
-pub use image::{Image, NoHost, StageImage};
+pub use image::{HostImage, NoHost, StageImage};
 pub use job::{Job, JobEnd};
 pub use knowledge::{Knowledge, Possible, Standing};
 pub use laws::{

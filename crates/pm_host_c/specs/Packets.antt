@@ -15,7 +15,7 @@ use Rattle.pm_frame.specs.PlainRead.{most_read, plain_read_fault}
 use Rattle.pm_host.specs.Refusals.{is_within}
 use Rattle.pm_host_c.specs.declared.answer.PayloadImage.{PayloadImage}
 use Rattle.pm_host_c.specs.declared.other_read.BlockImage.{BlockImage}
-use Rattle.pm_host_c.specs.declared.packet.Packet.{Packet}
+use Rattle.pm_host_c.specs.declared.packet.PacketImage.{PacketImage}
 use Rattle.pm_host_c.specs.Numbers.{accepted, no_address, no_packet}
 
 -- a byte is a word below 256
@@ -30,7 +30,7 @@ payload_in count word =
     else (if count == 2 then Some (Word word) else None))
 
 -- the message; None where the numbers mean none
-abbrev pub packet_message : Packet → Option Message
+abbrev pub packet_message : PacketImage → Option Message
 packet_message p =
     if p.kind == 1 then Some (SendByte p.code)
     else (if p.kind == 2 then option_map (λ byte. WriteByte p.code byte) (byte_in p.word)

@@ -5,7 +5,7 @@ ghost use Rattle.pm_frame.specs.Layout.{IsAnswer};
 ghost use Rattle.pm_host_c.specs.Packets.{answer_number, payload_of, packet_message, HasPayload};
 
 use crate::numbers::{ACCEPTED, NO_ADDRESS, NO_PACKET};
-use crate::packet::Packet;
+use crate::packet::PacketImage;
 use pm_frame::{fits, read_answer};
 use pm_table::address_ok;
 
@@ -26,7 +26,7 @@ pub struct PayloadImage {
 #[unsafe(no_mangle)]
 pub extern "C" fn pm_packet_read_answer(
     address: u8,
-    request: &Packet,
+    request: &PacketImage,
     bytes: &[u8],
     payload: &mut PayloadImage,
 ) -> u8

@@ -3,7 +3,7 @@ ghost use Rattle.pm_host_c.specs.Guard.{job_limits, limits_held, limits_kept, no
 ghost use Rattle.pm_host_c.specs.Memory.{limits_image, registers_image, AreLimits, IsMemory};
 ghost use Rattle.pm_host.specs.Memory.{IsImage};
 
-use pm_host::{Image, Job};
+use pm_host::{HostImage, Job};
 use pm_limits::{Limits, PartRegisters, ordered_output};
 
 /// How many outputs a device has at most.
@@ -14,7 +14,7 @@ pub const OUTPUTS: usize = 8;
 #[derive(Drop)]
 pub struct GuardImage {
     /// The host.
-    pub host: Image,
+    pub host: HostImage,
     /// Which registers the part has.
     pub registers: RegistersImage,
     /// No meaning.
@@ -109,7 +109,7 @@ impl GuardImage {
     #[cfg(test)]
     pub(crate) fn blank() -> GuardImage {
         GuardImage {
-            host: Image::blank(),
+            host: HostImage::blank(),
             registers: RegistersImage::of(PartRegisters::all()),
             unused: [0; 3],
             limits: [LimitsImage { least: 0, most: 0 }; OUTPUTS],

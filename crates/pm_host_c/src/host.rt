@@ -18,7 +18,7 @@ ghost use Rattle.pm_host_c.specs.Host.{new_number, memory_number, after, job_beg
 
 use crate::guard_image::{GuardImage, RegistersImage};
 use crate::numbers::{ACCEPTED, NO_ADDRESS, NO_CELL, NO_HOST};
-use pm_host::{Command, Image, Job, Stage, State};
+use pm_host::{Command, HostImage, Job, Stage, State};
 use pm_limits::{LimitFault, Limits, PartRegisters, judge};
 use pm_table::{Code, address_ok, cell_of};
 use std::mem::size_of;
@@ -47,7 +47,7 @@ pub extern "C" fn pm_version() -> u16
 pub extern "C" fn pm_host_version() -> u16
     ensures { result ≡ image_version }
 {
-    Image::VERSION
+    HostImage::VERSION
 }
 
 /// Makes a host for the device at this address, which has this many outputs, each with every register; a job has at most

@@ -15,7 +15,7 @@ use pm_table::address_ok;
 /// What a packet says.
 #[repr(C)]
 #[derive(Clone, Copy, Debug)]
-pub struct Packet {
+pub struct PacketImage {
     /// 1 send byte, 2 write byte, 3 write word, 4 PAGE_PLUS_WRITE, 5 read byte or word, 6
     /// PAGE_PLUS_READ, 7 COEFFICIENTS.
     pub kind: u8,
@@ -29,7 +29,7 @@ pub struct Packet {
     pub word: u16,
 }
 
-impl Packet {
+impl PacketImage {
     /// The message; `None` where the numbers mean none.
     pub(crate) fn message(&self) -> Option<Message>
         ensures { result ≡ packet_message self.now }
@@ -77,7 +77,7 @@ fn payload(count: u8, word: u16) -> Option<Payload>
 }
 
 // The packet of a message.
-fn packet_of(message: Message) -> Packet
+fn packet_of(message: Message) -> PacketImage
     ensures { packet_message result ≡ Some message }
 {
     let (kind, page, code, count, word) = match message {
@@ -103,7 +103,7 @@ fn packet_of(message: Message) -> Packet
         Message::PagePlusRead { page, code } => (6, page, code, 0, 0),
         Message::ReadCoefficients { code, side } => (7, side, code, 0, 0),
     };
-    Packet {
+    PacketImage {
         kind,
         page,
         code,
@@ -123,7 +123,7 @@ pub extern "C" fn pm_pec(bytes: &[u8]) -> u8
 /// The bytes of a packet before its stop or its repeated start. E3h, E4h where the numbers mean no
 /// packet, or its code doesn't have this layout.
 #[unsafe(no_mangle)]
-pub extern "C" fn pm_packet_write(address: u8, packet: &Packet, frame: &mut SendingImage) -> u8
+pub extern "C" fn pm_packet_write(address: u8, packet: &PacketImage, frame: &mut SendingImage) -> u8
     ensures number { result ≡ written_number address (packet_message packet.now) }
     ensures frame { result ≡ 0 → IsSomeAnd (packet_message packet.now)
         (λ message. IsSending address message frame.new) }
@@ -143,7 +143,7 @@ pub extern "C" fn pm_packet_write(address: u8, packet: &Packet, frame: &mut Send
 
 /// What the bytes of a write before its stop say. E3h, F1 to F8.
 #[unsafe(no_mangle)]
-pub extern "C" fn pm_packet_read_write(address: u8, bytes: &[u8], packet: &mut Packet) -> u8
+pub extern "C" fn pm_packet_read_write(address: u8, bytes: &[u8], packet: &mut PacketImage) -> u8
     ensures number { result ≡ read_number address (write_fault address bytes.now) }
     ensures said { result ≡ 0 → IsSomeAnd (packet_message packet.new)
         (λ message. IsWrite address message bytes.now) }
@@ -163,7 +163,7 @@ pub extern "C" fn pm_packet_read_write(address: u8, bytes: &[u8], packet: &mut P
 
 /// What the bytes of a request before its repeated start say. E3h, F1 to F8.
 #[unsafe(no_mangle)]
-pub extern "C" fn pm_packet_read_request(address: u8, bytes: &[u8], packet: &mut Packet) -> u8
+pub extern "C" fn pm_packet_read_request(address: u8, bytes: &[u8], packet: &mut PacketImage) -> u8
     ensures number { result ≡ read_number address (request_fault address bytes.now) }
     ensures said { result ≡ 0 → IsSomeAnd (packet_message packet.new)
         (λ message. IsRequest address message bytes.now) }

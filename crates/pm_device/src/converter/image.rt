@@ -8,7 +8,7 @@ use crate::cml_latches::CmlLatches;
 use crate::config::config_fault;
 use crate::converter::Converter;
 use crate::formats::formats_of;
-use crate::image::{ConfigImage, Image, bits_in, flags_of};
+use crate::image::{ConfigImage, PartImage, bits_in, flags_of};
 use crate::laws::sound_configurations_have_no_fault;
 use crate::readings::Readings;
 use pm_model::Plain;
@@ -18,7 +18,7 @@ impl Converter {
     /// The converter whose image it is. None where it is the image of none: another mark or version, a configuration
     /// that [`Converter::new`] refuses, a word that its cell doesn't accept, a PAGE with no output, or in the store
     /// another word of WRITE_PROTECT than its start word.
-    pub fn read(image: &Image) -> Option<Converter>
+    pub fn read(image: &PartImage) -> Option<Converter>
         ensures { result ≡ device_of image.now }
     {
         sound_configurations_have_no_fault();
@@ -56,14 +56,14 @@ impl Converter {
     }
 
     /// Makes it the image of this converter, whatever it was.
-    pub fn write(&self, image: &mut Image)
+    pub fn write(&self, image: &mut PartImage)
         ensures device { device_of image.new ≡ Some self.now }
         ensures written { image.new ≡ image_of self.now }
     {
         sound_configurations_have_no_fault();
-        *image = Image {
-            mark: Image::MARK,
-            version: Image::VERSION,
+        *image = PartImage {
+            mark: PartImage::MARK,
+            version: PartImage::VERSION,
             config: ConfigImage::of(&self.config),
             page: self.page(),
             unused: 0,

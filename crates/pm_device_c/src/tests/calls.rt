@@ -8,7 +8,7 @@ use crate::reply_image::ReplyImage;
 use crate::status::{
     pm_part_status_byte, pm_part_status_cml, pm_part_status_vout, pm_part_status_word,
 };
-use pm_device::{ConfigImage, Image, OutputImage};
+use pm_device::{ConfigImage, OutputImage, PartImage};
 
 const OUTPUT: OutputImage = OutputImage {
     mode: 0x14,
@@ -29,14 +29,14 @@ pub(super) const CONFIG: ConfigImage = ConfigImage {
 };
 
 /// A part of this configuration.
-pub(super) fn part() -> Image {
-    let mut image = Image::blank();
+pub(super) fn part() -> PartImage {
+    let mut image = PartImage::blank();
     let _ = pm_part_new(&mut image, &CONFIG);
     image
 }
 
 /// What the part says of a frame, and its answer.
-pub(super) fn hear(part: &mut Image, bytes: &[u8], is_request: u8) -> (u8, ReplyImage) {
+pub(super) fn hear(part: &mut PartImage, bytes: &[u8], is_request: u8) -> (u8, ReplyImage) {
     let mut reply = ReplyImage {
         length: 9,
         unused: 9,
@@ -46,30 +46,30 @@ pub(super) fn hear(part: &mut Image, bytes: &[u8], is_request: u8) -> (u8, Reply
     (number, reply)
 }
 
-pub(super) fn restart(part: &mut Image) -> u8 {
+pub(super) fn restart(part: &mut PartImage) -> u8 {
     pm_part_restart(part)
 }
 
-pub(super) fn set_reading(part: &mut Image, output: u8, code: u8, word: u16) -> u8 {
+pub(super) fn set_reading(part: &mut PartImage, output: u8, code: u8, word: u16) -> u8 {
     pm_part_set_reading(part, output, code, word)
 }
 
-pub(super) fn word(part: &Image, output: u8, code: u8) -> (u8, u16) {
+pub(super) fn word(part: &PartImage, output: u8, code: u8) -> (u8, u16) {
     let mut word = 7;
     (pm_part_word(part, output, code, &mut word), word)
 }
 
-pub(super) fn stored(part: &Image, output: u8, code: u8) -> (u8, u16) {
+pub(super) fn stored(part: &PartImage, output: u8, code: u8) -> (u8, u16) {
     let mut word = 7;
     (pm_part_stored_word(part, output, code, &mut word), word)
 }
 
-pub(super) fn page(part: &Image) -> (u8, u8) {
+pub(super) fn page(part: &PartImage) -> (u8, u8) {
     let mut page = 7;
     (pm_part_page(part, &mut page), page)
 }
 
-pub(super) fn commanded(part: &Image, output: u8) -> (u8, i64) {
+pub(super) fn commanded(part: &PartImage, output: u8) -> (u8, i64) {
     let mut microvolts = 7;
     (
         pm_part_commanded_microvolts(part, output, &mut microvolts),
@@ -77,13 +77,13 @@ pub(super) fn commanded(part: &Image, output: u8) -> (u8, i64) {
     )
 }
 
-pub(super) fn is_on(part: &Image, output: u8) -> (u8, u8) {
+pub(super) fn is_on(part: &PartImage, output: u8) -> (u8, u8) {
     let mut on = 7;
     (pm_part_on_state(part, output, &mut on), on)
 }
 
 /// STATUS_BYTE, STATUS_WORD, STATUS_VOUT and STATUS_CML; 7 where a call is refused.
-pub(super) fn status(part: &Image, output: u8) -> (u8, u16, u8, u8) {
+pub(super) fn status(part: &PartImage, output: u8) -> (u8, u16, u8, u8) {
     let mut byte = 7;
     let mut word = 7;
     let mut vout = 7;

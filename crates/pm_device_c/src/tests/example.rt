@@ -4,10 +4,10 @@ use super::calls::CONFIG;
 use super::checks::equal;
 use crate::events::{pm_part_hear, pm_part_new};
 use crate::reply_image::ReplyImage;
-use pm_device::{ConfigImage, Image};
+use pm_device::{ConfigImage, PartImage};
 
 // A write of 3.3 V for VOUT_COMMAND of output 0, and the request for it, which a repeated start ends.
-fn answered(part: &mut Image, config: &ConfigImage, reply: &mut ReplyImage) -> [u8; 3] {
+fn answered(part: &mut PartImage, config: &ConfigImage, reply: &mut ReplyImage) -> [u8; 3] {
     let made = pm_part_new(part, config); // 0
     let write = &[0xB0, 0x05, 0x04, 0x00, 0x21, 0xCD, 0x34, 0x5A];
     let taken = pm_part_hear(part, write, 0, reply); // 82h
@@ -18,7 +18,7 @@ fn answered(part: &mut Image, config: &ConfigImage, reply: &mut ReplyImage) -> [
 
 #[test]
 fn the_example_of_the_root_runs(rt: HostRuntime) {
-    let mut part = Image::blank();
+    let mut part = PartImage::blank();
     let mut reply = ReplyImage {
         length: 9,
         unused: 9,

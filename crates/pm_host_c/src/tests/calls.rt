@@ -15,7 +15,7 @@ use crate::limits::{
 };
 use crate::names::{NameImage, pm_end_name, pm_refusal_name};
 use crate::other_read::{BlockImage, pm_read_block, pm_read_plain};
-use crate::packet::{Packet, pm_packet_read_request, pm_packet_read_write, pm_packet_write};
+use crate::packet::{PacketImage, pm_packet_read_request, pm_packet_read_write, pm_packet_write};
 use crate::plan::{PlanOrderImage, pm_host_next, pm_host_plan};
 use crate::rail::{RailImage, pm_host_rail};
 use crate::sending_image::SendingImage;
@@ -35,7 +35,7 @@ pub(super) const NOTHING: SendingImage = SendingImage {
     bytes: [9; 16],
 };
 
-pub(super) const PACKET: Packet = Packet {
+pub(super) const PACKET: PacketImage = PacketImage {
     kind: 9,
     page: 9,
     code: 9,
@@ -169,19 +169,19 @@ pub(super) fn shown(image: &GuardImage, bytes: &[u8]) -> (u8, u8, u8, bool) {
     )
 }
 
-pub(super) fn read_write(address: u8, bytes: &[u8]) -> (u8, Packet) {
+pub(super) fn read_write(address: u8, bytes: &[u8]) -> (u8, PacketImage) {
     let mut packet = PACKET;
     let number = pm_packet_read_write(address, bytes, &mut packet);
     (number, packet)
 }
 
-pub(super) fn read_request(address: u8, bytes: &[u8]) -> (u8, Packet) {
+pub(super) fn read_request(address: u8, bytes: &[u8]) -> (u8, PacketImage) {
     let mut packet = PACKET;
     let number = pm_packet_read_request(address, bytes, &mut packet);
     (number, packet)
 }
 
-pub(super) fn written(address: u8, packet: &Packet, bytes: &[u8]) -> (u8, u8, bool) {
+pub(super) fn written(address: u8, packet: &PacketImage, bytes: &[u8]) -> (u8, u8, bool) {
     let mut frame = NOTHING;
     let number = pm_packet_write(address, packet, &mut frame);
     (number, frame.length, frame.bytes.starts_with(bytes))
@@ -248,7 +248,7 @@ pub(super) fn end_name(kind: u16, text: &[u8]) -> bool {
 // What came back for a request of this kind, page or side, and code.
 pub(super) fn answer(address: u8, request: (u8, u8, u8), bytes: &[u8]) -> (u8, u8, u16, [u8; 5]) {
     let (kind, page, code) = request;
-    let request = Packet {
+    let request = PacketImage {
         kind,
         page,
         code,

@@ -2,7 +2,7 @@
 
 use super::calls::{PACKET, answer, other_read, read_request, read_write, written};
 use super::checks::{equal, is_true};
-use crate::packet::{Packet, pm_pec};
+use crate::packet::{PacketImage, pm_pec};
 
 // The numbers of a packet (kind, page or side, code, count, word), and its bytes: a packet of each kind that is
 // written and PAGE_PLUS_WRITE with each count, then each kind of request.
@@ -29,9 +29,9 @@ static PACKETS: [((u8, u8, u8, u8, u16), &[u8]); 11] = [
 // How many of them are written.
 const WRITES: usize = 6;
 
-fn packet(numbers: (u8, u8, u8, u8, u16)) -> Packet {
+fn packet(numbers: (u8, u8, u8, u8, u16)) -> PacketImage {
     let (kind, page, code, count, word) = numbers;
-    Packet {
+    PacketImage {
         kind,
         page,
         code,
@@ -40,7 +40,7 @@ fn packet(numbers: (u8, u8, u8, u8, u16)) -> Packet {
     }
 }
 
-fn numbers(packet: &Packet) -> (u8, u8, u8, u8, u16) {
+fn numbers(packet: &PacketImage) -> (u8, u8, u8, u8, u16) {
     (
         packet.kind,
         packet.page,

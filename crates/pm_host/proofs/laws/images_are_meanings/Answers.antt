@@ -1,6 +1,6 @@
 -- Memory that is of a host holds the mark and the version, and each of its parts is written as it means.
 use Rattle.std.proofs.Common.{◌≡◌, Bool, true, false, cond, Option, Some, None, option_and_then, refl, ap, ap₂, ◌∙◌, rules}
-use Rattle.pm_host.specs.declared.image.Image.{Image}
+use Rattle.pm_host.specs.declared.image.HostImage.{HostImage}
 use Rattle.pm_host.specs.declared.stage.Stage.{Stage}
 use Rattle.pm_host.specs.declared.state.State.{State}
 use Rattle.pm_host.specs.Image.{held, host_of, image_mark, image_version, is_current, is_sound, sound_in, stage_held}
@@ -16,7 +16,7 @@ state-meant state stage is =
     ∙ ap₂ (λ f k. record state { unused = 0; formats = f; known = k }) is.formats is.known
 
 -- with where its job stands
-image-meant : (image : Image) (stage : Option Stage) → is_current image ≡ true
+image-meant : (image : HostImage) (stage : Option Stage) → is_current image ≡ true
     → stage_held image.stage ≡ Some stage → IsImage image → image ≡ image_of (held stage image.state)
 image-meant image stage current at is =
     let mark : image.mark ≡ image_mark = search rules in
@@ -26,7 +26,7 @@ image-meant image stage current at is =
     ∙ ap₂ (λ at state. record { mark = image_mark; version = image_version; stage = at; state = state }) written
     (state-meant image.state stage is.state)
 
-meant : (image : Image) (s : Summary) → IsImage image → host_of image ≡ Some s → image ≡ image_of s
+meant : (image : HostImage) (s : Summary) → IsImage image → host_of image ≡ Some s → image ≡ image_of s
 unfolding host_of
 meant image s is = by (is_current image) refl
   where

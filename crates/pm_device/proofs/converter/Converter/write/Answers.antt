@@ -1,11 +1,11 @@
 use Rattle.std.proofs.Common.{refl, rules}
-use Rattle.pm_device.specs.declared.image.Image.{Image}
+use Rattle.pm_device.specs.declared.image.PartImage.{PartImage}
 use Rattle.pm_device.proofs.ImageLemmas.{read-back, same-held}
 use Rattle.pm_device.proofs.converter.Converter.write.Goals as goal
 
 pub returns-clause-device : goal.returns-clause-device
 returns-clause-device c =
-    let image : Image = record {
+    let image : PartImage = record {
       mark = 0x5443;
       version = 1;
       config = c.of.result;
