@@ -1,6 +1,6 @@
 #!/usr/bin/env bash
 # Tries what stands above the proof over the proved libraries: the C programs by gcc (trials/c/run.sh --gcc), the Rust crate
-# (cargo test) and the Python package (unittest).
+# (cargo test) and the Python package (tools/python_tests.py).
 #
 #   tools/packages.sh [--after-ci | --built FOLDER]
 #
@@ -95,6 +95,11 @@ if command -v cargo > /dev/null; then
     PM_ARCHIVES=$built CARGO_TARGET_DIR=$folder/cargo cargo test --offline --all-features --manifest-path rust/Cargo.toml > "$folder/log" 2>&1
     status=$?
     read -r good bad < <(awk '/^test result: / {good += $4; bad += $6} END {print good + 0, bad + 0}' "$folder/log")
+    # (each test of the sources ran: those of doc comments have a line of their own)
+    ran=$(awk '/^   Doc-tests / {exit} /^test result: / {ran += $4 + $6} END {print ran + 0}' "$folder/log")
+    there=$(grep -rhc '^ *#\[test\]' rust/src rust/tests rust/examples --include=*.rs | awk '{n += $1} END {print n + 0}')
+    echo "Rust: tests found by name $ran, by content $there"
+    [ "$ran" = "$there" ] || bad=$((bad + 1))
     counted "Rust" "$good" "$bad" $status
 else
     lacks "Rust" cargo
@@ -109,17 +114,12 @@ elif ! gcc -shared -Wl,--whole-archive "$built/libpm_host_c.a" "$built/libpm_dev
     counted "Python" 0 0 1
 else
     # (the processes that the tests start share what is compiled, in a folder that goes with this one)
-    PMHOST_LIBRARY=$folder/libpmhost.so PYTHONPATH=python/src PYTHONPYCACHEPREFIX=$folder/compiled PYTHONDONTWRITEBYTECODE='' \
-        python3 -m unittest discover -s python/tests -t python > "$folder/log" 2>&1 < /dev/null
+    pmb=${PMB-$PWD/crates/pmb/out/pmb}
+    PMB=$pmb PMHOST_LIBRARY=$folder/libpmhost.so PYTHONPATH=python/src PYTHONPYCACHEPREFIX=$folder/compiled PYTHONDONTWRITEBYTECODE='' \
+        python3 tools/python_tests.py $([ "${PACKAGES_REQUIRED-}" = 1 ] || echo --may-skip) > "$folder/log" 2>&1 < /dev/null
     status=$?
-    # (a test that was skipped is neither)
-    read -r good bad < <(awk '/^Ran [0-9]+ tests?/ {ran = $2} {line = $0} END {
-        bad = 0; skipped = 0
-        while (match(line, /[a-z ]+=[0-9]+/)) {
-            split(substr(line, RSTART, RLENGTH), pair, "="); line = substr(line, RSTART + RLENGTH)
-            if (pair[1] ~ /skipped/) skipped += pair[2]; else if (pair[1] ~ /failures|errors|unexpected/) bad += pair[2]
-        }
-        print ran - bad - skipped, bad}' "$folder/log")
-    counted "Python" "$good" "$bad" $status
+    grep -E '^(not found by|a coroutine|skipped|tests found)' "$folder/log"
+    read -r good bad < <(sed -n 's/^\([0-9]*\) passed, \([0-9]*\) failed$/\1 \2/p' "$folder/log" | tail -1)
+    counted "Python" "${good:-0}" "${bad:-0}" $status
 fi
 ended
