@@ -67,7 +67,7 @@ def look_at_tests(folder, tests):
     ran = tried(folder, "--verbose", *(f"tests.{it}" for it in tests))
     faults = re.findall(r"^(?:FAIL|ERROR): .*|^.* \.\.\. skipped .*", ran.stderr, re.M)
     if ran.returncode or faults:
-        sys.exit("\n".join([*faults, "these tests have to pass with no bug; programs are named by PMB, PMBHOST and PMBPART, and the library by PMHOST_LIBRARY"]))
+        sys.exit("\n".join([*faults, "these tests have to pass with no bug; pmb is named by PMB, and the library by PMHOST_LIBRARY"]))
 
 
 def try_all(bugs, tally):

@@ -9,7 +9,7 @@ import sys
 import unittest
 from unittest import mock
 
-from pmhost import cli, programs
+from pmhost import cli
 from pmhost.bus.linux import ENDING
 
 HERE = os.path.dirname(os.path.abspath(__file__))
@@ -67,6 +67,20 @@ def stored(*names):
         return file.read()
 
 
+class Missing(Exception):
+    """A program isn't there: where it was looked for, and what to do."""
+
+
+def path_of(name):
+    """Where a program is: the one that the environment names by its name in capitals, as PMB, or else the one in PATH, or
+    else the one that this checkout has built. Missing where there is none."""
+    named, built = os.environ.get(name.upper()), os.path.join(ROOT, "crates", name, "out", name)
+    found = shutil.which(name) or shutil.which(built) if named is None else shutil.which(named)
+    if found is None:
+        raise Missing(f"no program {name}: build it by (cd crates/{name} && rt run), or name it by {name.upper()}")
+    return os.path.abspath(found)
+
+
 def needs(*names):
     """Skips a test where a program isn't built, by its name."""
     missing = [name for name in names if not is_there(name)]
@@ -75,8 +89,8 @@ def needs(*names):
 
 def is_there(name):
     try:
-        programs.path_of(name)
-    except programs.Missing:
+        path_of(name)
+    except Missing:
         return False
     return True
 

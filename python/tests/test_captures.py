@@ -7,11 +7,14 @@ import stat
 import subprocess
 import sys
 import tempfile
+import threading
 import unittest
 import unittest.mock
 
+from pmhost import Output, Part
 from pmhost.capture import NoCapture, clock_of, i2ctransfer, trace
 from pmhost.capture.vcd import waveform
+from pmhost.faults import heard_by
 
 from . import running
 from .data.capture_rows import (ADDRESSED, CAPTURES, COUNTS, ENDLESS, FAILED, FAULTY, FRAMES, HEADS, LONG, MOST_MEMORY, NO_COMMANDS,
@@ -46,7 +49,7 @@ def packets(lines):
 
 def decoded(text, *options):
     """What `pmb decode` says, line by line."""
-    ran = subprocess.run([running.programs.path_of("pmb"), "decode", *options], input=text, capture_output=True, text=True)
+    ran = subprocess.run([running.path_of("pmb"), "decode", *options], input=text, capture_output=True, text=True)
     return ran.stdout.splitlines()
 
 
@@ -263,6 +266,10 @@ class Streams(unittest.TestCase):
                 found = running.in_shell(redirections, *words, text=text)
                 self.assertEqual((found[0], found[2]), (status, errors))
 
+    def test_a_pipe_whose_reader_left_ends_it_without_a_word(self):
+        found = running.in_shell("| head -1; exit ${PIPESTATUS[0]}", "capture", "linux", text=capture("bus.linux") * 2000)
+        self.assertEqual((found[0], found[1].count("\n"), found[2]), (1, 1, ""))
+
 
 class Calls(unittest.TestCase):
     """Wrong command lines name the word that was wrong, in one line."""
@@ -318,7 +325,7 @@ class Frames(unittest.TestCase):
             put(folder, "i2ctransfer", "#!/bin/sh\n/bin/echo 0x80 0xd3\n")
             self.assertEqual([*i2ctransfer.run(b"B0 19 /\n", "7")], [("B0 19 / B1 80 D3", True)])
 
-    @needs("pmb", "pmbpart")
+    @needs("pmb")
     def test_commands_are_run_and_decode_takes_their_trace(self):
         with tempfile.TemporaryDirectory() as folder:
             put(folder, "i2ctransfer", STAND_IN)
@@ -327,15 +334,22 @@ class Frames(unittest.TestCase):
                 os.mkfifo(each)
             # Both ends of each pipe stay open here, so that the part goes on from one command to the next.
             with open(pipes["SAID"], "r+b", 0) as said, open(pipes["ANSWERED"], "r+b", 0) as answered:
-                part = subprocess.Popen([running.programs.path_of("pmbpart")], stdin=said, stdout=answered)
+                threading.Thread(target=serve, args=(said, answered, len(FRAMES)), daemon=True).start()
                 status, out, _ = pmhost("capture", "i2ctransfer", "7", "--run", text="".join(f"{frame}\n" for frame, _, _ in FRAMES),
                                         PATH=folder + os.pathsep + os.environ["PATH"], **pipes)
-                part.kill()
-                part.wait()
         failed = ": Error: Sending messages failed: No such device or address"
         wanted = [line or "# failed: " + frame.removesuffix(" /") + failed for frame, _, line in FRAMES]
         self.assertEqual((status, out.splitlines()), (1, wanted))
         self.assertEqual(decoded(out)[-1:], ["lines 7 accepted 7 faults 0 bad 0"])
+
+
+def serve(said, answered, count):
+    """A model part hears frames in lines of pairs of digits, of which a / behind them is a repeated start, and answers each."""
+    part = Part(0x58, [Output()] * 2)
+    for _ in range(count):
+        line = said.readline().decode()
+        heard, _ = heard_by(part, bytes.fromhex(line.replace("/", "")), "/" in line)
+        answered.write(f"{heard}\n".encode())
 
 
 def put(folder, name, text):

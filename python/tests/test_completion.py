@@ -13,7 +13,7 @@ ROWS = [(["pro"], "probe"), (["-b", "d"], "desk"), (["-b", "desk", "set", "0", "
         (["-b", "desk", "set", "0", "3V", "+", "mar"], "margin"), (["margin", "0", "h"], "high"),
         (["set", "0", "3V", "--no"], "--no-limit"),
         (["apply", "--dry"], "--dry-run"), (["apply", "/etc/pass"], "/etc/passwd"), (["--trace", "/etc/pass"], "/etc/passwd"),
-        (["apply", "--picture", "/etc/pass"], "/etc/passwd"), (["desk", "--picture", "--pl"], "--plain-host"),
+        (["apply", "--picture", "/etc/pass"], "/etc/passwd"), (["faults", "--seed", "1", "--pl"], "--plain-host"),
         (["read", "-", "WRITE"], "WRITE_PROTECT"), (["learn", "VOUT"], "")]
 
 

@@ -5,9 +5,7 @@ import subprocess
 import time
 import unittest
 
-from pmhost import programs
-
-from .running import needs, needs_tool
+from .running import needs, needs_tool, path_of
 
 LINE = b"B0 05 04 00 21 CD 34 5A\n"
 ANSWER = b"%d 58 page 0 VOUT_COMMAND write 34CD\n"
@@ -22,7 +20,7 @@ class Live:
     """A running `pmb decode` with a pipe on either side."""
 
     def __init__(self):
-        self.run = subprocess.Popen([programs.path_of("pmb"), "decode"], stdin=subprocess.PIPE, stdout=subprocess.PIPE, bufsize=0)
+        self.run = subprocess.Popen([path_of("pmb"), "decode"], stdin=subprocess.PIPE, stdout=subprocess.PIPE, bufsize=0)
         os.set_blocking(self.run.stdout.fileno(), False)
         self.got = b""
 
@@ -86,7 +84,7 @@ class Pipes(unittest.TestCase):
     def test_a_long_trace_is_written_by_16_kib(self):
         """The sizes of the writes: none below 16 KiB but the last ones."""
         lines = 40_000
-        trace = subprocess.run(["strace", "-f", "-e", "trace=write", "-o", "/dev/stderr", programs.path_of("pmb"), "decode"],
+        trace = subprocess.run(["strace", "-f", "-e", "trace=write", "-o", "/dev/stderr", path_of("pmb"), "decode"],
                                input=LINE * lines, stdout=subprocess.DEVNULL, stderr=subprocess.PIPE).stderr.decode("latin1")
         sizes = [int(line.rsplit("=", 1)[1]) for line in trace.splitlines() if "write(1," in line]
         self.assertTrue(sizes)

@@ -10,11 +10,11 @@ from pmhost import Output, Part
 from pmhost.cli import place
 from pmhost.cli.call import Interrupted
 from pmhost.picture import drawing, lane
-from pmhost.picture.picture import ROW
+from pmhost.picture.drawing import ROW
 from pmhost.picture.way import COMMANDED
 
-from . import picture_faults, runs
-from .drawn import SVG, Drawn
+from . import runs
+from .drawn import SVG, Drawn, colour_faults, layout_faults
 from .fixtures import Faulty
 
 UP = """[rails.core]
@@ -135,11 +135,14 @@ class Ways(unittest.TestCase):
         """The words above the rails, and each rail by its name."""
         with open(self.picture, encoding="utf-8") as file:
             drawn = Drawn(file.read())
-        self.assertEqual([*picture_faults.layout_faults(drawn)], [])
+        self.assertEqual([*layout_faults(drawn)], [])
         names = [it for it in drawn.texts if it.is_bold and it.size == 15]
         bottoms = [*(it.y for it in names[1:]), drawn.height]
         lanes = {it.words: Lane(drawn, it.y, bottom) for it, bottom in zip(names, bottoms)}
         return [it.words for it in drawn.texts if it.y < names[0].y - 1], lanes
+
+    def test_colours_can_be_read(self):
+        self.assertEqual([*colour_faults()], [])
 
     def test_a_bound_that_stands_in_the_way_rises_first(self):
         said, rails, status, _ = self.drawn(UP)

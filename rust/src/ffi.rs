@@ -205,7 +205,7 @@ pub struct PartImage {
 #[derive(Clone, Copy, Default)]
 pub struct ReplyImage {
     pub length: u8,
-    pub unused: u8,
+    pub frame_fault: u8,
     pub bytes: [u8; 16],
 }
 

@@ -12,6 +12,7 @@ that `rt lib` left in crates/pm_device_c/out. EVENTS is 100000 if left out.
 """
 import ctypes
 import os
+import re
 import sys
 from fractions import Fraction
 
@@ -40,7 +41,7 @@ class Config(ctypes.Structure):
 
 
 class Reply(ctypes.Structure):
-    _fields_ = [("length", ctypes.c_uint8), ("unused", ctypes.c_uint8), ("bytes", ctypes.c_uint8 * 16)]
+    _fields_ = [("length", ctypes.c_uint8), ("frame_fault", ctypes.c_uint8), ("bytes", ctypes.c_uint8 * 16)]
 
 
 def declare(loaded):
@@ -137,18 +138,19 @@ class Life:
         number = self.loaded.pm_part_hear(self.memory, (ctypes.c_uint8 * max(len(frame), 1))(*frame), ctypes.c_uint64(len(frame)),
                                           self.draw.randrange(1, 256) if request else 0, ctypes.byref(reply))
         heard = self.plain.hear(frame, "restart" if request else "stop")
-        self.same(f"heard {bytes(frame).hex()} {request}", (number, list(reply.bytes), reply.unused), self.told(heard, left))
+        self.same(f"heard {bytes(frame).hex()} {request}", (number, list(reply.bytes), reply.frame_fault), self.told(heard, left))
         self.seen["heard " + (heard if isinstance(heard, str) else "answered").split(" ")[0]] += 1
 
     def told(self, heard, left):
         """What the library says of what the plain converter made of a frame."""
         if heard == "silent":
-            return 0x81, left[2:], left[1]
+            return 0x81, left[2:], 0
         if heard == "taken":
-            return 0x82, left[2:], left[1]
+            return 0x82, left[2:], 0
         if isinstance(heard, str):
-            return number_of(heard), left[2:], left[1]
-        return 0x83, [*heard, *left[2 + len(heard):]], left[1]
+            of_frame = re.search("K1 Frame F([2-5])", heard)
+            return number_of(heard), left[2:], 0x30 + int(of_frame[1]) if of_frame else 0
+        return 0x83, [*heard, *left[2 + len(heard):]], 0
 
     def asked(self, name, output, code, kind, fill):
         """A call that hands out one number: what it answers, and what it wrote."""

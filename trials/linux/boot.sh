@@ -4,7 +4,7 @@
 #   trials/linux/boot.sh FOLDER TRIAL [WORD ..]
 #
 # FOLDER is made, and keeps what the trial said (`said`), its status (`ended`) and the kernel's messages (`dmesg`). CACHE
-# names the folder that build.sh filled, PMB and PMBHOST the built programs, PMHOST_LIBRARY the library of the package, and
+# names the folder that build.sh filled, PMB the built program, PMHOST_LIBRARY the library of the package, and
 # PLAIN_PART=1 has the plain model alone behind the buses; SECONDS_AT_MOST how long a guest may take (1800). VCD=1 keeps
 # the wire's waveform. The status is 0 where the trial's was 0.
 set -u
@@ -13,8 +13,8 @@ case " $* " in *" --help "* | *" -h "*) sed -n '2,/^[^#]/s/^# \{0,1\}//p' "$0"; 
 here=$(cd "$(dirname "$0")" && pwd)
 folder=$(realpath -m "$1"); shift
 trial=$(IFS=,; echo "$*")
-case $here$folder$CACHE$PMB$PMBHOST$PMHOST_LIBRARY in
-    *[[:space:],]*) echo "boot.sh: the kernel's command line takes no path with a blank or a comma: $here, $folder, $CACHE, $PMB, $PMBHOST, $PMHOST_LIBRARY" >&2; exit 2 ;;
+case $here$folder$CACHE$PMB$PMHOST_LIBRARY in
+    *[[:space:],]*) echo "boot.sh: the kernel's command line takes no path with a blank or a comma: $here, $folder, $CACHE, $PMB, $PMHOST_LIBRARY" >&2; exit 2 ;;
 esac
 mkdir -p "$folder" || exit 2
 rm -f "$folder"/{i2c.sock,wire.sock,held,said,ended}
@@ -45,7 +45,7 @@ TMPDIR=$memory timeout -k 5 "${SECONDS_AT_MOST:-1800}" "$CACHE/kernel/linux" mem
     "virtio_uml.device=$folder/i2c.sock:34" "virtio_uml.device=$folder/wire.sock:41" \
     root=/dev/root rootfstype=hostfs rootflags=/ ro "init=$here/guest.sh" "uml_dir=$folder/uml/" umid=guest \
     con=null con0=fd:0,fd:1 "ROOT=$(cd "$here/../.." && pwd)" "FOLDER=$folder" "CACHE=$CACHE" "TRIAL=$trial" \
-    "PMB=$PMB" "PMBHOST=$PMBHOST" "PMHOST_LIBRARY=$PMHOST_LIBRARY" > "$folder/console" 2>&1 < /dev/null &
+    "PMB=$PMB" "PMHOST_LIBRARY=$PMHOST_LIBRARY" > "$folder/console" 2>&1 < /dev/null &
 guest=$!
 # A bench that ends leaves its guest no bus: the guest is ended with it.
 wait -n "$guest" "$bench"

@@ -12,14 +12,14 @@
 #   --at-once N       how many guests run at once, 3 where it isn't given
 #
 # The kernel is built the first time, in some five minutes. Packages of Debian 12: linux-source-6.1 flex bison bc gcc make
-# xz-utils python3 i2c-tools, and sigrok-cli for the waveform. PMB and PMBHOST name other programs than the built ones,
+# xz-utils python3 i2c-tools, and sigrok-cli for the waveform. PMB names another program than the built one,
 # KEEP a folder for what the guests left.
 # Buses: 0 is i2c-virtio, whose failed transfers are short counts; 1 answers errors; 5 is bit-banged, i2c-gpio.
 #
 #   rows      every run of python/tests/data that is about a bus, on bus 0 by pmhost as a process
 #   faults    eight orders under nine kinds of fault at each transfer, and 60 lists of two to four faults (SEED and LISTS in the environment)
 #   commands  the commands of docs/board.md and docs/captures.md, and i2cdetect over all addresses
-#   programs  examples/c/i2c_dev.c and examples/pmbhost/drive.py under each fault
+#   programs  examples/c/i2c_dev.c under each fault
 #   captures  one run, told by pmhost's trace, the kernel's tracepoints and the waveform of the wires
 #   drawn     jobs of every kind under drawn faults, all registers asked behind (SEED, LISTS)
 #   lines     lines that are held low, at rest and from each clock of each byte on

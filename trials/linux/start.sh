@@ -16,9 +16,8 @@ start() {
     done
     case $at_once in [1-9]) ;; *) refuse "--at-once $at_once: give a number from 1 to 9" ;; esac
     command -v python3 > /dev/null || refuse "no python3: install it"
-    export PMB=${PMB-$root/crates/pmb/out/pmb} PMBHOST=${PMBHOST-$root/crates/pmbhost/out/pmbhost}
+    export PMB=${PMB-$root/crates/pmb/out/pmb}
     [ -x "$PMB" ] || refuse "no program at $PMB: build it by (cd crates/pmb && rt run -- replay < stdin), or set PMB to one"
-    [ -x "$PMBHOST" ] || refuse "no program at $PMBHOST: build it as docs/no-board.md says, or set PMBHOST to one"
     [ -f "$archive" ] || refuse "no $archive: build it by (cd crates/pm_host_c && rt lib), or give --archive FILE"
     [ -f "$part" ] || refuse "no $part: build it by (cd crates/pm_device_c && rt lib), or give --part FILE"
     ARCHIVE=$archive PART=$part "$here/build.sh" "$cache" || exit 2

@@ -4,7 +4,7 @@ README.md and docs/, in its order, a shell for each page.
 
     trials/pages/run.py --built FOLDER [--minutes] [PAGE ..]
 
-FOLDER has libpm_host_c.a, libpm_device_c.a, and the programs pmb, pmbhost and pmbpart. A command for the part at address 58 of bus 1
+FOLDER has libpm_host_c.a, libpm_device_c.a, and the program pmb. A command for the part at address 58 of bus 1
 runs on the model part (`-b desk`), an install goes to the user's own folder, `rt lib` and `rt check` and what stands in tools/ and
 trials/ is held by its parse alone, since it takes many minutes: the crate is there, the command is one of rt's, the program answers
 --help. --minutes runs `rt try` and `tools/test quick` too. What no test runs (a board's own tools) has to stand on its page in a line
@@ -28,7 +28,7 @@ from program import ROOT, Words, kept_files  # noqa: E402
 from tally import Tally  # noqa: E402
 
 ORDINARY = 65534
-LIBRARIES, PROGRAMS = ("pm_host_c", "pm_device_c"), ("pmb", "pmbhost", "pmbpart")
+LIBRARIES, PROGRAMS = ("pm_host_c", "pm_device_c"), ("pmb",)
 # What a machine or a bus of its own is wanted for.
 NOT_RUN = re.compile(r"sigrok-cli|capture i2ctransfer 1 --run|trials/linux/|echo .*/sys/")
 RT = re.compile(r"\(cd crates/(\w+) && rt (lib|check|run|try)\b[^)]*\)")
@@ -123,7 +123,7 @@ def parsed(place, line, has_minutes):
 def faults(place, name, has_minutes):
     """What is wrong with a page's commands, and how many were tried."""
     text = text_of(name)
-    script, said = ["set -e", "shopt -s expand_aliases", "PATH=$PWD/crates/pmb/out:$PWD/crates/pmbhost/out:$PWD/crates/pmbpart/out:$PATH"], " ".join(re.findall(r"^No test runs .*?(?:\n\n|\Z)", text, re.M | re.S))
+    script, said = ["set -e", "shopt -s expand_aliases", "PATH=$PWD/crates/pmb/out:$PATH"], " ".join(re.findall(r"^No test runs .*?(?:\n\n|\Z)", text, re.M | re.S))
     if os.path.exists(os.path.join(place.home, "v/bin")):
         script.append(". ~/v/bin/activate")
     found, count, held = [], 0, 0

@@ -94,12 +94,13 @@ uint64_t pm_part_size(void);
  * status is latched but what shows at once. V1 to V5, the first that applies in that order. */
 uint8_t pm_part_new(pm_part *part, const pm_part_config *config);
 
-/* What it answers to a request: 0 bytes where it answers none. `unused` and the bytes after the answer stay as
- * they were. */
-typedef struct { uint8_t length; uint8_t unused; uint8_t bytes[16]; } pm_part_reply;
+/* What it answers to a request: 0 bytes where it answers none. The bytes after the answer stay as they were.
+ * `frame_fault` says which fault the frame has after PM_HEARD_K1_FRAME: 0x32 F2 Short, 0x33 F3 Long, 0x34 F4 WrongCount,
+ * 0x35 F5 WrongPec; otherwise it is 0. */
+typedef struct { uint8_t length; uint8_t frame_fault; uint8_t bytes[16]; } pm_part_reply;
 
 /* It hears one frame, which a repeated start ends where `is_request` isn't 0, otherwise a stop. Answers what it made of
- * it (PM_HEARD_..): the reply is empty for all but PM_HEARD_ANSWERED. PM_NO_PART, and then nothing is written, the reply
+ * it (PM_HEARD_..): the reply has no bytes for all but PM_HEARD_ANSWERED. PM_NO_PART, and then nothing is written, the reply
  * neither. */
 uint8_t pm_part_hear(pm_part *part, const uint8_t *bytes, uint64_t count, uint8_t is_request, pm_part_reply *reply);
 

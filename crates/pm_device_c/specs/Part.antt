@@ -7,7 +7,10 @@ use Rattle.pm_model.specs.Settings.{word_at}
 use Rattle.pm_device.specs.declared.converter.Ending.{Ending}
 use Rattle.pm_device.specs.declared.converter.Ending.TheVariants.{Stop, Restart}
 use Rattle.pm_device.specs.declared.converter.Heard.{Heard}
-use Rattle.pm_device.specs.declared.converter.Heard.TheVariants.{Answer}
+use Rattle.pm_device.specs.declared.converter.Heard.TheVariants.{Answer, Refused}
+use Rattle.pm_device.specs.declared.fault.DeviceFault.{DeviceFault}
+use Rattle.pm_device.specs.declared.fault.DeviceFault.TheVariants.{Frame}
+use Rattle.pm_frame.specs.FaultWords.{frame_fault_number}
 use Rattle.pm_device.specs.Held.{Held, value_for}
 use Rattle.pm_device_c.specs.declared.reply_image.ReplyImage.{ReplyImage}
 
@@ -24,11 +27,21 @@ abbrev pub heard_bytes : Heard → List ℕ
 heard_bytes (Answer frame) = frame.items
 heard_bytes _ = []
 
--- the bytes of the answer stand in front, and what stands after them stays
+-- the number of the frame's fault, 0 of every other
+abbrev pub frame_number : DeviceFault → ℕ
+frame_number (Frame fault) = frame_fault_number fault
+frame_number _ = 0
+
+-- the fault of a frame that is refused by K1; 0 where it isn't
+abbrev pub heard_fault : Heard → ℕ
+heard_fault (Refused fault) = frame_number fault
+heard_fault _ = 0
+
+-- the bytes of the answer stand in front, and what stands after them stays; beside them the fault of the frame
 pub record HasReply (heard : Heard) (before after : ReplyImage) : Type 0 where
   pub bytes : take after.length after.bytes ≡ heard_bytes heard
   pub rest : drop after.length after.bytes ≡ drop after.length before.bytes
-  pub unused : after.unused ≡ before.unused
+  pub fault : after.frame_fault ≡ heard_fault heard
 
 -- the reply's memory after what a part heard; it stays as it was if the memory of the part holds none
 abbrev pub IsReply : Option Heard → ReplyImage → ReplyImage → Type 0

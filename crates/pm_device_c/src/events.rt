@@ -45,8 +45,8 @@ pub extern "C" fn pm_part_new(part: &mut PartImage, config: &ConfigImage) -> u8
 
 /// The part hears the bytes of one frame, which a repeated start ends where `is_request` isn't 0, otherwise a stop. 81h
 /// where it is silent, 82h where it took a write, 83h where it answers a read, K1 to K7 as 41h to 47h, which change no
-/// setting, no word in the store and no PAGE, and set one bit of STATUS_CML; the reply is empty for all but 83h. E5h
-/// where the memory holds no part, and then nothing changes.
+/// setting, no word in the store and no PAGE, and set one bit of STATUS_CML; the reply has bytes after 83h alone, and a
+/// fault of the frame after 41h alone. E5h where the memory holds no part, and then nothing changes.
 #[unsafe(no_mangle)]
 pub extern "C" fn pm_part_hear(
     part: &mut PartImage,

@@ -1,9 +1,9 @@
 ghost use Rattle.std.specs.Prelude.{◌≡◌, length, take, drop};
-ghost use Rattle.pm_device_c.specs.Part.{HasReply};
+ghost use Rattle.pm_device_c.specs.Part.{HasReply, frame_number};
 ghost use Rattle.pm_device_c.specs.Numbers.{heard_number};
 
 use crate::numbers::{ANSWERED, SILENT, TAKEN};
-use pm_device::Heard;
+use pm_device::{DeviceFault, Heard};
 use pm_frame::Frame;
 
 /// What a part answers to a request, as plain numbers.
@@ -12,19 +12,21 @@ use pm_frame::Frame;
 pub struct ReplyImage {
     /// How many bytes it has, the read address first; 0 where there is no answer.
     pub length: u8,
-    /// No meaning.
-    pub unused: u8,
+    /// The fault of the frame after K1: 32h to 35h, F2 to F5. 0 where the frame isn't refused by K1.
+    pub frame_fault: u8,
     /// The bytes; after them what stood there before.
     pub bytes: [u8; 16],
 }
 
 impl ReplyImage {
-    /// Takes the bytes of what a part made of a frame, where it has any, and answers its number.
+    /// Takes what a part made of a frame: its bytes, where it has any, and the fault of a frame that is refused by K1. Answers
+    /// its number.
     pub(crate) fn give(&mut self, heard: Heard) -> u8
         ensures number { result ≡ heard_number heard }
         ensures reply { HasReply heard self.old self.new }
     {
         self.length = 0;
+        self.frame_fault = 0;
         match heard {
             Heard::Silent => SILENT,
             Heard::Taken => TAKEN,
@@ -32,8 +34,21 @@ impl ReplyImage {
                 self.length = copy_frame(&mut self.bytes, &frame);
                 ANSWERED
             }
-            Heard::Refused(fault) => fault.number(),
+            Heard::Refused(fault) => {
+                self.frame_fault = frame_number(fault);
+                fault.number()
+            }
         }
+    }
+}
+
+// The number of the frame's fault, 0 of every other.
+fn frame_number(fault: DeviceFault) -> u8
+    ensures { result ≡ frame_number fault }
+{
+    match fault {
+        DeviceFault::Frame(frame) => frame.number(),
+        _ => 0,
     }
 }
 

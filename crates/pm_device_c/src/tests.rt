@@ -63,6 +63,36 @@ fn a_request_is_answered(rt: HostRuntime) {
     equal(&rt, &hear(&mut part, REQUEST, 0).0, &0x41, &6);
 }
 
+// After K1 the reply says which fault the frame has: it is cut, too long, wrongly counted, or has a wrong PEC. It says none
+// of a frame that is taken, answered, for another device, or refused for another reason.
+#[test]
+fn a_faulty_frame_is_told_with_its_fault(rt: HostRuntime) {
+    let mut part = part();
+    let short = hear(&mut part, &[0xB0, 0x05, 0x04], 0);
+    equal(
+        &rt,
+        &(short.0, short.1.length, short.1.frame_fault),
+        &(0x41, 0, 0x32),
+        &1,
+    );
+    let long = hear(&mut part, &[0xB0, 0x21, 0xCD, 0x34, 0x38, 0x00], 0);
+    equal(&rt, &(long.0, long.1.frame_fault), &(0x41, 0x33), &2);
+    let counted = hear(&mut part, &[0xB0, 0x05, 0x01, 0x00, 0x21], 0);
+    equal(&rt, &(counted.0, counted.1.frame_fault), &(0x41, 0x34), &3);
+    let damaged = hear(&mut part, &[0xB0, 0x00, 0x01, 0xEC], 0);
+    equal(&rt, &(damaged.0, damaged.1.frame_fault), &(0x41, 0x35), &4);
+    equal(&rt, &hear(&mut part, CARRIED, 0).1.frame_fault, &0, &5);
+    equal(&rt, &hear(&mut part, REQUEST, 1).1.frame_fault, &0, &6);
+    equal(
+        &rt,
+        &hear(&mut part, &[0xB2, 0x03], 0).1.frame_fault,
+        &0,
+        &7,
+    );
+    let unknown = hear(&mut part, &[0xB0, 0xFE, 0xBB], 0);
+    equal(&rt, &(unknown.0, unknown.1.frame_fault), &(0x42, 0), &8);
+}
+
 #[test]
 fn a_store_is_what_a_restart_brings_back(rt: HostRuntime) {
     let mut part = part();

@@ -134,7 +134,7 @@ class PartImage(c.Structure):
 
 
 class ReplyImage(c.Structure):
-    _fields_ = [("length", c.c_uint8), ("unused", c.c_uint8), ("bytes", c.c_uint8 * 16)]
+    _fields_ = [("length", c.c_uint8), ("frame_fault", c.c_uint8), ("bytes", c.c_uint8 * 16)]
 
 
 _u8, _u16, _u64, _i64, _at = c.c_uint8, c.c_uint16, c.c_uint64, c.c_int64, c.POINTER

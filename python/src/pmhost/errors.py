@@ -101,7 +101,10 @@ class SetupRefused(Refused):
 
 
 class PartRefused(Refused):
-    """K1 to K7: a frame that a converter refuses."""
+    """K1 to K7: a frame that a converter refuses. After K1 `of_frame` has the letter and the name of the frame's fault, as
+    `F5 WrongPec`."""
+
+    of_frame: str = ""
 
 
 class MemoryRefused(Refused):

@@ -7,7 +7,7 @@ from decimal import Decimal
 from typing import Any, Callable
 
 from ._library import ConfigImage, PartImage, ReplyImage, library
-from .errors import PartRefused, accepted, refusal
+from .errors import PartRefused, accepted, name_of, refusal
 from .values import code_of, frame_bytes, volts_of, whole
 
 SILENT, TAKEN, ANSWERED = 0x81, 0x82, 0x83
@@ -96,7 +96,10 @@ class Part:
         taken, reply = frame_bytes(frame, 2**16, "frame"), ReplyImage()
         number = library.pm_part_hear(ctypes.byref(self._image), taken, len(taken), bool(is_request), ctypes.byref(reply))
         if number not in (SILENT, TAKEN, ANSWERED):
-            raise refusal(number)
+            fault = refusal(number)
+            if isinstance(fault, PartRefused) and reply.frame_fault:
+                fault.of_frame = name_of(reply.frame_fault)
+            raise fault
         return bytes(reply.bytes[: reply.length])
 
     def restart(self) -> None:
@@ -174,3 +177,6 @@ class PartBus:
             return self.part.hear(request, is_request=True)[1 : count + 1]
         except PartRefused:
             return b""
+
+    def close(self) -> None:
+        """Nothing is open."""

@@ -204,7 +204,7 @@ STREAMS = [
     ("0> /dev/null", ["capture", "linux"], 1, "pmhost: standard input: Bad file descriptor\n"),
     (">&-", ["capture", "linux"], 2, "pmhost: standard output is closed: nothing was sent\n"),
 ]
-# Answers as i2ctransfer does, by what a `pmbpart` says that runs behind two named pipes.
+# Answers as i2ctransfer does, by what a model part says behind two named pipes.
 STAND_IN = """#!/usr/bin/env python3
 import os, sys
 words = [word for word in sys.argv[3:] if not word.startswith("r")]

@@ -39,7 +39,7 @@ pub(super) fn part() -> PartImage {
 pub(super) fn hear(part: &mut PartImage, bytes: &[u8], is_request: u8) -> (u8, ReplyImage) {
     let mut reply = ReplyImage {
         length: 9,
-        unused: 9,
+        frame_fault: 9,
         bytes: [9; 16],
     };
     let number = pm_part_hear(part, bytes, is_request, &mut reply);

@@ -21,7 +21,7 @@ fn the_example_of_the_root_runs(rt: HostRuntime) {
     let mut part = PartImage::blank();
     let mut reply = ReplyImage {
         length: 9,
-        unused: 9,
+        frame_fault: 9,
         bytes: [9; 16],
     };
     equal(

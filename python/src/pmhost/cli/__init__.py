@@ -18,16 +18,16 @@ from .._version import __version__
 from ..bus import NoBus
 from ..bus.linux import Calls
 from ..errors import PmhostError
-from . import capture, desk, known, orders, pictures, probe, rails, streams
+from . import capture, faults, known, orders, probe, rails, streams
 from .answer import Answer
 from .completion import bash
 from .call import Call, Interrupted, complain, interruptible
 from .parser import BadCall, Parser, bus_options, shown
 
 # The modules of the commands, in the order of the help.
-MODULES: list[ModuleType] = [probe, orders, known, rails, desk, capture, pictures]
+MODULES: list[ModuleType] = [probe, orders, known, rails, faults, capture]
 # The commands that have jobs of their own, between which a + stands: the call has no other command.
-OWN_JOBS = ("desk",)
+OWN_JOBS = ("faults",)
 
 ABOUT = """Supply voltages over PMBus, by a proved host.
 
@@ -40,7 +40,7 @@ command's words, those of one command behind its name. After a command that does
 and band are answered.
 
 The status is 0 where every command ended well, 1 where one didn't, 2 where the call can't be carried out or a stream
-fails (1 of capture, timeline and picture), and 130 after an interruption, which says what is now unknown."""
+fails (1 of capture), and 130 after an interruption, which says what is now unknown."""
 BAD_CALL, INTERRUPTED = 2, 130
 
 
@@ -134,6 +134,12 @@ def carried_out(call: Call) -> int:
 def judged(words: list[str], kernel: Calls | None) -> Call:
     """The call of a command line, judged whole before anything is opened."""
     call = Call(commands_of(words), kernel)
+    judge(call)
+    return call
+
+
+def judge(call: Call) -> None:
+    """Judges each command of a call, and what they have in common. BadCall."""
     for arguments in call.commands:
         arguments.call = call
         if hasattr(arguments, "judge_file"):
@@ -142,7 +148,6 @@ def judged(words: list[str], kernel: Calls | None) -> Call:
     for arguments in call.commands:
         if hasattr(arguments, "judge"):
             arguments.judge(arguments)
-    return call
 
 
 def fail(words: list[str], why: str, end: str, status: int, call: Call | None = None) -> int:

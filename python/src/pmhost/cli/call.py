@@ -7,8 +7,9 @@ import signal
 import sys
 from typing import Any, Iterator
 
-from ..bus import DeskBus, PatientBus, Trace
+from ..bus import PatientBus, Trace
 from ..bus.linux import ENDING, BusTrace, Calls
+from ..part import PartBus
 from ..parts import DESK, BoardPart
 from ..pmbus import Pmbus
 from ..rails import ONLY, Rails
@@ -194,7 +195,7 @@ class Call:
         """The same, through the one host of the call."""
         return self.only().pmbus()
 
-    def patient(self, patience: int | None = None) -> DeskBus | PatientBus:
+    def patient(self, patience: int | None = None) -> PartBus | PatientBus:
         """The bus of the one part, which waits for it where it is busy."""
         return self.only().patient(patience)
 

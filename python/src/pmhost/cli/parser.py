@@ -44,7 +44,7 @@ class Parser(argparse.ArgumentParser):
 
 # How what is missing is called, by its place in a command.
 MISSING = {"O": "the output", "VOLTAGE": "the voltage, as 3.3V,", "REG": "the register", "WORD": "the word, as 34CD,",
-           "high|low": "high or low", "FILE": "the file", "SCENARIO": "the scenario", "KIND": "the kind, as sigrok,"}
+           "high|low": "high or low", "FILE": "the file", "KIND": "the kind, as sigrok,"}
 
 # The commands of the program pmb.
 PMB = ("replay", "hear", "decode", "number")

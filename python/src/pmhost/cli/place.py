@@ -7,6 +7,7 @@ from .. import clock
 from ..bus import DeskBus, LinuxBus, NoBus, PatientBus, Trace
 from ..bus.linux import Calls
 from ..bus.patient import STEP, patience_of
+from ..part import PartBus
 from ..parts import DESK, BoardPart
 from ..pmbus import Pmbus
 from ..transfers import Transfers
@@ -30,12 +31,12 @@ class Place:
                  outputs: int | None = None) -> None:
         self.part, self.limits, self._options, self._trace = part, limits, options, trace
         self._outputs = outputs or part.outputs
-        self._bus: DeskBus | LinuxBus | None = None
+        self._bus: PartBus | LinuxBus | None = None
         self._pmbus: Pmbus | None = None
 
     # ---- The bus ----
 
-    def opened(self) -> DeskBus | LinuxBus:
+    def opened(self) -> PartBus | LinuxBus:
         """The bus, opened at its first use. NoBus, too, where a line is held low."""
         if self._bus is None:
             try:
@@ -47,7 +48,7 @@ class Place:
                 raise NoBus(HELD_LOW)
         return self._bus
 
-    def _made(self) -> DeskBus | LinuxBus:
+    def _made(self) -> PartBus | LinuxBus:
         part, options = self.part, self._options
         if part.bus == DESK:
             return DeskBus(part.address, self._outputs, self._trace)
@@ -57,7 +58,7 @@ class Place:
         """Whether the open bus acknowledges an address that no part may have."""
         return isinstance(self._bus, LinuxBus) and self._bus.is_held_low()
 
-    def patient(self, patience: int | None = None) -> DeskBus | PatientBus:
+    def patient(self, patience: int | None = None) -> PartBus | PatientBus:
         """The bus that waits for a busy part, which one on a desk never is; without a patience that of the call."""
         bus, options = self.opened(), self._options
         if not isinstance(bus, LinuxBus):

@@ -2,12 +2,22 @@
 from __future__ import annotations
 
 from collections.abc import Sequence
+from decimal import ROUND_HALF_EVEN, Decimal
 from html import escape
 
 SANS, MONO = "'DejaVu Sans', Verdana, sans-serif", "'DejaVu Sans Mono', Menlo, Consolas, monospace"
 INK, PALE, PANEL, EDGES = "#1c2127", "#5b6570", "#fbfbf8", "#8a9099"
 LINE, GOOD, FAULT, RESTART, LIMIT, RAIL = "#1f4e9c", "#14713f", "#b3261e", "#7a3db8", "#8a4b08", "#8c1d5a"
+# How high a row is, and what stands above the first; the edge around a picture, the room between columns, and that of a mark.
+ROW, HEADS, EDGE, GAP, MARK = 28, 84, 18, 20, 26
 MARKS = {"good": GOOD, "fault": FAULT, "restart": RESTART, "none": PALE}
+
+
+def in_volts(micro: int) -> str:
+    """Microvolts as volts, to a millivolt; below a volt to a tenth of one."""
+    digits = 3 if abs(micro) >= 10**6 else 4
+    volts = Decimal(micro).scaleb(-6).quantize(Decimal(1).scaleb(-digits), ROUND_HALF_EVEN)
+    return f"{volts.normalize():f} V" if volts or not micro else f"{micro} uV"
 
 
 def width_of(words: str, size: float, is_mono: bool = False) -> float:

@@ -6,9 +6,7 @@ from collections.abc import Callable, Iterator, Mapping, Sequence
 from math import floor, log10
 from typing import Protocol, TypeVar
 
-from .drawing import LIMIT, LINE, PALE, RAIL, box, line, named, text, width_of
-from .seen import Seen
-from .told import in_volts
+from .drawing import LIMIT, LINE, PALE, RAIL, box, in_volts, line, named, text, width_of
 
 PAD, BESIDE, LEAST_WIDTH = 8, 8, 120
 OUTSIDE, INSIDE = "#e4e2dc", "#eef3ee"
@@ -51,12 +49,6 @@ class Lane:
         self.name, self.told, self.bands, self.rail = name, told, bands, rail
         self.low, self.high = ends_of(self.values())
         self.width = self.wide_enough()
-
-    @classmethod
-    def of(cls, output: int, seen: Seen, rail: Band | None = None) -> Lane:
-        """Of an output of a scenario's run."""
-        told = [(*row.state.outputs[output], row.state.cut.get(output), seen.limits(row, output)) for row in seen.rows]
-        return cls(f"output {output}", told, [row.state.bands[output] for row in seen.rows], rail)
 
     def values(self) -> set[int]:
         """The microvolts for which the scale has room."""

@@ -8,11 +8,9 @@ from collections.abc import Iterator, Sequence
 from dataclasses import dataclass
 
 from ..way import Knowledge, WayRow
-from .drawing import (GOOD, LIMIT, LINE, MARKS, MONO, PALE, RAIL, box, hatched, legend, line, named, page, symbol, text, width_of,
-                      wrapped)
+from .drawing import (EDGE, GAP, GOOD, HEADS, LIMIT, LINE, MARK, MARKS, MONO, PALE, RAIL, ROW, box, hatched, in_volts, legend, line, named,
+                      page, symbol, text, width_of, wrapped)
 from .lane import INSIDE, OUTSIDE, SHADE, Lane, Tops, rail_in_words, runs_of
-from .picture import EDGE, GAP, HEADS, MARK, ROW
-from .told import in_volts
 
 COMMANDED = "commanded, by what the host knows"
 LEAST_LANE, LEAST_WIDTH, PITCH = 400, 700, 18

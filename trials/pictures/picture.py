@@ -4,18 +4,20 @@ the bus. A shade shows between which voltages the host knows an output to be, on
 """
 from __future__ import annotations
 
-from ..scenario import Cell
-from ..status import BITS, names_of
-from .drawing import (EDGES, FAULT, GOOD, INK, LIMIT, LINE, MARKS, MONO, PALE, RAIL, RESTART, box, first_that_fits, hatched, legend,
-                      line, page, path, symbol, text, width_of, wrapped)
-from .lane import INSIDE, OUTSIDE, SHADE, Lane, value_in_words
-from .life import Belief, State
-from .seen import Job, Row, Seen
-from .told import digits_of
+import paths  # noqa: F401
+from pmhost.picture.drawing import (EDGE, EDGES, FAULT, GAP, GOOD, HEADS, INK, LIMIT, LINE, MARK, MARKS, MONO, PALE, RAIL, RESTART, ROW,
+                                    box, first_that_fits, hatched, legend, line, page, path, symbol, text, width_of, wrapped)
+from pmhost.picture.lane import INSIDE, OUTSIDE, SHADE, Lane, value_in_words
+from pmhost.status import BITS, names_of
 
-ROW, HEADS, EDGE, GAP, PITCH = 28, 84, 18, 20, 15
+from life import Belief, State
+from scenario import Cell
+from seen import Job, Row, Seen
+from told import digits_of
+
+PITCH = 15
 PAGE, MOST_PAGE = 20, 25
-BELIEF, MARK = 140, 26
+BELIEF = 140
 BAND, HATCH, FALSE = "#e9eef5", "url(#doubt)", "url(#false)"
 # Of each belief: what fills it, the colour of its words, its legend.
 BELIEFS = {
@@ -35,6 +37,12 @@ MOST_LABEL = 44
 
 def shortened(label: str) -> str:
     return label if len(label) <= MOST_LABEL else label[:24] + ".." + label[26 - MOST_LABEL:]
+
+
+def lane_of(output: int, seen: Seen, rail: tuple[int, int] | None) -> Lane:
+    """The lane of an output of a scenario's run."""
+    told = [(*row.state.outputs[output], row.state.cut.get(output), seen.limits(row, output)) for row in seen.rows]
+    return Lane(f"output {output}", told, [row.state.bands[output] for row in seen.rows], rail)
 
 
 class Pages:
@@ -86,7 +94,7 @@ class Picture:
         for output in (None, *(it for it in self.seen.outputs if it not in self.folded)):
             start = x
             if output is not None:
-                self.lanes[output] = x, Lane.of(output, self.seen, self.rails.get(output))
+                self.lanes[output] = x, lane_of(output, self.seen, self.rails.get(output))
                 x += self.lanes[output][1].width + 8
             for register in (it for it in self.seen.registers if it.output == output):
                 self.beliefs_at[register] = x

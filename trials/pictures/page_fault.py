@@ -1,14 +1,15 @@
-"""Two hosts at a desk as a picture (SVG): the same jobs under the same mishaps, the proved host on the left, and on the right one
+"""Two hosts as a picture (SVG): the same order under the same faults, the proved host on the left, and on the right one
 that selects by PAGE and believes acknowledgements. Each row is a transfer, with what both outputs command behind it."""
 from __future__ import annotations
 
 from collections.abc import Sequence
 from dataclasses import dataclass
 
-from ..errors import Refused
-from ..packets import Packet, read_request, read_write
-from .drawing import FAULT, GOOD, INK, LINE, MONO, PALE, box, line, page, symbol, text, wrapped
-from .told import in_volts
+import paths  # noqa: F401
+from pmhost.errors import Refused
+from pmhost.faults import ADDRESS, Bench, Orderer, Struck, read_faults
+from pmhost.packets import Packet, read_request, read_write
+from pmhost.picture.drawing import FAULT, GOOD, INK, LINE, MONO, PALE, box, in_volts, line, page, symbol, text, wrapped
 
 EDGE, GAP, ROW, HEAD, WIDE = 18, 28, 40, 92, 470
 FRAME_AT, OUTPUT, SAYS = 26, 66, 12
@@ -17,7 +18,7 @@ CODES = {0x00: "PAGE", 0x01: "OPERATION", 0x10: "WRITE_PROTECT", 0x20: "VOUT_MOD
          0x25: "VOUT_MARGIN_HIGH", 0x26: "VOUT_MARGIN_LOW", 0x2B: "VOUT_MIN"}
 
 
-# Mishaps in words, by their kinds.
+# Faults in words, by their kinds.
 BEFELL = {"lost": "nothing arrives", "cut": "cut on the way", "damaged": "damaged on the way", "twice": "heard twice",
           "mute": "its acknowledgement or answer is lost", "short": "the answer is cut", "garbled": "the answer is damaged",
           "false": "nothing arrives, and somebody else acknowledges", "restart": "the part restarts before it"}
@@ -25,15 +26,23 @@ BEFELL = {"lost": "nothing arrives", "cut": "cut on the way", "damaged": "damage
 
 @dataclass(frozen=True)
 class Transfer:
-    """A frame of a host, the mishap that befell it, whether it came through well, what was said of it, and the microvolts that
-    each output commands behind it."""
+    """A transfer that is over, and the microvolts that each output commands behind it."""
 
-    frame: bytes
-    is_request: bool
-    mishap: str
-    is_well: bool
-    came: str
+    struck: Struck
     microvolts: tuple[int, ...]
+
+    @property
+    def is_well(self) -> bool:
+        """Whether it came through well."""
+        heard, came = self.struck.heard, self.struck.came
+        return heard == "taken" or heard.startswith("answer ") and heard.removeprefix("answer ") == came.removeprefix("back ")
+
+    @property
+    def came(self) -> str:
+        """What is said of it."""
+        if self.struck.count is None:
+            return f"{self.struck.heard}, {self.struck.came}"
+        return f"came {self.struck.came.removeprefix('back ')}"
 
 
 @dataclass(frozen=True)
@@ -69,7 +78,7 @@ def changed(before: Sequence[int], after: Sequence[int], wanted: int) -> list[st
     return [INK if old == new else GOOD if output == wanted else FAULT for output, (old, new) in enumerate(zip(before, after))]
 
 
-class DeskPicture:
+class PageFault:
     """Of both hosts' stories. `start` has the microvolts of each output before them, `wanted` the output that is ordered."""
 
     def __init__(self, address: int, title: str, stories: Sequence[Story], start: Sequence[int], wanted: int) -> None:
@@ -92,10 +101,10 @@ class DeskPicture:
     def row(self, x: float, top: float, transfer: Transfer, before: Sequence[int]) -> None:
         self.parts.append(line(x, top, x + self.wide, top, "#dcdfe3"))
         self.parts.append(symbol("good" if transfer.is_well else "fault", x + 9, top + 15))
-        self.parts.append(text(x + FRAME_AT, top + 17, meaning(self.address, transfer.frame, transfer.is_request), 13))
-        befell = BEFELL.get(transfer.mishap.partition(":")[0])
+        self.parts.append(text(x + FRAME_AT, top + 17, meaning(self.address, transfer.struck.frame, transfer.struck.count is not None), 13))
+        befell = BEFELL.get(transfer.struck.fault.partition(":")[0])
         came = f"{befell}: {transfer.came}" if befell else transfer.came
-        self.parts.append(text(x + FRAME_AT, top + 33, came, 11, PALE if transfer.mishap == "ok" else FAULT))
+        self.parts.append(text(x + FRAME_AT, top + 33, came, 11, PALE if transfer.struck.fault == "ok" else FAULT))
         colours = changed(before, transfer.microvolts, self.wanted)
         for output in self.outputs:
             self.parts.append(text(x + WIDE + OUTPUT * output, top + 17, in_volts(transfer.microvolts[output]), 13, colours[output],
@@ -118,3 +127,34 @@ class DeskPicture:
         wide = 2 * EDGE + self.wide * len(self.stories) + GAP * (len(self.stories) - 1)
         high = HEAD + ROW * rows + 100
         return page(self.title, wide, high, self.parts)
+
+
+def story(bench: Bench, host: Orderer, name: str, order: tuple[int, str, int], faults: str) -> Story:
+    """An order of a word by a host under a list of faults, on a part that has just started."""
+    bench.part.restart()
+    host.restart()
+    transfers: list[Transfer] = []
+    bench.bus.faults, bench.bus.tell = read_faults(faults), lambda it: transfers.append(Transfer(it, microvolts(bench)))
+    is_reported = host.order(*order)
+    words, (output, _, word) = bench.words(), order
+    strayed = [at for at in bench.outputs if at != output and words[at] == word]
+    why = f"Output {output} has the word." if words[output] == word else f"Output {output} doesn't have the word."
+    if strayed:
+        why = f"The word reached output {strayed[0]}, which nobody ordered. {why}"
+    is_true = not strayed and is_reported == (words[output] == word)
+    return Story(name, transfers, "success" if is_reported else "unknown", is_true, why)
+
+
+def microvolts(bench: Bench) -> tuple[int, ...]:
+    """What the outputs command."""
+    return tuple(int(bench.part.volts(output).scaleb(6)) for output in bench.outputs)
+
+
+def drawn(output: int, register: str, word: int, faults: str) -> str:
+    """The picture of one order by both hosts under the same faults."""
+    bench = Bench(MOST_OUTPUTS, 3, lambda transfer: None)
+    start, order = microvolts(bench), (output, register, word)
+    stories = [story(bench, bench.proved, "This host: PAGE_PLUS, and reads back", order, faults),
+               story(bench, bench.plain, "A host by PAGE that believes acknowledgements", order, faults)]
+    title = f"word {output} {register} {word:04X}; what strikes the transfers: {', '.join(read_faults(faults)) or 'nothing'}"
+    return PageFault(ADDRESS, title, stories, start, output).svg()

@@ -2,11 +2,7 @@
 event, and what came of each event on the bus."""
 from math import ceil, floor
 
-from pmhost.picture.life import Belief, State
-from pmhost.scenario import Cell
-
-from . import plain_model  # noqa: F401
-
+import paths  # noqa: F401
 from plain.converter import MAX, MIN, PROTECT, REGISTERS, format_of
 from plain.host import ANY
 from plain.limits import band
@@ -15,6 +11,10 @@ from plain.packets import name_of
 from plain.report import report
 from plain.scenario import read_scenario
 from plain.world import World
+from pmhost.picture.drawing import in_volts
+
+from life import Belief, State
+from scenario import Cell
 
 __all__ = ["ANY", "Plain", "name_of"]
 
@@ -131,7 +131,6 @@ class Plain:
 
     def read_word(self, message, payload):
         """A word that was read, with its volts where it is a voltage of an output's register."""
-        from pmhost.picture.told import in_volts
         word = int.from_bytes(bytes(payload), "little")
         shown = f"{word:0{2 * len(payload)}X}"
         is_set = message[1] is not None and (message[1], message[2]) in self.world.device.cells

@@ -1,8 +1,8 @@
 """What a picture of a scenario's run shows, row by row."""
 from __future__ import annotations
 
-from ..scenario import Cell
-from .life import PROTECT, Life, Run, State
+from life import PROTECT, Life, Run, State
+from scenario import Cell
 
 # How a picture names the limits; a text of version 1 has no least one.
 LIMITS = {"min": "VOUT_MIN", "max": "VOUT_MAX"}

@@ -5,14 +5,16 @@ import subprocess
 from collections.abc import Callable
 from dataclasses import dataclass
 
-from ..errors import NumberRefused, PartRefused, PmhostError, Refused as LibraryRefused
-from ..host import Known, Sending, Step
-from ..packets import read_answer, read_request
-from ..part import Output, Part
-from ..programs import path_of
-from ..scenario import DIRECT, REGISTERS, Cell, Event, Setup, code_of_cell, read_scenario
-from ..values import NAMES
-from .told import Words, microvolts_of
+import paths  # noqa: F401
+from pmhost.errors import NumberRefused, PartRefused, PmhostError, Refused as LibraryRefused
+from pmhost.host import Known, Sending, Step
+from pmhost.packets import read_answer, read_request
+from pmhost.part import Output, Part
+from pmhost.values import NAMES
+from program import needed
+
+from scenario import DIRECT, REGISTERS, Cell, Event, Setup, code_of_cell, read_scenario
+from told import Words, microvolts_of
 
 PROTECT = Cell(None, "WRITE_PROTECT")
 # A VOUT_MODE of ULINEAR16, whose words are 1/4096 V.
@@ -258,8 +260,8 @@ class Run:
 
 
 def lived(text: bytes) -> Run:
-    """What `pmb replay` says of a text. Refused where it refuses it, programs.Missing where there is no pmb."""
-    ran = subprocess.run([path_of("pmb"), "replay"], input=text, capture_output=True)
+    """What `pmb replay` says of a text. Refused where it refuses it."""
+    ran = subprocess.run([needed(), "replay"], input=text, capture_output=True)
     words = ran.stdout.decode("ascii", "replace").partition("\n")[0].split()
     if len(words) < 2 or words[0] not in ("ran", "stopped"):
         said = ran.stderr.decode("utf-8", "replace").strip()

@@ -3,10 +3,10 @@ from __future__ import annotations
 
 from dataclasses import dataclass
 
-from .host import Host
-from .part import Output, Part, PartBus
-from .texts import numbered
-from .values import CODES, Format
+import paths  # noqa: F401
+from pmhost import Host, Output, Part, PartBus
+from pmhost.texts import numbered
+from pmhost.values import CODES, Format
 
 JOBS = ("order", "volts", "check", "learn", "clear", "store", "restore")
 # The words of an `output` line behind its VOUT_MODE.

@@ -1,0 +1,281 @@
+"""`pmhost faults`: commands over a model part on a bus with faults."""
+from __future__ import annotations
+
+import argparse
+import functools
+import random
+import re
+from collections.abc import Sequence
+from dataclasses import dataclass
+from typing import Any
+
+from .. import faults, rails
+from ..bus import Trace
+from ..faults import bus as faulty_bus
+from ..part import PartBus
+from ..parts import DESK, BadRails, BoardPart
+from ..rails import ONLY
+from . import streams
+from .answer import in_digits
+from .call import DESK_OUTPUTS, PASSES, Call, complain, said
+from .completion import FILES, completed_by
+from .outcome import DEVICE
+from .parser import BEHIND, OPTIONS, BadCall, file_of, shown, whole
+from .place import Options, Place
+from .texts import without_a_bus
+
+EXAMPLE = "word 1 VOUT_COMMAND 34CD"
+ABOUT = f"""Carries commands out on a model part, over a bus that loses, cuts, damages and repeats frames. Each frame is told as it
+goes, with what the part made of it and what came of it.
+
+  pmhost faults {EXAMPLE}
+  pmhost faults --strike=damaged:2:0 --plain-host {EXAMPLE}
+  pmhost faults --seed=7 set 0 3.3V --limit 0:3.135V:3.465V + part restart + survey 0
+  pmhost faults --runs=10000 --seed=1
+
+A job is a command of pmhost with its options, which orders outputs without limits where no --limit names them; or part restart;
+or part and a frame, as part B0 00 01 ED, of which a / behind it says that a repeated start ends it. Each job is carried out,
+whatever became of those before. The status is 0 where each ended well, 1 where not."""
+# The options of a bus that the bus with faults doesn't have.
+OF_A_BUS = ("bus", "address", "trace", "json", "settle", "patience", "share_bus", "force")
+# How many of a hundred transfers a random fault strikes, where no rate is given.
+RATE = 25
+FRAME = re.compile(r"((?:[0-9A-Fa-f]{2} ?)+?)( ?/)?")
+
+
+@dataclass
+class PartJob:
+    """What is done to the part: a restart, where there is no frame."""
+
+    words: str
+    frame: bytes
+    is_request: bool
+
+
+Job = argparse.Namespace | PartJob
+
+
+def faults_of(word: str) -> list[str]:
+    try:
+        return faults.read_faults(word)
+    except ValueError as fault:
+        raise argparse.ArgumentTypeError(f"{shown(str(fault))} is no fault; pmhost faults --help has them") from None
+
+
+def seed_of(word: str) -> int:
+    """A whole number, negative ones too."""
+    try:
+        return int(word)
+    except ValueError:
+        raise argparse.ArgumentTypeError(f"seed {shown(word)}: give a whole number") from None
+
+
+def add(commands: Any) -> None:
+    parser = commands.add_parser("faults", help="commands on a model part over a bus with faults", description=ABOUT,
+                                 epilog=faulty_bus.__doc__)
+    parser.add_argument("--strike", type=faults_of, default=[], metavar="LIST",
+                        help="what strikes the transfers, in their order: faults between spaces or commas")
+    parser.add_argument("--seed", type=seed_of, metavar="N", help="faults at random, by a seed, behind those of the list")
+    parser.add_argument("--rate", type=whole(0, 100, "rate"), metavar="N",
+                        help="how many of a hundred transfers a random fault strikes, 25 if left out")
+    parser.add_argument("--passes", type=whole(1, 15, "passes"), metavar="N", dest="tries",
+                        help="how often a job is tried, 3 if left out")
+    parser.add_argument("--outputs", type=whole(1, 8, "outputs"), metavar="N", dest="count",
+                        help="how many outputs the part has, 2 if left out")
+    completed_by(parser.add_argument("--rails", type=file_of, metavar="FILE",
+                                     help="a file of rails, whose outputs and limits are those of the jobs"), FILES)
+    parser.add_argument("--plain-host", action="store_true",
+                        help="in place of the proved host one that selects by PAGE and believes acknowledgements; it takes orders of words")
+    parser.add_argument("--runs", type=whole(1, 10**9 - 1, "runs"), metavar="N",
+                        help="N lists of random faults, under each of which both hosts order a word at two outputs")
+    parser.add_argument("jobs", nargs=argparse.REMAINDER, metavar="JOB [+ JOB ..]", help=f"as {EXAMPLE}")
+    parser.set_defaults(run=run, judge=judge)
+
+
+# ---- What is asked for ----
+
+class JobsCall(Call):
+    """What the jobs share: a host of one model part, on a bus with faults."""
+
+    def __init__(self, jobs: Sequence[Job], asked: argparse.Namespace) -> None:
+        super().__init__([job for job in jobs if not isinstance(job, PartJob)])
+        for name in OF_A_BUS:
+            if self._all(name):
+                raise BadCall(f"faults: {OPTIONS[name][0][-1]}: the bus with faults has no such option")
+        for name, given in (("outputs", asked.count), ("passes", asked.tries)):
+            if given is not None and self._all(name):
+                raise BadCall(f"faults: {OPTIONS[name][0][-1]}: it is given twice")
+        self.bus, self.is_unlimited = DESK, True
+        self.passes = self._one("passes") or asked.tries or PASSES
+        self.outputs = self.outputs or asked.count or DESK_OUTPUTS
+        self.is_counted = asked.count is not None
+
+    @functools.cached_property
+    def bench(self) -> faults.Bench:
+        """The part, its bus and the hosts, once the call is judged."""
+        return faults.Bench(self.counted(), self.passes, indented)
+
+    def take_rails(self, arguments: argparse.Namespace, found: rails.Rails) -> None:
+        if self.is_counted:
+            raise BadCall(f"faults: --outputs: outputs and limits stand in the file of {arguments.command}")
+        if found.is_board:
+            raise BadCall(f"faults: the file of {arguments.command} is of a board: give one of one part")
+        super().take_rails(arguments, found)
+
+    def places(self) -> dict[str, Place]:
+        if not self._places:
+            part = BoardPart(ONLY, DESK, faults.ADDRESS, self.counted(), "", self.without)
+            options = Options(self.passes, 0, None, False, False, None)
+            self._places = {ONLY: FaultyPlace(part, self.limits, options, self.bench.bus)}
+        return self._places
+
+
+class FaultyPlace(Place):
+    """The model part, on the bus with faults."""
+
+    def __init__(self, part: BoardPart, limits: dict[int, tuple[int, int]], options: Options, faulty: PartBus) -> None:
+        super().__init__(part, limits, options, Trace(None))
+        self._faulty = faulty
+
+    def _made(self) -> PartBus:
+        return self._faulty
+
+
+def read_jobs(words: list[str]) -> list[list[str]]:
+    """The words of each job; a + stands between two."""
+    jobs: list[list[str]] = [[]] if words else []
+    for word in words:
+        if word == "+":
+            jobs.append([])
+        else:
+            jobs[-1].append(word)
+    if not all(jobs):
+        raise BadCall("faults: a job is missing beside a +")
+    return jobs
+
+
+def job_of(words: list[str]) -> Job:
+    """A job, by its words. BadCall."""
+    from . import OWN_JOBS, commands_of  # the commands' own parser has this command, too
+    if words[0] == "part":
+        return part_job(words)
+    if words[0] in OWN_JOBS:
+        raise BadCall(f"faults: {words[0]}: it is no job")
+    found, = commands_of(words)
+    if not hasattr(found, "bus" + BEHIND):
+        raise BadCall(f"faults: {said(found)}: it uses no bus, and is no job")
+    return found
+
+
+def part_job(words: list[str]) -> PartJob:
+    """A restart, or a frame."""
+    behind = " ".join(words[1:])
+    frame = FRAME.fullmatch(behind)
+    if behind != "restart" and not frame:
+        raise BadCall(f"faults: {shown(' '.join(words))}: give restart, or a frame in hexadecimal digits, as part B0 00 01 ED")
+    return PartJob(" ".join(words), bytes.fromhex(frame[1]) if frame else b"", bool(frame and frame[2]))
+
+
+def is_plain(job: Job) -> bool:
+    """Whether both hosts can carry a job out: one at the part, or an order of a word."""
+    return isinstance(job, PartJob) or job.command == "word" and job.register != DEVICE
+
+
+def judge(arguments: argparse.Namespace) -> None:
+    from . import judge as judge_jobs
+    without_a_bus(arguments)
+    jobs: list[Job] = [job_of(words) for words in read_jobs(arguments.jobs)]
+    if bool(jobs) == (arguments.runs is not None):
+        raise BadCall(f"faults: give a job, as {EXAMPLE}, or --runs")
+    if arguments.runs is not None and (arguments.plain_host or arguments.strike):
+        raise BadCall("faults: --runs draws faults and tries both hosts: leave --plain-host and --strike out")
+    if arguments.rate is not None and arguments.runs is None and arguments.seed is None:
+        raise BadCall("faults: --rate is of --seed and --runs, and neither is given")
+    call = JobsCall(jobs, arguments)
+    if arguments.rails is not None:
+        try:
+            call.take_rails(arguments, rails.read(arguments.rails))
+        except BadRails as bad:
+            raise BadCall(str(bad)) from bad
+    judge_jobs(call)
+    for job in jobs:
+        if arguments.plain_host and not is_plain(job):
+            raise BadCall(f"faults: {said_of(job)}: the plain host takes orders of words alone, as {EXAMPLE}")
+    arguments.jobs, arguments.jobs_call = jobs, call
+
+
+# ---- What is done ----
+
+def run(arguments: argparse.Namespace) -> int:
+    """Carries the jobs out, or counts over many runs."""
+    try:
+        return counted(arguments) if arguments.runs else carried_out(arguments)
+    except KeyboardInterrupt:
+        complain("faults: interrupted")
+        return streams.INTERRUPTED
+
+
+def silent(transfer: faults.Struck) -> None:
+    """Tells nothing of a transfer."""
+
+
+def indented(transfer: faults.Struck) -> None:
+    """Tells of a transfer below its job."""
+    streams.write(f"  {transfer.line}")
+
+
+def rate_of(arguments: argparse.Namespace) -> int:
+    """How many of a hundred transfers a random fault strikes."""
+    return RATE if arguments.rate is None else int(arguments.rate)
+
+
+def counted(arguments: argparse.Namespace) -> int:
+    bench: faults.Bench = arguments.jobs_call.bench
+    bench.bus.tell = silent
+    for line in faults.figures(bench, arguments.runs, arguments.seed or 0, rate_of(arguments)):
+        streams.write(line)
+    return 0
+
+
+def carried_out(arguments: argparse.Namespace) -> int:
+    """The status: whether each job went well."""
+    bench: faults.Bench = arguments.jobs_call.bench
+    random_ones = [] if arguments.seed is None else faults.draw_faults(random.Random(arguments.seed), rate_of(arguments))
+    bench.bus.faults = [*arguments.strike, *random_ones]
+    status = 0
+    for job in arguments.jobs:
+        streams.write(said_of(job))
+        status = max(status, one(arguments, bench, job))
+    streams.write("; ".join(f"output {output} holds {word:04X}" for output, word in enumerate(bench.words())))
+    return status
+
+
+def said_of(job: Job) -> str:
+    """A job as it was given, without options."""
+    return job.words if isinstance(job, PartJob) else said(job)
+
+
+def one(arguments: argparse.Namespace, bench: faults.Bench, job: Job) -> int:
+    """Carries a job out, and says what became of it. Its status."""
+    if isinstance(job, PartJob):
+        heard = "restarted"
+        if job.frame:
+            heard, _ = faults.heard_by(bench.part, job.frame, job.is_request)
+        else:
+            bench.part.restart()
+        streams.write(heard)
+        return int(heard.startswith("refused "))
+    if arguments.plain_host:
+        return by_page(bench, job)
+    call: Call = arguments.jobs_call
+    call.begin(job)
+    return int(job.run(job))
+
+
+def by_page(bench: faults.Bench, job: argparse.Namespace) -> int:
+    """An order of a word by the plain host."""
+    word = int(job.digits, 16)
+    is_reported = bench.plain.order(job.output, job.register, word)
+    end = "acknowledged" if is_reported else "not acknowledged"
+    streams.write(f"word {job.output}: {job.register} {in_digits(job.register, word)} {end}")
+    return int(not is_reported)
