@@ -56,6 +56,7 @@ step ".deb" 'dpkg -i *.deb'
 asked "its command" 'pmhost -b desk --outputs 2 --limit 0:3.135V:3.465V set 0 3.3V | grep "the output commands 3.300048V, within"'
 asked "a file of rails" 'printf "[rails.core]\noutput = 0\nvolts = \"0.9V\"\nlimits = [\"0.85V\", \"0.95V\"]\n" > rails.toml && pmhost -b desk apply rails.toml'
 asked "one version" 'test "$(for each in pmb pmhost; do $each --version | cut -d" " -f2; done | sort -u)" = "$(pkg-config --modversion pmhost pmpart | sort -u)"'
+asked "an order over a bus with faults" 'pmhost faults --strike=lost word 1 VOUT_COMMAND 34CD | grep "confirmed"'
 asked "C over the shared object" "gcc -Wall -Werror $doc/examples/c/order.c \$(pkg-config --cflags --libs pmhost) -o order && ./order | cmp - $doc/examples/c/order.expected"
 asked "C over the part's shared object" "gcc -Wall -Werror $doc/examples/c/part.c \$(pkg-config --cflags --libs pmpart) -o part && ./part | cmp - $doc/examples/c/part.expected"
 asked "C over both shared objects" "gcc -Wall -Werror $doc/examples/c/faults.c \$(pkg-config --cflags --libs pmhost pmpart) -o faults && ./faults 5000"
