@@ -14,6 +14,7 @@ import sys
 import unittest
 
 from program import ROOT, Words
+from tally import Tally
 
 TESTS = os.path.join(ROOT, "python", "tests")
 # Reasons for which a test may be skipped: what the gate's machine need not have.
@@ -85,8 +86,9 @@ def main():
         print(f"skipped: {sum(each == why for _, each in result.skipped)} tests: {why}")
     print(f"tests found by name {len(named & set(found))}, by content {len(found)}")
     good = result.testsRun - len(result.failures) - len(result.errors) - len(result.unexpectedSuccesses) - len(result.skipped)
-    print(f"{good} passed, {bad} failed")
-    return 1 if bad or not good else 0
+    tally = Tally()
+    tally.passed, tally.failed = good, bad
+    return tally.end()
 
 
 if __name__ == "__main__":
