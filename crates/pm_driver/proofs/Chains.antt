@@ -1,91 +1,10 @@
--- Events that follow a plan, one after another, and parts of them.
-use Rattle.std.specs.Prelude.{◌≡◌, ◌⊎◌, ℕ, Bool, true, false, cond, ◌||◌, ◌==◌, ◌+◌, refl, Option, Some, None, List, [], ◌∷◌, ◌++◌}
+-- Parts of a list of events.
+use Rattle.std.specs.Prelude.{◌≡◌, ◌⊎◌, ℕ, Bool, true, false, cond, ◌||◌, ◌+◌, refl, List, [], ◌∷◌, ◌++◌}
 use Rattle.std.specs.List.{list_any}
-use Rattle.std.proofs.Common.{arith, inl, inr, sym, ◌∙◌, ap, subst, append_assoc}
-use Rattle.pm_table.specs.declared.cell.Cell.TheVariants.{Out, Protect}
-use Rattle.pm_device.specs.declared.config.Config.{Config}
-use Rattle.pm_host.specs.declared.command.Command.TheVariants.{RestoreUserAll}
-use Rattle.pm_host.specs.Transcript.{Job, Order, Check, Learn, Send}
-use Rattle.pm_limits.specs.declared.part_registers.PartRegisters.{PartRegisters}
-use Rattle.pm_rail.specs.declared.orders.PlanOrder.{PlanOrder}
-use Rattle.pm_rail.specs.Orders.{plan_of}
-use Rattle.pm_rail.specs.Registers.{Wants}
+use Rattle.std.proofs.Common.{arith, inl, inr, sym, ap}
 use Rattle.pm_world.specs.declared.event.Event.{Event}
 use Rattle.pm_world.specs.Confirmed.{restarts_converter}
-use Rattle.pm_world.specs.Life.{now}
-use Rattle.pm_world.specs.Plans.{Follows, IsPlansOrder, MayAsk, last_order, newest_order}
-use Rattle.pm_world.specs.State.{asked}
 use Rattle.pm_driver.specs.Bus.{restarts_in}
-
--- the newest order of a list is that of a longer one
-newest-some : (output : ℕ) (job : Option Job) (one other : Option PlanOrder) (order : PlanOrder) →
-    (one ≡ Some order → other ≡ Some order) →
-    newest_order output job one ≡ Some order → newest_order output job other ≡ Some order
-newest-some output (Some (Order (Out o register) word)) one other order f h = go (o == output) h where
-  go : (b : Bool) → cond b (Some (record { register = register; word = word })) one ≡ Some order →
-      cond b (Some (record { register = register; word = word })) other ≡ Some order
-  go true e = e
-  go false e = f e
-newest-some output job one other order f h = f h
-
-last-longer : (config : Config) (passes output : ℕ) (events evs before : List Event) (order : PlanOrder) →
-    last_order config passes output events (evs ++ before) ≡ Some order →
-    last_order config passes output (events ++ evs) before ≡ Some order
-last-longer config passes output [] evs before order h = cc
-last-longer config passes output (event ∷ older) evs before order h =
-    newest-some output (asked (now config passes ((older ++ evs) ++ before)) event)
-    (last_order config passes output older (evs ++ before)) (last_order config passes output (older ++ evs) before) order
-    (last-longer config passes output older evs before order)
-    (ap (λ (es : List Event). newest_order output (asked (now config passes es) event)
-    (last_order config passes output older (evs ++ before)))
-    (append_assoc older evs before) ∙ h)
-
-order-longer : (config : Config) (passes : ℕ) (part : PartRegisters) (output : ℕ) (wants : Wants) (older evs before : List Event)
-    (order : PlanOrder) →
-    IsPlansOrder config passes part output wants older (evs ++ before) order →
-    IsPlansOrder config passes part output wants (older ++ evs) before order
-order-longer config passes part output wants older evs before order (inl planned) =
-    inl (
-      planned.0,
-      ap (λ (es : List Event). plan_of part (now config passes es).host planned.0 output wants)
-          (append_assoc older evs before) ∙ planned.1,
-    )
-order-longer config passes part output wants older evs before order (inr again) =
-    inr (last-longer config passes output older evs before order again)
-
-ask-longer : (config : Config) (passes : ℕ) (part : PartRegisters) (output : ℕ) (wants : Wants) (older evs before : List Event)
-    (job : Option Job) →
-    MayAsk config passes part output wants older (evs ++ before) job → MayAsk config passes part output wants (older ++ evs) before job
-ask-longer config passes part output wants older evs before (Some (Order (Out other register) word)) m =
-    λ same. order-longer config passes part output wants older evs before (record { register = register; word = word }) (m same)
-ask-longer config passes part output wants older evs before (Some (Send RestoreUserAll)) m = absurd m
-ask-longer config passes part output wants older evs before (Some (Send command)) m = tt
-ask-longer config passes part output wants older evs before (Some (Order Protect word)) m = tt
-ask-longer config passes part output wants older evs before (Some (Check cell)) m = tt
-ask-longer config passes part output wants older evs before (Some (Learn learned)) m = tt
-ask-longer config passes part output wants older evs before None m = tt
-
-pub follow-on : (config : Config) (passes : ℕ) (part : PartRegisters) (output : ℕ) (wants : Wants) (events evs before : List Event) →
-    Follows config passes part output wants events (evs ++ before) → Follows config passes part output wants evs before →
-    Follows config passes part output wants (events ++ evs) before
-follow-on config passes part output wants [] evs before new old = old
-follow-on config passes part output wants (event ∷ older) evs before new old = (
-  new.0,
-  ap-may (append_assoc older evs before) (ask-longer config passes part output wants older evs before _ new.1),
-  follow-on config passes part output wants older evs before new.2 old,
-)
-  where
-    ap-may : (older ++ evs) ++ before ≡ older ++ (evs ++ before) →
-        MayAsk config passes part output wants (older ++ evs) before (asked (now config passes (older ++ (evs ++ before))) event) →
-        MayAsk config passes part output wants (older ++ evs) before (asked (now config passes ((older ++ evs) ++ before)) event)
-    ap-may e m = subst (λ (es : List Event). MayAsk config passes part output wants (older ++ evs) before
-        (asked (now config passes es) event)) (sym e) m
-
-pub follows-drop : (config : Config) (passes : ℕ) (part : PartRegisters) (output : ℕ) (wants : Wants) (rest events before : List Event) →
-    Follows config passes part output wants (rest ++ events) before → Follows config passes part output wants events before
-follows-drop config passes part output wants [] events before follows = follows
-follows-drop config passes part output wants (event ∷ rest) events before follows = follows-drop config passes part output wants rest
-    events before follows.2
 
 -- ---- Restarts ----
 

@@ -50,10 +50,11 @@ use Rattle.pm_driver.specs.Surprises.{OneSurpriseAtMost, has_surprise, surprises
 use Rattle.pm_driver.specs.SurveyLaws.{events_read}
 use Rattle.pm_driver.proofs.EndedJobs.{now-end}
 use Rattle.pm_driver.proofs.Followed.{entries-are, host-is, told_in}
-use Rattle.pm_driver.proofs.RailLives.{Kind, Ran, checks, idle-check, idle-learn, learns, protects, ran}
+use Rattle.pm_driver.proofs.RanJobs.{Kind, Ran, checks, idle-check, idle-learn, learns, protects, ran}
 use Rattle.pm_driver.proofs.ReadJobs.{check-read, learn-known, learn-read, surprised}
 use Rattle.pm_driver.proofs.Surprises.{both-surprised}
-use Rattle.pm_driver.proofs.Surveyed.{asked-output, asks-so}
+use Rattle.pm_rail.specs.Lemmas.Says.{asks-so}
+use Rattle.pm_driver.proofs.Surveyed.{asked-output}
 use Rattle.pm_driver.proofs.SurveyRuns.{none-restarted, words-now}
 
 -- the laws that the count is had from

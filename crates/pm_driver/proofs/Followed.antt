@@ -1,6 +1,6 @@
 -- The events of one job of a driver ask for that job alone, and find the host as it was.
 use Rattle.std.specs.Prelude.{◌≡◌, ◌⊎◌, ℕ, Bool, true, false, ◌||◌, cond, refl, Option, Some, None, is_some, is_none, option_map}
-use Rattle.std.specs.Prelude.{option_and_then, option_to_list, IsSomeAnd, List, [], ◌∷◌, ◌++◌}
+use Rattle.std.specs.Prelude.{option_and_then, option_to_list, List, [], ◌∷◌, ◌++◌}
 use Rattle.std.specs.List.{list_any}
 use Rattle.std.specs.Option.{option_map_or}
 use Rattle.std.proofs.Common.{inl, inr, sym, ◌∙◌, ap, subst, append_assoc}
@@ -17,7 +17,7 @@ use Rattle.pm_host.specs.Ended.{job_in, stage_job}
 use Rattle.pm_host.specs.Laws.{EndsAreTold}
 use Rattle.pm_host.specs.Now.{now as host_now}
 use Rattle.pm_host.specs.Refusals.{is_busy}
-use Rattle.pm_host.specs.Summary.{Summary, sending_in, stage_message}
+use Rattle.pm_host.specs.Summary.{Summary}
 use Rattle.pm_host.specs.Transcript.{Job, Order, Check, Learn, Send, Entry, Accepted, Finished, Got, Restarted, Setup, end_of, last_job}
 use Rattle.pm_host.specs.Transcript.{open_job, told_since}
 use Rattle.pm_host.specs.Answers.{good_word}
@@ -40,14 +40,12 @@ use Rattle.pm_world.specs.Plans.{Follows, MayAsk}
 use Rattle.pm_world.specs.Possible.{has_read, restarts_host}
 use Rattle.pm_world.specs.Retelling.{open_pending, pending_of}
 use Rattle.pm_world.specs.Setup.{setup_of}
-use Rattle.pm_world.specs.State.{State, asked, share_beside, share_of, tells}
+use Rattle.pm_world.specs.State.{asked, share_beside, share_of, tells}
 use Rattle.pm_world.specs.Uncertainty.{job_event}
 use Rattle.pm_world.specs.Lemmas.{entries-more}
 use Rattle.pm_driver.proofs.UndisturbedOrders.{not-idle}
 use Rattle.pm_driver.specs.Lives.{jobs_asked, jobs_begun, with_job}
-use Rattle.pm_frame.specs.declared.message.Message.{Message}
-use Rattle.pm_frame.specs.Layout.{IsRequest, IsWrite}
-use Rattle.pm_driver.specs.Acts.{Act, AreDone, Began, Call, Called, Looked, MayDo, Read, Renewed, Wrote, asked_in, host_by, told_all}
+use Rattle.pm_driver.specs.Acts.{Act, AreDone, Began, Called, Looked, MayDo, Read, Renewed, Wrote, asked_in, host_by, told_all}
 
 -- the jobs of a plan: its next order by what the host knows, and besides checks and learns
 abbrev pub MayRun : PartRegisters → Summary → ℕ → Wants → Job → Type 0

@@ -15,11 +15,9 @@ mod Idle
 mod Surveyed
 mod Followed
 mod Chains
-mod PlanOrders
-mod CarriedOut
-mod RailLives
+mod RanJobs
 mod SurveyRuns
-mod ReachedPlans
+mod CoursesLived
 mod RailLeads
 mod Parts
 mod Patience

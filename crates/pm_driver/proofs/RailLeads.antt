@@ -1,18 +1,18 @@
--- The jobs of surveys and plans, put together.
-use Rattle.std.specs.Prelude.{◌≡◌, ℕ, List, [], ◌∷◌, ◌++◌, Option, Some, None, IsSomeAnd}
+-- The jobs of surveys and courses, put together.
+use Rattle.std.specs.Prelude.{ℕ, List, [], ◌∷◌, ◌++◌, Option, Some, None, IsSomeAnd}
 use Rattle.std.proofs.Common.{◌∙◌, ap}
 use Rattle.pm_device.specs.Held.{Held}
 use Rattle.pm_host.specs.declared.job.JobEnd.{JobEnd}
 use Rattle.pm_host.specs.Jobs.{accepted_job}
 use Rattle.pm_host.specs.Transcript.{Job}
+use Rattle.pm_rail.specs.declared.course.Course.{Course}
 use Rattle.pm_rail.specs.declared.survey.Survey.{Survey}
-use Rattle.pm_rail.specs.declared.wanted.Wanted.{Wanted}
 use Rattle.pm_world.specs.declared.event.Event.{Event}
-use Rattle.pm_driver.specs.declared.rails.Course.{Course}
 use Rattle.pm_driver.specs.Acts.{Act, Began, Call}
 use Rattle.pm_driver.specs.Driven.{Driving, driven}
 use Rattle.pm_driver.specs.Lives.{Driven, Leads}
-use Rattle.pm_driver.specs.Rails.{Applied, Surveys, again, events_in, events_of, more, nothing, read, wrote}
+use Rattle.pm_driver.specs.Courses.{Courses, events_of, no_job, one_more}
+use Rattle.pm_driver.specs.Rails.{Surveys, events_in, more, nothing}
 use Rattle.pm_driver.specs.SurveyLaws.{events_read}
 use Rattle.pm_driver.specs.RailLeads.{IsLed, RailsLead, begun_by, end_of, end_read, jobs_of, jobs_read}
 use Rattle.pm_driver.proofs.Composed.{composed-events, leads-compose, leads-nothing, nothing-events}
@@ -54,23 +54,16 @@ surveys-lead gives held restarts begun old (more v job end middle last before as
     led-some gives held restarts (jobs_read before) (end_read before) (events_read before) end old middle last
     (surveys-lead gives held restarts begun old before) (accepted_job middle.guard.host job) runs.leads
 
-plans-lead : {B : Type 0} (gives : B → Call → B → Type 0) (held : B → Held) (restarts : B → ℕ) (output : ℕ) (wanted : Wanted)
-    (begun : Course)
-    (old : Driving B) {course : Course} {new : Driving B} (runs : Applied gives held restarts output wanted begun old course new) →
+courses-lead : {B : Type 0} (gives : B → Call → B → Type 0) (held : B → Held) (restarts : B → ℕ) (begun : Course)
+    (old : Driving B) {course : Course} {new : Driving B} (runs : Courses gives held restarts begun old course new) →
     IsLed gives held restarts (jobs_of runs) (end_of runs) (events_of runs) (driven old) (driven new)
-plans-lead gives held restarts output wanted begun old nothing = led-nothing gives held restarts (driven old)
-plans-lead gives held restarts output wanted begun old (more course after middle last before (read job end new once asks runs)) =
+courses-lead gives held restarts begun old no_job = led-nothing gives held restarts (driven old)
+courses-lead gives held restarts begun old (one_more course job end middle last before names runs) =
     led-some gives held restarts (jobs_of before) (end_of before) (events_of before) end old middle last
-    (plans-lead gives held restarts output wanted begun old before) (accepted_job middle.guard.host job) runs.leads
-plans-lead gives held restarts output wanted begun old (more course after middle last before
-    (wrote order end new once surveyed left plan runs)) =
-    led-some gives held restarts (jobs_of before) (end_of before) (events_of before) end old middle last
-    (plans-lead gives held restarts output wanted begun old before) (Some _) runs.leads
-plans-lead gives held restarts output wanted begun old (more course after middle last before (again once surveyed ordered plan)) =
-    plans-lead gives held restarts output wanted begun old before
+    (courses-lead gives held restarts begun old before) (accepted_job middle.guard.host job) runs.leads
 
 pub rails-lead : {B : Type 0} (gives : B → Call → B → Type 0) (held : B → Held) (restarts : B → ℕ) → RailsLead gives held restarts
 rails-lead gives held restarts = record {
   surveys = λ begun v old new runs. surveys-lead gives held restarts begun old runs;
-  plans = λ output wanted begun course old new runs. plans-lead gives held restarts output wanted begun old runs;
+  courses = λ begun course old new runs. courses-lead gives held restarts begun old runs;
 }

@@ -27,7 +27,7 @@ use Rattle.pm_limits.specs.Band.{InBand, band_at, decides}
 use Rattle.pm_limits.specs.Guard.{Guarded}
 use Rattle.pm_limits.specs.Part.{has_register}
 use Rattle.pm_rail.specs.declared.survey.Survey.{Survey}
-use Rattle.pm_rail.specs.Registers.{Held, wants_of}
+use Rattle.pm_rail.specs.Registers.{wants_of}
 use Rattle.pm_rail.specs.Survey as survey
 use Rattle.pm_rail.specs.Survey.{is_surveyed, next_job, wanted_in}
 use Rattle.pm_world.specs.declared.event.Event.{Event}
@@ -37,7 +37,6 @@ use Rattle.pm_world.specs.Honest.{IsSpelled}
 use Rattle.pm_world.specs.Job.{asked_by}
 use Rattle.pm_world.specs.Life.{now}
 use Rattle.pm_world.specs.Limited.{commands}
-use Rattle.pm_world.specs.Lived.{IsLived}
 use Rattle.pm_world.specs.Plans.{held_at}
 use Rattle.pm_world.specs.Possible.{has_read}
 use Rattle.pm_world.specs.Surveys.{AreRead, KeepsSurveys, MissingUnread}
@@ -52,9 +51,10 @@ use Rattle.pm_driver.specs.RailLaws.{LawsOfRails}
 use Rattle.pm_driver.specs.SurveyLaws.{IsOne, IsWorth, commanded_in, events_read}
 use Rattle.pm_driver.proofs.Chains.{none-counted, none-first, none-second}
 use Rattle.pm_driver.proofs.Followed.{LeavesAlone, LeavesUnread, stays-unread}
-use Rattle.pm_driver.proofs.RailLives.{Kind, Ran, Stays, checks, idle-check, idle-learn, learns, none-both, protects, ran, read-told}
-use Rattle.pm_driver.proofs.RailLives.{same-commands, some-counted, stays-on, two-cells}
-use Rattle.pm_driver.proofs.Surveyed.{asked-output, asks-so}
+use Rattle.pm_driver.proofs.RanJobs.{Kind, Ran, Stays, checks, idle-check, idle-learn, learns, none-both, protects, ran, read-told}
+use Rattle.pm_driver.proofs.RanJobs.{same-commands, some-counted, stays-on, two-cells}
+use Rattle.pm_rail.specs.Lemmas.Says.{asks-so}
+use Rattle.pm_driver.proofs.Surveyed.{asked-output}
 
 -- the words of a life's converter are those of the one that it led to
 pub words-now : (config : Config) (passes : ℕ) (events : List Event) (host : Summary) (held : Converter)

@@ -1,16 +1,18 @@
--- What a plan that a driver carries out is worth: this project's own choice. Lists of events are newest first.
+-- What a course to wanted words that a driver carries out is worth: this project's own choice. Lists of events are newest first.
 use Rattle.std.specs.Prelude.{◌≡◌, ◌<◌, ℕ, List, ◌++◌, Some}
 use Rattle.pm_table.specs.declared.cell.Cell.TheVariants.{Out}
 use Rattle.pm_table.specs.declared.reg.Reg.{Reg}
 use Rattle.pm_table.specs.Laws.{CellsAreToldApart}
 use Rattle.pm_model.specs.Settings.{word_at}
 use Rattle.pm_device.specs.declared.config.Config.{Config}
-use Rattle.pm_device.specs.Held.{Held, value_for}
+use Rattle.pm_device.specs.Held.{Held}
 use Rattle.pm_host.specs.Laws.{EndsAreTold}
-use Rattle.pm_num.specs.Ratio.{Ratio}
+use Rattle.pm_rail.specs.declared.apply_end.ApplyEnd.TheVariants.{Reached}
+use Rattle.pm_rail.specs.declared.course.Course.{Course}
+use Rattle.pm_rail.specs.declared.next.Next.TheVariants.{Ended}
 use Rattle.pm_rail.specs.declared.wanted.Wanted.{Wanted}
+use Rattle.pm_rail.specs.Course.{course_of, next_by}
 use Rattle.pm_rail.specs.Laws.{IsStep, SurveysEndKnown}
-use Rattle.pm_rail.specs.Plan.{commands_by, goal_of}
 use Rattle.pm_rail.specs.Registers.{wants_of}
 use Rattle.pm_world.specs.declared.event.Event.{Event}
 use Rattle.pm_world.specs.Bands.{HoldsMissing}
@@ -18,30 +20,21 @@ use Rattle.pm_world.specs.Honest.{IsSpelled}
 use Rattle.pm_world.specs.Limited.{commands}
 use Rattle.pm_world.specs.Lived.{EventsAreLived}
 use Rattle.pm_world.specs.Moves.{SettingsMoveByTheOpenJob}
-use Rattle.pm_world.specs.Plans.{PlansHoldInLives, held_at}
+use Rattle.pm_world.specs.Courses.{goal_at}
 use Rattle.pm_world.specs.Surveys.{MissingUnread, SurveysHoldInLives}
-use Rattle.pm_driver.specs.declared.apply_end.ApplyEnd.TheVariants.{Reached}
-use Rattle.pm_driver.specs.declared.rails.Course.{Course}
 use Rattle.pm_driver.specs.Acts.{Call}
 use Rattle.pm_driver.specs.Driven.{Driving}
 use Rattle.pm_driver.specs.Lives.{IsLife}
-use Rattle.pm_driver.specs.Rails.{Applied, EndsAs, course_of, events_of}
+use Rattle.pm_driver.specs.Courses.{Courses, events_of}
 
 -- the laws of lives, and those below, that a rail over a bus keeps its promises by
 pub record LawsOfRails : Type 0 where
   pub ends : EndsAreTold
   pub lived : EventsAreLived
   pub moves : SettingsMoveByTheOpenJob
-  pub plans : PlansHoldInLives
   pub surveys : SurveysHoldInLives
   pub apart : CellsAreToldApart
   pub known : SurveysEndKnown
-
--- what an output commands where each of its registers has the word that is wanted of it, and otherwise the one that it
--- held after these events
-abbrev pub goal_at : Config → ℕ → ℕ → Wanted → List Event → Ratio
-goal_at config passes output wanted events = commands_by (value_for config output)
-    (goal_of (held_at config passes events output) (wants_of wanted))
 
 -- Of every life that led to the host and the converter before a plan was carried out: where the bus counted no restart
 -- since, and so none since the first of its reads, then, of any two moments, the output commands at the later one what it
@@ -50,7 +43,7 @@ goal_at config passes output wanted events = commands_by (value_for config outpu
 -- told nothing of a register that the part doesn't have; of a part with every register that says nothing.
 abbrev pub AppliedPlansKeepRails : {B : Type 0} → (B → Call → B → Type 0) → (B → Held) → (B → ℕ) → Type 0
 AppliedPlansKeepRails {B = B} gives held restarts = (output : ℕ) (wanted : Wanted) (tries : ℕ) (old new : Driving B) (course : Course) →
-    (runs : Applied gives held restarts output wanted (course_of output wanted tries) old course new) →
+    (runs : Courses gives held restarts (course_of output wanted tries) old course new) →
     restarts new.bus ≡ restarts old.bus →
     (config : Config) (passes : ℕ) (before rest newer later : List Event) → IsSpelled config → output < config.count →
     IsLife config passes before old.guard.host (held old.bus) →
@@ -62,8 +55,8 @@ AppliedPlansKeepRails {B = B} gives held restarts = (output : ℕ) (wanted : Wan
 -- Where the end is that all is reached, the converter holds each wanted word.
 abbrev pub AppliedPlansComeTrue : {B : Type 0} → (B → Call → B → Type 0) → (B → Held) → (B → ℕ) → Type 0
 AppliedPlansComeTrue {B = B} gives held restarts = (output : ℕ) (wanted : Wanted) (tries : ℕ) (old new : Driving B) (course : Course) →
-    Applied gives held restarts output wanted (course_of output wanted tries) old course new →
-    EndsAs output wanted course new.guard Reached →
+    Courses gives held restarts (course_of output wanted tries) old course new →
+    next_by new.guard course ≡ Ended Reached →
     restarts new.bus ≡ restarts old.bus →
     (config : Config) (passes : ℕ) (before : List Event) → IsSpelled config → output < config.count →
     IsLife config passes before old.guard.host (held old.bus) →

@@ -1,19 +1,18 @@
--- A survey and a plan that is carried out, each as one way from first to last: this project's own choice. Lists are newest
+-- A survey and a course that is carried out, each as one way from first to last: this project's own choice. Lists are newest
 -- first.
 use Rattle.std.specs.Prelude.{◌≡◌, ℕ, List, [], ◌∷◌, ◌++◌, Option, Some, None}
-use Rattle.pm_table.specs.declared.cell.Cell.TheVariants.{Out}
 use Rattle.pm_device.specs.Held.{Held}
 use Rattle.pm_host.specs.declared.job.JobEnd.{JobEnd}
 use Rattle.pm_host.specs.Jobs.{accepted_job}
-use Rattle.pm_host.specs.Transcript.{Job, Order}
+use Rattle.pm_host.specs.Transcript.{Job}
+use Rattle.pm_rail.specs.declared.course.Course.{Course}
 use Rattle.pm_rail.specs.declared.survey.Survey.{Survey}
-use Rattle.pm_rail.specs.declared.wanted.Wanted.{Wanted}
 use Rattle.pm_world.specs.declared.event.Event.{Event}
-use Rattle.pm_driver.specs.declared.rails.Course.{Course}
 use Rattle.pm_driver.specs.Acts.{Act, Began, Call}
 use Rattle.pm_driver.specs.Driven.{Driving, driven}
 use Rattle.pm_driver.specs.Lives.{Driven, Leads}
-use Rattle.pm_driver.specs.Rails.{Applied, Steps, Surveys, again, events_of, more, nothing, read, wrote}
+use Rattle.pm_driver.specs.Courses.{Courses, events_of, no_job, one_more}
+use Rattle.pm_driver.specs.Rails.{Surveys, more, nothing}
 use Rattle.pm_driver.specs.SurveyLaws.{events_read}
 
 -- the host is asked for a job
@@ -32,40 +31,26 @@ abbrev pub end_read : {B : Type 0} {gives : B → Call → B → Type 0} {held :
 end_read nothing = None
 end_read (more v job end middle last before asks runs) = Some end
 
--- the job of a step of a plan, and how it ended; a new survey is no job
-abbrev pub job_by_step : {B : Type 0} {gives : B → Call → B → Type 0} {held : B → Held} {restarts : B → ℕ} {output : ℕ} {wanted : Wanted} {course : Course} {old : Driving B} {after : Course} {new : Driving B} →
-    Steps gives held restarts output wanted course old after new → List Act
-job_by_step {old = old} (read job end new once asks runs) = begun_by (accepted_job old.guard.host job)
-job_by_step {output = output} (wrote order end new once surveyed left plan runs) = Began (Order (Out output order.register) order.word) ∷ []
-job_by_step (again once surveyed ordered plan) = []
+-- the jobs of a course that is carried out, and how the last of them ended
+abbrev pub jobs_of : {B : Type 0} {gives : B → Call → B → Type 0} {held : B → Held} {restarts : B → ℕ} {begun : Course} {first : Driving B} {course : Course} {last : Driving B} →
+    Courses gives held restarts begun first course last → List Act
+jobs_of no_job = []
+jobs_of (one_more course job end middle last before names runs) = begun_by (accepted_job middle.guard.host job) ++ jobs_of before
 
-abbrev pub end_by_step : {B : Type 0} {gives : B → Call → B → Type 0} {held : B → Held} {restarts : B → ℕ} {output : ℕ} {wanted : Wanted} {course : Course} {old : Driving B} {after : Course} {new : Driving B} →
-    Steps gives held restarts output wanted course old after new → Option JobEnd → Option JobEnd
-end_by_step (read job end new once asks runs) earlier = Some end
-end_by_step (wrote order end new once surveyed left plan runs) earlier = Some end
-end_by_step (again once surveyed ordered plan) earlier = earlier
-
--- the jobs of a plan that is carried out, and how the last of them ended
-abbrev pub jobs_of : {B : Type 0} {gives : B → Call → B → Type 0} {held : B → Held} {restarts : B → ℕ} {output : ℕ} {wanted : Wanted} {begun : Course} {first : Driving B} {last : Course} {new : Driving B} →
-    Applied gives held restarts output wanted begun first last new → List Act
-jobs_of nothing = []
-jobs_of (more course after middle last before step) = job_by_step step ++ jobs_of before
-
-abbrev pub end_of : {B : Type 0} {gives : B → Call → B → Type 0} {held : B → Held} {restarts : B → ℕ} {output : ℕ} {wanted : Wanted} {begun : Course} {first : Driving B} {last : Course} {new : Driving B} →
-    Applied gives held restarts output wanted begun first last new → Option JobEnd
-end_of nothing = None
-end_of (more course after middle last before step) = end_by_step step (end_of before)
+abbrev pub end_of : {B : Type 0} {gives : B → Call → B → Type 0} {held : B → Held} {restarts : B → ℕ} {begun : Course} {first : Driving B} {course : Course} {last : Driving B} →
+    Courses gives held restarts begun first course last → Option JobEnd
+end_of no_job = None
+end_of (one_more course job end middle last before names runs) = Some end
 
 -- A driver leads from one host and bus to another, asked for just these jobs, and by just these events.
 pub record IsLed {B : Type 0} (gives : B → Call → B → Type 0) (held : B → Held) (restarts : B → ℕ) (asked : List Act) (end : Option JobEnd) (events : List Event) (old new : Driven B) : Type 0 where
   pub leads : Leads gives held restarts asked end old new
   pub by : leads.events ≡ events
 
--- A survey leads so from first to last, asked for its jobs and nothing else (`surveys`), and so does a plan that is carried
--- out (`plans`): by the events that the laws on their worth speak of.
+-- A survey leads so from first to last, asked for its jobs and nothing else (`surveys`), and so does a course that is carried
+-- out (`courses`): by the events that the laws on their worth speak of.
 pub record RailsLead {B : Type 0} (gives : B → Call → B → Type 0) (held : B → Held) (restarts : B → ℕ) : Type 0 where
   pub surveys : (begun v : Survey) (old new : Driving B) (runs : Surveys gives held restarts begun old v new) →
       IsLed gives held restarts (jobs_read runs) (end_read runs) (events_read runs) (driven old) (driven new)
-  pub plans : (output : ℕ) (wanted : Wanted) (begun course : Course) (old new : Driving B)
-      (runs : Applied gives held restarts output wanted begun old course new) →
+  pub courses : (begun course : Course) (old new : Driving B) (runs : Courses gives held restarts begun old course new) →
       IsLed gives held restarts (jobs_of runs) (end_of runs) (events_of runs) (driven old) (driven new)

@@ -2,26 +2,28 @@
 use Rattle.std.specs.Prelude.{◌≡◌, ◌<◌, ℕ, List}
 use Rattle.pm_device.specs.declared.config.Config.{Config}
 use Rattle.pm_device.specs.Held.{Held}
+use Rattle.pm_rail.specs.declared.apply_end.ApplyEnd.TheVariants.{Reached}
+use Rattle.pm_rail.specs.declared.course.Course.{Course}
+use Rattle.pm_rail.specs.declared.next.Next.TheVariants.{Ended}
 use Rattle.pm_rail.specs.declared.wanted.Wanted.{Wanted}
+use Rattle.pm_rail.specs.Course.{course_of, next_by}
 use Rattle.pm_world.specs.declared.event.Event.{Event}
 use Rattle.pm_world.specs.Bands.{HoldsMissing}
+use Rattle.pm_world.specs.Courses.{goal_at}
 use Rattle.pm_world.specs.Honest.{IsSpelled}
 use Rattle.pm_world.specs.Surveys.{MissingUnread}
-use Rattle.pm_driver.specs.declared.apply_end.ApplyEnd.TheVariants.{Reached}
-use Rattle.pm_driver.specs.declared.rails.Course.{Course}
 use Rattle.pm_driver.specs.Acts.{Call}
 use Rattle.pm_driver.specs.Driven.{Driving}
 use Rattle.pm_driver.specs.Lives.{IsLife}
-use Rattle.pm_driver.specs.RailLaws.{goal_at}
-use Rattle.pm_driver.specs.Rails.{Applied, EndsAs, course_of}
+use Rattle.pm_driver.specs.Courses.{Courses}
 use Rattle.pm_driver.specs.SurveyLaws.{commanded_in}
 
 -- Where the end is that all is reached, the output commands what is wanted: by the wanted words, and those that the other
 -- registers held before, also where a register decides of which no word is wanted.
 abbrev pub ReachedPlansAreCommanded : {B : Type 0} → (B → Call → B → Type 0) → (B → Held) → (B → ℕ) → Type 0
 ReachedPlansAreCommanded {B = B} gives held restarts = (output : ℕ) (wanted : Wanted) (tries : ℕ) (old new : Driving B) (course : Course) →
-    Applied gives held restarts output wanted (course_of output wanted tries) old course new →
-    EndsAs output wanted course new.guard Reached →
+    Courses gives held restarts (course_of output wanted tries) old course new →
+    next_by new.guard course ≡ Ended Reached →
     restarts new.bus ≡ restarts old.bus →
     (config : Config) (passes : ℕ) (before : List Event) → IsSpelled config → output < config.count →
     IsLife config passes before old.guard.host (held old.bus) →

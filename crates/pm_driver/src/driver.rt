@@ -12,7 +12,6 @@ ghost use Rattle.pm_driver.specs.Acts.{IsNoWrite, Renewed};
 ghost use Rattle.pm_driver.specs.Driven.{HasLifeWithin, HasNoRestartSince, IsTrueOf, MayBegin, Runs, driven};
 ghost use Rattle.pm_driver.specs.Lives.{Leads};
 ghost use Rattle.pm_driver.specs.Looks.{Looks};
-ghost use Rattle.pm_driver.specs.Rails.{OrdersNext};
 
 use crate::bus::Bus;
 use crate::frames::carry_out;
@@ -146,32 +145,6 @@ impl<B: Bus> Driver<B> {
         ensures { Runs B.gives B.held B.restarts (asked.Send command.RestoreUserAll) self.old result self.new }
     {
         self.run(Job::Send(Command::RestoreUserAll))
-    }
-
-    /// Begins a plan's next order, by the call that gives it, and carries it out: the order, and how it ended. `None` where
-    /// none is left: then, and where it is refused, nothing changes. The output is there.
-    pub(crate) fn order_next(
-        &mut self,
-        output: u8,
-        wanted: &Wanted,
-    ) -> Result<Option<(PlanOrder, JobEnd)>, PlanFault>
-        requires { output < self.old.guard.host.setup.outputs }
-        ensures { OrdersNext B.gives B.held B.restarts output wanted.now self.old result self.new }
-    {
-        // These calls hand their laws to the prover.
-        ends_are_true();
-        jobs_lead::<B>();
-        leads_compose::<B>();
-        laws_of_lives();
-        plans_are_accepted();
-        match begin_next(&mut self.guard, output, wanted) {
-            Err(fault) => Err(fault),
-            Ok(None) => Ok(None),
-            Ok(Some(order)) => match carry_out(&mut self.guard, &mut self.bus) {
-                Some(end) => Ok(Some((order, end))),
-                None => unreachable!(),
-            },
-        }
     }
 
     /// Reads what no job asks for, as a status or a measured value: one [`Bus::read`] of this request, of which the host isn't

@@ -14,7 +14,8 @@
 //! The bus counts the converter's restarts, and each call of a driver hands out how many there were: while there are
 //! none, what the host calls confirmed is held ([`restarts_are_counted`], [`Driver::laws`]).
 //!
-//! [`Driver::survey`] reads what decides what an output commands, and [`Driver::apply`] carries a plan out: while the bus
+//! [`Driver::survey`] reads what decides what an output commands, [`Driver::complete`] carries a course out, and
+//! [`Driver::apply`] one to wanted words: while the bus
 //! counts no restart, the output commands at each moment what it commanded before or what is wanted
 //! ([`applied_plans_keep_rails`]), and what is wanted once all is reached ([`applied_plans_come_true`],
 //! [`reached_plans_are_commanded`]); what it commands is in the band that a survey ends with by its own rule, which has one value
@@ -54,9 +55,9 @@
 #![tactic(auto)]
 
 mod adapter;
-mod apply_end;
 mod bus;
 mod buses;
+mod courses;
 mod driver;
 mod frames;
 mod laws;
@@ -64,7 +65,6 @@ mod rail_laws;
 mod rails;
 
 pub use adapter::{Adapter, ReadEnd, WriteEnd};
-pub use apply_end::{ApplyEnd, StopCause};
 pub use bus::Bus;
 pub use buses::{
     DeadBus, Fault, Patient, Retrying, SimulatedBus, driver_over, never_restarts_stays,
@@ -82,6 +82,6 @@ pub use laws::{
     undisturbed_orders_are_done, whole_frames_are_legal,
 };
 pub use rail_laws::{
-    applied_plans_come_true, applied_plans_keep_rails, rails_lead, reached_plans_are_commanded,
-    surveys_are_true, surveys_take_few_checks,
+    applied_plans_come_true, applied_plans_keep_rails, courses_are_lived, rails_lead,
+    reached_plans_are_commanded, surveys_are_true, surveys_take_few_checks,
 };

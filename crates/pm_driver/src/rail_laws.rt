@@ -1,6 +1,7 @@
 //! What a survey and a plan are worth that a driver carries out: each law is the contract of a function that does nothing
 //! when it runs.
 
+ghost use Rattle.pm_driver.specs.Courses.{CoursesAreLived};
 ghost use Rattle.pm_driver.specs.FewChecks.{SurveysTakeFewChecks};
 ghost use Rattle.pm_driver.specs.RailLaws.{AppliedPlansComeTrue, AppliedPlansKeepRails, LawsOfRails};
 ghost use Rattle.pm_driver.specs.RailLeads.{RailsLead};
@@ -14,7 +15,7 @@ use pm_host::{ends_are_told, transcripts_are_followed};
 use pm_rail::{surveys_are_short, surveys_end_known};
 use pm_table::cells_are_told_apart;
 use pm_world::{
-    events_are_lived, lives_are_followed, plans_hold_in_lives, settings_move_by_the_open_job,
+    courses_hold_in_lives, events_are_lived, lives_are_followed, settings_move_by_the_open_job,
     surveys_hold_in_lives,
 };
 
@@ -27,9 +28,15 @@ fn laws_of_rails()
     surveys_end_known();
     events_are_lived();
     settings_move_by_the_open_job();
-    plans_hold_in_lives();
     surveys_hold_in_lives();
 }
+
+/// What a driver carries out of a course is a course of each life that led to it, by the events that the bus counts the restarts
+/// among: what [`courses_hold_in_lives`] says of courses is true of it, of those to wanted words and of those to a byte of
+/// OPERATION.
+pub fn courses_are_lived<B: Bus>()
+    ensures { CoursesAreLived B.gives B.held B.restarts }
+{}
 
 /// Where the bus counted no restart since a plan began to be carried out, the output commands at each moment what it
 /// commanded before or what is wanted, and changes once at most, however its jobs ended and wherever it stopped. Of a part
@@ -38,14 +45,14 @@ fn laws_of_rails()
 pub fn applied_plans_keep_rails<B: Bus>()
     ensures { AppliedPlansKeepRails B.gives B.held B.restarts }
 {
-    laws_of_rails();
+    courses_hold_in_lives();
 }
 
 /// Where it ended `Reached` too, the converter holds each wanted word.
 pub fn applied_plans_come_true<B: Bus>()
     ensures { AppliedPlansComeTrue B.gives B.held B.restarts }
 {
-    laws_of_rails();
+    courses_hold_in_lives();
 }
 
 /// Where it ended `Reached` too, the output commands what is wanted: by the wanted words and, of the registers of which no
@@ -53,7 +60,7 @@ pub fn applied_plans_come_true<B: Bus>()
 pub fn reached_plans_are_commanded<B: Bus>()
     ensures { ReachedPlansAreCommanded B.gives B.held B.restarts }
 {
-    laws_of_rails();
+    courses_hold_in_lives();
 }
 
 /// Where the bus counted no restart since a survey began, the output commanded at each moment of it what it commands at its
@@ -80,7 +87,7 @@ pub fn surveys_take_few_checks<B: Bus>()
     one_surprise_at_most();
 }
 
-/// A survey is one way from first to last, asked for its jobs and nothing else, and so is a plan that is carried out: by the
+/// A survey is one way from first to last, asked for its jobs and nothing else, and so is a course that is carried out: by the
 /// events that the laws on their worth speak of.
 pub fn rails_lead<B: Bus>()
     ensures { RailsLead B.gives B.held B.restarts }

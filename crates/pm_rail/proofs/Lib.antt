@@ -1,3 +1,4 @@
 -- Lemmas of the laws that no other crate uses.
 mod SurveyBand
 mod SurveyLength
+mod Free

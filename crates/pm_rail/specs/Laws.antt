@@ -9,6 +9,8 @@ use Rattle.pm_table.specs.Operation.{selected_register}
 use Rattle.pm_model.specs.Commanded.{Scale, is_outside}
 use Rattle.pm_table.specs.declared.cell.Cell.TheVariants.{Out, Protect}
 use Rattle.pm_host.specs.declared.job.Job.TheVariants.{Order, Check}
+use Rattle.pm_host.specs.declared.job.Job.{Job as Asked}
+use Rattle.pm_host.specs.declared.job.JobEnd.{JobEnd}
 use Rattle.pm_host.specs.Possible.{is_possible}
 use Rattle.pm_host.specs.Summary.{Summary, format_at, possible_at}
 use Rattle.pm_limits.specs.declared.part_registers.PartRegisters.{PartRegisters}
@@ -16,8 +18,11 @@ use Rattle.pm_limits.specs.Band.{band_at}
 use Rattle.pm_limits.specs.Bounds.{Bounds}
 use Rattle.pm_limits.specs.Guard.{Guarded, guard_fault, limits_at}
 use Rattle.pm_limits.specs.Part.{all_registers, has_register}
+use Rattle.pm_rail.specs.declared.course.Course.{Course}
+use Rattle.pm_rail.specs.declared.next.Next.TheVariants.{Job}
 use Rattle.pm_rail.specs.declared.orders.PlanOrder.{PlanOrder}
 use Rattle.pm_rail.specs.declared.survey.Survey.{Survey}
+use Rattle.pm_rail.specs.Course.{after_next, next_of, told_of}
 use Rattle.pm_rail.specs.Known.{cells_of, known_at, known_of, known_word}
 use Rattle.pm_rail.specs.Orders.{is_needed, order_of, plan_of}
 use Rattle.pm_rail.specs.Plan.{after, commands_by, goal_of, is_cut_by, next_register, stepped}
@@ -127,3 +132,12 @@ pub record SurveysEndKnown : Type 0 where
       next_job part v s ≡ Some (Check (Out output register)) → has_register part register ≡ true
   pub band : (part : PartRegisters) (v : Survey) (s : Summary) → is_surveyed part v s ≡ true →
       is_none (band_at part s v.output) ≡ false
+
+-- Each job that a course names takes a try (`takes`), and being told of an end takes none (`told`): so it names as many jobs
+-- as it has tries at most. What it names is refused by nothing: neither by the guard's limits nor by its host (`free`).
+pub record CoursesEnd : Type 0 where
+  pub takes : (part : PartRegisters) (limits : Option Bounds) (s : Summary) (course : Course) (job : Asked) →
+      next_of part limits s course ≡ Job job → (after_next part limits s course).survey.left < course.survey.left
+  pub told : (course : Course) (end : JobEnd) → (told_of course end).survey.left ≡ course.survey.left
+  pub free : (g : Guarded) (course : Course) (job : Asked) → course.byte ≡ None → course.survey.output < g.host.setup.outputs →
+      next_of g.registers (limits_at g course.survey.output) g.host course ≡ Job job → guard_fault g job ≡ None

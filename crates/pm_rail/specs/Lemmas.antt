@@ -6,3 +6,6 @@ pub mod Known
 pub mod Accepted
 pub mod Told
 pub mod Surveyed
+pub mod Says
+pub mod Power
+pub mod AskedFree

@@ -7,5 +7,6 @@ pub mod Orders
 pub mod Rail
 pub mod Survey
 pub mod SurveyLength
+pub mod Course
 pub mod Laws
 pub mod Lemmas

@@ -1,6 +1,6 @@
 //! The laws of a plan, over the definitions alone: each is the contract of a function that does nothing.
 
-ghost use Rattle.pm_rail.specs.Laws.{PlansAreAccepted, PlansAreOfWhatIsHeld, PlansAreWithoutGlitch, PlansCutNothing, PlansEnd, SurveysEndKnown};
+ghost use Rattle.pm_rail.specs.Laws.{CoursesEnd, PlansAreAccepted, PlansAreOfWhatIsHeld, PlansAreWithoutGlitch, PlansCutNothing, PlansEnd, SurveysEndKnown};
 ghost use Rattle.pm_rail.specs.SurveyLength.{SurveysAreShort};
 
 use pm_table::{cells_are_told_apart, cells_have_places};
@@ -54,4 +54,12 @@ pub fn surveys_are_short()
 {
     cells_are_told_apart();
     cells_have_places();
+}
+
+/// Each job that a course names takes a try, so that it names as many as it has tries at most (`takes`, `told`); and what a
+/// course to wanted words names is refused by nothing (`free`).
+pub fn courses_end()
+    ensures { CoursesEnd }
+{
+    plans_are_accepted();
 }

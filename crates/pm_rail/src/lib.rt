@@ -5,7 +5,8 @@
 //! limits. [`next_order`] is the next order of a plan, by what is known and what is wanted: no list is stored, and nothing
 //! is resumed. [`begin_next`] begins it. Each order leaves what the output commands or makes it what it is to be, from
 //! settings that a limit cuts too (`plans_are_without_glitch`), and after five orders at most each register has its
-//! wanted word (`plans_end`). A [`Survey`] says which cells to read until all that this rests on is known.
+//! wanted word (`plans_end`). A [`Survey`] says which cells to read until all that this rests on is known. A [`Course`] is
+//! the whole way, job after job: it surveys, orders, and surveys once more.
 //!
 //! OPERATION has to be known and is no part of a plan: turning an output on, off or to a margin is an order of its own.
 //! A register is known where one word alone is possible, and not where one is called confirmed: after a restart that was
@@ -30,10 +31,13 @@
 //! ```
 #![tactic(auto)]
 
+mod apply_end;
+mod course;
 mod fault;
 mod known;
 mod laws;
 mod missing;
+mod next;
 mod orders;
 mod plan;
 mod power;
@@ -42,11 +46,14 @@ mod registers;
 mod survey;
 mod wanted;
 
+pub use apply_end::{ApplyEnd, StopCause};
+pub use course::{Course, Differing};
 pub use fault::PlanFault;
 pub use laws::{
-    plans_are_accepted, plans_are_of_what_is_held, plans_are_without_glitch, plans_cut_nothing,
-    plans_end, surveys_are_short, surveys_end_known,
+    courses_end, plans_are_accepted, plans_are_of_what_is_held, plans_are_without_glitch,
+    plans_cut_nothing, plans_end, surveys_are_short, surveys_end_known,
 };
+pub use next::Next;
 pub use orders::{PlanOrder, begin_next, next_order, next_order_in};
 pub use plan::next_register;
 pub use power::{Power, Rail, power_in, rail_of};

@@ -4,7 +4,7 @@ ghost use Rattle.pm_table.specs.Cell.{registers};
 ghost use Rattle.pm_host.specs.Image.{held};
 ghost use Rattle.pm_rail.specs.Known.{cells_of};
 ghost use Rattle.pm_rail.specs.Registers.{held_by, wants_of};
-ghost use Rattle.pm_rail.specs.Survey.{and_read, asking, due_by as spec_due_by, due_in as spec_due_in, due_job, ended, has_read, is_stuck as spec_is_stuck, is_stuck_by as spec_is_stuck_by, is_surveyed, is_unread as spec_is_unread, next_job, survey_of, wanted_in};
+ghost use Rattle.pm_rail.specs.Survey.{and_read, asking, due_by as spec_due_by, due_in as spec_due_in, due_job, ended, has_read, is_stuck as spec_is_stuck, is_stuck_by as spec_is_stuck_by, is_surveyed, is_unread as spec_is_unread, next_job, nothing_read, survey_of, wanted_in};
 
 use crate::known::{known_at, known_of};
 use crate::missing::{first_unsure, is_stuck_in};
@@ -36,8 +36,23 @@ pub struct Reads {
 }
 
 impl Reads {
+    /// No cell.
+    pub fn nothing() -> Reads
+        ensures { result ≡ nothing_read }
+    {
+        Reads {
+            operation: false,
+            command: false,
+            max: false,
+            margin_high: false,
+            margin_low: false,
+            min: false,
+            protect: false,
+        }
+    }
+
     // Whether a register was read.
-    fn has(&self, register: Reg) -> bool
+    pub(crate) fn has(&self, register: Reg) -> bool
         ensures { result ≡ has_read self.now register }
     {
         match register {
@@ -85,7 +100,7 @@ impl Reads {
     }
 
     // One more cell is read.
-    fn and(self, cell: Cell) -> Reads
+    pub(crate) fn and(self, cell: Cell) -> Reads
         ensures { result ≡ and_read self cell }
     {
         let mut read = self;
@@ -136,15 +151,7 @@ impl Survey {
             plan,
             left: tries,
             learned: false,
-            read: Reads {
-                operation: false,
-                command: false,
-                max: false,
-                margin_high: false,
-                margin_low: false,
-                min: false,
-                protect: false,
-            },
+            read: Reads::nothing(),
             asked: None,
         }
     }
@@ -211,7 +218,7 @@ impl Survey {
     }
 
     // What is still to be asked for.
-    fn due(&self, host: &State, part: PartRegisters) -> Option<Job>
+    pub(crate) fn due(&self, host: &State, part: PartRegisters) -> Option<Job>
         requires { self.now.output < 8 }
         ensures { result ≡ due_job part self.now (held None host.now) }
     {
@@ -290,7 +297,7 @@ impl Survey {
 }
 
 // The words that are wanted by the plan that a survey is for; none where it is for no plan.
-fn wanted_of(plan: Option<Wanted>) -> Wanted
+pub(crate) fn wanted_of(plan: Option<Wanted>) -> Wanted
     ensures { result ≡ wanted_in plan }
 {
     match plan {

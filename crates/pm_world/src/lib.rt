@@ -57,7 +57,9 @@ pub use legal::{
 };
 pub use openness::run_open;
 pub use pm_setup::SetupFault;
-pub use rail_laws::{plans_hold_in_lives, surveys_hold_in_lives, within_stays_within};
+pub use rail_laws::{
+    courses_hold_in_lives, plans_hold_in_lives, surveys_hold_in_lives, within_stays_within,
+};
 pub use short::words_are_short;
 pub use way::{Way, run_way};
 pub use world::World;

@@ -1,19 +1,5 @@
-use Rattle.std.specs.Prelude.{refl}
-use Rattle.std.proofs.Common.{subst, sym}
-use Rattle.pm_device.specs.Held.{Held}
-use Rattle.pm_world.specs.Bands.{HoldsMissing}
-use Rattle.pm_world.specs.Life.{now}
-use Rattle.pm_driver.specs.Rails.{events_of}
-use Rattle.pm_driver.proofs.RailLives.{all-on, comes-true, none-restarted}
+use Rattle.pm_driver.proofs.CoursesLived.{come-true}
 use Rattle.pm_driver.proofs.rail_laws.applied_plans_come_true.Goals as goal
 
 pub returns : goal.returns
-returns g c = λ output wanted tries old new course runs ends same config passes before spelled here lived holds none register word wants.
-    let laws = c.laws_of_rails.ensures in
-    let part = old.guard.registers in
-    let missing : HoldsMissing part config (now config passes before).device.words output =
-    subst (λ (h : Held). HoldsMissing part config h.words output) (sym lived.held_is) holds in
-    comes-true laws config passes part output wanted before spelled here missing course new.guard (g.B.Bus.held new.bus) (events_of runs)
-    (all-on laws config passes part output wanted before spelled here missing tries runs
-    (none-restarted g.B.Bus.restarts runs same) refl lived none)
-    ends register word wants
+returns g c = come-true g.B.Bus.gives g.B.Bus.held g.B.Bus.restarts c.courses_hold_in_lives.ensures

@@ -1,18 +1,5 @@
-use Rattle.std.specs.Prelude.{refl}
-use Rattle.std.proofs.Common.{subst, sym}
-use Rattle.pm_device.specs.Held.{Held}
-use Rattle.pm_world.specs.Bands.{HoldsMissing}
-use Rattle.pm_world.specs.Life.{now}
-use Rattle.pm_driver.specs.Rails.{events_of}
-use Rattle.pm_driver.proofs.RailLives.{all-on, keeps-rail, none-restarted}
+use Rattle.pm_driver.proofs.CoursesLived.{keep-rails}
 use Rattle.pm_driver.proofs.rail_laws.applied_plans_keep_rails.Goals as goal
 
 pub returns : goal.returns
-returns g c = λ output wanted tries old new course runs same config passes before rest newer later spelled here lived holds none split.
-    let laws = c.laws_of_rails.ensures in
-    let part = old.guard.registers in
-    let missing : HoldsMissing part config (now config passes before).device.words output =
-    subst (λ (h : Held). HoldsMissing part config h.words output) (sym lived.held_is) holds in
-    keeps-rail laws config passes part output wanted before spelled here missing course new.guard (g.B.Bus.held new.bus) (events_of runs)
-    rest newer later (all-on laws config passes part output wanted before spelled here missing tries runs
-    (none-restarted g.B.Bus.restarts runs same) refl lived none) split
+returns g c = keep-rails g.B.Bus.gives g.B.Bus.held g.B.Bus.restarts c.courses_hold_in_lives.ensures

@@ -5,7 +5,6 @@ returns c = record {
   ends = c.ends_are_told.ensures;
   lived = c.events_are_lived.ensures;
   moves = c.settings_move_by_the_open_job.ensures;
-  plans = c.plans_hold_in_lives.ensures;
   surveys = c.surveys_hold_in_lives.ensures;
   apart = c.cells_are_told_apart.ensures;
   known = c.surveys_end_known.ensures;

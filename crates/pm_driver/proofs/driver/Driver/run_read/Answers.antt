@@ -1,4 +1,4 @@
-use Rattle.pm_driver.proofs.Surveyed.{asked-free}
+use Rattle.pm_rail.specs.Lemmas.AskedFree.{asked-free}
 use Rattle.pm_driver.proofs.driver.Driver.run_read.Goals as goal
 
 pub unreachable-requires : goal.unreachable-requires
