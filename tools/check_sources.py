@@ -15,7 +15,7 @@ where X6 arises instead. Without git the files are those that stand in the tree.
     laws       a record of laws in proofs, where the law has a name in the definitions of its crate
     proofs     a crate names the proofs of another: a lemma that crates above need stands in specs/Lemmas
     lemma      a lemma that is proved a second time, under whatever name
-    middle     a comment of a proof begins in the middle of a sentence: with and, so, or, nor
+    middle     a comment begins in the middle of a sentence: with and, so, or, nor, by, of, where, the same, these
     page       a refusal of a type isn't in docs/refusals.md, or one of the page or of a help is in no type
     example    an example of a comment stands in no test, word for word
     claims     a law carries no row of its crate's page of docs/claims/, or one of another page; of its own it may carry several,
@@ -23,6 +23,7 @@ where X6 arises instead. Without git the files are those that stand in the tree.
     path       a path that a page, a script or a source names isn't there
     tally      a script of Python or bash prints `N passed, M failed` by itself: tools/tally.py and tools/tally.sh count and print
     edit       a text that a planted bug replaces doesn't stand once in its file
+    name       a file names what users get as it was called before: CHANGELOG has the names now
 
 Tests are left out.
 """
@@ -245,7 +246,7 @@ def twins(crates):
 
 
 def hanging(crates):
-    """Comments of proofs that hang on the line before."""
+    """Comments that hang on the line before."""
     for path, number, text in house.middles(crates):
         yield path, number, "middle", text
 
@@ -292,6 +293,12 @@ def hand_tallies():
         if os.path.isfile(name) and name not in ("tools/tally.py", "tools/tally.sh"):
             with open(name, encoding="utf-8", errors="replace") as file:
                 yield from ((name, number, "tally", line.strip()) for number, line in enumerate(file, 1) if TALLY.search(line))
+
+
+def old_names():
+    """Files that name the programs, headers, libraries and packages as they were called before."""
+    for path in house.old_names():
+        yield path, 1, "name", house.OLD_NAMES.search(read(path)).group()
 
 
 LAW = re.compile(r"^pub fn (\w+)(?:<[^\n]*>)?\(\)(?: *$| *\{)", re.M)
@@ -366,7 +373,7 @@ def findings(crates):
     yield from hanging(crates)
     yield from unrun(crates)
     yield from unclaimed(crates)
-    yield from (*lost_paths(), *hand_tallies()) if "pmb" in crates else ()
+    yield from (*lost_paths(), *hand_tallies(), *old_names()) if "pmb" in crates else ()
     yield from planted.findings(crates)
 
 

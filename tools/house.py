@@ -3,7 +3,7 @@
 
     tools/house            the counts
     tools/house --pairs    the laws that are stated twice and the lemmas that are proved twice, a pair a line
-    tools/house --middles  the comments of proofs that begin in the middle of a sentence
+    tools/house --middles  the comments that begin in the middle of a sentence
 
 It reads files, and changes nothing.
 """
@@ -13,11 +13,15 @@ import os
 import re
 
 from crate_copy import crates_below, read
-from program import ROOT, Words
+from program import ROOT, Words, kept_files
 from proof_text import files_of, lemmas_of, over
 
 # A comment that begins so hangs on the line before it.
-MIDDLE = re.compile(r"(and|so|or|nor)\b", re.I)
+MIDDLE = re.compile(r"(and|so|or|nor|by|of|where|the same|these)\b", re.I)
+# How a comment of code or of definitions and proofs begins.
+MARKS = {"src": re.compile(r"\s*(///|//!|//) ?"), "specs": re.compile(r"\s*-- ?"), "proofs": re.compile(r"\s*-- ?")}
+# Names of before of what users get.
+OLD_NAMES = re.compile(r"pmbhost|pmbpart|pm-host\b|libpm_host\b|libpm_device\b|(?<![\w.])pm\.h\b|pm_part\.h|\bpm_patient\.h|pm_host\.pc|pm_device\.pc")
 PROOFS = re.compile(r"\b(pm\w*_\w+)(?:\.|::)proofs\b")
 
 
@@ -77,15 +81,17 @@ def is_short(lemma):
 
 
 def comments(crates):
-    """Each comment of a proof that stands on lines of its own: (path, line, text)."""
+    """Each comment that stands on lines of its own: (path, line, text)."""
     for crate in crates:
-        for path in sorted(glob.glob(os.path.join("crates", crate, "proofs", "**", "*.antt"), recursive=True)):
-            before = ""
-            for number, line in enumerate(read(path).split("\n"), 1):
-                text = line.strip()
-                if text.startswith("--") and not before.startswith("--"):
-                    yield path, number, re.sub(r"^-+ ?", "", text)
-                before = text
+        for kind, mark in MARKS.items():
+            ending = ".rt" if kind == "src" else ".antt"
+            for path in sorted(glob.glob(os.path.join("crates", crate, kind, "**", "*" + ending), recursive=True)):
+                is_inside = False
+                for number, line in enumerate(read(path).split("\n"), 1):
+                    found = mark.match(line)
+                    if found and not is_inside:
+                        yield path, number, line[found.end():].strip()
+                    is_inside = bool(found)
 
 
 def middles(crates):
@@ -144,8 +150,27 @@ def importing_oracle():
     return found
 
 
+def files_at(pattern):
+    return [path for path in sorted(glob.glob(pattern, recursive=True)) if "/out/" not in path]
+
+
 def lines_of(pattern):
-    return sum(read(path).count("\n") for path in glob.glob(pattern, recursive=True) if "/out/" not in path)
+    return sum(read(path).count("\n") for path in files_at(pattern))
+
+
+def lines_with(word, pattern):
+    return sum(bool(re.search(word, line)) for path in files_at(pattern) for line in read(path).split("\n"))
+
+
+def is_text(path):
+    with open(path, "rb") as file:
+        return b"\0" not in file.read(4096)
+
+
+def old_names():
+    """Files that name what users get as it was called before; CHANGELOG has the table."""
+    own = ("CHANGELOG.md", "tools/house.py", "tools/check_sources.py")
+    return [path for path in kept_files() if path not in own and is_text(path) and OLD_NAMES.search(read(path))]
 
 
 def long_lines():
@@ -173,19 +198,27 @@ def main():
         return
     libraries = [name for name in crates if os.path.exists("crates/%s/src/lib.rt" % name)]
     shipped = [name for name in libraries if not name.endswith("_tests") and name not in ("pm_test_streams", "pm_world_examples")]
+    code, definitions, proofs = (lines_of(f"crates/*/{kind}") for kind in ("src/**/*.rt", "specs/**/*.antt", "proofs/**/*.antt"))
+    lemmas = lines_of("crates/*/specs/Lemmas/**/*.antt")
     rows = [
         ("crates", len(crates)),
         ("engines that write a trace's text", len(engines())),
         ("laws stated twice", sum(len(those) - 1 for _, those in doubled_laws(crates))),
         ("lemmas proved twice", sum(len(those) - 1 for _, those in doubled_lemmas(crates))),
         ("names of another crate's proofs", len(lower_proofs(crates))),
-        ("comments of proofs that begin in the middle", len(middles(crates))),
+        ("comments that begin in the middle", len(middles(crates))),
+        ("lines of code that name the prover", lines_with(r"\bprover\b", "crates/*/src/**/*.rt")),
+        ("files of code under 30 lines", sum(read(path).count("\n") < 30 for path in files_at("crates/*/src/**/*.rt"))),
         ("lines of proofs and definitions over 140 characters", long_lines()),
         ("libraries with an example at their root", "%d of %d" % (len(with_example(shipped)), len(shipped))),
         ("modules that people run and that import the plain model", len(importing_oracle())),
-        ("lines of code", lines_of("crates/*/src/**/*.rt")),
-        ("lines of definitions", lines_of("crates/*/specs/**/*.antt")),
-        ("lines of proofs", lines_of("crates/*/proofs/**/*.antt")),
+        ("lines of code", code),
+        ("lines of definitions, without lemmas", definitions - lemmas),
+        ("lines of lemmas beside definitions", lemmas),
+        ("lines of proofs", proofs),
+        ("lines of code, definitions and proofs", code + definitions + proofs),
+        ("lines of python/ and trials/", sum(read(path).count("\n") for path in kept_files() if path.startswith(("python/", "trials/")) and is_text(path))),
+        ("files with a name of before of what users get", len(old_names())),
     ]
     for folder in ("tools", "trials", "packaging", "mutants", "docs", "examples", "python", "rust", "bench", "crates"):
         if os.path.isdir(folder):
