@@ -4,6 +4,7 @@
     tools/house            the counts
     tools/house --pairs    the laws that are stated twice and the lemmas that are proved twice, a pair a line
     tools/house --middles  the comments that begin in the middle of a sentence
+    tools/house --laws     the public laws that no other function calls
 
 It reads files, and changes nothing.
 """
@@ -131,6 +132,36 @@ def twin_laws():
     return count
 
 
+FUNCTION = re.compile(r"^([ \t]*)(pub )?(?:pub\(crate\) )?fn (\w+)", re.M)
+CALL = re.compile(r"(?<!fn )\b(\w+)(?:::<[^()]*?>)?\s*\(")
+
+
+def functions_of(path):
+    """The functions of a file of code, comments left out: (name, whether it is public, the text from its head to its end)."""
+    text = re.sub(r"//[^\n]*", "", read(path))
+    for found in FUNCTION.finditer(text):
+        margin = re.escape(found.group(1))
+        end = re.compile(r"^%s\}|^%s[^\n]*\{\}\s*$" % (margin, margin), re.M).search(text, found.end())
+        yield found.group(3), bool(found.group(2)), text[found.start():end.end() if end else len(text)]
+
+
+def public_laws(crates):
+    """The public functions of the files that are named for laws: (crate, name). They hand out their contracts, and do nothing."""
+    for crate in crates:
+        for path in sorted(glob.glob(os.path.join("crates", crate, "src", "**", "*laws.rt"), recursive=True)):
+            yield from ((crate, name) for name, public, _ in functions_of(path) if public)
+
+
+def uncalled_laws(crates):
+    """The public laws that no other function of any crate calls: (crate, name)."""
+    called = set()
+    for crate in crates:
+        for path in glob.glob(os.path.join("crates", crate, "src", "**", "*.rt"), recursive=True):
+            for name, _, text in functions_of(path):
+                called |= set(CALL.findall(text)) - {name}
+    return [law for law in public_laws(crates) if law[1] not in called]
+
+
 def with_example(crates):
     """Libraries whose root file has an example."""
     return [name for name in crates if "```" in root_comment(name)]
@@ -180,8 +211,8 @@ def long_lines():
 
 
 def main():
-    words = Words(__doc__, "--pairs, --middles or nothing")
-    for flag in "pairs", "middles":
+    words = Words(__doc__, "--pairs, --middles, --laws or nothing")
+    for flag in "pairs", "middles", "laws":
         words.add_argument(f"--{flag}", action="store_true")
     given = words.read()
     os.chdir(ROOT)
@@ -196,8 +227,12 @@ def main():
         for it in middles(crates):
             print("%s:%d: %s" % it)
         return
+    if given.laws:
+        for it in uncalled_laws(crates):
+            print("%s %s" % it)
+        return
     libraries = [name for name in crates if os.path.exists("crates/%s/src/lib.rt" % name)]
-    shipped = [name for name in libraries if not name.endswith("_tests") and name not in ("pm_test_streams", "pm_world_examples")]
+    shipped = [name for name in libraries if not name.endswith("_tests") and name != "pm_test_streams"]
     code, definitions, proofs = (lines_of(f"crates/*/{kind}") for kind in ("src/**/*.rt", "specs/**/*.antt", "proofs/**/*.antt"))
     lemmas = lines_of("crates/*/specs/Lemmas/**/*.antt")
     rows = [
@@ -205,6 +240,7 @@ def main():
         ("engines that write a trace's text", len(engines())),
         ("laws stated twice", sum(len(those) - 1 for _, those in doubled_laws(crates))),
         ("lemmas proved twice", sum(len(those) - 1 for _, those in doubled_lemmas(crates))),
+        ("public laws that no other function calls", len(uncalled_laws(crates))),
         ("names of another crate's proofs", len(lower_proofs(crates))),
         ("comments that begin in the middle", len(middles(crates))),
         ("lines of code that name the prover", lines_with(r"\bprover\b", "crates/*/src/**/*.rt")),

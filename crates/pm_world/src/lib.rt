@@ -28,6 +28,7 @@
 //! ```
 #![tactic(auto)]
 
+mod board_laws;
 mod cause;
 mod event;
 mod laws;
@@ -39,6 +40,9 @@ mod watch;
 mod way;
 mod world;
 
+pub use board_laws::{
+    a_pair_on_a_board, neighbours_are_apart, ones_are_no_answer, reads_that_share_their_code,
+};
 pub use cause::{Cause, Stop};
 pub use event::{Arrival, Back, Event};
 pub use laws::{

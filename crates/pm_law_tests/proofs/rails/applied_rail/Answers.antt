@@ -1,0 +1,17 @@
+use Rattle.std.proofs.Common.{subst}
+use Rattle.pm_driver.specs.Rails.{EndsAs}
+use Rattle.pm_driver.specs.declared.apply_end.ApplyEnd.{ApplyEnd}
+use Rattle.pm_law_tests.proofs.WholeParts.{whole-holds, whole-unread}
+use Rattle.pm_law_tests.proofs.rails.applied_rail.Goals as goal
+
+pub returns : goal.returns
+returns g c = λ reached same led here.
+    let applies = c.apply.ensures.applies in
+    c.reached_plans_are_commanded.ensures c.args.output c.args.wanted.now c.args.tries c.args.driver.now c.apply.new.self applies.course
+    applies.runs (subst (λ (end : ApplyEnd). EndsAs c.args.output c.args.wanted.now applies.course c.apply.new.self.guard end) reached
+    applies.says)
+    same led.config led.passes led.events led.spelled here led.life
+    (whole-holds c.plans_hold_in_lives.ensures c.args.driver.now.guard.registers c.requires.whole led.config
+    (g.B.Bus.held c.args.driver.now.bus).words c.args.output)
+    (whole-unread c.whole_parts_miss_nothing.ensures c.args.driver.now.guard.registers c.requires.whole led.config led.passes c.args.output
+    led.events)

@@ -1,0 +1,26 @@
+//! Some laws of host and converter, each as a named statement that shows all its arguments, so that a caller gets it
+//! without writing a proof.
+//!
+//! A caller's prover doesn't find a law that leaves some of its arguments to be guessed, as how often a check was tried,
+//! or that says something long. Here what such a law says has a name, which stays closed until a proof opens it, and
+//! beside which all arguments stand. It takes no memory, and does nothing when it runs.
+ghost use Rattle.pm_law_tests.specs.ByName.{LawsByName};
+
+use pm_world::{
+    answers_come_in_bytes, bands_are_exact, honest_orders_go_through, newest_events_are_parts,
+    possible_words_are_exact, ways_are_followed,
+};
+
+/// What these laws say: [`honest_orders_go_through`] of the events that are taken (`ahead`), [`ways_are_followed`] of an
+/// order on its way (`through`), [`bands_are_exact`] (`reached`), [`answers_come_in_bytes`] (`came`), [`possible_words_are_exact`] of the words that its life begins with (`words`), and
+/// [`newest_events_are_parts`] of undisturbed frames (`check`, `order`, `read_back`, `send`).
+pub fn laws_by_name()
+    ensures { LawsByName }
+{
+    honest_orders_go_through();
+    ways_are_followed();
+    bands_are_exact();
+    answers_come_in_bytes();
+    possible_words_are_exact();
+    newest_events_are_parts();
+}

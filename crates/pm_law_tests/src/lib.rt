@@ -1,0 +1,56 @@
+//! A caller for each law: a short function that has what the law says, with no proof by hand where the prover finds it. It
+//! calls the law, which does nothing, and the prover finds the rest by what a caller gets from `new`,
+//! [`World::run`](pm_world::World::run), `step` and the calls of the other crates; so this crate is also the check that each
+//! premise of a law is one that a caller gets. A law that speaks of no world, or of any events, is shown as it is. Six are
+//! taken by the names of [`laws_by_name`], which a function opens by `unfolding`. Premises that stay are of the caller's
+//! own events: that the converter didn't restart, say, or that a frame was undisturbed or damaged so.
+//!
+//! - `laws`: some laws of host and converter, each as a named statement that shows all its arguments, so that a caller
+//!   gets it without writing a proof.
+//! - `numbers`: a voltage that is refused, a format, and a limit that is rounded.
+//! - `packets`: bits that changed, and packets that share their error code.
+//! - `parts`: what a converter latches, and how it answers.
+//! - `hearings`: what a converter makes of requests, and of frames for another address.
+//! - `knowledge`: an open order, the ends of a band, orders that cut nothing, and a band that stays within limits.
+//! - `further`: a world that goes on after a run has each promise of `run` for the longer list of events too.
+//! - `ends`: what the host says when a job begins and ends, and what an order that differs says of the converter.
+//! - `damage`: damage that the packet error code betrays is legal, and stops no run.
+//! - `exact`: what the host calls possible is exact, and the words that show it can be had in a world.
+//! - `bands`: a band is exact where the possible words are.
+//! - `limits`: limits that allow the start words of a usual part, by computing with them.
+//! - `orders`: an order that nothing disturbs goes through, and a run says which one it was.
+//! - `good`: what frames that come whole make of an open job, and how it ends once all of them do.
+//! - `whole`: a job that is open after a run ends by frames that come whole.
+//! - `moves`: what moves a setting or the store.
+//! - `plans`: what plans and surveys of rails are worth.
+//! - `surprises`: between two answers that surprise the converter restarted.
+//! - `boards`: hosts and converters in pairs on one bus, each as if it were alone.
+//! - `own_loop`: events that a caller's own loop lets happen.
+//! - `rails`: what a survey and a plan over any bus are worth.
+//! - `drivers`: what a driver over a simulated bus, or over a patient one, makes of orders.
+#![tactic(auto)]
+
+pub mod bands;
+pub mod boards;
+pub mod damage;
+pub mod drivers;
+pub mod ends;
+pub mod exact;
+pub mod further;
+pub mod good;
+pub mod hearings;
+pub mod knowledge;
+mod laws;
+pub mod limits;
+pub mod moves;
+pub mod numbers;
+pub mod orders;
+pub mod own_loop;
+pub mod packets;
+pub mod parts;
+pub mod plans;
+pub mod rails;
+pub mod surprises;
+pub mod whole;
+
+pub use laws::laws_by_name;

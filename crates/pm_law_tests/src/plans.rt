@@ -1,0 +1,38 @@
+//! What plans and surveys of rails are worth after a run and a step that follows it.
+
+ghost use Rattle.std.specs.Prelude.{◌∷◌, IfOk, OnSome, reverse};
+ghost use Rattle.pm_world.specs.Plans.{KeepsPlans};
+ghost use Rattle.pm_world.specs.Surveys.{FollowsSurveys, KeepsSurveys};
+
+use crate::further::run_and_step;
+use pm_device::Config;
+use pm_world::{Event, SetupFault, World, plans_hold_in_lives, surveys_hold_in_lives};
+
+/// After a run and a step each plan that its orders followed has kept its rail.
+pub fn plans_after_a_step(
+    c: Config,
+    passes: u8,
+    events: &[Event],
+    more: &Event,
+) -> Result<Option<World>, SetupFault>
+    ensures { IfOk result (λ found. OnSome found (KeepsPlans c passes (more.now ∷ reverse events.now))) }
+{
+    // Hands its law to the prover.
+    plans_hold_in_lives();
+    run_and_step(c, passes, events, more)
+}
+
+/// After a run and a step a survey's reads are those that it was told of, and what it found holds.
+pub fn surveys_after_a_step(
+    c: Config,
+    passes: u8,
+    events: &[Event],
+    more: &Event,
+) -> Result<Option<World>, SetupFault>
+    ensures follows { IfOk result (λ found. OnSome found (FollowsSurveys c passes (more.now ∷ reverse events.now))) }
+    ensures keeps { IfOk result (λ found. OnSome found (KeepsSurveys c passes (more.now ∷ reverse events.now))) }
+{
+    // Hands its law to the prover.
+    surveys_hold_in_lives();
+    run_and_step(c, passes, events, more)
+}

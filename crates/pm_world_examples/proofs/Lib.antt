@@ -1,5 +1,0 @@
-mod Ones
-mod Overhearing
-mod SharedCodes
-mod Found
-mod WholeParts
