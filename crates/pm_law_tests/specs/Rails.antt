@@ -3,10 +3,10 @@ use Rattle.std.specs.Prelude.{◌≡◌, ◌<◌, ℕ, Bool, true, Option, Some,
 use Rattle.pm_device.specs.Held.{Held}
 use Rattle.pm_limits.specs.Band.{band_at}
 use Rattle.pm_rail.specs.declared.wanted.Wanted.{Wanted}
-use Rattle.pm_driver.specs.declared.apply_end.ApplyEnd.{ApplyEnd}
-use Rattle.pm_driver.specs.declared.apply_end.ApplyEnd.TheVariants.{Reached}
+use Rattle.pm_rail.specs.declared.apply_end.ApplyEnd.{ApplyEnd}
+use Rattle.pm_rail.specs.declared.apply_end.ApplyEnd.TheVariants.{Reached}
+use Rattle.pm_world.specs.Courses.{goal_at}
 use Rattle.pm_driver.specs.Driven.{Driving, HasLife}
-use Rattle.pm_driver.specs.RailLaws.{goal_at}
 use Rattle.pm_driver.specs.SurveyLaws.{IsOne, commanded_in}
 
 -- a survey that has ended by its own rule leaves a band of one value, which is what the output commands

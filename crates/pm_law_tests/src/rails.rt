@@ -4,9 +4,9 @@ ghost use Rattle.std.specs.Prelude.{◌≡◌, ◌<◌};
 ghost use Rattle.pm_limits.specs.Part.{all_registers};
 ghost use Rattle.pm_law_tests.specs.Rails.{CommandsTheOne, CommandsWanted};
 
-use pm_driver::{ApplyEnd, Bus, Driver, reached_plans_are_commanded, surveys_are_true};
+use pm_driver::{Bus, Driver, reached_plans_are_commanded, surveys_are_true};
 use pm_limits::whole_parts_miss_nothing;
-use pm_rail::{Survey, Wanted};
+use pm_rail::{ApplyEnd, Survey, Wanted};
 use pm_world::{plans_hold_in_lives, surveys_hold_in_lives};
 
 /// Surveys a rail. Where the survey has ended by its own rule, the band has one value, which is what the output commands.

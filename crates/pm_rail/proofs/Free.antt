@@ -18,8 +18,8 @@ use Rattle.pm_rail.specs.declared.next.Next.{Next}
 use Rattle.pm_rail.specs.declared.next.Next.TheVariants.{Job}
 use Rattle.pm_rail.specs.Course.{after_next, naming, next_of, renewed, says, told_of}
 use Rattle.pm_rail.specs.Lemmas.AskedFree.{asked-free}
-use Rattle.pm_rail.specs.Lemmas.Says.{Names, Said, ended-same, orders, reads, renewed-so, said, says-job, taken}
-use Rattle.pm_rail.specs.Lemmas.Says.{says-busy, says-differs, says-due, says-order}
+use Rattle.pm_rail.specs.Lemmas.Says.{Names, Said, ended-same, orders, reads, renewed-so, off-job, said, says-job, taken}
+use Rattle.pm_rail.specs.Lemmas.Says.{says-busy, says-differs, says-due, says-missing, says-off, says-order}
 
 some-left : (left : ℕ) → (left == 0) ≡ false → 0 < left
 some-left left h = grind (arith, nat_tests)
@@ -31,6 +31,8 @@ says-left part limits s course job is = go (said part limits s course) is where
   go : {n : Next} → Said part limits s course n → n ≡ Job job → 0 < course.survey.left
   go (says-busy b) e = cc
   go (says-differs d t) e = cc
+  go (says-missing fault idle) e = cc
+  go (says-off byte idle b) e = some-left course.survey.left (off-job course byte job e).0
   go (says-due j idle n) e = some-left course.survey.left (taken course j job e).0
   go (says-order (Err fault) idle n o) e = cc
   go (says-order (Ok None) idle n o) e = cc

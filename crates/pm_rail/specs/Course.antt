@@ -3,7 +3,7 @@ use Rattle.std.specs.Prelude.{◌≡◌, ℕ, Bool, true, false, ◌&&◌, ◌||
 use Rattle.std.specs.Option.{option_map_or}
 use Rattle.pm_table.specs.declared.cell.Cell.TheVariants.{Out}
 use Rattle.pm_table.specs.declared.reg.Reg.TheVariants.{Operation}
-use Rattle.pm_table.specs.Operation.{selected_register}
+use Rattle.pm_table.specs.Operation.{has_on, selected_register}
 use Rattle.pm_table.specs.Rules.{rule}
 use Rattle.pm_host.specs.declared.job.Job.{Job as Asked}
 use Rattle.pm_host.specs.declared.job.Job.TheVariants.{Order}
@@ -21,7 +21,7 @@ use Rattle.pm_rail.specs.declared.orders.PlanOrder.{PlanOrder}
 use Rattle.pm_rail.specs.declared.survey.Survey.{Survey}
 use Rattle.pm_rail.specs.declared.wanted.Wanted.{Wanted}
 use Rattle.pm_rail.specs.Known.{known_word}
-use Rattle.pm_rail.specs.Orders.{plan_of}
+use Rattle.pm_rail.specs.Orders.{missing_fault, plan_of}
 use Rattle.pm_rail.specs.Registers.{wants_of}
 use Rattle.pm_rail.specs.Survey.{and_read, asking, due_job, ended, has_read, is_surveyed, nothing_read, survey_of, wanted_in}
 use Rattle.pm_rail.specs.declared.apply_end.ApplyEnd.{ApplyEnd}
@@ -33,12 +33,13 @@ use Rattle.pm_rail.specs.declared.next.Next.{Next}
 use Rattle.pm_rail.specs.declared.next.Next.TheVariants.{Job, Ended}
 
 -- a course begins: to wanted words, with a survey of its output for their plan; and to a byte of OPERATION, with one of
--- what the output commands
+-- what the output commands where the byte leaves it on
 abbrev pub course_of : ℕ → Wanted → ℕ → Course
 course_of output wanted tries = record {
   survey = survey_of output (Some wanted) tries;
   byte = None;
   ordered = false;
+  done = false;
   differed = nothing_read;
   twice = None;
 }
@@ -48,6 +49,7 @@ power_course_of output byte tries = record {
   survey = survey_of output None tries;
   byte = Some byte;
   ordered = false;
+  done = false;
   differed = nothing_read;
   twice = None;
 }
@@ -57,7 +59,7 @@ abbrev pub is_operation_known : Summary → ℕ → ℕ → Bool
 is_operation_known s output byte =
     option_map_or (λ word. word == byte) (known_word (Out output Operation) (possible_at s (Out output Operation))) false
 
--- OPERATION is ordered where it isn't known to be the byte. Where it is, and it selects a margin that the part doesn't have and
+-- A byte that leaves the output on is ordered where OPERATION isn't known to be it. Where it is, and it selects a margin that the part doesn't have and
 -- that isn't known, P4 is said of that.
 abbrev pub power_next : PartRegisters → Summary → Survey → ℕ → Result (Option PlanOrder) PlanFault
 power_next part s v byte = if is_operation_known s v.output byte then (if is_surveyed part v s then Ok None
@@ -106,10 +108,26 @@ abbrev pub reading : PartRegisters → Option Bounds → Summary → Course → 
 reading part limits s course (Some job) = taking course job
 reading part limits s course None = ordering course (order_next part limits s course)
 
+-- A word that is wanted of a register that the part doesn't have is refused before anything is read.
+abbrev pub reading_for : PartRegisters → Option Bounds → Summary → Course → Option PlanFault → Next
+reading_for part limits s course (Some fault) = Ended (Stopped (Refused fault))
+reading_for part limits s course None = reading part limits s course (due_job part course.survey s)
+
+-- A byte that turns the output off is ordered before anything is read, whatever is known, and all is reached once that order
+-- was read back.
+abbrev pub turning_off : Course → ℕ → Next
+turning_off course byte = if course.done then Ended Reached else taking course (Order (Out course.survey.output Operation) byte)
+
+abbrev pub going_to : PartRegisters → Option Bounds → Summary → Course → Option ℕ → Next
+going_to part limits s course None =
+    reading_for part limits s course (missing_fault part (wants_of (wanted_in course.survey.plan)))
+going_to part limits s course (Some byte) = if has_on byte then reading part limits s course (due_job part course.survey s)
+    else turning_off course byte
+
 -- an order that differed a second time ends it
 abbrev pub going : PartRegisters → Option Bounds → Summary → Course → Option Differing → Next
 going part limits s course (Some differs) = Ended (Stopped (Differs differs.register differs.word))
-going part limits s course None = reading part limits s course (due_job part course.survey s)
+going part limits s course None = going_to part limits s course course.byte
 
 -- What a course says to do next, by what the host knows of a part with these registers and within the output's limits. Where
 -- a job is open it has ended with H3, and goes on once that job is over.
@@ -132,12 +150,14 @@ next_of part limits s course = says part limits s (renewed part limits s course)
 abbrev pub after_next : PartRegisters → Option Bounds → Summary → Course → Course
 after_next part limits s course = naming (renewed part limits s course) (next_of part limits s course)
 
--- An order of this register ended so. Where it differs, and one of the same register differed before, that is the second time.
+-- An order ended so: it was read back as it was given; or it differs, the second time where one of the same register differed
+-- before.
 abbrev pub differing : Course → Option Asked → JobEnd → Course
 differing course (Some (Order (Out output register) word)) (end.Differs read) = record course {
   differed = and_read course.differed (Out output register);
   twice = rule (has_read course.differed register) (record { register = register; word = read });
 }
+differing course (Some (Order cell word)) end.Done = record course { done = true }
 differing course job end = course
 
 -- the course once it was told how the job ended that it named

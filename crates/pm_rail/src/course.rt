@@ -2,12 +2,13 @@ ghost use Rattle.std.specs.Prelude.{◌≡◌, ◌<◌, None, Some};
 ghost use Rattle.pm_host.specs.Image.{held};
 ghost use Rattle.pm_limits.specs.Guard.{limits_at};
 ghost use Rattle.pm_rail.specs.Survey.{due_job};
-ghost use Rattle.pm_rail.specs.Course.{BeginsNext, after_next, course_of, is_carried_out as spec_is_carried_out, is_operation_known as spec_is_operation_known, naming, next_of, once_more as spec_once_more, order_next as spec_order_next, ordering, power_course_of, power_next as spec_power_next, reading, renewed, says as spec_says, taking, told_of};
+ghost use Rattle.pm_rail.specs.Course.{BeginsNext, after_next, course_of, going_to, is_carried_out as spec_is_carried_out, is_operation_known as spec_is_operation_known, naming, next_of, once_more as spec_once_more, order_next as spec_order_next, ordering, power_course_of, power_next as spec_power_next, reading, renewed, says as spec_says, taking, told_of};
 
 use crate::apply_end::{ApplyEnd, StopCause};
 use crate::fault::PlanFault;
 use crate::next::Next;
 use crate::orders::{PlanOrder, next_order_in};
+use crate::refusals::refuse_missing;
 use crate::survey::{Reads, Survey, wanted_of};
 use crate::wanted::Wanted;
 use pm_host::{Job, JobEnd, Stage, State};
@@ -32,6 +33,8 @@ pub struct Course {
     pub byte: Option<u16>,
     /// Whether something was ordered since the survey began.
     pub ordered: bool,
+    /// Whether an order was read back as it was given.
+    pub done: bool,
     /// The registers of which an order differed once.
     pub differed: Reads,
     /// The order that differed a second time, where one did.
@@ -47,12 +50,15 @@ impl Course {
             survey: Survey::new(output, Some(wanted), tries),
             byte: None,
             ordered: false,
+            done: false,
             differed: Reads::nothing(),
             twice: None,
         }
     }
 
-    /// The way to a byte of OPERATION, by this many jobs at most.
+    /// The way to a byte of OPERATION, by this many jobs at most. A byte that turns the output off is ordered at once,
+    /// whatever is known, and nothing else is read: its way ends `Reached` once that order was read back. A byte that leaves the
+    /// output on is ordered after a survey of what the output commands, unless OPERATION is known to be it then.
     pub fn power(output: u8, byte: u16, tries: u16) -> Course
         ensures { result ≡ power_course_of output byte tries }
     {
@@ -60,6 +66,7 @@ impl Course {
             survey: Survey::new(output, None, tries),
             byte: Some(byte),
             ordered: false,
+            done: false,
             differed: Reads::nothing(),
             twice: None,
         }
@@ -124,16 +131,17 @@ impl Course {
     pub fn told(&mut self, end: JobEnd)
         ensures { self.new ≡ told_of self.old end }
     {
-        if let (Some(Job::Order(Cell::Out(_, register), _)), JobEnd::Differs(word)) = (
-            self.survey.asked,
-            end,
-        ) {
-            self.twice = if self.differed.has(register) {
-                Some(Differing { register, word })
-            } else {
-                None
-            };
-            self.differed = self.differed.and(Cell::Out(0, register));
+        match (self.survey.asked, end) {
+            (Some(Job::Order(Cell::Out(_, register), _)), JobEnd::Differs(word)) => {
+                self.twice = if self.differed.has(register) {
+                    Some(Differing { register, word })
+                } else {
+                    None
+                };
+                self.differed = self.differed.and(Cell::Out(0, register));
+            }
+            (Some(Job::Order(..)), JobEnd::Done) => self.done = true,
+            _ => {}
         }
         self.survey.told(end);
     }
@@ -232,6 +240,25 @@ impl Course {
 
     // The same while no order differed a second time, and no job is open.
     fn going(&self, host: &State, part: PartRegisters, limits: &Option<Limits>) -> Next
+        requires { self.now.survey.output < 8 }
+        ensures { result ≡ going_to part limits.now (held None host.now) self.now self.now.byte }
+    {
+        match self.byte {
+            None => match refuse_missing(part, &wanted_of(self.survey.plan)) {
+                Some(fault) => stopped(StopCause::Refused(fault)),
+                None => self.reading(host, part, limits),
+            },
+            Some(byte) if Operation::has_on(byte) => self.reading(host, part, limits),
+            Some(_) if self.done => Next::Ended(ApplyEnd::Reached),
+            Some(byte) => {
+                let cell = Cell::Out(self.survey.output, Reg::Operation);
+                self.taking(Job::Order(cell, byte))
+            }
+        }
+    }
+
+    // What the survey asks for, or the next order.
+    fn reading(&self, host: &State, part: PartRegisters, limits: &Option<Limits>) -> Next
         requires { self.now.survey.output < 8 }
         ensures { let s = held None host.now in
             result ≡ reading part limits.now s self.now (due_job part self.now.survey s) }

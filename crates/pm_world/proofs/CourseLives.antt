@@ -1,281 +1,39 @@
--- A course, at each moment of a life.
-use Rattle.std.proofs.Common.{◌≡◌, ◌≢◌, ◌⊎◌, inl, inr, ℕ, ◌<◌, Bool, true, false, cond, ◌||◌, List, [], ◌∷◌, ◌++◌, Option, Some, None}
+-- What a course to wanted words is worth over a life.
+use Rattle.std.proofs.Common.{◌≡◌, ◌⊎◌, inl, inr, ℕ, ◌<◌, true, false, List, [], ◌++◌, Option, Some, None}
 use Rattle.std.proofs.Common.{refl, sym, ◌∙◌, ap, subst, append-nil, append_assoc}
-use Rattle.std.specs.Prelude.{Ok, unwrap_or, is_some, option_and_then, option_map, option_to_list, if◌then◌else◌}
+use Rattle.std.specs.Prelude.{Ok, unwrap_or}
 use Rattle.std.specs.List.{list_any}
 use Rattle.std.proofs.Math.Path.{fun_ext}
-use Rattle.std.proofs.lemmas.Bool.{or_parts}
-use Rattle.pm_table.specs.declared.cell.Cell.{Cell}
-use Rattle.pm_table.specs.declared.cell.Cell.TheVariants.{Out, Protect}
 use Rattle.pm_table.specs.declared.reg.Reg.{Reg}
-use Rattle.pm_table.specs.Cell.{same_cell}
-use Rattle.pm_model.specs.declared.order_machine.PendingJob.TheVariants as pending
 use Rattle.pm_num.specs.Ratio.{Ratio}
-use Rattle.pm_model.specs.Commanded.{commanded, selected}
 use Rattle.pm_device.specs.declared.config.Config.{Config}
 use Rattle.pm_device.specs.Held.{value_for}
-use Rattle.pm_host.specs.declared.command.Command.TheVariants.{RestoreUserAll}
-use Rattle.pm_host.specs.declared.job.Job.{Job as Asked}
-use Rattle.pm_host.specs.declared.job.Job.TheVariants as job
-use Rattle.pm_host.specs.declared.job.JobEnd.{JobEnd}
-use Rattle.pm_host.specs.declared.host.Step.{Step}
-use Rattle.pm_host.specs.declared.host.Step.TheVariants.{Next, Ended}
-use Rattle.pm_host.specs.Answers.{good_word}
-use Rattle.pm_host.specs.declared.stage.Stage.{Stage}
-use Rattle.pm_host.specs.Ended.{StepTells, job_in, stage_job}
-use Rattle.pm_host.specs.Jobs.{accepted_job}
-use Rattle.pm_host.specs.Marks.{Good, goods, read_by}
-use Rattle.pm_host.specs.Refusals.{is_busy}
 use Rattle.pm_host.specs.Summary.{Summary}
-use Rattle.pm_host.specs.Transcript as host
 use Rattle.pm_limits.specs.declared.part_registers.PartRegisters.{PartRegisters}
 use Rattle.pm_limits.specs.Bounds.{Bounds}
-use Rattle.pm_limits.specs.Part.{has_register}
-use Rattle.pm_rail.specs.declared.orders.PlanOrder.{PlanOrder}
-use Rattle.pm_rail.specs.declared.survey.Survey.{Survey}
 use Rattle.pm_rail.specs.declared.wanted.Wanted.{Wanted}
 use Rattle.pm_rail.specs.Laws.{IsStep}
 use Rattle.pm_rail.specs.Orders.{plan_of}
 use Rattle.pm_rail.specs.Plan.{commands_by, goal_of}
 use Rattle.pm_rail.specs.Registers.{Held, Wants, wants_of}
-use Rattle.pm_rail.specs.Survey.{is_surveyed, next_job, wanted_in}
+use Rattle.pm_rail.specs.Survey.{is_surveyed, wanted_in}
 use Rattle.pm_rail.specs.declared.apply_end.ApplyEnd.TheVariants.{Reached}
 use Rattle.pm_rail.specs.declared.course.Course.{Course}
-use Rattle.pm_rail.specs.declared.next.Next.{Next as Said}
 use Rattle.pm_rail.specs.declared.next.Next.TheVariants as said
-use Rattle.pm_rail.specs.Course.{after_next, course_of, is_order, naming, next_of, renewed, says as says_of, told_of}
-use Rattle.pm_rail.specs.Lemmas.Says.{Names, asks-so, differing-same, ended-same, orders, reads, renewed-none, renewed-so, says-job, says-reached}
-use Rattle.pm_world.specs.Below.{Below}
+use Rattle.pm_rail.specs.Course.{next_of, renewed}
+use Rattle.pm_rail.specs.Lemmas.Says.{says-reached}
 use Rattle.pm_world.specs.declared.event.Event.{Event}
 use Rattle.pm_world.specs.Bands.{HoldsMissing}
-use Rattle.pm_world.specs.Confirmed.{is_good_for, reads as reads_told, reads_cell, restarts_converter}
-use Rattle.pm_world.specs.Courses.{IsBeside, IsCourse, KeepsCourses, goal_at, asks, begins, beside, says, tells}
-use Rattle.pm_world.specs.Ended.{begins_other}
+use Rattle.pm_world.specs.Confirmed.{restarts_converter}
+use Rattle.pm_world.specs.Courses.{KeepsCourses, goal_at}
 use Rattle.pm_world.specs.Honest.{IsSpelled}
-use Rattle.pm_world.specs.Job.{asked_by}
-use Rattle.pm_world.specs.Life.{life, now, state_of}
+use Rattle.pm_world.specs.Life.{now}
 use Rattle.pm_world.specs.Limited.{commands}
-use Rattle.pm_world.specs.Plans.{Follows, IsReadSince, MayAsk, PlansHoldInLives, held_at}
-use Rattle.pm_world.specs.Possible.{has_read, restarts_host}
-use Rattle.pm_world.specs.Retelling.{open_pending, pending_of}
-use Rattle.pm_world.specs.Setup.{setup_of}
-use Rattle.pm_world.specs.State.{State, asked, share_of}
-use Rattle.pm_world.specs.Surveys.{AreRead, MissingUnread, SurveysHoldInLives}
-use Rattle.pm_world.specs.Lemmas.{entries-more}
-use Rattle.pm_world.proofs.JobSpans.{TellsFrame, any-parts, beside-frame, by-acceptance, by-frame, by-silence}
-use Rattle.pm_world.proofs.Lives.{IsLived, earlier, lived-before}
-use Rattle.pm_world.proofs.PlanSteps.{Stands, Took, goes, pending-open, pending-order, pending-restore}
-use Rattle.pm_world.proofs.Unread.{restart-told}
-
--- the laws that a course is worth something by
-pub record Laws : Type 0 where
-  pub below : Below
-  pub plans : PlansHoldInLives
-  pub surveys : SurveysHoldInLives
-
--- ---- The open job ----
-
--- after a restart of the host none is open
-restarted-none : (setup : host.Setup) (entries : List host.Entry) → host.open_job setup (host.Restarted ∷ entries) ≡ None
-unfolding host.open_job host.end_of
-restarted-none setup entries = refl
-
--- the open job, by what the host was told
-pub opened-is : Below → (config : Config) (passes : ℕ) (events : List Event) →
-    job_in (now config passes events).host ≡ host.open_job (setup_of config passes) (life config passes events).entries
-unfolding now state_of
-opened-is laws config passes events = laws.ends_are_told.job (setup_of config passes) (life config passes events).entries
-
-restart-idle : Below → (config : Config) (passes : ℕ) (before : List Event) (event : Event) → restarts_host event ≡ true →
-    job_in (now config passes (event ∷ before)).host ≡ None
-restart-idle laws config passes before event restarts =
-    let entries = (life config passes before).entries in
-    opened-is laws config passes (event ∷ before)
-    ∙ (ap (λ (es : List host.Entry). host.open_job (setup_of config passes) es)
-    (entries-more config passes before event
-    ∙ ap (λ (t : Option host.Entry). option_to_list t ++ entries) (restart-told (now config passes before) event restarts))
-    ∙ restarted-none (setup_of config passes) entries)
-
--- cells of two outputs are two, and those of registers of which the part has one and not the other
-two-outputs : Below → (one other : ℕ) (r m : Reg) → one ≢ other → same_cell (Out one r) (Out other m) ≡ false
-two-outputs laws one other r m two = go (same_cell (Out one r) (Out other m)) refl where
-  go : (b : Bool) → same_cell (Out one r) (Out other m) ≡ b → b ≡ false
-  go true same =
-      let is : Out one r ≡ Out other m = (laws.cells_are_told_apart (Out one r) (Out other m)).0 same in
-      let output : one ≡ other = cc in absurd (two output)
-  go false same = refl
-
-pub two-registers : Below → (part : PartRegisters) (one other : ℕ) (r m : Reg) → has_register part r ≡ true → has_register part m ≡ false →
-    same_cell (Out one r) (Out other m) ≡ false
-two-registers laws part one other r m has none = go (same_cell (Out one r) (Out other m)) refl where
-  go : (b : Bool) → same_cell (Out one r) (Out other m) ≡ b → b ≡ false
-  go true same =
-      let is : Out one r ≡ Out other m = (laws.cells_are_told_apart (Out one r) (Out other m)).0 same in
-      let register : r ≡ m = cc in cc
-  go false same = refl
-
--- What holds of no job, of the open one and of the one that is asked for holds of the open one after an event.
-pub open-kept : Below → (config : Config) (passes : ℕ) (P : Option host.Job → Type 0) → P None → (before : List Event) (event : Event) →
-    IsLived config passes (event ∷ before) → P (job_in (now config passes before).host) → P (asked (now config passes before) event) →
-    P (job_in (now config passes (event ∷ before)).host)
-open-kept laws config passes P none before event lived was may = go (asked (now config passes before) event) refl where
-  by : (step : Step) (entry : host.Entry) →
-      StepTells (now config passes before).host entry step (now config passes (event ∷ before)).host →
-      P (job_in (now config passes (event ∷ before)).host)
-  by Next entry told' = subst P (sym told'.0) was
-  by (Ended end) entry told' = subst P (sym told'.0) none
-
-  told : (entry : Option host.Entry) → (share_of (now config passes before) event).told ≡ entry → TellsFrame entry →
-      P (job_in (now config passes (event ∷ before)).host)
-  told None e frame = subst P (sym (ap (λ (s : Summary). job_in s) (by-silence config passes before event e).0)) was
-  told (Some entry) e frame = by _ entry (by-frame laws config passes before event entry lived e frame).tells
-
-  still : (b : Bool) → restarts_host event ≡ b → asked (now config passes before) event ≡ None →
-      P (job_in (now config passes (event ∷ before)).host)
-  still true r a = subst P (sym (restart-idle laws config passes before event r)) none
-  still false r a = told _ refl (beside-frame (now config passes before) event a r)
-
-  go : (o : Option host.Job) → asked (now config passes before) event ≡ o → P (job_in (now config passes (event ∷ before)).host)
-  go (Some begun) a = subst P (a ∙ sym (by-acceptance laws config passes before event begun lived a).open') may
-  go None a = still (restarts_host event) refl a
-
--- What the host is told is no good answer for a cell that its open job doesn't read.
-reads-none : (setup : host.Setup) (entries : List host.Entry) (cell : Cell) →
-    ((c : Cell) → read_by (host.open_job setup entries) (host.told_since entries) ≡ Some c → same_cell c cell ≡ false) →
-    (told : Option host.Entry) → reads_told setup entries cell told ≡ false
-unfolding goods
-reads-none setup entries cell other (Some (host.Got bytes)) = by (read_by (host.open_job setup entries) (host.told_since entries)) other where
-  by : (r : Option Cell) → ((c : Cell) → r ≡ Some c → same_cell c cell ≡ false) →
-      list_any (is_good_for cell) (option_to_list (option_and_then
-      (λ c. option_map (λ word. Good c word) (good_word setup.addr c bytes)) r)) ≡ false
-  by None f = refl
-  by (Some c) f = word-by (good_word setup.addr c bytes) where
-    word-by : (w : Option ℕ) → list_any (is_good_for cell) (option_to_list (option_map (λ word. Good c word) w)) ≡ false
-    word-by None = refl
-    word-by (Some w) = ap (λ (b : Bool). b || false) (f c refl)
-reads-none setup entries cell other None = refl
-reads-none setup entries cell other (Some (host.Accepted j)) = refl
-reads-none setup entries cell other (Some (host.Finished acked)) = refl
-reads-none setup entries cell other (Some host.Restarted) = refl
-
--- A cell that it doesn't read stays unread.
-pub unread-kept : Below → (config : Config) (passes : ℕ) (cell : Cell) (before : List Event) (event : Event) →
-    ((told : List host.Entry) (c : Cell) → read_by (job_in (now config passes before).host) told ≡ Some c → same_cell c cell ≡ false) →
-    has_read config passes cell before ≡ false → has_read config passes cell (event ∷ before) ≡ false
-unfolding has_read
-unread-kept laws config passes cell before event other was =
-    go (restarts_host event) (reads_cell config passes cell before event) (has_read config passes cell before)
-    (reads-none (setup_of config passes) (life config passes before).entries cell
-    (λ c e. other (host.told_since (life config passes before).entries) c
-    (ap (λ (j : Option host.Job). read_by j (host.told_since (life config passes before).entries)) (opened-is laws config passes before) ∙ e))
-    (share_of (now config passes before) event).told) was
-  where
-    go : (host' one rest : Bool) → one ≡ false → rest ≡ false → cond host' false (one || rest) ≡ false
-    go true one rest e f = refl
-    go false true rest e f = cc
-    go false false rest e f = f
-
-module _ (laws : Below) (config : Config) (passes : ℕ) (part : PartRegisters) (output : ℕ) where
-  abbrev Open : List Event → Type 0
-  Open events = IsBeside part output (job_in (now config passes events).host)
-
-  -- where the open job is one that others may ask for, it is no order of the output, and no restore
-  pub no-order : (events : List Event) → Open events → (q : Reg) (word : ℕ) →
-      open_pending config passes events ≡ Some (pending.Order (Out output q) word) → ⊥
-  no-order events quiet q word p = go (job_in (now config passes events).host) refl (sym (pending-open laws config passes events) ∙ p) where
-    go : (j : Option host.Job) → job_in (now config passes events).host ≡ j →
-        option_and_then pending_of j ≡ Some (pending.Order (Out output q) word) → ⊥
-    go None e h = cc
-    go (Some open') e h =
-        let is = pending-order open' (Out output q) word h in
-        let two = subst (λ (x : Option host.Job). IsBeside part output x) (e ∙ ap (λ (x : host.Job). Some x) is) quiet in
-        two refl
-
-  pub no-restore : (events : List Event) → Open events → open_pending config passes events ≡ Some pending.Restore → ⊥
-  no-restore events quiet p = go (job_in (now config passes events).host) refl (sym (pending-open laws config passes events) ∙ p) where
-    go : (j : Option host.Job) → job_in (now config passes events).host ≡ j → option_and_then pending_of j ≡ Some pending.Restore → ⊥
-    go None e h = cc
-    go (Some open') e h =
-        let is = pending-restore open' h in
-        subst (λ (x : Option host.Job). IsBeside part output x) (e ∙ ap (λ (x : host.Job). Some x) is) quiet
-
-  -- it stays one while none other is asked for
-  open-more : (before : List Event) (event : Event) → IsLived config passes (event ∷ before) → Open before →
-      IsBeside part output (asked (now config passes before) event) → Open (event ∷ before)
-  open-more before event lived quiet may =
-      open-kept laws config passes (λ (j : Option host.Job). IsBeside part output j) tt before event lived quiet may
-
-  -- what the host is told then is no good answer for a register that the part doesn't have
-  pub unread : (o : Option host.Job) → IsBeside part output o → (m : Reg) → has_register part m ≡ false →
-      (told : List host.Entry) (c : Cell) → read_by o told ≡ Some c → same_cell c (Out output m) ≡ false
-  unread None b m lacks told c e = cc
-  unread (Some (host.Order (Out other r) w)) b m lacks told c e = turn (host.is_write_turn told) e where
-    turn : (t : Bool) → (if t then None else Some (Out other r)) ≡ Some c → same_cell c (Out output m) ≡ false
-    turn true h = cc
-    turn false h = let is : Out other r ≡ c = cc in
-        subst (λ (x : Cell). same_cell x (Out output m) ≡ false) is (two-outputs laws other output r m b)
-  unread (Some (host.Order Protect w)) b m lacks told c e = turn (host.is_write_turn told) e where
-    turn : (t : Bool) → (if t then None else Some Protect) ≡ Some c → same_cell c (Out output m) ≡ false
-    turn true h = cc
-    turn false h = let is : Protect ≡ c = cc in subst (λ (x : Cell). same_cell x (Out output m) ≡ false) is refl
-  unread (Some (host.Check (Out other r))) b m lacks told c e = let is : Out other r ≡ c = cc in
-      subst (λ (x : Cell). same_cell x (Out output m) ≡ false) is (two-registers laws part other output r m b lacks)
-  unread (Some (host.Check Protect)) b m lacks told c e = let is : Protect ≡ c = cc in
-      subst (λ (x : Cell). same_cell x (Out output m) ≡ false) is refl
-  unread (Some (host.Learn learned)) b m lacks told c e = cc
-  unread (Some (host.Send command)) b m lacks told c e = cc
-
-  unread-more : (before : List Event) (event : Event) → Open before → MissingUnread config passes part output before →
-      MissingUnread config passes part output (event ∷ before)
-  unread-more before event quiet was = λ m lacks. unread-kept laws config passes (Out output m) before event
-      (λ told c e. unread (job_in (now config passes before).host) quiet m lacks told c e) (was m lacks)
-
--- ---- Moments ----
-
--- events that follow a plan, without the newest of them
-follows-drop : (config : Config) (passes : ℕ) (part : PartRegisters) (output : ℕ) (wants : Wants) (rest events before : List Event) →
-    Follows config passes part output wants (rest ++ events) before → Follows config passes part output wants events before
-follows-drop config passes part output wants [] events before follows = follows
-follows-drop config passes part output wants (event ∷ rest) events before follows = follows-drop config passes part output wants rest
-    events before follows.2
-
--- what a list ends with ends the later part of it, or goes beyond
-record Beyond (middle newer later : List Event) : Type 0 where
-  pub piece : List Event
-  pub rest : List Event
-  pub newer_is : newer ≡ rest ++ piece
-  pub middle_is : middle ≡ piece ++ later
-
-split-at : (rest middle newer later : List Event) → rest ++ middle ≡ newer ++ later →
-    ((y : List Event) × (later ≡ y ++ middle)) ⊎ Beyond middle newer later
-split-at [] middle newer later e = inr (record { piece = newer; rest = []; newer_is = refl; middle_is = e })
-split-at (r ∷ rest) middle [] later e = inl (r ∷ rest, sym e)
-split-at (r ∷ rest) middle (n ∷ newer) later e =
-    let below : rest ++ middle ≡ newer ++ later = cc in
-    elim (split-at rest middle newer later below) [
-      | inl within ↦ inl within
-      | inr beyond ↦ inr (record {
-        piece = beyond.piece;
-        rest = n ∷ beyond.rest;
-        newer_is = ap (λ (es : List Event). n ∷ es) beyond.newer_is;
-        middle_is = beyond.middle_is;
-      })
-    ]
-
--- an output commands the same by the same words
-same-commands : (config : Config) (passes output : ℕ) (one other : List Event) →
-    held_at config passes one output ≡ held_at config passes other output →
-    commands config passes one output ≡ commands config passes other output
-unfolding commanded selected
-same-commands config passes output one other same = ap (λ (h : Held). commands_by (value_for config output) h) same
-
-goal-commands : (config : Config) (passes output : ℕ) (wanted : Wanted) (events before : List Event) →
-    held_at config passes events output ≡ goal_of (held_at config passes before output) (wants_of wanted) →
-    commands config passes events output ≡ goal_at config passes output wanted before
-unfolding commanded selected
-goal-commands config passes output wanted events before same = ap (λ (h : Held). commands_by (value_for config output) h) same
-
--- ---- A course ----
+use Rattle.pm_world.specs.Plans.{Follows, IsReadSince, held_at}
+use Rattle.pm_world.proofs.Lives.{IsLived, lived-before}
+use Rattle.pm_world.proofs.CourseEvents.{Beyond, Laws, follows-drop, goal-commands, same-commands, split-at}
+use Rattle.pm_world.proofs.CourseWays as ways
+use Rattle.pm_world.proofs.CourseSteps as asked-of
 
 module _ (laws : Laws) (config : Config) (passes : ℕ) (part : PartRegisters) (output : ℕ) (wanted : Wanted) (before : List Event)
     (spelled : IsSpelled config) (here : output < config.count)
@@ -286,416 +44,17 @@ module _ (laws : Laws) (config : Config) (passes : ℕ) (part : PartRegisters) (
   abbrev at : List Event → Summary
   at es = (now config passes (es ++ before)).host
 
-  -- the output's words at each of these moments are those of before
   abbrev Stays : List Event → Type 0
-  Stays later = (rest piece : List Event) (register : Reg) → later ≡ rest ++ piece →
-      held_at config passes (piece ++ before) output register ≡ held_at config passes before output register
+  Stays later = ways.Stays laws config passes part output wanted before spelled here missing later
 
-  stays-more : (es : List Event) (event : Event) → Stays es →
-      held_at config passes (event ∷ es ++ before) output ≡ held_at config passes (es ++ before) output → Stays (event ∷ es)
-  stays-more es event was same = λ rest piece register is. go piece register rest is where
-    go : (piece : List Event) (register : Reg) (rest : List Event) → event ∷ es ≡ rest ++ piece →
-        held_at config passes (piece ++ before) output register ≡ held_at config passes before output register
-    go piece register [] is = ap (λ (l : List Event). held_at config passes (l ++ before) output register) (sym is)
-        ∙ (ap (λ (h : Reg → ℕ). h register) same ∙ was [] es register refl)
-    go piece register (x ∷ rest) is = let below : es ≡ rest ++ piece = cc in was rest piece register below
+  abbrev Reading : Course → List Event → Type 0
+  Reading course es = ways.Reading laws config passes part output wanted before spelled here missing course es
 
-  -- What a course has come to: its survey is still reading, and the output's words stayed; or from a moment on, at which
-  -- all that the plan needs was read, the events follow the plan.
-  pub record Reading (course : Course) (es : List Event) : Type 0 where
-    pub unordered : course.ordered ≡ false
-    pub stays : Stays es
-    pub are : AreRead config passes course.survey es before
-    pub untold : MissingUnread config passes part output (es ++ before)
-    pub quiet : IsBeside part output (job_in (at es))
+  abbrev Ordering : List Event → Type 0
+  Ordering es = ways.Ordering laws config passes part output wanted before spelled here missing es
 
-  pub record Ordering (es : List Event) : Type 0 where
-    pub newer : List Event
-    pub later : List Event
-    pub is : es ≡ newer ++ later
-    pub stays : Stays later
-    pub since : IsReadSince config passes output wants (later ++ before)
-    pub idle : is_busy (at later) ≡ false
-    pub follows : Follows config passes part output wants newer (later ++ before)
-
-  pub record Way (course : Course) (es : List Event) : Type 0 where
-    pub own : course.survey.output ≡ output
-    pub plan : course.survey.plan ≡ Some wanted
-    pub words : course.byte ≡ None
-    pub phase : Reading course es ⊎ Ordering es
-
-  -- while the words stay, so do those of the registers that the part doesn't have
-  pub holds-missing : (es : List Event) → Stays es → HoldsMissing part config (now config passes (es ++ before)).device.words output
-  holds-missing es stays = λ register word is. stays [] es register refl ∙ missing register word is
-
-  -- ---- One more event ----
-
-  -- the jobs that may be asked for at a moment: those of others, and the plan's next order
-  abbrev IsFine : List Event → Option host.Job → Type 0
-  IsFine es o = IsBeside part output o ⊎ ((limits : Option Bounds) × (order : PlanOrder)
-      × (o ≡ Some (host.Order (Out output order.register) order.word)) × (plan_of part (at es) limits output wants ≡ Ok (Some order)))
-
-  words-stay : (es : List Event) (event : Event) → IsLived config passes (event ∷ es ++ before) → restarts_converter event ≡ false →
-      IsBeside part output (job_in (at es)) →
-      held_at config passes (event ∷ es ++ before) output ≡ held_at config passes (es ++ before) output
-  words-stay es event lived steady quiet = go (goes laws.below config passes part output wants (es ++ before) event here lived steady stands)
-    where
-      stands : Stands config passes part output wants (es ++ before)
-      stands = record {
-        ready = λ q word p. absurd (no-order laws.below config passes part output (es ++ before) quiet q word p);
-        free = λ p. no-restore laws.below config passes part output (es ++ before) quiet p;
-      }
-
-      go : (held_at config passes (event ∷ es ++ before) output ≡ held_at config passes (es ++ before) output)
-          ⊎ Took config passes part output wants (es ++ before) event →
-          held_at config passes (event ∷ es ++ before) output ≡ held_at config passes (es ++ before) output
-      go (inl same) = same
-      go (inr took) = absurd (no-order laws.below config passes part output (es ++ before) quiet took.q _ took.opened)
-
-  reading-more : (course : Course) (es : List Event) (event : Event) → Reading course es → IsLived config passes (event ∷ es ++ before) →
-      restarts_converter event ≡ false → IsBeside part output (asked (now config passes (es ++ before)) event) → Reading course (event ∷ es)
-  reading-more course es event was lived steady may = record {
-    unordered = was.unordered;
-    stays = stays-more es event was.stays (words-stay es event lived steady was.quiet);
-    are = (laws.surveys.follows config passes (event ∷ es ++ before) lived).more course.survey (event ∷ []) es before refl was.are;
-    untold = unread-more laws.below config passes part output (es ++ before) event was.quiet was.untold;
-    quiet = open-more laws.below config passes part output (es ++ before) event lived was.quiet may;
-  }
-
-  beside-may : (newer older : List Event) (o : Option host.Job) → IsBeside part output o →
-      MayAsk config passes part output wants newer older o
-  beside-may newer older (Some (host.Order (Out other r) w)) b = λ same. absurd (b same)
-  beside-may newer older (Some (host.Order Protect w)) b = tt
-  beside-may newer older (Some (host.Check cell)) b = tt
-  beside-may newer older (Some (host.Learn learned)) b = tt
-  beside-may newer older (Some (host.Send RestoreUserAll)) b = absurd b
-  beside-may newer older (Some (host.Send command)) b = tt
-  beside-may newer older None b = tt
-
-  fine-may : (es newer later : List Event) → es ≡ newer ++ later → (o : Option host.Job) → IsFine es o →
-      MayAsk config passes part output wants newer (later ++ before) o
-  fine-may es newer later is o (inl b) = beside-may newer (later ++ before) o b
-  fine-may es newer later is o (inr (limits, order, named, plan)) =
-      subst (λ (x : Option host.Job). MayAsk config passes part output wants newer (later ++ before) x) (sym named)
-      (λ same. inl (
-        limits,
-        ap (λ (l : List Event). plan_of part (now config passes l).host limits output wants)
-            (sym (ap (λ (l : List Event). l ++ before) is ∙ append_assoc newer later before)) ∙ plan,
-      ))
-
-  ordering-more : (es : List Event) (event : Event) → Ordering es → restarts_converter event ≡ false →
-      IsFine es (asked (now config passes (es ++ before)) event) → Ordering (event ∷ es)
-  ordering-more es event was steady fine =
-      let moment : es ++ before ≡ was.newer ++ (was.later ++ before) =
-      ap (λ (l : List Event). l ++ before) was.is ∙ append_assoc was.newer was.later before in
-      record {
-        newer = event ∷ was.newer;
-        later = was.later;
-        is = ap (λ (l : List Event). event ∷ l) was.is;
-        stays = was.stays;
-        since = was.since;
-        idle = was.idle;
-        follows = (
-          steady,
-          subst (λ (l : List Event). MayAsk config passes part output wants was.newer (was.later ++ before) (asked (now config passes l) event))
-              moment (fine-may es was.newer was.later was.is (asked (now config passes (es ++ before)) event) fine),
-          was.follows,
-        );
-      }
-
-  -- an event that begins no other job asks for none
-  asks-none : (s : State) (event : Event) → begins_other event ≡ false → asked s event ≡ None
-  asks-none s event alone = go (asked_by event) (or_parts (is_some (asked_by event)) (restarts_host event) alone).0 where
-    go : (o : Option Asked) → is_some o ≡ false → option_and_then (accepted_job s.host) o ≡ None
-    go None h = refl
-    go (Some j) h = cc
-
-  beside-none : (s : State) (event : Event) → begins_other event ≡ false → IsBeside part output (asked s event)
-  beside-none s event alone = subst (λ (o : Option host.Job). IsBeside part output o) (sym (asks-none s event alone)) tt
-
-  reading-all : (course : Course) (newer es : List Event) → Reading course es → IsLived config passes ((newer ++ es) ++ before) →
-      list_any restarts_converter newer ≡ false → list_any begins_other newer ≡ false → Reading course (newer ++ es)
-  reading-all course [] es was lived steady alone = was
-  reading-all course (event ∷ newer) es was lived steady alone =
-      let still = or_parts (restarts_converter event) (list_any restarts_converter newer) steady in
-      let other = or_parts (begins_other event) (list_any begins_other newer) alone in
-      reading-more course (newer ++ es) event (reading-all course newer es was (earlier lived) still.1 other.1) lived still.0
-      (beside-none (now config passes ((newer ++ es) ++ before)) event other.0)
-
-  ordering-all : (newer es : List Event) → Ordering es → list_any restarts_converter newer ≡ false → list_any begins_other newer ≡ false →
-      Ordering (newer ++ es)
-  ordering-all [] es was steady alone = was
-  ordering-all (event ∷ newer) es was steady alone =
-      let still = or_parts (restarts_converter event) (list_any restarts_converter newer) steady in
-      let other = or_parts (begins_other event) (list_any begins_other newer) alone in
-      ordering-more (newer ++ es) event (ordering-all newer es was still.1 other.1) still.0
-      (inl (beside-none (now config passes ((newer ++ es) ++ before)) event other.0))
-
-  -- ---- What a course is asked ----
-
-  -- all that the plan needs was read, where its survey has ended by its own rule
-  pub ready : (course : Course) (es : List Event) → course.survey.output ≡ output → course.survey.plan ≡ Some wanted → Reading course es →
-      IsLived config passes (es ++ before) → list_any restarts_converter es ≡ false → is_surveyed part course.survey (at es) ≡ true →
-      IsReadSince config passes output wants (es ++ before)
-  ready course es own plan was lived steady surveyed =
-      let since = (laws.surveys.keeps config passes (es ++ before) spelled lived).ready part course.survey es before refl
-      (subst (λ (o : ℕ). o < config.count) (sym own) here)
-      (subst (λ (o : ℕ). MissingUnread config passes part o (es ++ before)) (sym own) was.untold)
-      (subst (λ (o : ℕ). HoldsMissing part config (now config passes (es ++ before)).device.words o) (sym own) (holds-missing es was.stays))
-      was.are steady surveyed in
-      subst (λ (o : ℕ). IsReadSince config passes o wants (es ++ before)) own
-      (subst (λ (p : Option Wanted). IsReadSince config passes course.survey.output (wants_of (wanted_in p)) (es ++ before)) plan since)
-
-  -- a new survey
-  way-renewed : (limits : Option Bounds) (course : Course) (es : List Event) → Way course es → Way (renewed part limits (at es) course) es
-  way-renewed limits course es way = record {
-    own = renewed-so (λ (c : Course). c.survey.output ≡ output) part limits (at es) course way.own way.own;
-    plan = renewed-so (λ (c : Course). c.survey.plan ≡ Some wanted) part limits (at es) course way.plan way.plan;
-    words = renewed-so (λ (c : Course). c.byte ≡ None) part limits (at es) course way.words way.words;
-    phase = go way.phase;
-  }
-    where
-      go : Reading course es ⊎ Ordering es → Reading (renewed part limits (at es) course) es ⊎ Ordering es
-      go (inl reading) = inl (subst (λ (c : Course). Reading c es)
-          (sym (renewed-none part limits (at es) course reading.unordered)) reading)
-      go (inr ordering) = inr ordering
-
-  -- a job of a survey is one that others may ask for too, and no order
-  record IsRead (asked' : Asked) : Type 0 where
-    pub plain : is_order asked' ≡ false
-    pub may : (s : State) (event : Event) → asked_by event ≡ Some asked' → IsBeside part output (asked s event)
-
-  read-job : (v : Survey) (s : Summary) (asked' : Asked) → next_job part v s ≡ Some asked' → IsRead asked'
-  read-job v s asked' is = asks-so IsRead part v s
-      (record { plain = refl; may = λ t event e. by t event (job.Learn v.output) e tt })
-      (λ r has. record { plain = refl; may = λ t event e. by t event (job.Check (Out v.output r)) e has })
-      (record { plain = refl; may = λ t event e. by t event (job.Check Protect) e tt }) asked' is
-    where
-      by : (t : State) (event : Event) (j : Asked) → asked_by event ≡ Some j → IsBeside part output (accepted_job t.host j) →
-          IsBeside part output (asked t event)
-      by t event j e b = subst (λ (o : Option Asked). IsBeside part output (option_and_then (accepted_job t.host) o)) (sym e) b
-
-  -- What a job is that a course names at a moment: its survey still reads and asks for it, or the plan is followed and it is
-  -- one that may be asked for.
-  data Comes (limits : Option Bounds) (course : Course) (es : List Event) (asked' : Asked) : Type 0 where
-    still : Reading course es → next_job part course.survey (at es) ≡ Some asked' → IsRead asked' →
-        Comes limits course es asked'
-    now-on : Ordering es → ((event : Event) → asked_by event ≡ Some asked' →
-        IsFine es (asked (now config passes (es ++ before)) event)) → Comes limits course es asked'
-
-  comes : (limits : Option Bounds) (course : Course) (es : List Event) (asked' : Asked) → Way course es →
-      IsLived config passes (es ++ before) → list_any restarts_converter es ≡ false →
-      says_of part limits (at es) course ≡ said.Job asked' → Comes limits course es asked'
-  comes limits course es asked' way lived steady is = by named.1 way.phase where
-    named : (is_busy (at es) ≡ false) × Names part limits (at es) course asked'
-    named = says-job part limits (at es) course way.words asked' is
-
-    by : {j : Asked} → Names part limits (at es) course j → Reading course es ⊎ Ordering es → Comes limits course es j
-    by (reads j asks') (inl reading) = still reading asks' (read-job course.survey (at es) j asks')
-    by (reads j asks') (inr ordering) =
-        now-on ordering (λ event e. inl ((read-job course.survey (at es) j asks').may (now config passes (es ++ before)) event e))
-    by (orders order surveyed plan) phase = now-on (start phase) (λ event e. inr (limits, order, accepted event e, planned)) where
-      start : Reading course es ⊎ Ordering es → Ordering es
-      start (inl reading) = record {
-        newer = [];
-        later = es;
-        is = refl;
-        stays = reading.stays;
-        since = ready course es way.own way.plan reading lived steady surveyed;
-        idle = named.0;
-        follows = tt;
-      }
-      start (inr ordering) = ordering
-
-      accepted : (event : Event) → asked_by event ≡ Some (job.Order (Out course.survey.output order.register) order.word) →
-          asked (now config passes (es ++ before)) event ≡ Some (host.Order (Out output order.register) order.word)
-      accepted event e = ap (λ (o : Option Asked). option_and_then (accepted_job (at es)) o) e
-          ∙ ap (λ (o : ℕ). Some (host.Order (Out o order.register) order.word)) way.own
-
-      planned : plan_of part (at es) limits output wants ≡ Ok (Some order)
-      planned = sym (ap (λ (o : ℕ). plan_of part (at es) limits o wants) way.own)
-          ∙ (sym (ap (λ (p : Option Wanted). plan_of part (at es) limits course.survey.output (wants_of (wanted_in p))) way.plan) ∙ plan)
-
-  -- the course that named a job
-  named-is : (limits : Option Bounds) (course : Course) (s : Summary) (asked' : Asked) → next_of part limits s course ≡ said.Job asked' →
-      after_next part limits s course ≡ naming (renewed part limits s course) (said.Job asked')
-  named-is limits course s asked' is = ap (λ (n : Said). naming (renewed part limits s course) n) is
-
-  -- and one that names a job of its survey reads on
-  reading-named : (course : Course) (es : List Event) (asked' : Asked) → Reading course es → is_order asked' ≡ false →
-      Reading (naming course (said.Job asked')) es
-  reading-named course es asked' was free = record {
-    unordered = ap (λ (b : Bool). b || is_order asked') was.unordered ∙ free;
-    stays = was.stays;
-    are = record { registers = was.are.registers; protect = was.are.protect };
-    untold = was.untold;
-    quiet = was.quiet;
-  }
-
-  -- it says something
-  way-says : (limits : Option Bounds) (course : Course) (es : List Event) → Way course es → IsLived config passes (es ++ before) →
-      list_any restarts_converter es ≡ false → Way (after_next part limits (at es) course) es
-  way-says limits course es way lived steady = go (next_of part limits (at es) course) refl where
-    r : Course
-    r = renewed part limits (at es) course
-
-    way' : Way r es
-    way' = way-renewed limits course es way
-
-    phase : (j : Asked) → Comes limits r es j → Reading (naming r (said.Job j)) es ⊎ Ordering es
-    phase j (still reading asks' is) = inl (reading-named r es j reading is.plain)
-    phase j (now-on ordering fine) = inr ordering
-
-    go : (n : Said) → next_of part limits (at es) course ≡ n → Way (naming r n) es
-    go (said.Ended end) e = way'
-    go (said.Job j) e = record {
-      own = way'.own;
-      plan = way'.plan;
-      words = way'.words;
-      phase = phase j (comes limits r es j way' lived steady e);
-    }
-
-  -- the host is asked for the job that it named
-  way-asks : (limits : Option Bounds) (course : Course) (es : List Event) (event : Event) (j : Asked) → Way course es →
-      IsLived config passes (event ∷ es ++ before) → list_any restarts_converter (event ∷ es) ≡ false →
-      next_of part limits (at es) course ≡ said.Job j → asked_by event ≡ Some j →
-      Way (after_next part limits (at es) course) (event ∷ es)
-  way-asks limits course es event j way lived steady is named =
-      subst (λ (c : Course). Way c (event ∷ es)) (sym (named-is limits course (at es) j is)) (record {
-        own = way'.own;
-        plan = way'.plan;
-        words = way'.words;
-        phase = phase (comes limits r es j way' (earlier lived) parts.1 is);
-      })
-    where
-      r : Course
-      r = renewed part limits (at es) course
-
-      way' : Way r es
-      way' = way-renewed limits course es way
-
-      parts : (restarts_converter event ≡ false) × (list_any restarts_converter es ≡ false)
-      parts = or_parts (restarts_converter event) (list_any restarts_converter es) steady
-
-      phase : Comes limits r es j → Reading (naming r (said.Job j)) (event ∷ es) ⊎ Ordering (event ∷ es)
-      phase (still reading asks' is') = inl (reading-more (naming r (said.Job j)) es event (reading-named r es j reading is'.plain) lived
-          parts.0 (is'.may (now config passes (es ++ before)) event named))
-      phase (now-on ordering fine) = inr (ordering-more es event ordering parts.0 (fine event named))
-
-  -- and it is told how that ended
-  way-tells : (limits : Option Bounds) (course : Course) (newer es : List Event) (event : Event) (j : Asked) (end : JobEnd) →
-      Way course es → IsLived config passes ((newer ++ event ∷ es) ++ before) →
-      list_any restarts_converter (newer ++ event ∷ es) ≡ false →
-      next_of part limits (at es) course ≡ said.Job j → asked_by event ≡ Some j → list_any begins_other newer ≡ false →
-      (now config passes ((newer ++ event ∷ es) ++ before)).end ≡ Some end →
-      Way (told_of (after_next part limits (at es) course) end) (newer ++ event ∷ es)
-  way-tells limits course newer es event j end way lived steady is named alone over =
-      subst (λ (c : Course). Way (told_of c end) (newer ++ event ∷ es)) (sym (named-is limits course (at es) j is)) (record {
-        own = (ended-same n.survey (Some j) end).1 ∙ way'.own;
-        plan = (ended-same n.survey (Some j) end).2 ∙ way'.plan;
-        words = (differing-same n (Some j) end).0 ∙ way'.words;
-        phase = phase (comes limits r es j way' (earlier below) second.1 is);
-      })
-    where
-      r : Course
-      r = renewed part limits (at es) course
-
-      n : Course
-      n = naming r (said.Job j)
-
-      way' : Way r es
-      way' = way-renewed limits course es way
-
-      below : IsLived config passes (event ∷ es ++ before)
-      below = lived-before config passes newer (event ∷ es ++ before)
-          (subst (λ (l : List Event). IsLived config passes l) (append_assoc newer (event ∷ es) before) lived)
-
-      first : (list_any restarts_converter newer ≡ false) × (list_any restarts_converter (event ∷ es) ≡ false)
-      first = any-parts restarts_converter newer (event ∷ es) steady
-
-      second : (restarts_converter event ≡ false) × (list_any restarts_converter es ≡ false)
-      second = or_parts (restarts_converter event) (list_any restarts_converter es) first.1
-
-      phase : Comes limits r es j → Reading (told_of n end) (newer ++ event ∷ es) ⊎ Ordering (newer ++ event ∷ es)
-      phase (still reading asks' is') =
-          let gone = reading-all n newer (event ∷ es) (reading-more n es event (reading-named r es j reading is'.plain) below second.0
-          (is'.may (now config passes (es ++ before)) event named)) lived first.0 alone in
-          inl (record {
-            unordered = (differing-same n (Some j) end).1 ∙ gone.unordered;
-            stays = gone.stays;
-            are = (laws.surveys.follows config passes ((newer ++ event ∷ es) ++ before) lived).told part r.survey newer es before event j end
-                refl (subst (λ (o : ℕ). o < config.count) (sym way'.own) here) reading.are asks' named alone over;
-            untold = gone.untold;
-            quiet = gone.quiet;
-          })
-      phase (now-on ordering fine) =
-          inr (ordering-all newer (event ∷ es) (ordering-more es event ordering second.0 (fine event named)) first.0 alone)
-
-  -- something else happens
-  way-beside : (course : Course) (es : List Event) (event : Event) → Way course es → IsLived config passes (event ∷ es ++ before) →
-      restarts_converter event ≡ false → IsBeside part output (asked (now config passes (es ++ before)) event) → Way course (event ∷ es)
-  way-beside course es event way lived steady may = record {
-    own = way.own;
-    plan = way.plan;
-    words = way.words;
-    phase = go way.phase;
-  }
-    where
-      go : Reading course es ⊎ Ordering es → Reading course (event ∷ es) ⊎ Ordering (event ∷ es)
-      go (inl reading) = inl (reading-more course es event reading lived steady may)
-      go (inr ordering) = inr (ordering-more es event ordering steady (inl may))
-
-  -- it begins
-  way-begins : (tries : ℕ) → IsLived config passes before → is_busy (now config passes before).host ≡ false →
-      MissingUnread config passes part output before → Way (course_of output wanted tries) []
-  way-begins tries lived idle untold = record {
-    own = refl;
-    plan = refl;
-    words = refl;
-    phase = inl (record {
-      unordered = refl;
-      stays = λ rest piece register is. nothing-in rest piece register is;
-      are = (laws.surveys.follows config passes before lived).begins (course_of output wanted tries).survey refl;
-      untold = untold;
-      quiet = subst (λ (o : Option host.Job). IsBeside part output o) (sym (none (now config passes before).host idle)) tt;
-    });
-  }
-    where
-      nothing-in : (rest piece : List Event) (register : Reg) → [] ≡ rest ++ piece →
-          held_at config passes (piece ++ before) output register ≡ held_at config passes before output register
-      nothing-in [] piece register is = ap (λ (x : List Event). held_at config passes (x ++ before) output register) (sym is)
-      nothing-in (x ∷ rest) piece register is = cc
-
-      none : (s : Summary) → is_busy s ≡ false → job_in s ≡ None
-      none s free = go s.stage free where
-        go : (stage : Option Stage) → is_some stage ≡ false → option_map stage_job stage ≡ None
-        go None i = refl
-        go (Some stage) i = cc
-
-  -- all of it
-  pub way-all : (tries : ℕ) (course : Course) (es : List Event) → IsLived config passes (es ++ before) →
-      list_any restarts_converter es ≡ false →
-      is_busy (now config passes before).host ≡ false → MissingUnread config passes part output before →
-      IsCourse config passes part (course_of output wanted tries) before course es → Way course es
-  way-all tries course es lived steady idle untold is = go is lived steady where
-    go : {c : Course} {l : List Event} → IsCourse config passes part (course_of output wanted tries) before c l →
-        IsLived config passes (l ++ before) → list_any restarts_converter l ≡ false → Way c l
-    go begins lived' steady' = way-begins tries lived' idle untold
-    go (beside c later event was may) lived' steady' =
-        let parts = or_parts (restarts_converter event) (list_any restarts_converter later) steady' in
-        way-beside c later event (go was (earlier lived') parts.1) lived' parts.0 may
-    go (says limits c later was) lived' steady' = way-says limits c later (go was lived' steady') lived' steady'
-    go (asks limits c later event j was is' named) lived' steady' =
-        let parts = or_parts (restarts_converter event) (list_any restarts_converter later) steady' in
-        way-asks limits c later event j (go was (earlier lived') parts.1) lived' steady' is' named
-    go (tells limits c newer later event j end was is' named alone over) lived' steady' =
-        let first = any-parts restarts_converter newer (event ∷ later) steady' in
-        let second = or_parts (restarts_converter event) (list_any restarts_converter later) first.1 in
-        let below = lived-before config passes newer (event ∷ later ++ before)
-        (subst (λ (l : List Event). IsLived config passes l) (append_assoc newer (event ∷ later) before) lived') in
-        way-tells limits c newer later event j end (go was (earlier below) second.1) lived' steady' is' named alone over
-
-  -- ---- What it is worth ----
+  abbrev Way : Course → List Event → Type 0
+  Way course es = ways.Way laws config passes part output wanted before spelled here missing course es
 
   -- where the words stay, so does what is commanded
   stay-commands : (later : List Event) → Stays later → (rest piece : List Event) → later ≡ rest ++ piece →
@@ -723,7 +82,7 @@ module _ (laws : Laws) (config : Config) (passes : ℕ) (part : PartRegisters) (
       (commands config passes (y ++ (o.later ++ before)) output) (commands config passes ((x ++ y) ++ (o.later ++ before)) output))
       (fun_ext (λ (r : Reg). o.stays [] o.later r refl))
       ((laws.plans.keeps config passes ((x ++ y) ++ (o.later ++ before)) spelled lived).held part output wants x y
-      (o.later ++ before) refl here refl o.idle o.since (holds-missing o.later o.stays) follows')
+      (o.later ++ before) refl here refl o.idle o.since (ways.holds-missing laws config passes part output wanted before spelled here missing o.later o.stays) follows')
 
   beyond-step : (es : List Event) (o : Ordering es) (newer' later' : List Event) → IsLived config passes ((newer' ++ later') ++ before) →
       Beyond (newer' ++ later') o.newer o.later → Moves (later' ++ before) ((newer' ++ later') ++ before)
@@ -786,7 +145,7 @@ module _ (laws : Laws) (config : Config) (passes : ℕ) (part : PartRegisters) (
         ≡ goal_of (held_at config passes before output) wants register
     go (inl reading) = ap (λ (w : ℕ). unwrap_or (wants register) w) (reading.stays [] es register refl)
     go (inr o) = (laws.plans.keeps config passes (es ++ before) spelled lived).goal part output wants register o.newer (o.later ++ before)
-        (moment es o.newer o.later o.is) here refl o.idle o.since (holds-missing o.later o.stays) o.follows
+        (moment es o.newer o.later o.is) here refl o.idle o.since (ways.holds-missing laws config passes part output wanted before spelled here missing o.later o.stays) o.follows
         ∙ ap (λ (w : ℕ). unwrap_or (wants register) w) (o.stays [] o.later register refl)
 
   -- a register of which no word is wanted keeps its word
@@ -810,7 +169,7 @@ module _ (laws : Laws) (config : Config) (passes : ℕ) (part : PartRegisters) (
       r = renewed part limits (at es) course
 
       way' : Way r es
-      way' = way-renewed limits course es way
+      way' = asked-of.way-renewed laws config passes part output wanted before spelled here missing limits course es way
 
       over : (is_surveyed part r.survey (at es) ≡ true)
           × (plan_of part (at es) limits r.survey.output (wants_of (wanted_in r.survey.plan)) ≡ Ok None)
@@ -821,14 +180,14 @@ module _ (laws : Laws) (config : Config) (passes : ℕ) (part : PartRegisters) (
           ∙ (sym (ap (λ (p : Option Wanted). plan_of part (at es) limits r.survey.output (wants_of (wanted_in p))) way'.plan) ∙ over.1)
 
       since : Reading r es ⊎ Ordering es → IsReadSince config passes output wants (es ++ before)
-      since (inl reading) = ready r es way'.own way'.plan reading lived steady over.0
+      since (inl reading) = asked-of.ready laws config passes part output wanted before spelled here missing r es way'.own way'.plan reading lived steady over.0
       since (inr o) = (laws.plans.keeps config passes (es ++ before) spelled lived).read part output wants o.newer (o.later ++ before)
-          (moment es o.newer o.later o.is) here refl o.idle o.since (holds-missing o.later o.stays) o.follows
+          (moment es o.newer o.later o.is) here refl o.idle o.since (ways.holds-missing laws config passes part output wanted before spelled here missing o.later o.stays) o.follows
 
       holds : Reading r es ⊎ Ordering es → HoldsMissing part config (now config passes (es ++ before)).device.words output
-      holds (inl reading) = holds-missing es reading.stays
+      holds (inl reading) = ways.holds-missing laws config passes part output wanted before spelled here missing es reading.stays
       holds (inr o) = (laws.plans.keeps config passes (es ++ before) spelled lived).missing part output wants o.newer (o.later ++ before)
-          (moment es o.newer o.later o.is) here refl o.idle o.since (holds-missing o.later o.stays) o.follows
+          (moment es o.newer o.later o.is) here refl o.idle o.since (ways.holds-missing laws config passes part output wanted before spelled here missing o.later o.stays) o.follows
 
   pub commands-goal : (limits : Option Bounds) (course : Course) (es : List Event) → IsLived config passes (es ++ before) →
       list_any restarts_converter es ≡ false → Way course es → next_of part limits (at es) course ≡ said.Ended Reached →
@@ -842,8 +201,6 @@ module _ (laws : Laws) (config : Config) (passes : ℕ) (part : PartRegisters) (
         at-goal register None is = keeps-others course es lived way register is
             ∙ sym (ap (λ (o : Option ℕ). unwrap_or o (held_at config passes before output register)) is)
 
--- ---- In each life ----
-
 -- what courses to wanted words are worth
 pub keeps-courses : Laws → (config : Config) (passes : ℕ) (events : List Event) → IsSpelled config → IsLived config passes events →
     KeepsCourses config passes events
@@ -851,26 +208,26 @@ keeps-courses laws config passes events spelled lived = record {
   held = λ part output wanted tries course rest newer later before is b missing.
       let l = there ((rest ++ (newer ++ later)) ++ before) is in
       keeps-rail laws config passes part output wanted before spelled b.here missing course (rest ++ (newer ++ later)) rest newer later l
-      (way-all laws config passes part output wanted before spelled b.here missing tries course (rest ++ (newer ++ later)) l b.steady
+      (asked-of.way-all laws config passes part output wanted before spelled b.here missing tries course (rest ++ (newer ++ later)) l b.steady
       b.idle b.untold b.is_course) refl;
   come_true = λ part limits output wanted tries course register word later before is b missing reached wanted'.
       let l = there (later ++ before) is in
       ap (λ (es : List Event). held_at config passes es output register) is
       ∙ comes-true laws config passes part output wanted before spelled b.here missing limits course later l b.steady
-      (way-all laws config passes part output wanted before spelled b.here missing tries course later l b.steady b.idle b.untold
+      (asked-of.way-all laws config passes part output wanted before spelled b.here missing tries course later l b.steady b.idle b.untold
       b.is_course)
       (sym (ap (λ (es : List Event). next_of part limits (now config passes es).host course) is) ∙ reached) register word wanted';
   kept = λ part output wanted tries course register later before is b missing none.
       let l = there (later ++ before) is in
       ap (λ (es : List Event). held_at config passes es output register) is
       ∙ keeps-others laws config passes part output wanted before spelled b.here missing course later l
-      (way-all laws config passes part output wanted before spelled b.here missing tries course later l b.steady b.idle b.untold
+      (asked-of.way-all laws config passes part output wanted before spelled b.here missing tries course later l b.steady b.idle b.untold
       b.is_course) register none;
   commanded = λ part limits output wanted tries course later before is b missing reached.
       let l = there (later ++ before) is in
       ap (λ (es : List Event). commands config passes es output) is
       ∙ commands-goal laws config passes part output wanted before spelled b.here missing limits course later l b.steady
-      (way-all laws config passes part output wanted before spelled b.here missing tries course later l b.steady b.idle b.untold
+      (asked-of.way-all laws config passes part output wanted before spelled b.here missing tries course later l b.steady b.idle b.untold
       b.is_course)
       (sym (ap (λ (es : List Event). next_of part limits (now config passes es).host course) is) ∙ reached);
 }

@@ -76,7 +76,7 @@ taken-pends config passes before (Deliver arrival) job is =
 taken-pends config passes before event job is = cc
 
 -- the words stay while no job is open and the converter doesn't restart
-idle-moves : Below → (config : Config) (passes : ℕ) (before : List Event) (event : Event) (cell : Cell) →
+pub idle-moves : Below → (config : Config) (passes : ℕ) (before : List Event) (event : Event) (cell : Cell) →
     IsLived config passes (event ∷ before) → restarts_converter event ≡ false →
     job_in (now config passes before).host ≡ None →
     word_at (now config passes (event ∷ before)).device.words cell ≡ word_at (now config passes before).device.words cell
@@ -197,7 +197,7 @@ end-differs cell word read entry old new is tells =
     let order = subst (λ o. IsSomeAnd o (λ j. EndTells j entry (Differs read) old new)) is tells.1 in (order.0.0, order.0.1)
 
 -- the word that the cell had is the one that was told, and an exchange leaves it
-frame-read : Below → (config : Config) (passes : ℕ) (before : List Event) (event : Event) (cell : Cell) (word read : ℕ)
+pub frame-read : Below → (config : Config) (passes : ℕ) (before : List Event) (event : Event) (cell : Cell) (word read : ℕ)
     (entry : host.Entry) → IsLived config passes (event ∷ before) → begins_other event ≡ false →
     job_in (now config passes before).host ≡ Some (host.Order cell word) →
     (share_of (now config passes before) event).told ≡ Some entry →

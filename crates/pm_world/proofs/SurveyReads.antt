@@ -120,7 +120,7 @@ unfolding now state_of
 open-life laws config passes events job is = sym (laws.ends_are_told.job (setup_of config passes) (life config passes events).entries) ∙ is
 
 -- a job that is open or over is the open one if some job is open
-open-one : (job : host.Job) (s : Summary) → IsSome (job_in s) → IsOrOver job s → job_in s ≡ Some job
+pub open-one : (job : host.Job) (s : Summary) → IsSome (job_in s) → IsOrOver job s → job_in s ≡ Some job
 open-one job s some (inl is) = is
 open-one job s some (inr none) = (let bad : false ≡ true = subst (λ (o : Option host.Job). IsSome o) none some in cc)
 

@@ -4,11 +4,11 @@ use crate::checks::equal;
 use crate::driver::{said, whole};
 use pm_device::Config;
 use pm_device_tests::BASE;
-use pm_driver::{ApplyEnd, Bus, Driver, Fault, driver_over, requests_are_no_writes};
+use pm_driver::{Bus, Driver, Fault, driver_over, requests_are_no_writes};
 use pm_frame::{code_request, read_plain};
 use pm_host::{JobEnd, Standing};
 use pm_limits::LimitFault;
-use pm_rail::Wanted;
+use pm_rail::{ApplyEnd, Wanted};
 use pm_table::{Cell, Code, Reg};
 use pm_world::Arrival;
 

@@ -5,8 +5,9 @@ use super::whole;
 use crate::checks::{equal, is_true};
 use pm_device::{Config, Converter, OutputStart};
 use pm_device_tests::{BASE, OUTPUT};
-use pm_driver::{ApplyEnd, Bus, Driver, Fault, StopCause, driver_over};
-use pm_rail::{PlanFault, Survey, Wanted};
+use pm_driver::{Bus, Driver, Fault, driver_over};
+use pm_host::Job;
+use pm_rail::{ApplyEnd, PlanFault, StopCause, Survey, Wanted};
 use pm_table::{Cell, Coefficients, Reg};
 use pm_world::Back;
 use std::process::Abort;
@@ -136,7 +137,7 @@ static ENDS: [(&[(usize, Wrong)], u16, ApplyEnd, usize, [u16; 2]); 12] = [
         &[],
         13,
         ApplyEnd::Stopped {
-            why: StopCause::Spent,
+            why: StopCause::Spent(Job::Check(Cell::Protect)),
         },
         15,
         [0x34CD, 0x3770],
@@ -145,7 +146,7 @@ static ENDS: [(&[(usize, Wrong)], u16, ApplyEnd, usize, [u16; 2]); 12] = [
         &[],
         7,
         ApplyEnd::Stopped {
-            why: StopCause::Spent,
+            why: StopCause::Spent(Job::Order(Cell::Out(0, Reg::VoutMax), 0x3770)),
         },
         8,
         [0x34CD, 0x4000],
@@ -154,7 +155,7 @@ static ENDS: [(&[(usize, Wrong)], u16, ApplyEnd, usize, [u16; 2]); 12] = [
         &[],
         6,
         ApplyEnd::Stopped {
-            why: StopCause::Spent,
+            why: StopCause::Spent(Job::Order(Cell::Out(0, Reg::VoutCommand), 0x34CD)),
         },
         6,
         [0x1000, 0x4000],
@@ -163,7 +164,7 @@ static ENDS: [(&[(usize, Wrong)], u16, ApplyEnd, usize, [u16; 2]); 12] = [
         &[],
         0,
         ApplyEnd::Stopped {
-            why: StopCause::Spent,
+            why: StopCause::Spent(Job::Learn(0)),
         },
         0,
         [0x1000, 0x4000],
@@ -399,7 +400,12 @@ fn what_is_not_known_is_told(rt: HostRuntime) {
     match driver_over(BASE, 1, &plan) {
         Some(mut driver) => {
             let end = applied(&rt, &mut driver, &wanted(Some(0x34CD), None), 7);
-            equal(&rt, &end, &stopped(StopCause::Spent), &3);
+            equal(
+                &rt,
+                &end,
+                &stopped(StopCause::Spent(Job::Check(Cell::Out(0, Reg::VoutCommand)))),
+                &3,
+            );
             equal(&rt, &known(&rt, &driver, Reg::VoutCommand), &None, &3);
             equal(&rt, &known(&rt, &driver, Reg::VoutMax), &Some(0x4000), &3);
             equal(

@@ -1,6 +1,6 @@
 -- What a course to a byte of OPERATION names, and when it has reached its end.
-use Rattle.std.specs.Prelude.{◌≡◌, ℕ, Bool, true, false, if◌then◌else◌, refl, Option, Some, None, Ok, Err}
-use Rattle.std.proofs.Common.{sym, ◌∙◌, ap, subst}
+use Rattle.std.specs.Prelude.{◌≡◌, ◌⊎◌, ℕ, Bool, true, false, if◌then◌else◌, refl, Option, Some, None, Ok, Err}
+use Rattle.std.proofs.Common.{inl, inr, sym, ◌∙◌, ap, subst}
 use Rattle.pm_table.specs.declared.cell.Cell.TheVariants.{Out}
 use Rattle.pm_table.specs.declared.reg.Reg.TheVariants.{Operation}
 use Rattle.pm_table.specs.Operation.{selected_register}
@@ -18,8 +18,8 @@ use Rattle.pm_rail.specs.declared.course.Course.{Course}
 use Rattle.pm_rail.specs.declared.next.Next.{Next}
 use Rattle.pm_rail.specs.declared.next.Next.TheVariants.{Job, Ended}
 use Rattle.pm_rail.specs.Course.{is_operation_known, order_by, order_next, says}
-use Rattle.pm_rail.specs.Lemmas.Says.{Said, asks-due, none-reached, said, taken}
-use Rattle.pm_rail.specs.Lemmas.Says.{says-busy, says-differs, says-due, says-order}
+use Rattle.pm_rail.specs.Lemmas.Says.{Said, asks-due, none-reached, off-job, off-reached, said, taken}
+use Rattle.pm_rail.specs.Lemmas.Says.{says-busy, says-differs, says-due, says-missing, says-off, says-order}
 
 -- a job that it names is one of its survey, or the order of OPERATION
 pub data NamesPower (part : PartRegisters) (s : Summary) (course : Course) (byte : ℕ) : Asked → Type 0 where
@@ -62,6 +62,11 @@ module _ (part : PartRegisters) (limits : Option Bounds) (s : Summary) (course :
     go : {n : Next} → Said part limits s course n → n ≡ Job job → NamesPower part s course byte job
     go (says-busy b) e = cc
     go (says-differs d t) e = cc
+    go (says-missing fault idle) e = cc
+    go (says-off other idle b) e =
+        let same : other ≡ byte = let both = sym b ∙ power in cc in
+        subst (λ (x : Asked). NamesPower part s course byte x)
+        (sym (ap (λ (w : ℕ). Order (Out course.survey.output Operation) w) same) ∙ (off-job course other job e).1) orders
     go (says-due j idle n) e =
         let t = taken course j job e in
         subst (λ (x : Asked). NamesPower part s course byte x) t.1 (reads j (asks-due part course.survey s j t.0 n))
@@ -72,15 +77,18 @@ module _ (part : PartRegisters) (limits : Option Bounds) (s : Summary) (course :
         subst (λ (x : Asked). NamesPower part s course byte x)
         (sym (ap (λ (x : PlanOrder). Order (Out course.survey.output x.register) x.word) (some-order order o)) ∙ t.1) orders
 
-  -- where all is reached, OPERATION is known to be the byte, and the survey has ended by its own rule
-  pub power-reached : says part limits s course ≡ Ended Reached →
-      (is_operation_known s course.survey.output byte ≡ true) × (is_surveyed part course.survey s ≡ true)
+  -- where all is reached, the order was read back as it was given, or OPERATION is known to be the byte and the survey has ended
+  -- by its own rule
+  pub power-reached : says part limits s course ≡ Ended Reached → (course.done ≡ true)
+      ⊎ ((is_operation_known s course.survey.output byte ≡ true) × (is_surveyed part course.survey s ≡ true))
   power-reached is = go (said part limits s course) is where
-    go : {n : Next} → Said part limits s course n → n ≡ Ended Reached →
-        (is_operation_known s course.survey.output byte ≡ true) × (is_surveyed part course.survey s ≡ true)
+    go : {n : Next} → Said part limits s course n → n ≡ Ended Reached → (course.done ≡ true)
+        ⊎ ((is_operation_known s course.survey.output byte ≡ true) × (is_surveyed part course.survey s ≡ true))
     go (says-busy b) e = cc
     go (says-differs d t) e = cc
+    go (says-missing fault idle) e = cc
+    go (says-off other idle b) e = inl (off-reached course other e)
     go (says-due j idle n) e = absurd (none-reached course j e)
     go (says-order (Err fault) idle n o) e = cc
-    go (says-order (Ok None) idle n o) e = none-left o
+    go (says-order (Ok None) idle n o) e = inr (none-left o)
     go (says-order (Ok (Some order)) idle n o) e = absurd (none-reached course _ e)

@@ -38,7 +38,10 @@ use Rattle.pm_rail.specs.declared.course.Differing.{Differing}
 use Rattle.pm_rail.specs.declared.next.Next.{Next}
 use Rattle.pm_rail.specs.declared.next.Next.TheVariants.{Job, Ended}
 use Rattle.pm_rail.specs.Course.{after_by, differing, going, is_carried_out, is_last, naming, next_by, once_more, order_by, order_next}
-use Rattle.pm_rail.specs.Course.{ordering, reading, renewed, says, taking, told_of}
+use Rattle.pm_rail.specs.Course.{going_to, ordering, reading, reading_for, renewed, says, taking, told_of, turning_off}
+use Rattle.pm_rail.specs.Orders.{missing_fault}
+use Rattle.pm_table.specs.declared.reg.Reg.TheVariants.{Operation}
+use Rattle.pm_table.specs.Operation.{has_on}
 
 -- ---- The jobs of a survey ----
 
@@ -152,11 +155,13 @@ stuck-plan part v s limits order stuck is = by (format_at s v.output) refl stuck
 
 -- ---- What is said ----
 
--- What a course says, case by case: a job is open; an order differed twice; the survey asks for a job; or it asks for nothing,
--- and this is the next order.
+-- What a course says, case by case: a job is open; an order differed twice; the part lacks a wanted register; the output is
+-- turned off; the survey asks for a job; or it asks for nothing, and this is the next order.
 pub data Said (part : PartRegisters) (limits : Option Bounds) (s : Summary) (course : Course) : Next → Type 0 where
   says-busy : is_busy s ≡ true → Said part limits s course (Ended (Stopped (Refused Busy)))
   says-differs : (d : Differing) → course.twice ≡ Some d → Said part limits s course (Ended (Stopped (Differs d.register d.word)))
+  says-missing : (fault : PlanFault) → is_busy s ≡ false → Said part limits s course (Ended (Stopped (Refused fault)))
+  says-off : (byte : ℕ) → is_busy s ≡ false → course.byte ≡ Some byte → Said part limits s course (turning_off course byte)
   says-due : (job : Asked) → is_busy s ≡ false → due_job part course.survey s ≡ Some job → Said part limits s course (taking course job)
   says-order : (order : Result (Option PlanOrder) PlanFault) → is_busy s ≡ false → due_job part course.survey s ≡ None →
       order_next part limits s course ≡ order → Said part limits s course (ordering course order)
@@ -168,9 +173,22 @@ said part limits s course = go (is_busy s) refl where
   asks (Some job) idle e = says-due job idle e
   asks None idle e = says-order (order_next part limits s course) idle e refl
 
+  has : (o : Option PlanFault) → is_busy s ≡ false → Said part limits s course (reading_for part limits s course o)
+  has (Some fault) idle = says-missing fault idle
+  has None idle = asks (due_job part course.survey s) idle refl
+
+  on : (b : Bool) (byte : ℕ) → is_busy s ≡ false → course.byte ≡ Some byte → Said part limits s course
+      (if b then reading part limits s course (due_job part course.survey s) else turning_off course byte)
+  on true byte idle e = asks (due_job part course.survey s) idle refl
+  on false byte idle e = says-off byte idle e
+
+  to : (o : Option ℕ) → is_busy s ≡ false → course.byte ≡ o → Said part limits s course (going_to part limits s course o)
+  to None idle e = has (missing_fault part (wants_of (wanted_in course.survey.plan))) idle
+  to (Some byte) idle e = on (has_on byte) byte idle e
+
   twice : (d : Option Differing) → is_busy s ≡ false → course.twice ≡ d → Said part limits s course (going part limits s course d)
   twice (Some d) idle e = says-differs d e
-  twice None idle e = asks (due_job part course.survey s) idle refl
+  twice None idle e = to course.byte idle refl
 
   go : (b : Bool) → is_busy s ≡ b →
       Said part limits s course (if b then Ended (Stopped (Refused Busy)) else going part limits s course course.twice)
@@ -191,6 +209,22 @@ none-reached course due is = go (course.survey.left == 0) is where
   go : (b : Bool) → (if b then Ended (Stopped (Spent due)) else Job due) ≡ Ended Reached → ⊥
   go true e = cc
   go false e = cc
+
+-- what turns the output off: its order, or the end where that was read back
+pub off-job : (course : Course) (byte : ℕ) (job : Asked) → turning_off course byte ≡ Job job →
+    ((course.survey.left == 0) ≡ false) × (Order (Out course.survey.output Operation) byte ≡ job)
+off-job course byte job is = go course.done is where
+  go : (b : Bool) → (if b then Ended Reached else taking course (Order (Out course.survey.output Operation) byte)) ≡ Job job →
+      ((course.survey.left == 0) ≡ false) × (Order (Out course.survey.output Operation) byte ≡ job)
+  go true e = cc
+  go false e = taken course (Order (Out course.survey.output Operation) byte) job e
+
+pub off-reached : (course : Course) (byte : ℕ) → turning_off course byte ≡ Ended Reached → course.done ≡ true
+off-reached course byte is = go course.done refl is where
+  go : (b : Bool) → course.done ≡ b →
+      (if b then Ended Reached else taking course (Order (Out course.survey.output Operation) byte)) ≡ Ended Reached → course.done ≡ true
+  go true d e = d
+  go false d e = absurd (none-reached course (Order (Out course.survey.output Operation) byte) e)
 
 -- while a try is left the survey asks for what is due
 pub asks-due : (part : PartRegisters) (v : Survey) (s : Summary) (job : Asked) → (v.left == 0) ≡ false →
@@ -224,6 +258,8 @@ module _ (part : PartRegisters) (limits : Option Bounds) (s : Summary) (course :
     go : {n : Next} → Said part limits s course n → n ≡ Job job → (is_busy s ≡ false) × Names part limits s course job
     go (says-busy b) e = cc
     go (says-differs d t) e = cc
+    go (says-missing fault idle) e = cc
+    go (says-off byte idle b) e = let no = sym words ∙ b in cc
     go (says-due j idle n) e =
         let t = taken course j job e in
         (idle, subst (λ (x : Asked). Names part limits s course x) t.1 (reads j (asks-due part course.survey s j t.0 n)))
@@ -244,6 +280,8 @@ module _ (part : PartRegisters) (limits : Option Bounds) (s : Summary) (course :
         × (plan_of part s limits course.survey.output (wants_of (wanted_in course.survey.plan)) ≡ Ok None)
     go (says-busy b) e = cc
     go (says-differs d t) e = cc
+    go (says-missing fault idle) e = cc
+    go (says-off byte idle b) e = let no = sym words ∙ b in cc
     go (says-due j idle n) e = absurd (none-reached course j e)
     go (says-order (Err fault) idle n o) e = cc
     go (says-order (Ok None) idle n o) e = (by-due n None o, planned (Ok None) o)
@@ -292,7 +330,10 @@ differing-same course (Some (Order (Out output register) word)) (end.Differs rea
 differing-same course (Some (Order (Out output register) word)) end.Done = (refl, refl)
 differing-same course (Some (Order (Out output register) word)) end.Learned = (refl, refl)
 differing-same course (Some (Order (Out output register) word)) end.Unknown = (refl, refl)
-differing-same course (Some (Order Protect word)) e = (refl, refl)
+differing-same course (Some (Order Protect word)) end.Done = (refl, refl)
+differing-same course (Some (Order Protect word)) end.Learned = (refl, refl)
+differing-same course (Some (Order Protect word)) (end.Differs read) = (refl, refl)
+differing-same course (Some (Order Protect word)) end.Unknown = (refl, refl)
 differing-same course (Some (OrderMicro cell x)) e = (refl, refl)
 differing-same course (Some (Check cell)) e = (refl, refl)
 differing-same course (Some (Learn output)) e = (refl, refl)
@@ -307,6 +348,9 @@ named-so P part limits s course asked order job is = go (said part limits s cour
   go : {n : Next} → Said part limits s course n → n ≡ Job job → (is_busy s ≡ false) × P job
   go (says-busy b) e = cc
   go (says-differs d t) e = cc
+  go (says-missing fault idle) e = cc
+  go (says-off byte idle b) e =
+      (idle, subst P (off-job course byte job e).1 (order (record { register = Operation; word = byte })))
   go (says-due j idle n) e = let t = taken course j job e in (idle, subst P t.1 (asked j (asks-due part course.survey s j t.0 n)))
   go (says-order (Err fault) idle n o) e = cc
   go (says-order (Ok None) idle n o) e = cc

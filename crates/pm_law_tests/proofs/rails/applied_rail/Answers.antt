@@ -1,15 +1,16 @@
 use Rattle.std.proofs.Common.{subst}
-use Rattle.pm_driver.specs.Rails.{EndsAs}
-use Rattle.pm_driver.specs.declared.apply_end.ApplyEnd.{ApplyEnd}
+use Rattle.std.specs.Prelude.{◌≡◌}
+use Rattle.pm_rail.specs.declared.apply_end.ApplyEnd.{ApplyEnd}
+use Rattle.pm_rail.specs.declared.next.Next.TheVariants.{Ended}
+use Rattle.pm_rail.specs.Course.{next_by}
 use Rattle.pm_law_tests.proofs.WholeParts.{whole-holds, whole-unread}
 use Rattle.pm_law_tests.proofs.rails.applied_rail.Goals as goal
 
 pub returns : goal.returns
 returns g c = λ reached same led here.
-    let applies = c.apply.ensures.applies in
-    c.reached_plans_are_commanded.ensures c.args.output c.args.wanted.now c.args.tries c.args.driver.now c.apply.new.self applies.course
-    applies.runs (subst (λ (end : ApplyEnd). EndsAs c.args.output c.args.wanted.now applies.course c.apply.new.self.guard end) reached
-    applies.says)
+    let finishes = c.apply.ensures.finishes in
+    c.reached_plans_are_commanded.ensures c.args.output c.args.wanted.now c.args.tries c.args.driver.now c.apply.new.self finishes.course
+    finishes.runs (subst (λ (end : ApplyEnd). next_by c.apply.new.self.guard finishes.course ≡ Ended end) reached finishes.says)
     same led.config led.passes led.events led.spelled here led.life
     (whole-holds c.plans_hold_in_lives.ensures c.args.driver.now.guard.registers c.requires.whole led.config
     (g.B.Bus.held c.args.driver.now.bus).words c.args.output)
