@@ -41,13 +41,13 @@ use Rattle.pm_world.specs.Way.{HasGone, way_of}
 use Rattle.pm_world.specs.Uncertainty.{AreOfBytes, AreOpen, AreWordsChosen, Choice, Leaves, due_before, since_restart, witness_events}
 use Rattle.pm_world.specs.Uncertainty.{witness_start}
 
--- Of an order for this word of this cell, whose write was delivered so, the end of that write and an undisturbed read
--- are taken.
+-- The end of an order's write and an undisturbed read are taken, if the order is for this word of this cell and its write
+-- was delivered so.
 unfoldable pub IsAhead : Config → ℕ → Event → Cell → ℕ → List Arrival → Bool → List Event → Type 0
 IsAhead config passes order cell word arrivals acked before =
     AreTaken config passes (honest order arrivals acked before)
 
--- Of an order of this word on its way, whose write was heard whole, these two are taken, and it goes through by them.
+-- The end of an order's write, which was heard whole, and an undisturbed read are taken, and the order of this word goes through by them.
 unfoldable pub GoesThrough : Config → ℕ → Cell → ℕ → Bool → List Event → Type 0
 GoesThrough config passes cell word acked events =
     AreTaken config passes (Exchange Whole back.Whole ∷ Finish acked ∷ events)

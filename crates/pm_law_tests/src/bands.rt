@@ -31,7 +31,7 @@ pub fn a_band_of_an_open_list(
         MissingUntold part c (now c passes (reverse events.now)).host →
         IsReached c passes part (reverse events.now) sides)) }
 {
-    // These hand their laws to the prover.
+    // law: bands are exact (`reached` of the laws by name)
     lists_say_enough();
     laws_by_name();
     match run_open(c, passes, events)? {

@@ -33,7 +33,6 @@ pub fn a_damaged_write(c: Config, passes: u8, events: &[Event]) -> Result<Option
         IsBetrayedDamage (frame_of c.addr message) bytes →
         IsTaken (now c passes (reverse events.now)) (Deliver (arrival.Bytes (record { items = bytes }) ending)))) }
 {
-    // Hands its law to the prover.
     betrayed_damage_is_taken();
     ran(c, passes, events)
 }
@@ -49,7 +48,6 @@ pub fn a_damaged_answer(
         IsBetrayedDamage (answer_to (now c passes (reverse events.now)).device c.addr (cell_read cell) arrival.Whole) bytes →
         IsTaken (now c passes (reverse events.now)) (Exchange arrival.Whole (back.Bytes (record { items = bytes }))))) }
 {
-    // These hand their laws to the prover.
     betrayed_damage_is_taken();
     own_requests_are_answered();
     ran(c, passes, events)
@@ -68,7 +66,6 @@ pub fn a_damaged_request(
         IsTaken (now c passes (reverse events.now))
         (Exchange (arrival.Bytes (record { items = bytes.now }) Restart) back.Whole))) }
 {
-    // Hands its law to the prover.
     betrayed_damage_is_taken();
     let found = ran(c, passes, events)?;
     if let Some(world) = &found {
@@ -89,7 +86,6 @@ pub fn a_damaged_hearing(frame: &[u8], bytes: &[u8], ending: End) -> bool
     ensures { (addr : ℕ) (message : Message) → IsWrite addr message frame.now →
         IsBetrayedDamage frame.now bytes.now → result ≡ true }
 {
-    // Hands its law to the prover.
     betrayed_damage_is_legal();
     is_legal_hearing(frame, bytes, ending)
 }
@@ -106,7 +102,6 @@ pub fn a_damaged_return(
         IsRequest addr asked request.now → IsAnswer addr asked payload answer.now →
         IsBetrayedDamage answer.now bytes.now → result ≡ true }
 {
-    // Hands its law to the prover.
     betrayed_damage_is_legal();
     is_legal_return(request, needed, whole, answer, bytes)
 }
@@ -122,7 +117,6 @@ pub fn an_answer_to_a_damaged_request(
     ensures { (asked : Message) → needed ≡ whole_answer asked → AreOthers request.now heard.now →
         DifferWithinEight request.now heard.now → result ≡ true }
 {
-    // Hands its law to the prover.
     betrayed_damage_is_legal();
     let reply = device.reply(heard, End::Restart);
     let answer = answer_in(&reply);

@@ -24,8 +24,9 @@ pub fn an_order_that_begins(host: &mut Host, cell: Cell, word: u16) -> Result<()
     host.order(cell, word)
 }
 
-/// Where an order is done, its cell is confirmed with its word, and possible is that word alone. Where it differs,
-/// the same of the word that was read, which is another. While it is open it is the open job, and no format changes.
+/// An order that is done leaves its cell confirmed with its word, and possible is that word alone (`done`). One that
+/// differs leaves the cell so with the word that was read, which is another (`differs`). One that ends unknown leaves
+/// its word possible and no word of the cell confirmed (`unknown`). While it is open it is the open job (`next`).
 pub fn an_order_that_ends(host: &mut Host, cell: Cell, word: u16, told: Told<'_>) -> Step
     requires order { job_in host.old ≡ Some (Order cell word) }
     requires may_come { may_come host.old (entry_told told) ≡ true }
@@ -47,7 +48,6 @@ pub fn an_order_that_differs_after_a_step(
 ) -> Result<Option<World>, SetupFault>
     ensures { IfOk result (λ found. OnSome found (DiffersNeverTook c passes (more.now ∷ reverse events.now))) }
 {
-    // Hands its law to the prover.
     differing_orders_never_took();
     run_and_step(c, passes, events, more)
 }
@@ -56,6 +56,5 @@ pub fn an_order_that_differs_after_a_step(
 pub fn ones_for_an_output(addr: u8, opening: u8, count: u32, output: u8, register: Reg)
     ensures { good_word addr (Out output register) (ones_behind opening count) ≡ None }
 {
-    // Hands its law to the prover.
     ones_are_no_answer();
 }

@@ -39,7 +39,6 @@ pub fn words_that_are_possible(
         AreOpen told → ArePossible c world.host chosen →
         Leaves c passes entries chosen (witness_start c (due_before chosen told)) (witness_events (setup_of c passes) chosen entries))) }
 {
-    // These hand their laws to the prover.
     lists_say_enough();
     possible_words_are_exact();
     run_and_step(c, passes, events, more)
@@ -61,12 +60,11 @@ pub fn a_world_that_can_be_made(
     ensures short { (chosen : Choice) → length (witness_events (setup_of c passes) chosen
         (since_restart (life c passes (more.now ∷ reverse events.now)).entries)) ≤ 2 * length (more.now ∷ reverse events.now) }
 {
-    // Hands its law to the prover.
     lists_say_enough();
     words_that_are_possible(c, passes, events, more)
 }
 
-/// And words that any life leaves which tells the host just the same are possible.
+/// Words that any life leaves which tells the host just the same are possible.
 pub fn words_that_a_life_leaves(
     c: Config,
     passes: u8,
@@ -77,7 +75,6 @@ pub fn words_that_a_life_leaves(
         Leaves c passes (since_restart (life c passes (more.now ∷ reverse events.now)).entries) chosen other retold →
         ArePossible c world.host chosen)) }
 {
-    // Hands its law to the prover.
     possible_words_are_exact();
     run_and_step(c, passes, events, more)
 }
@@ -92,12 +89,12 @@ pub fn answers_in_bytes(
     ensures { IfOk result (λ found. OnSome found
         (AreOfBytes (since_restart (life c passes (more.now ∷ reverse events.now)).entries))) }
 {
-    // Hands its law to the prover.
     answers_come_in_bytes();
     run_and_step(c, passes, events, more)
 }
 
-/// So the words that such a world starts with are below 2^16, where the chosen words are.
+/// The words with which the life begins that leaves chosen words are below 2^16, if the chosen ones are (`words`).
+/// What came back since the host's last restart were bytes (`came`).
 pub fn words_that_a_life_starts_with(
     c: Config,
     passes: u8,
@@ -108,7 +105,7 @@ pub fn words_that_a_life_starts_with(
     ensures words { IfOk result (λ found. OnSome found ((chosen : Choice) → IsShort c chosen →
         BeginsShort c passes (more.now ∷ reverse events.now) chosen)) }
 {
-    // Hands its laws to the prover.
+    // law: answers come in bytes (`came`); a life that leaves words of two bytes begins with such words (`words`)
     laws_by_name();
     match run_and_step(c, passes, events, more)? {
         Some(world) => Ok(Some(world)),
@@ -116,7 +113,8 @@ pub fn words_that_a_life_starts_with(
     }
 }
 
-/// So each word of the start is below 2^16: what these names say, opened.
+/// Each word with which the life begins that leaves chosen words is below 2^16, if those are: `IsShort` and
+/// `BeginsShort`, opened.
 #[tactic(auto, unfolding(crate::specs::ByName::IsShort, crate::specs::ByName::BeginsShort))]
 pub fn words_that_have_two_bytes(
     c: Config,
@@ -131,7 +129,7 @@ pub fn words_that_have_two_bytes(
     words_that_a_life_starts_with(c, passes, events, more)
 }
 
-/// The same after a run alone.
+/// The promises of [`words_that_a_life_starts_with`] after a run, without a further event.
 pub fn words_that_a_run_starts_with(
     c: Config,
     passes: u8,
@@ -141,7 +139,7 @@ pub fn words_that_a_run_starts_with(
     ensures words { IfOk result (λ found. OnSome found ((chosen : Choice) → IsShort c chosen →
         BeginsShort c passes (reverse events.now) chosen)) }
 {
-    // Hands its laws to the prover.
+    // law: answers come in bytes (`came`); a life that leaves words of two bytes begins with such words (`words`)
     laws_by_name();
     match run_all(c, passes, events)? {
         Some(world) => Ok(Some(world)),
@@ -149,8 +147,9 @@ pub fn words_that_a_run_starts_with(
     }
 }
 
-/// Of events that a run takes, and that leave WRITE_PROTECT open as it says, nothing else is asked but that the
-/// converter doesn't restart. What came back were bytes.
+/// A life leaves any words that the host calls possible, if the run took all events, says that they leave
+/// WRITE_PROTECT open, and none of them restarts the converter (`left`). What came back since the host's last restart
+/// were bytes (`came`).
 pub fn words_of_an_open_list(
     c: Config,
     passes: u8,
@@ -163,7 +162,6 @@ pub fn words_of_an_open_list(
         Leaves c passes entries chosen (witness_start c (due_before chosen told)) (witness_events (setup_of c passes) chosen entries))) }
     ensures came { IfOk result (λ found. OnSome found (AreOfBytes (since_restart (life c passes (reverse events.now)).entries))) }
 {
-    // These hand their laws to the prover.
     lists_say_enough();
     possible_words_are_exact();
     answers_come_in_bytes();
@@ -183,7 +181,6 @@ pub fn a_list_that_stays_open(
     ensures { IfOk result (λ found. OnSome found (AreOpen (marks (setup_of c passes)
         (since_restart (life c passes (Check cell ∷ reverse events.now)).entries)))) }
 {
-    // These hand their laws to the prover.
     lives_are_followed();
     events_are_lived();
     open_lists_are_followed();

@@ -68,7 +68,6 @@ pub fn run_and_step(
     ensures short { OnOk result (StartsShort c) }
     ensures bytes { IfOk result (λ found. OnSome found (CarryBytes (more.now ∷ reverse events.now))) }
 {
-    // These hand their laws to the prover.
     lives_are_followed();
     events_are_lived();
     let (mut world, stop) = World::run(c, passes, events)?;
@@ -90,14 +89,13 @@ pub fn go_on(world: &mut World, c: Config, passes: u8, more: &Event) -> bool
         result ≡ true → world.new ≡ now c passes (more.now ∷ before) }
     ensures bytes { (before : List Happening) → CarryBytes before → CarryBytes (more.now ∷ before) }
 {
-    // These hand their laws to the prover.
     lives_are_followed();
     events_are_lived();
     causes_decide();
     world.step(more).is_ok()
 }
 
-/// So its settings and its store are those of the order machine, and move by the open job alone.
+/// The settings and the store after a run and a step are those of the order machine, and move by the open job alone.
 pub fn orders_after_a_step(
     c: Config,
     passes: u8,
@@ -115,7 +113,6 @@ pub fn orders_after_a_step(
         (commanded (value_for world.device.config output) world.device.words output))) }
     ensures moves { IfOk result (λ found. OnSome found (MovesByTheOpenJob c passes (more.now ∷ reverse events.now))) }
 {
-    // These hand their laws to the prover.
     lives_are_orders();
     settings_move_by_the_open_job();
     run_and_step(c, passes, events, more)
@@ -132,7 +129,6 @@ pub fn orders_go_through_after_a_step(
     ensures through { IfOk result (λ found. OnSome found (OrdersGoThrough c passes (more.now ∷ reverse events.now))) }
     ensures good { IfOk result (λ found. OnSome found (GoodFrames c passes (more.now ∷ reverse events.now))) }
 {
-    // These hand their laws to the prover.
     frames_are_few();
     honest_orders_go_through();
     good_frames_end_jobs();
@@ -149,7 +145,6 @@ pub fn formats_after_a_step(
     ensures formats { IfOk result (λ found. OnSome found (FormatsAgree c passes (more.now ∷ reverse events.now))) }
     ensures nearest { IfOk result (λ found. OnSome found (MicrosAreNearest c passes (more.now ∷ reverse events.now))) }
 {
-    // Hands its law to the prover.
     learned_formats_are_true();
     run_and_step(c, passes, events, more)
 }
@@ -168,7 +163,6 @@ pub fn words_after_a_step(
     ensures seen { IfOk result (λ found. IfSome found (λ world.
         SeenIsTrue c passes (more.now ∷ reverse events.now) world)) }
 {
-    // These hand their laws to the prover.
     confirmed_settings_are_held();
     possible_words_are_held();
     run_and_step(c, passes, events, more)
@@ -183,7 +177,6 @@ pub fn limits_after_a_step(
 ) -> Result<Option<World>, SetupFault>
     ensures { IfOk result (λ found. OnSome found (StaysLimited c passes (more.now ∷ reverse events.now))) }
 {
-    // Hands its law to the prover.
     lives_stay_limited();
     run_and_step(c, passes, events, more)
 }
@@ -203,7 +196,6 @@ pub fn a_band_after_a_step(
         band_at part (now c passes (more.now ∷ reverse events.now)).host output ≡ Some band →
         InBand band (commands c passes (more.now ∷ reverse events.now) output))) }
 {
-    // Hands its law to the prover.
     bands_are_held();
     short_after_a_step(c, passes, events, more, output)
 }

@@ -12,8 +12,8 @@ use crate::further::run_all;
 use pm_device::Config;
 use pm_world::{Event, SetupFault, World, open_jobs_end};
 
-/// Where the last events of a run are a frame of the open job that comes whole, whichever job it is, that ends or goes on
-/// as its stage says.
+/// The open job, whichever it is, ends or goes on as its stage says, if the last events of a run are a frame of it
+/// that comes whole.
 pub fn a_frame_that_comes_whole(
     c: Config,
     passes: u8,
@@ -23,13 +23,12 @@ pub fn a_frame_that_comes_whole(
         stage_after c passes before ≡ Some stage → ComesWhole c passes acked stage before (reverse events.now) →
         Turns c passes (reverse events.now) (turn_of c passes before acked stage))) }
 {
-    // Hands its law to the prover.
     open_jobs_end();
     run_all(c, passes, events)
 }
 
-/// Where the last events of a run are all the frames of the open job, of which each comes whole, there are no more than the job had left, and it ends as its
-/// stage says.
+/// Frames of the open job that all come whole, as the last events of a run, are no more than the job had left
+/// (`few`); if it ends by them, it ends as its stage says (`ends`).
 pub fn frames_that_all_come_whole(
     c: Config,
     passes: u8,
@@ -43,7 +42,6 @@ pub fn frames_that_all_come_whole(
         stage_after c passes (reverse events.now) ≡ None →
         (now c passes (reverse events.now)).end ≡ Some (good_end c passes before stage))) }
 {
-    // Hands its law to the prover.
     open_jobs_end();
     run_all(c, passes, events)
 }

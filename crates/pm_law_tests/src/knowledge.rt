@@ -79,8 +79,8 @@ pub fn an_end_of_a_band()
     bands_are_ends();
 }
 
-/// Where a usual output isn't cut before a plan and after it, no order of the plan cuts what another byte of OPERATION would
-/// select.
+/// No order of a plan cuts what a byte of OPERATION would select on a usual output, if the output isn't cut before
+/// that order, and what the byte would select isn't cut before it, nor at the plan's end.
 pub fn a_plan_that_cuts_nothing()
     ensures { let value = shape_value (InUlinear16 (negsuc 11)) in
         (held : Held) (wants : Wants) (byte : ℕ) → wants Operation ≡ None → is_cut_by value held ≡ false →

@@ -1,5 +1,5 @@
-//! A caller for each law: a short function that has what the law says, with no proof by hand where the prover finds it. It
-//! calls the law, which does nothing, and the prover finds the rest by what a caller gets from `new`,
+//! A caller for each law: a short function that has what the law says, mostly without a proof by hand. It calls the
+//! law, which does nothing, and the rest follows from what a caller gets from `new`,
 //! [`World::run`](pm_world::World::run), `step` and the calls of the other crates; so this crate is also the check that each
 //! premise of a law is one that a caller gets. A law that speaks of no world, or of any events, is shown as it is. Six are
 //! taken by the names of [`laws_by_name`], which a function opens by `unfolding`. Premises that stay are of the caller's

@@ -26,7 +26,6 @@ pub fn what_a_step_moves(
         ⊎ StoresBy c passes (reverse events.now) (store_at c passes (more.now ∷ reverse events.now)) more.now)) }
     ensures moment { IfOk result (λ found. OnSome found (StoreIsOfOneMoment c passes (more.now ∷ reverse events.now))) }
 {
-    // Hands its law to the prover.
     newest_events_are_parts();
     moves_after_a_step(c, passes, events, more)
 }
@@ -40,7 +39,6 @@ fn moves_after_a_step(
 ) -> Result<Option<World>, SetupFault>
     ensures { IfOk result (λ found. OnSome found (MovesByTheOpenJob c passes (more.now ∷ reverse events.now))) }
 {
-    // Hands its law to the prover.
     settings_move_by_the_open_job();
     run_and_step(c, passes, events, more)
 }

@@ -23,7 +23,8 @@ use pm_world::{
     Event, SetupFault, Way, World, events_are_lived, lives_are_followed, run_way, ways_are_followed,
 };
 
-/// Where the events and one more end with an order that nothing disturbed, it went through; the step says which.
+/// An order that nothing disturbed, and that the events and one more end with, went through; the result says which
+/// order.
 pub fn an_order_that_went_through_after_a_step(
     c: Config,
     passes: u8,
@@ -33,7 +34,6 @@ pub fn an_order_that_went_through_after_a_step(
     ensures { IfOk result (λ found. IfSome found (λ order.
         HasGone c passes order.0 order.1 (more.now ∷ reverse events.now))) }
 {
-    // Hands its law to the prover.
     ways_are_followed();
     match way_and_step(c, passes, events, more)? {
         Some(Way::Through(cell, word)) => Ok(Some((cell, word))),
@@ -51,7 +51,6 @@ fn way_and_step(
     ensures way { IfOk result (λ found. IfSome found (λ way. way ≡ way_of c passes (more.now ∷ reverse events.now))) }
     ensures lived { IfOk result (λ found. OnSome found (IsLived c passes (more.now ∷ reverse events.now))) }
 {
-    // These hand their laws to the prover.
     lives_are_followed();
     events_are_lived();
     ways_are_followed();
@@ -66,8 +65,8 @@ fn way_and_step(
     }
 }
 
-/// Where the events end with an order on its way, whose write was heard whole, the end of that write, acknowledged or not, and
-/// an undisturbed read are taken, and it goes through by them.
+/// An order on its way at the end of the events, whose write was heard whole, goes through by the end of that write,
+/// acknowledged or not, and an undisturbed read; both are taken.
 pub fn an_order_that_is_ahead(
     c: Config,
     passes: u8,
@@ -76,7 +75,7 @@ pub fn an_order_that_is_ahead(
     ensures { IfOk result (λ found. IfSome found (λ order. (acked : Bool) →
         GoesThrough c passes order.0 order.1 acked (reverse events.now))) }
 {
-    // Hands its law to the prover.
+    // law: an order on its way goes through by an undisturbed read (`through` of the laws by name)
     laws_by_name();
     if events.len() >= 1_000_000 {
         return Ok(None);
@@ -87,8 +86,8 @@ pub fn an_order_that_is_ahead(
     }
 }
 
-/// Where the last events are an order and deliveries of its write, whatever was heard of them, the end of that write
-/// and an undisturbed read are taken.
+/// The end of an order's write and an undisturbed read are taken, if the last events are the order and deliveries of
+/// its write, whatever was heard of them.
 pub fn an_order_that_is_taken(
     c: Config,
     passes: u8,
@@ -99,7 +98,7 @@ pub fn an_order_that_is_taken(
         reverse events.now ≡ sent_by order arrivals before → asked (now c passes before) order ≡ Some (Order cell word) →
         IsAhead c passes order cell word arrivals acked before)) }
 {
-    // Hands its law to the prover.
+    // law: the end of an order's write and its read are taken (`ahead` of the laws by name)
     laws_by_name();
     match ran(c, passes, events)? {
         Some(world) => Ok(Some(world)),
@@ -107,7 +106,7 @@ pub fn an_order_that_is_taken(
     }
 }
 
-/// Those events are taken: what `IsAhead` says, opened.
+/// What `IsAhead` says, opened: the end of the order's write and an undisturbed read are taken.
 #[tactic(auto, unfolding(crate::specs::ByName::IsAhead))]
 pub fn events_that_are_taken(
     c: Config,

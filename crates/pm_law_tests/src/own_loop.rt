@@ -25,18 +25,16 @@ pub fn a_loop_that_begins(c: Config, passes: u8) -> Result<World, SetupFault>
     ensures more { (events : List Happening) (event : Happening) → IsLived c passes events →
         event_cause (now c passes events) event ≡ None → IsLived c passes (event ∷ events) }
 {
-    // Hands its law to the prover.
     events_are_lived();
     World::new(c, passes)
 }
 
-/// Of events that each have no cause against them, a caller need not say that they are legal one after another.
+/// A caller whose events each have no cause against them need not say that they are legal one after another.
 pub fn a_life_that_nothing_is_against(c: Config, passes: u8) -> Result<World, SetupFault>
     ensures { OnOk result ((events : List Happening) →
         ((later before : List Happening) (event : Happening) → events ≡ later ++ event ∷ before →
         event_cause (now c passes before) event ≡ None) → AreLegal c passes events) }
 {
-    // Hands its law to the prover.
     causes_decide();
     World::new(c, passes)
 }
@@ -49,7 +47,6 @@ pub fn a_run_that_is_legal(
 ) -> Result<Option<World>, SetupFault>
     ensures { IfOk result (λ found. OnSome found (AreLegal c passes (reverse events.now))) }
 {
-    // Hands its law to the prover.
     possible_words_are_exact();
     let (world, stop) = World::run(c, passes, events)?;
     if stop.is_some() || events.len() >= 1_000_000 {
@@ -62,7 +59,6 @@ pub fn a_run_that_is_legal(
 pub fn an_event_that_nothing_is_against(world: &mut World, event: &Event) -> Result<(), Cause>
     ensures { world.old.taken < event_limit → event_cause world.old event.now ≡ None → IsOk result }
 {
-    // Hands its law to the prover.
     causes_decide();
     match world.step(event) {
         Ok(()) => Ok(()),
@@ -74,7 +70,7 @@ pub fn an_event_that_nothing_is_against(world: &mut World, event: &Event) -> Res
 pub fn both_ends(c: Config, passes: u8) -> Result<(Converter, Host), SetupFault>
     ensures { OnOk result (IsSound c × IsSetup (setup_of c passes) × IsSpelled c) }
 {
-    // Hands the prover that the configuration's numbers are those of bytes.
+    // law: a configuration's numbers fit into bytes
     spell(c);
     let device = match Converter::new(c) {
         Ok(device) => device,

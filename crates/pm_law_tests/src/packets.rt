@@ -17,7 +17,8 @@ use pm_frame::{
 };
 use pm_world::reads_that_share_their_code;
 
-/// Of two different messages of one length, at most 15 bytes, that differ in three bits at most, the PEC differs too.
+/// The PECs of two different messages differ, if both have one length of at most 15 bytes and differ in three bits at
+/// most.
 pub fn have_one_code(sent: &[u8], heard: &[u8]) -> bool
     ensures { length sent.now ≡ length heard.now → sent.now ≢ heard.now → length sent.now ≤ 15 →
         changed_bits sent.now heard.now ≤ 3 → result ≡ false }

@@ -17,7 +17,6 @@ pub fn plans_after_a_step(
 ) -> Result<Option<World>, SetupFault>
     ensures { IfOk result (λ found. OnSome found (KeepsPlans c passes (more.now ∷ reverse events.now))) }
 {
-    // Hands its law to the prover.
     plans_hold_in_lives();
     run_and_step(c, passes, events, more)
 }
@@ -32,7 +31,6 @@ pub fn surveys_after_a_step(
     ensures follows { IfOk result (λ found. OnSome found (FollowsSurveys c passes (more.now ∷ reverse events.now))) }
     ensures keeps { IfOk result (λ found. OnSome found (KeepsSurveys c passes (more.now ∷ reverse events.now))) }
 {
-    // Hands its law to the prover.
     surveys_hold_in_lives();
     run_and_step(c, passes, events, more)
 }

@@ -17,7 +17,6 @@ pub fn surprises_after_a_step(
 ) -> Result<Option<World>, SetupFault>
     ensures { IfOk result (λ found. OnSome found (SurprisesShowRestarts c passes (more.now ∷ reverse events.now))) }
 {
-    // Hands its law to the prover.
     one_surprise_at_most();
     run_and_step(c, passes, events, more)
 }

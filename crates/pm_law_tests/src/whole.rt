@@ -25,7 +25,7 @@ use pm_world::{
     Arrival, Back, Event, SetupFault, good_frames_end_jobs, whole_frames_are_undisturbed,
 };
 
-/// Where a check is open, an exchange that comes whole ends it: it is done, and the converter holds the word.
+/// An exchange that comes whole ends an open check: its cell was read, and it is done.
 pub fn a_check_that_comes_whole(
     c: Config,
     passes: u8,
@@ -34,7 +34,7 @@ pub fn a_check_that_comes_whole(
     ensures { IfOk result (λ found. IfSome found (λ check. CheckEnds c passes check.0 check.1 (reverse events.now)
         (Exchange arrival.Whole back.Whole ∷ reverse events.now))) }
 {
-    // Hands its law to the prover.
+    // law: an open check is done by an undisturbed read (`check` of the laws by name)
     laws_by_name();
     match check_undisturbed(c, passes, events)? {
         Some(check) => Ok(Some(check)),
@@ -42,7 +42,7 @@ pub fn a_check_that_comes_whole(
     }
 }
 
-/// So the cell was read, and the check is done: what `CheckEnds` says, opened.
+/// What `CheckEnds` says, opened: the cell was read, and the check is done.
 #[tactic(auto, unfolding(crate::specs::ByName::CheckEnds))]
 pub fn a_check_that_is_done(
     c: Config,
@@ -67,7 +67,6 @@ fn check_undisturbed(
     ensures read { IfOk result (λ found. IfSome found (λ check. IsRead c passes (cell_read check.0) (reverse events.now)
         (Exchange arrival.Whole back.Whole ∷ reverse events.now))) }
 {
-    // These hand their laws to the prover.
     good_frames_end_jobs();
     whole_frames_are_undisturbed();
     check_read(c, passes, events)
@@ -96,7 +95,7 @@ fn check_read(c: Config, passes: u8, events: &[Event]) -> Result<Option<(Cell, u
     Ok(Some((cell, tries)))
 }
 
-/// Where an order is to be read back, and the converter holds its word, an exchange that comes whole ends it.
+/// An exchange that comes whole ends an order that is to be read back, if the converter holds its word.
 pub fn a_read_back_that_comes_whole(
     c: Config,
     passes: u8,
@@ -105,7 +104,7 @@ pub fn a_read_back_that_comes_whole(
     ensures { IfOk result (λ found. IfSome found (λ order. ReadBackEnds c passes order.0 order.1 order.2 (reverse events.now)
         (Exchange arrival.Whole back.Whole ∷ reverse events.now))) }
 {
-    // Hands its law to the prover.
+    // law: an order whose word is held is done by an undisturbed read (`read_back` of the laws by name)
     laws_by_name();
     match read_back_undisturbed(c, passes, events)? {
         Some(order) => Ok(Some(order)),
@@ -126,7 +125,6 @@ fn read_back_undisturbed(
     ensures read { IfOk result (λ found. IfSome found (λ order. IsRead c passes (cell_read order.0) (reverse events.now)
         (Exchange arrival.Whole back.Whole ∷ reverse events.now))) }
 {
-    // These hand their laws to the prover.
     good_frames_end_jobs();
     whole_frames_are_undisturbed();
     order_read_back(c, passes, events)
@@ -160,8 +158,8 @@ fn order_read_back(
     Ok(Some((cell, word, pass)))
 }
 
-/// Where an order's write is to be sent, and WRITE_PROTECT allows it, a pass whose frames come whole ends it, whether
-/// the write is acknowledged or not: the order went through.
+/// A pass whose frames come whole ends an order whose write is to be sent, if WRITE_PROTECT allows it: the order went
+/// through, whether the write is acknowledged or not.
 pub fn a_pass_that_comes_whole(
     c: Config,
     passes: u8,
@@ -172,7 +170,7 @@ pub fn a_pass_that_comes_whole(
         (Finish acked ∷ Deliver arrival.Whole ∷ reverse events.now)
         (Exchange arrival.Whole back.Whole ∷ Finish acked ∷ Deliver arrival.Whole ∷ reverse events.now))) }
 {
-    // Hands its law to the prover.
+    // law: an order goes through by an undisturbed write and read (`order` of the laws by name)
     laws_by_name();
     match pass_undisturbed(c, passes, events, acked)? {
         Some(order) => Ok(Some(order)),
@@ -180,7 +178,7 @@ pub fn a_pass_that_comes_whole(
     }
 }
 
-/// So the order went through: what `PassEnds` says, opened.
+/// What `PassEnds` says, opened: the order went through.
 #[tactic(auto, unfolding(crate::specs::ByName::PassEnds))]
 pub fn a_pass_that_went_through(
     c: Config,
@@ -213,7 +211,6 @@ fn pass_undisturbed(
         (Finish acked ∷ Deliver arrival.Whole ∷ reverse events.now)
         (Exchange arrival.Whole back.Whole ∷ Finish acked ∷ Deliver arrival.Whole ∷ reverse events.now))) }
 {
-    // These hand their laws to the prover.
     good_frames_end_jobs();
     whole_frames_are_undisturbed();
     pass_sent(c, passes, events, acked)
@@ -256,7 +253,7 @@ fn pass_sent(
     Ok(Some((cell, word, pass)))
 }
 
-/// Where a clear, a store or a restore is to be sent, a write that comes whole and is acknowledged ends it: it is done.
+/// A write that comes whole and is acknowledged ends a clear, a store or a restore that is to be sent: it is done.
 pub fn a_command_that_comes_whole(
     c: Config,
     passes: u8,
@@ -265,7 +262,7 @@ pub fn a_command_that_comes_whole(
     ensures { IfOk result (λ found. IfSome found (λ sent. CommandEnds c passes sent.0 sent.1 (reverse events.now)
         (Finish true ∷ Deliver arrival.Whole ∷ reverse events.now))) }
 {
-    // Hands its law to the prover.
+    // law: a command is done by an undisturbed write that is acknowledged (`send` of the laws by name)
     laws_by_name();
     match command_undisturbed(c, passes, events)? {
         Some(sent) => Ok(Some(sent)),
@@ -286,7 +283,6 @@ fn command_undisturbed(
     ensures written { IfOk result (λ found. IfSome found (λ sent. IsWritten (frame_of c.addr (command_message sent.0)) true
         (reverse events.now) (Finish true ∷ Deliver arrival.Whole ∷ reverse events.now))) }
 {
-    // These hand their laws to the prover.
     good_frames_end_jobs();
     whole_frames_are_undisturbed();
     command_sent(c, passes, events)
