@@ -72,7 +72,7 @@ job-goes laws (host.Send RestoreUserAll) free is = begun (host.Send RestoreUserA
     (grown laws Restore (tells (host.Accepted (host.Send RestoreUserAll))) is
     (ap (λ f. option_or (refused f) None) (of-life (λ h. job_fault h (host.Send RestoreUserAll) ≡ None) is free)) tt refl)
 
--- by which the converter doesn't restart
+-- the event of a job doesn't restart the converter
 job-quiet : (job : host.Job) → restarts_in (job_event job ∷ []) ≡ 0
 job-quiet (host.Order cell word) = refl
 job-quiet (host.Check cell) = refl
@@ -231,7 +231,7 @@ true-of laws summary held has =
       among = since-among laws summary held;
     }
 
--- where a driver leads there is a life
+-- some life led to where a driver leads, if one led to where it began
 pub leads-lived : {B : Type 0} (gives : B → Call → B → Type 0) (held : B → Held) (restarts : B → ℕ) (asked : List Act)
     (end : Option JobEnd) (old new : Driven B) →
     HasLife old.host (held old.bus) → Leads gives held restarts asked end old new → HasLife new.host (held new.bus)
@@ -286,7 +286,7 @@ pub record IsBegun (old : Summary) (asked : Job) (middle : Summary) : Type 0 whe
   pub free : (begun : host.Job) → accepted_job old asked ≡ Some begun → job_fault old begun ≡ None
   pub ok : IsSomeAnd (accepted_job old asked) (λ begun. middle ≡ host_next old (host.Accepted begun))
 
--- where a driver leads that carries a job out which its host began
+-- a driver leads by a job that its host began, if it leads while it carries that job out
 pub job-leads : {B : Type 0} (gives : B → Call → B → Type 0) (held : B → Held) (restarts : B → ℕ) → JobsLead gives held restarts
     → LeadsCompose gives held restarts →
     (asked : Job) (end : JobEnd) (old new : Driven B) (middle : Summary) → IsBegun old.host asked middle →

@@ -113,7 +113,7 @@ leads-nothing gives held restarts d = record {
   lives = λ config passes before life. stays life;
 }
 
--- by the events of both, and by none
+-- what is composed has the events of both, and what leads nowhere has none
 pub composed-events : {B : Type 0} (gives : B → Call → B → Type 0) (held : B → Held) (restarts : B → ℕ) (first second : List Act)
     (middle end : Option JobEnd) (a b c : Driven B) (one : Leads gives held restarts first middle a b)
     (two : Leads gives held restarts second end b c) →

@@ -52,7 +52,7 @@ use Rattle.pm_driver.proofs.Chains.{none-counted}
 use Rattle.pm_driver.proofs.Followed.{found, host-there, quiet, told-drop, told_in}
 use Rattle.pm_driver.proofs.RanJobs.{Ran, ran, some-counted}
 
--- of events that ask for one job, the one that does; neither the later nor the earlier ones ask for any
+-- the one of these events that asks for this job; neither the later nor the earlier ones ask for any
 record TheOne (events : List Event) (j : Asked) : Type 0 where
   pub newer : List Event
   pub event : Event
@@ -270,12 +270,12 @@ begun-so gives held restarts output wanted tries old config passes before here l
       is_course = went.is_course;
     }
 
--- where a job is open a course names none
+-- a course names no job while one is open
 busy-says : (guard : Guarded) (course : Course) (asked' : Asked) → is_busy guard.host ≡ true → next_by guard course ≡ said.Job asked' → ⊥
 busy-says guard course asked' busy is =
     let no = sym busy ∙ (named-job guard.registers (limits_at guard course.survey.output) guard.host course asked' is).0 in cc
 
--- and nothing is carried out
+-- a course carries nothing out while a job is open: the driver stays as it is
 busy-same : {B : Type 0} {gives : B → Call → B → Type 0} {held : B → Converter} {restarts : B → ℕ} {begun : Course} {first : Driving B}
     {course : Course} {last : Driving B} → is_busy first.guard.host ≡ true → Courses gives held restarts begun first course last →
     last ≡ first
@@ -290,7 +290,7 @@ busy-nothing busy no_job = refl
 busy-nothing {first = first} busy (one_more course asked' end middle last was names runs) =
     absurd (busy-says middle.guard course asked' (ap (λ (d : Driving _). is_busy d.guard.host) (busy-same busy was) ∙ busy) names)
 
--- nor is the end reached
+-- a course doesn't say that all is reached while a job is open
 busy-end : (guard : Guarded) (course : Course) → is_busy guard.host ≡ true → next_by guard course ≡ said.Ended Reached → ⊥
 busy-end guard course busy is =
     let no = sym (ap (λ (b : Bool). if b then said.Ended (Stopped (Refused Busy)) else going guard.registers
@@ -376,7 +376,7 @@ never-refused {output = output} {old = old} laws there kept (refused course aske
     let no = sym guard ∙ laws.free new.guard course asked' (byte-kept runs) inside next in
     cc
 
--- where a job is open nothing happens
+-- a course that finishes leaves the driver as it is, if a job was open
 pub busy-finished : {B : Type 0} {gives : B → Call → B → Type 0} {held : B → Converter} {restarts : B → ℕ} {output : ℕ} {wanted : Wanted}
     {tries : ℕ} {old : Driving B} {end : ApplyEnd} {new : Driving B} → Finishes gives held restarts output wanted tries old end new →
     is_busy old.guard.host ≡ true → new ≡ old

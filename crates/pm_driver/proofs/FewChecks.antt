@@ -280,7 +280,7 @@ module _ (laws : LawsOfReads) (config : Config) (passes : ℕ) (before : List Ev
       (subst (λ (s : Summary). HasPlaces s.known) lived.host_is (life-places config passes before))
       (omega arith) none went.answered less
 
--- of each life, and where the bus counted no restart
+-- a survey takes few checks, by the events of each life (`lives`), and if the bus counted no restart (`counted`)
 pub takes-few : LawsOfReads → {B : Type 0} (gives : B → Call → B → Type 0) (held : B → Converter) (restarts : B → ℕ) →
     SurveysTakeFewChecks gives held restarts
 takes-few laws gives held restarts = record {

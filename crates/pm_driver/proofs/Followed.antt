@@ -212,7 +212,7 @@ pub host-is : (config : Config) (passes : ℕ) (events : List Event) →
 unfolding now state_of
 host-is config passes events = refl
 
--- where the host is idle no order, store or restore is open
+-- no order, store or restore is open while the host is idle
 idle-none : EndsAreTold → (config : Config) (passes : ℕ) (events : List Event) → is_busy (now config passes events).host ≡ false →
     open_pending config passes events ≡ None
 unfolding open_pending
@@ -224,7 +224,7 @@ idle-none ends config passes events idle =
       go None i = refl
       go (Some stage) i = cc
 
--- where one is open, the last job is that one
+-- the last job is the open order, store or restore, if one is open
 pending-last : (setup : Setup) (entries : List Entry) (job : Job) (p : PendingJob) → last_job entries ≡ Some job →
     option_and_then pending_of (open_job setup entries) ≡ Some p → pending_of job ≡ Some p
 unfolding open_job
@@ -258,7 +258,7 @@ module _ (config : Config) (passes : ℕ) (before : List Event) (host : Summary)
       only front frames (told_in config passes before older) j job are
       (sym (ap (λ (t : Option Entry). front ++ (option_to_list t ++ told_in config passes before older)) told) ∙ h)
 
-  -- where nothing was told the host is the one of before
+  -- the host is the one of before, if it was told nothing
   pub host-there : (older : List Event) → told_in config passes before older ≡ [] → (now config passes (older ++ before)).host ≡ host
   host-there older none = host-same config passes (older ++ before) before
       (entries-are config passes before older ∙ ap (λ (t : List Entry). t ++ (life config passes before).entries) none) ∙ is_host
@@ -450,7 +450,7 @@ module _ (config : Config) (passes : ℕ) (before : List Event) (host : Summary)
 
 -- ---- The event that asks ----
 
--- of events that ask for one job, the one that does
+-- the one of these events that asks for this job; the later ones ask for none
 pub record OneAsked (events : List Event) (job : Asked) : Type 0 where
   pub newer : List Event
   pub event : Event

@@ -77,7 +77,7 @@ pub record Hears (request bytes given : List ℕ) (ending : Ending) (way : Arriv
   pub given_is : given ≡ answer_in (reply_of old bytes ending)
   pub after : new ≡ device_next old (device.Hearing bytes ending)
 
--- the same of how it arrives
+-- what was heard of a request is legal as it arrives
 hears-legal : {request bytes given : List ℕ} {ending : Ending} {way : Arrival} {old new : Held} →
     Hears request bytes given ending way old new →
     is_legal_hearing request (heard_bytes request way) (ending_of Restart way) ≡ true

@@ -107,7 +107,7 @@ faulty-alike : (held : Held) (faults : CmlFaults) (fault : FrameFault) →
 faulty-alike held faults NotOurs = refl
 faulty-alike held faults fault = refl
 
--- of two verdicts either
+-- whichever of two verdicts is chosen makes both answers alike, if each of the two does
 either-alike : {V : Type 0} (one other : V → Heard) (b : Bool) (x y : V) → one x ≡ other x → one y ≡ other y →
     one (cond b x y) ≡ other (cond b x y)
 either-alike one other true x y first second = first

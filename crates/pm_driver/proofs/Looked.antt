@@ -212,7 +212,7 @@ few-short addr (start ∷ code ∷ third ∷ rest) few = absurd (omega arith)
 short-no-write : (addr : ℕ) (bytes : List ℕ) → length bytes ≤ 2 → IsNoWrite addr bytes
 short-no-write addr bytes few = record { cut = λ count. few-short addr (take count bytes) (omega (arith, length-take count bytes)) }
 
--- of two faults the second, where the first doesn't come
+-- the second of two faults stands, if the first doesn't come
 other-so : (first : Bool) (one other : Option FrameFault) → (first ≡ true → ⊥) → other ≢ None → cond first one other ≢ None
 other-so true one other never some = absurd (never refl)
 other-so false one other never some = some

@@ -75,7 +75,7 @@ job-since gives held restarts None end old new leads same cell is = absurd leads
 job-since gives held restarts (Some begun) end old new leads same cell is =
     leads-since gives held restarts (Began begun ∷ []) (Some end) old new cell leads same is
 
--- of the cell that a job ended with the reading of, in every case
+-- the converter didn't restart since the reading of a cell with which a job ended, in every case
 pub leads-read : EndsAreTrue → {B : Type 0} (gives : B → Call → B → Type 0) (held : B → Held) (restarts : B → ℕ) (job : host.Job)
     (end : JobEnd) (old new : Driven B) →
     HasLife old.host (held old.bus) → Leads gives held restarts (Began job ∷ []) (Some end) old new →
@@ -96,7 +96,7 @@ leads-read law gives held restarts job end old new has leads =
     go all None since = tt
     go all (Some cell) since = record { has = all; since = since }
 
--- the same of a new host, which was told of no answer since
+-- a new host was told of no answer since: the converter didn't restart since a cell was read, if it didn't beside the host of before
 pub begins-since : LawsOfLives → (was summary : Summary) (held : Held) → MayBegin summary held → was.setup ≡ summary.setup →
     (cell : Cell) → HasNoRestartSince cell was held → HasNoRestartSince cell summary held
 begins-since laws was summary held may same cell is =

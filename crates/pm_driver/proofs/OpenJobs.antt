@@ -32,7 +32,7 @@ use Rattle.pm_driver.specs.Acts.{Call, Read, Wrote, told_of}
 abbrev IsOpen : Change → Type 0
 IsOpen change = change.step ≡ Next → is_some change.after.stage ≡ true
 
--- of two, either
+-- whichever of two changes is chosen leaves a job open, if both do
 open-cond : (b : Bool) (one other : Change) → IsOpen one → IsOpen other → IsOpen (cond b one other)
 open-cond true one other first second = first
 open-cond false one other first second = second

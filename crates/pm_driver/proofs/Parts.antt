@@ -30,7 +30,7 @@ beside-may frame (RestartDevice ∷ events) all = (refl, beside-may frame events
 beside-may frame (Reading output code word ∷ events) all = (refl, beside-may frame events all.1)
 beside-may frame (event ∷ events) all = let here = all.0 in cc
 
--- where it heard nothing, that is a write that is lost
+-- a write that the converter heard nothing of is one that was sent and is lost
 lost-write : (frame : List ℕ) (first : Held) (a : ℕ) (second : Held) (b : ℕ) → IsUnheard first a second b →
     IsSent frame first a second b
 lost-write frame first a second b is = record {

@@ -13,7 +13,7 @@ room-so filled answer first is long = is ∙ ap (λ n. replicate n 0) long
 none-heard : (held : Held) (n : ℕ) → IsUnheard held n held n
 none-heard held n = record { events = []; beside = tt; after = λ frame. refl; count = omega arith }
 
--- where not all are spent there is one more, and otherwise none
+-- one try more is left while not all are spent, and otherwise none
 one-left : (left tried tries : ℕ) → left + tried ≡ tries → tried < tries → (fewer : ℕ) × (left ≡ suc fewer)
 one-left zero tried tries count more = let no : ⊥ = omega arith in absurd no
 one-left (suc fewer) tried tries count more = (fewer, refl)

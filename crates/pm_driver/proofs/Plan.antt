@@ -14,7 +14,7 @@ got [] n fault short is = let no : ⊥ = omega arith in absurd no
 got (f ∷ plan) zero fault short is = ap (λ (x : Fault). Some x) (sym (is f))
 got (f ∷ plan) (suc n) fault short is = got plan n fault (omega arith) is
 
--- of one fault more
+-- one fault more of a plan adds its own restart, if it has one, to the count
 taken-suc : (plan : List Fault) (n : ℕ) (fault : Fault) → slice_get plan n ≡ Some fault →
     restarts_of (take (suc n) plan) ≡ cond fault.restarts 1 0 + restarts_of (take n plan)
 taken-suc [] n fault is = cc

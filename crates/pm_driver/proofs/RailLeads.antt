@@ -33,7 +33,7 @@ led-on gives held restarts asked earlier events job end a b c before leads = rec
       ∙ ap (λ (es : List Event). leads.events ++ es) before.by;
 }
 
--- the same of a job as it was accepted
+-- one job more, as it was accepted
 led-some : {B : Type 0} (gives : B → Call → B → Type 0) (held : B → Held) (restarts : B → ℕ) (asked : List Act) (earlier : Option JobEnd)
     (events : List Event) (end : JobEnd) (old middle new : Driving B)
     → IsLed gives held restarts asked earlier events (driven old) (driven middle) →

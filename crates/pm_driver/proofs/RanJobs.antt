@@ -150,7 +150,7 @@ read-told laws config passes part v before es evs asked' j end old new held are 
     (quiet config passes (es ++ before) old j went.is_host went.idle went.frames went.are one.newer
     (one.event ∷ one.older) [] told one.none) over)
 
--- where a job was begun none was open
+-- no job was open, if a check isn't refused
 pub idle-check : (g : Guarded) (cell : Cell) → guard_fault g (job.Check cell) ≡ None → is_busy g.host ≡ false
 idle-check g cell free = go (is_busy g.host) free where
   go : (b : Bool) → first (of_host (first (rule b Busy ∷ rule (not (is_cell g.host.setup.outputs cell)) UnknownOutput ∷ []))

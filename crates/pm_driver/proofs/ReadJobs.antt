@@ -54,7 +54,7 @@ data Answer (s : Summary) (cell : Cell) (found : Option ℕ) (changed : Change) 
   good : (word : ℕ) → found ≡ Some word → changed.after.stage ≡ None → changed.after.known ≡ known_after s.known (Good cell word) →
       changed.step ≡ Ended Done → Answer s cell found changed
 
--- by the payload of a good answer
+-- an answer to a check, by its payload, if that is good
 answer-by : (s : Summary) (cell : Cell) (tries : ℕ) (payload : Option (List ℕ)) →
     Answer s cell (option_map word_in payload) (asked (idle s) (Word cell) tries payload)
 answer-by s cell tries None = go (tries + 1 == s.setup.passes) where
@@ -275,7 +275,7 @@ pub record LearnRead (setup : Setup) (output : ℕ) (entries frames : List Entry
   pub marks_are : marks setup ((frames ++ Accepted (Learn output) ∷ []) ++ entries) ≡ marks setup entries
   pub count : surprised setup (frames ++ Accepted (Learn output) ∷ []) entries ≡ 0
 
--- by one frame after another
+-- a learn leaves no mark and surprises nothing, after one frame and another
 pub learn-read : (setup : Setup) (output : ℕ) (entries frames : List Entry) → Frames frames → LearnRead setup output entries frames
 learn-read setup output entries [] are = record {
   marks_are = ap (λ (ms : List Mark). ms ++ marks setup entries)

@@ -57,7 +57,7 @@ record SendsRequest (host : Summary) (request : List ℕ) (needed : ℕ) : Type 
   is : IsRequest host.setup.addr message request
   long : needed ≡ whole_answer message
 
--- by what the host shows
+-- the host sends this write, by the message that it shows
 sends-write : (host : Summary) (frame : List ℕ) → IsSomeAnd (sending_in host) (λ message. IsWrite host.setup.addr message frame) →
     SendsWrite host frame
 sends-write host frame shown = go (sending_in host) refl shown where
@@ -104,7 +104,7 @@ deliver-free s frame arrival sends legal =
     ∙ (ap₂ (λ b f. option_or (rule b WrongKind) (rule (not (hears_so b f)) NotBetrayed)) sends.is.writes (write-frame sends.is)
     ∙ ap (λ b. rule (not b) NotBetrayed) legal)
 
--- by a delivery of the write that is being sent the converter hears it as it arrives, and the host is told nothing
+-- a delivery of the write that is being sent lets the converter hear it as it arrives, and the host is told nothing
 deliver-tells : (s : State) (frame : List ℕ) (arrival : Arrival) → SendsWrite s.host frame →
     share_of s (Deliver arrival) ≡ hears (device.Hearing (heard_bytes frame arrival) (ending_of Stop arrival))
 deliver-tells s frame arrival sends =
@@ -169,8 +169,8 @@ exchange-free s request needed arrival back sends legal returned =
     ∙ (ap (λ n. option_or (rule (not (heard true request)) NotBetrayed) (rule (not (came true request n)) NotBetrayed)) (sym sends.long)
     ∙ ap₂ (λ x y. option_or (rule (not x) NotBetrayed) (rule (not y) NotBetrayed)) legal returned))
 
--- by an exchange of the request that is being sent the converter hears it as it arrives, and the host is told
--- what comes back of the answer
+-- an exchange of the request that is being sent lets the converter hear it as it arrives, and the host is told what comes
+-- back of the answer
 exchange-tells : (s : State) (request : List ℕ) (needed : ℕ) (arrival : Arrival) (back : Back) → SendsRequest s.host request needed →
     share_of s (Exchange arrival back)
     ≡ record {

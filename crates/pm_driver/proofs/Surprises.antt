@@ -37,7 +37,7 @@ data AreGoods : List Mark → Type 0 where
   no_good : AreGoods []
   one_good : (read : Cell) (word : ℕ) → AreGoods (Good read word ∷ [])
 
--- by what was asked for
+-- bytes have the mark of one good answer or none, by what was asked for
 are-goods : (setup : host.Setup) (before : List host.Entry) (bytes : List ℕ) → AreGoods (goods setup before bytes)
 unfolding goods
 are-goods setup before bytes = go (read_by (host.open_job setup before) (host.told_since before)) where
@@ -60,7 +60,7 @@ Free ms cell = (word : ℕ) → is_possible word (possible_of ms cell) ≡ true
 both-counted : (second first : List Event) → restarts_in (second ++ first) + 0 ≡ restarts_in second + restarts_in first
 both-counted second first = restarts-on second first 0 (restarts_in first) (restarts_in second + restarts_in first) (omega arith) refl
 
--- where there is one the count is one at least
+-- the count of restarts is one at least, if there is one
 at-least : (events : List Event) → list_any restarts_converter events ≡ true → 1 ≤ restarts_in events
 at-least [] some = cc
 at-least (event ∷ before) some = go (restarts_converter event) some (λ h. at-least before h) where
@@ -69,7 +69,7 @@ at-least (event ∷ before) some = go (restarts_converter event) some (λ h. at-
   go true h f = omega arith
   go false h f = let rest = f h in omega arith
 
--- where there is none the count is none
+-- the count of restarts is 0, if there is none
 none-restarts : (events : List Event) → list_any restarts_converter events ≡ false → restarts_in events ≡ 0
 none-restarts [] none = refl
 none-restarts (event ∷ before) none = go (restarts_converter event) none (λ h. none-restarts before h) where
@@ -245,7 +245,7 @@ module _ (apart : CellsAreToldApart) (words : PossibleWordsAreFollowed) where
     abbrev FreeAt : List Event → Cell → Type 0
     FreeAt events cell = Free (marks (setup_of config passes) (life config passes events).entries) cell
 
-    -- by one event more
+    -- a cell is free after one event more, if it is with what that event tells
     life-more : (before : List Event) (event : Event) (cell : Cell) →
         Free (marks (setup_of config passes)
         (option_to_list (share_of (now config passes before) event).told ++ (life config passes before).entries)) cell →
@@ -318,7 +318,7 @@ module _ (apart : CellsAreToldApart) (words : PossibleWordsAreFollowed) where
             is_surprised_by config passes (older ++ before) event ≡ true →
             surprises_in config passes later before ≤ restarts_in (event ∷ older) + 1 → Counted later before
 
-      -- by one event more
+      -- an event that doesn't surprise adds nothing to the count of surprises
       quiet-more : (event : Event) (later before : List Event) → is_surprised_by config passes (later ++ before) event ≡ false →
           surprises_in config passes (event ∷ later) before ≡ surprises_in config passes later before
       quiet-more event later before e = go (is_surprised_by config passes (later ++ before) event) e where
@@ -373,7 +373,7 @@ module _ (apart : CellsAreToldApart) (words : PossibleWordsAreFollowed) where
             let all = ap restarts_in is in
             omega arith
 
-      -- where no cell was read nothing surprised
+      -- nothing surprised, if no cell was read
       unread : (older before : List Event) → ((cell : Cell) → was_read config passes cell older before ≡ false) →
           surprises_in config passes older before ≡ 0
       unread [] before off = refl

@@ -49,7 +49,7 @@ use Rattle.pm_driver.proofs.NoRestarts.{job-since, leads-read}
 
 -- ---- a job that a guard lets begin
 
--- of two faults, none
+-- the first of two faults is none, if neither comes
 pub first-none : {A : Type 0} (one other : Option A) → option_or one other ≡ None → one ≡ None
 first-none None other h = refl
 first-none (Some x) other h = cc
@@ -59,7 +59,7 @@ pub later-none : {A : Type 0} (one other : Option A) → option_or one other ≡
 later-none None other h = h
 later-none (Some x) other h = cc
 
--- where a guard has nothing to say of a refusal of the host's own, there is none
+-- the host refuses nothing, if a guard has nothing to say of its refusal
 host-none : (fault : Option HostFault) → of_host fault ≡ None → fault ≡ None
 host-none None h = refl
 host-none (Some f) h = cc
@@ -198,7 +198,7 @@ asked-begun (Began job ∷ acts) = ap (with_job (asked_by (job_event job))) (ask
 asked-begun (Renewed ∷ acts) = asked-begun acts
 asked-begun (Looked request room came ∷ acts) = asked-begun acts
 
--- of a job that began the word is within
+-- the word of a job that began lies within the limits
 begun-within : (config : Config) (output : ℕ) (bounds : Bounds) (begun : host.Job) →
     ((register : Reg) (word : ℕ) → is_voltage register ≡ true → begun ≡ host.Order (Out output register) word →
     IsWithin bounds (value_for config output word)) →

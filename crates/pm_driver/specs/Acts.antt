@@ -63,7 +63,7 @@ MayDo s (Began job) = job_fault s job ≡ None
 MayDo s Renewed = Unit {0}
 MayDo s (Looked request room came) = (is_busy s ≡ false) × IsNoWrite s.setup.addr request
 
--- so does each of the acts
+-- each of the acts may be done after those before it
 abbrev pub AreDone : Summary → List Act → Type 0
 AreDone s [] = Unit {0}
 AreDone s (act ∷ before) = MayDo (host_by s before) act × AreDone s before

@@ -19,7 +19,7 @@ is_beside RestartDevice = true
 is_beside (Reading output code word) = true
 is_beside _ = false
 
--- and while the frame of a write is being sent: it also hears it, legally
+-- what happens to a converter while the frame of a write is being sent: what happens beside the bus, and it hears the frame, legally
 abbrev pub may_hear : List ℕ → Event → Bool
 may_hear frame RestartDevice = true
 may_hear frame (Reading output code word) = true
@@ -39,7 +39,7 @@ held_by frame held (Deliver arrival) =
     device_next held (device.Hearing (heard_bytes frame arrival) (ending_of Stop arrival))
 held_by frame held _ = held
 
--- and what all of them make of it
+-- what a list of events makes of the converter while the frame of a write is being sent
 abbrev pub held_after : List ℕ → Held → List Event → Held
 held_after frame held [] = held
 held_after frame held (event ∷ before) = held_by frame (held_after frame held before) event

@@ -35,7 +35,7 @@ pub record Driving (B : Type 0) : Type 0 where
   pub guard : Guarded
   pub bus : B
 
--- the same without the limits
+-- a driver without its limits: its host and its bus
 abbrev pub driven : {B : Type 0} → Driving B → Driven B
 driven d = record { host = d.guard.host; bus = d.bus }
 
@@ -47,8 +47,8 @@ pub record HasLife (host : Summary) (held : Held) : Type 0 where
   pub spelled : IsSpelled config
   pub life : IsLife config passes events host held
 
--- The same, and in that life each start word of an output's voltages, and each that was ordered for one, has a value
--- within these limits.
+-- Some life led to this host and this converter (`HasLife`), and in it each start word of an output's voltages, and each
+-- that was ordered for one, has a value within these limits.
 pub record HasLifeWithin (output : ℕ) (bounds : Bounds) (host : Summary) (held : Held) : Type 0 where
   pub has : HasLife host held
   pub within : OwnWithin has.config has.passes has.events output bounds

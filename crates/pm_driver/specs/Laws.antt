@@ -43,8 +43,8 @@ abbrev pub LeadsCompose : {B : Type 0} → (B → Call → B → Type 0) → (B 
 LeadsCompose {B = B} gives held restarts = (first second : List Act) (middle end : Option JobEnd) (a b c : Driven B) →
     Leads gives held restarts first middle a b → Leads gives held restarts second end b c → Leads gives held restarts (second ++ first) end a c
 
--- Where something led and the bus counted no restart, the converter didn't restart since a cell was read of which it
--- hadn't before.
+-- Acts by which the bus counted no restart keep what `HasNoRestartSince` says of a cell: the converter didn't restart
+-- since the host's last good answer for it.
 abbrev pub RestartsAreCounted : {B : Type 0} → (B → Call → B → Type 0) → (B → Held) → (B → ℕ) → Type 0
 RestartsAreCounted {B = B} gives held restarts = (acts : List Act) (end : Option JobEnd) (old new : Driven B) (cell : Cell) →
     Leads gives held restarts acts end old new → restarts new.bus ≡ restarts old.bus →
@@ -75,7 +75,7 @@ NewConvertersHaveNoRestart = (config : Config) (passes : ℕ) (cell : Cell) →
     IsSound config → IsSpelled config → IsSetup (setup_of config passes) →
     HasNoRestartSince cell (start (setup_of config passes)) (history.start_of config)
 
--- Where the start words of an output's voltages lie within limits, all words of a converter as it was made do.
+-- A converter as it was made has all words of an output's voltages within limits, if its start words for them lie there.
 abbrev pub NewConvertersAreWithin : Type 0
 NewConvertersAreWithin = (config : Config) (passes output : ℕ) (bounds : Bounds) →
     IsSound config → IsSpelled config → IsSetup (setup_of config passes) → StartsWithin config output bounds →

@@ -24,7 +24,7 @@ pub record Driven (B : Type 0) : Type 0 where
 abbrev pub IsSameButFaults : Held → Held → Type 0
 IsSameButFaults one other = one ≡ record other { faults = one.faults }
 
--- These events were lived through, and lead to this host and to this converter, but for its latched bits of STATUS_CML: a
+-- Events that were lived through, and lead to this host and to this converter, but for its latched bits of STATUS_CML: a
 -- read that is no job may have latched some, and is none of the events. Words, store, PAGE, readings and the latches of
 -- STATUS_VOUT are those that the events lead to.
 pub record IsLife (config : Config) (passes : ℕ) (events : List Event) (host : Summary) (held : Held) : Type 0 where
@@ -38,7 +38,7 @@ newest_tells (Finish acked ∷ before) = true
 newest_tells (Exchange arrival back ∷ before) = true
 newest_tells _ = false
 
--- where a job ended, it did with the newest event
+-- a job that ended did so with the newest event, one that the host was told of
 abbrev pub EndsTold : Option JobEnd → List Event → Type 0
 EndsTold None events = Unit {0}
 EndsTold (Some end) events = newest_tells events ≡ true

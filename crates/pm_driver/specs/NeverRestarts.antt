@@ -24,7 +24,7 @@ abbrev pub NeverRestartsStays : Type 0
 NeverRestartsStays = (job : Job) (old new : Driving SimulatedBus) (result : Result JobEnd LimitFault) →
     Runs gives_so device_in restarts_so job old result new → NeverRestarts old → NeverRestarts new
 
--- So does each read of one that is no job.
+-- Each read that is no job keeps `NeverRestarts`, of a driver over a simulated bus.
 abbrev pub ReadsKeepNeverRestarts : Type 0
 ReadsKeepNeverRestarts = (request room answer : List ℕ) (old new : Driving SimulatedBus) (result : Result ℕ HostFault) →
     Looks gives_so device_in restarts_so request room old result answer new → NeverRestarts old → NeverRestarts new
@@ -39,7 +39,7 @@ patient_restarts bus = restarts_so bus.adapter
 abbrev pub patient_gives : Patient SimulatedBus → Call → Patient SimulatedBus → Type 0
 patient_gives old call new = (old.tries ≡ new.tries) × gives_patiently tries_so old.tries old.adapter call new.adapter
 
--- the same of a driver over a patient bus
+-- a patient bus: its adapter's plan has no restart, and since whichever cell was read the converter didn't restart
 pub record PatientNeverRestarts (driver : Driving (Patient SimulatedBus)) : Type 0 where
   pub none : restarts_of driver.bus.adapter.plan.now ≡ 0
   pub since : (cell : Cell) → HasNoRestartSince cell driver.guard.host driver.bus.adapter.device

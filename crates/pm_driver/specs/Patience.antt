@@ -14,7 +14,8 @@ sends_patiently {A = A} gives (suc left) frame old acked new =
     ⊎ (gives old (Sends frame write.Failed) new × (acked ≡ false))
     ⊎ (gives old (Sends frame write.Acknowledged) new × (acked ≡ true))
 
--- The same of a read, which has room for a whole answer, all zero, at each try. With no try left nothing came.
+-- A read with so many tries left: an unheard one counts for nothing, and the others are left; any other is the last. Each
+-- has the same room for its answer. With none left nothing came.
 abbrev pub asks_patiently : {A : Type 0} → (A → Try → A → Type 0) → ℕ → List ℕ → List ℕ → A → List ℕ → A → Type 0
 asks_patiently gives zero request room old came new = (came ≡ []) × (old ≡ new)
 asks_patiently {A = A} gives (suc left) request room old came new =

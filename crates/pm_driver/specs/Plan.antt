@@ -103,7 +103,7 @@ gives_by fault old (Wrote frame acked) new =
 gives_by fault old (Read request room came) new =
     (came ≡ came_by fault request (length room) (turned_by fault old)) × (new ≡ asked_by fault request (turned_by fault old))
 
--- and what a try does
+-- what a try does to the converter, and how it ends, by the fault for its frame
 abbrev pub tries_by : Option Fault → Held → Try → Held → Type 0
 tries_by fault old (Sends frame end) new = (end ≡ write_end fault) × (new ≡ sent_by fault frame (turned_by fault old))
 tries_by fault old (Asks request room end came) new =
@@ -114,7 +114,7 @@ tries_by fault old (Asks request room end came) new =
 abbrev pub fault_next : SimulatedBus → Option Fault
 fault_next bus = slice_get bus.plan.now bus.next
 
--- of a call and of a try the fault is that of its frame, and then the next one's turn comes
+-- a call and a try leave the plan as it is, and use up the fault of their frame: then the next one's turn comes
 pub record TurnsTo (old new : SimulatedBus) : Type 0 where
   pub plan : new.plan.now ≡ old.plan.now
   pub next : new.next ≡ cond (is_some (fault_next old)) (old.next + 1) old.next

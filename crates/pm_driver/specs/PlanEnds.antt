@@ -30,13 +30,13 @@ pub record WentThrough (cell : Cell) (word : ℕ) (result : Result JobEnd LimitF
   pub held : OnOk result (word_at new.bus.device.words cell ≡ word)
   pub at_end : is_at_end new.bus ≡ true
 
--- So goes an order that WRITE_PROTECT allows over a plan at its end, as an empty one is.
+-- An order that WRITE_PROTECT allows goes through (`WentThrough`) over a plan at its end, as an empty one is.
 abbrev pub OrdersGoThrough : Type 0
 OrdersGoThrough = (cell : Cell) (word : ℕ) (result : Result JobEnd LimitFault) (old new : Driving SimulatedBus) →
     HasLife old.guard.host old.bus.device → is_at_end old.bus ≡ true → IsAllowed cell old.bus.device →
     Runs gives_so device_in restarts_so (Order cell word) old result new → WentThrough cell word result new
 
--- the same over a patient bus that has a try, over such a plan
+-- a patient bus that has a try, over a plan at its end
 abbrev pub is_ready : Patient SimulatedBus → Bool
 is_ready bus = nat_lt 0 bus.tries && is_at_end bus.adapter
 

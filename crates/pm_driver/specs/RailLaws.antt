@@ -36,11 +36,12 @@ pub record LawsOfRails : Type 0 where
   pub apart : CellsAreToldApart
   pub known : SurveysEndKnown
 
--- Of every life that led to the host and the converter before a plan was carried out: where the bus counted no restart
--- since, and so none since the first of its reads, then, of any two moments, the output commands at the later one what it
--- commands at the earlier one, or what is wanted. So it does also where the plan stopped, and it changes once at most.
--- Where the part doesn't have VOUT_MIN or VOUT_MAX, the converter's cell holds the word that never cuts, and the host was
--- told nothing of a register that the part doesn't have; of a part with every register that says nothing.
+-- A plan that is carried out keeps its output, in every life that led to the host and the converter before it, if the bus
+-- counted no restart since, and so none since the first of its reads: of any two moments, the output commands at the
+-- later one what it commands at the earlier one, or what is wanted. It does so also where the plan stopped, and changes
+-- once at most. Where the part doesn't have VOUT_MIN or VOUT_MAX, the converter's cell holds the word that never cuts,
+-- and the host was told nothing of a register that the part doesn't have; of a part with every register that says
+-- nothing.
 abbrev pub AppliedPlansKeepRails : {B : Type 0} → (B → Call → B → Type 0) → (B → Held) → (B → ℕ) → Type 0
 AppliedPlansKeepRails {B = B} gives held restarts = (output : ℕ) (wanted : Wanted) (tries : ℕ) (old new : Driving B) (course : Course) →
     (runs : Courses gives held restarts (course_of output wanted tries) old course new) →
@@ -52,7 +53,7 @@ AppliedPlansKeepRails {B = B} gives held restarts = (output : ℕ) (wanted : Wan
     IsStep (goal_at config passes output wanted before)
     (commands config passes (later ++ before) output) (commands config passes ((newer ++ later) ++ before) output)
 
--- Where the end is that all is reached, the converter holds each wanted word.
+-- The converter holds each wanted word after a plan that ended with all reached, if the bus counted no restart since it began.
 abbrev pub AppliedPlansComeTrue : {B : Type 0} → (B → Call → B → Type 0) → (B → Held) → (B → ℕ) → Type 0
 AppliedPlansComeTrue {B = B} gives held restarts = (output : ℕ) (wanted : Wanted) (tries : ℕ) (old new : Driving B) (course : Course) →
     Courses gives held restarts (course_of output wanted tries) old course new →

@@ -18,8 +18,9 @@ use Rattle.pm_driver.specs.Lives.{IsLife}
 use Rattle.pm_driver.specs.Courses.{Courses}
 use Rattle.pm_driver.specs.SurveyLaws.{commanded_in}
 
--- Where the end is that all is reached, the output commands what is wanted: by the wanted words, and those that the other
--- registers held before, also where a register decides of which no word is wanted.
+-- The output commands what is wanted after a plan that ended with all reached, if the bus counted no restart since it
+-- began: by the wanted words, and those that the other registers held before, also where a register decides of which no
+-- word is wanted.
 abbrev pub ReachedPlansAreCommanded : {B : Type 0} → (B → Call → B → Type 0) → (B → Held) → (B → ℕ) → Type 0
 ReachedPlansAreCommanded {B = B} gives held restarts = (output : ℕ) (wanted : Wanted) (tries : ℕ) (old new : Driving B) (course : Course) →
     Courses gives held restarts (course_of output wanted tries) old course new →

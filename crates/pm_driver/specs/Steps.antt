@@ -24,7 +24,7 @@ abbrev pub end_in : Option Step → Option JobEnd
 end_in None = None
 end_in (Some step) = end_by step
 
--- where the step doesn't end the job, one is open
+-- a job is open after a step that doesn't end it
 abbrev pub StaysOpen : Option Step → Summary → Type 0
 StaysOpen (Some Next) host = is_busy host ≡ true
 StaysOpen step host = Unit {0}
@@ -45,7 +45,7 @@ abbrev pub events_by : (call : Call) (old : Held) (was : ℕ) (new : Held) (is :
 events_by (Wrote frame acked) old was new is called = Finish acked ∷ called.events
 events_by (Read request room came) old was new is called = Exchange called.arrival (back_of called.arrival called.back came) ∷ called.before
 
--- By a call of the frame that the host was sending a life goes on by just these events.
+-- A call of the frame that the host was sending carries a life on by just the events that `events_by` names.
 abbrev pub CallsGo : Type 0
 CallsGo = (call : Call) (host : Summary) (old : Held) (was : ℕ) (new : Held) (is : ℕ) → MayDo host (Called call) →
     (called : IsCalled call old was new is) → (config : Config) (passes : ℕ) (before : List Event) →

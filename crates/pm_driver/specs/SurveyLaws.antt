@@ -60,11 +60,11 @@ pub record IsWorth (config : Config) (passes output : ℕ) (v : Survey) (guard :
       restarted_since config passes (Out v.output register) (later ++ before) ≡ false) →
       band_at guard.registers guard.host v.output ≡ Some band → InBand band (commanded_in config held v.output)
 
--- Of every life that led to the host and the converter before a driver's survey: where the bus counted no restart since, nor
--- did the converter restart by the later of the life's events, at which each cell was read that the survey counts as read,
--- the survey is worth that. Of a survey that has read nothing there are no such later events. Where the part doesn't have
--- VOUT_MIN or VOUT_MAX, the converter's cell holds the word that never cuts, and the host was told nothing of a register
--- that the part doesn't have; of a part with every register that says nothing.
+-- A driver's survey is worth what `IsWorth` says, in every life that led to the host and the converter before it, if the
+-- bus counted no restart since, nor did the converter restart by the later of the life's events, at which each cell was
+-- read that the survey counts as read. Of a survey that has read nothing there are no such later events. Where the part
+-- doesn't have VOUT_MIN or VOUT_MAX, the converter's cell holds the word that never cuts, and the host was told nothing
+-- of a register that the part doesn't have; of a part with every register that says nothing.
 abbrev pub SurveysAreTrue : {B : Type 0} → (B → Call → B → Type 0) → (B → Held) → (B → ℕ) → Type 0
 SurveysAreTrue {B = B} gives held restarts = (begun v : Survey) (old new : Driving B) →
     (runs : Surveys gives held restarts begun old v new) → restarts new.bus ≡ restarts old.bus →

@@ -20,7 +20,7 @@ pub enum ReadEnd {
     Unheard,
     /// No byte came. The converter may have heard the request.
     Failed,
-    /// So many bytes came, the read address, which is put first, with them.
+    /// The number of bytes that came, with the read address, which is put first.
     Came(usize),
 }
 

@@ -74,7 +74,6 @@ impl<B: Bus> Driver<B> {
         ensures since { (was : Summary) (cell : Place) → was.setup ≡ guard.host.setup →
             HasNoRestartSince cell was (B.held bus) → HasNoRestartSince cell guard.host (B.held bus) }
     {
-        // Hands its law to the prover.
         laws_of_lives();
         Driver { guard, bus }
     }
@@ -84,7 +83,6 @@ impl<B: Bus> Driver<B> {
     pub fn run(&mut self, job: Job) -> Result<JobEnd, LimitFault>
         ensures { Runs B.gives B.held B.restarts job self.old result self.new }
     {
-        // These calls hand their laws to the prover.
         ends_are_true();
         jobs_lead::<B>();
         leads_compose::<B>();
@@ -104,7 +102,7 @@ impl<B: Bus> Driver<B> {
         self.run(Job::Order(cell, word))
     }
 
-    /// The same of a number of microvolts, as [`Job::OrderMicro`] says.
+    /// Orders a number of microvolts, as [`Job::OrderMicro`] says; it ends as an [`order`](Driver::order) does.
     pub fn order_micro(&mut self, cell: Cell, microvolts: i64) -> Result<JobEnd, LimitFault>
         ensures { Runs B.gives B.held B.restarts (asked.OrderMicro cell microvolts) self.old result self.new }
     {
@@ -178,7 +176,6 @@ impl<B: Bus> Driver<B> {
         requires reads { IsNoWrite self.old.guard.host.setup.addr request.now }
         ensures { Looks B.gives B.held B.restarts request.now answer.old self.old result answer.new self.new }
     {
-        // These calls hand their laws to the prover.
         looks_lead::<B>();
         laws_of_lives();
         if self.is_busy() {
@@ -201,7 +198,6 @@ impl<B: Bus> Driver<B> {
             HasLifeWithin output bounds self.old.guard.host (B.held self.old.bus) →
             HasLifeWithin output bounds self.new.guard.host (B.held self.new.bus) }
     {
-        // These calls hand their laws to the prover.
         renewals_lead::<B>();
         laws_of_lives();
         self.guard.restart();
@@ -242,7 +238,7 @@ impl<B: Bus> Driver<B> {
         ensures { IsTrueOf self.now.guard.host (B.held self.now.bus) }
     {
         laws_of_lives();
-        // Opens the driver to the prover.
+        // law: some life led to the host and the converter, which is the driver's invariant
         let _ = &self.guard;
     }
 }

@@ -25,7 +25,6 @@ pub fn carry_out<B: Bus>(guard: &mut Guard, bus: &mut B) -> Option<JobEnd>
     ensures registers { guard.new.registers ≡ guard.old.registers }
     ensures kept { guard.new.host.setup ≡ guard.old.host.setup }
 {
-    // Hands its law to the prover.
     leads_compose::<B>();
     'frames: loop {
         match send(guard, bus) {
@@ -50,7 +49,6 @@ fn send<B: Bus>(guard: &mut Guard, bus: &mut B) -> Option<Step>
     ensures registers { guard.new.registers ≡ guard.old.registers }
     ensures kept { guard.new.host.setup ≡ guard.old.host.setup }
 {
-    // Hands its law to the prover.
     frames_lead::<B>();
     let mut answer = [0; 8];
     let step = match guard.turn() {

@@ -89,7 +89,8 @@ pub fn new_converters_have_no_restart()
     laws_of_lives();
 }
 
-/// Where the start words of an output's voltages lie within limits, all words of a converter as it was made do.
+/// A converter as it was made has all words of an output's voltages within limits, if its start words for them lie
+/// there.
 pub fn new_converters_are_within()
     ensures { NewConvertersAreWithin }
 {
@@ -116,12 +117,13 @@ pub fn jobs_restart_nothing<B: Bus>()
     ensures { JobsRestartNothing B.gives B.held B.restarts }
 {}
 
-/// Nor does a read that is no job.
+/// A read that is no job ends nothing that the host confirms of a cell that was read, over a bus whose calls restart
+/// nothing.
 pub fn reads_restart_nothing<B: Bus>()
     ensures { ReadsRestartNothing B.gives B.held B.restarts }
 {}
 
-/// By a call of the frame that the host was sending a life goes on by just the events that the bus's clause names.
+/// A call of the frame that the host was sending carries a life on by just the events that the bus's clause names.
 pub(crate) fn calls_go()
     ensures { CallsGo }
 {

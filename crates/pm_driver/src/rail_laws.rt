@@ -38,36 +38,37 @@ pub fn courses_are_lived<B: Bus>()
     ensures { CoursesAreLived B.gives B.held B.restarts }
 {}
 
-/// Where the bus counted no restart since a plan began to be carried out, the output commands at each moment what it
-/// commanded before or what is wanted, and changes once at most, however its jobs ended and wherever it stopped. Of a part
-/// that is said to lack registers this law and the next two ask that no VOUT_MIN or VOUT_MAX that it lacks cuts its outputs,
-/// and that the host had no good answer for any that it lacks.
+/// The output commands, at each moment since a plan began to be carried out, what it commanded before or what is
+/// wanted, and changes once at most, if the bus counted no restart since: however the plan's jobs ended and wherever
+/// it stopped. If the part is said to lack registers, this law and the next two ask that no VOUT_MIN or VOUT_MAX that
+/// it lacks cuts its outputs, and that the host had no good answer for any that it lacks.
 pub fn applied_plans_keep_rails<B: Bus>()
     ensures { AppliedPlansKeepRails B.gives B.held B.restarts }
 {
     courses_hold_in_lives();
 }
 
-/// Where it ended `Reached` too, the converter holds each wanted word.
+/// The converter holds each wanted word after a plan that ended `Reached`, if the bus counted no restart since it
+/// began.
 pub fn applied_plans_come_true<B: Bus>()
     ensures { AppliedPlansComeTrue B.gives B.held B.restarts }
 {
     courses_hold_in_lives();
 }
 
-/// Where it ended `Reached` too, the output commands what is wanted: by the wanted words and, of the registers of which no
-/// word is wanted, by those that they held before.
+/// The output commands what is wanted after a plan that ended `Reached`, if the bus counted no restart since it
+/// began: by the wanted words and, of the registers of which no word is wanted, by those that they held before.
 pub fn reached_plans_are_commanded<B: Bus>()
     ensures { ReachedPlansAreCommanded B.gives B.held B.restarts }
 {
     courses_hold_in_lives();
 }
 
-/// Where the bus counted no restart since a survey began, the output commanded at each moment of it what it commands at its
-/// end, and what that is lies in the output's band. Where the survey has ended by its own rule, the band has one value.
-/// Where it has no tries left, the band rests on answers of before it too, and the converter must not have restarted since
-/// those. A survey that has read nothing begins so in any life, and goes on in the life that it led to. Of a part that is said
-/// to lack registers it asks the same as the laws of plans.
+/// The output commanded at each moment of a survey what it commands at its end, and that lies in the output's band,
+/// if the bus counted no restart since the survey began. If the survey has ended by its own rule, the band has one
+/// value. If it has no tries left, the band rests on answers of before it too, and the converter must not have
+/// restarted since those. A survey that has read nothing begins so in any life, and goes on in the life that it led
+/// to. It asks the same of a part that is said to lack registers as the laws of plans.
 pub fn surveys_are_true<B: Bus>()
     ensures { SurveysAreTrue B.gives B.held B.restarts }
 {

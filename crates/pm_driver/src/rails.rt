@@ -87,7 +87,7 @@ impl<B: Bus> Driver<B> {
         requires { frames_left self.now.guard.host ≡ 0 }
         ensures { spec_is_busy self.now.guard.host ≡ false }
     {
-        // Hands the prover what holds of the host.
+        // law: the host's state is sound, which is its invariant
         let _ = self.host().state();
     }
 }

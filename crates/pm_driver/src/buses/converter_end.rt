@@ -35,7 +35,7 @@ pub(crate) fn deliver(device: &mut Converter, packet: &[u8], arrival: &Arrival)
     }
 }
 
-/// The same of a packet that may be lost.
+/// The converter hears a packet as it arrives, where that is legal; a packet without an arrival is lost.
 pub(crate) fn deliver_some(device: &mut Converter, packet: &[u8], arrival: &Option<Arrival>)
     ensures is { IsSentPart packet.now device.old device.new }
     ensures after { device.new ≡ delivered_some packet.now device.old arrival.now }

@@ -30,7 +30,7 @@ pub fn never_restarts_stays()
     jobs_restart_nothing::<SimulatedBus<'static>>();
 }
 
-/// So does each read that is no job.
+/// Each read that is no job keeps what the host confirms true of the converter, over a plan without restarts.
 pub fn reads_keep_never_restarts()
     ensures { ReadsKeepNeverRestarts }
 {
@@ -52,7 +52,8 @@ pub fn orders_go_through()
     undisturbed_orders_are_done::<SimulatedBus<'static>>();
 }
 
-/// So is one over a patient bus that has a try.
+/// An order that WRITE_PROTECT allows is done over a patient bus that has a try and a plan at its end, and the
+/// converter holds its word.
 pub fn patient_orders_go_through()
     ensures { PatientOrdersGoThrough }
 {

@@ -26,7 +26,6 @@ impl<A: Adapter> Bus for Patient<A> {
         × gives_patiently A.gives old.tries old.adapter call new.adapter };
 
     fn write(&mut self, packet: &[u8]) -> bool {
-        // Hands its law to the prover.
         parts_compose();
         'writes: for tried in 0..self.tries {
             match self.adapter.send(packet) {
@@ -39,7 +38,6 @@ impl<A: Adapter> Bus for Patient<A> {
     }
 
     fn read(&mut self, request: &[u8], answer: &mut [u8]) -> usize {
-        // Hands its law to the prover.
         parts_compose();
         'reads: for tried in 0..self.tries {
             answer.fill(0);

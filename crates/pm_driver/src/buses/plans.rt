@@ -49,7 +49,8 @@ pub fn read_without_restart<'a>(
     driver.read(request, answer)
 }
 
-/// The same of a job over a patient bus, which counts the restarts of its adapter.
+/// Carries a job out, as [`Driver::run`], over a patient bus whose adapter's plan has no restart: what the host
+/// confirms is held on.
 pub fn run_patiently_without_restart<'a>(
     driver: &mut Driver<Patient<SimulatedBus<'a>>>,
     job: Job,
@@ -79,7 +80,8 @@ pub fn order_through<'a>(
     driver.order(cell, word)
 }
 
-/// The same over a patient bus that has a try.
+/// An order, as [`Driver::order`], over a patient bus that has a try and a plan at its end, of a cell that
+/// WRITE_PROTECT allows: where it isn't refused it is done, and its word is held.
 pub fn order_patiently_through<'a>(
     driver: &mut Driver<Patient<SimulatedBus<'a>>>,
     cell: Cell,

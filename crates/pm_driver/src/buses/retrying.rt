@@ -19,7 +19,6 @@ impl<B: Bus> Bus for Retrying<B> {
     ghost gives = { λ old call new. tries_give B.gives old.bus call new.bus };
 
     fn write(&mut self, packet: &[u8]) -> bool {
-        // Hands its law to the prover.
         parts_compose();
         if self.bus.write(packet) {
             return true;

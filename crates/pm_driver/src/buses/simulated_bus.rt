@@ -59,7 +59,6 @@ impl<'a> Adapter for SimulatedBus<'a> {
     ghost gives = { λ old try new. tries_so old try new };
 
     fn send(&mut self, packet: &[u8]) -> WriteEnd {
-        // Hands its law to the prover.
         parts_compose();
         let Some(fault) = self.turn() else {
             deliver(&mut self.device, packet, &Arrival::Whole);
@@ -78,7 +77,6 @@ impl<'a> Adapter for SimulatedBus<'a> {
     }
 
     fn ask(&mut self, request: &[u8], answer: &mut [u8]) -> ReadEnd {
-        // Hands its law to the prover.
         parts_compose();
         let Some(fault) = self.turn() else {
             return came(ask(
@@ -110,7 +108,6 @@ impl<'a> Bus for SimulatedBus<'a> {
     ghost gives = { λ old call new. gives_so old call new };
 
     fn write(&mut self, packet: &[u8]) -> bool {
-        // Hands its law to the prover.
         parts_compose();
         match self.send(packet) {
             WriteEnd::Acknowledged => true,
@@ -120,7 +117,6 @@ impl<'a> Bus for SimulatedBus<'a> {
     }
 
     fn read(&mut self, request: &[u8], answer: &mut [u8]) -> usize {
-        // Hands its law to the prover.
         parts_compose();
         match Adapter::ask(self, request, answer) {
             ReadEnd::Came(count) => count,
@@ -155,7 +151,7 @@ pub fn driver_over<'a>(c: Config, passes: u8, plan: &'a [Fault]) -> Option<Drive
     ensures some { config_fault c ≡ None → setup_fault c.count passes ≡ None → is_some result ≡ true }
     ensures accepted { is_some result ≡ true → (config_fault c ≡ None) × (setup_fault c.count passes ≡ None) }
 {
-    // These calls hand their laws to the prover.
+    // law: a configuration's numbers fit into bytes
     spell(c);
     new_converters_may_begin();
     new_converters_have_no_restart();
