@@ -1,4 +1,4 @@
--- Where a survey has ended by its own rule its output has a band.
+-- An output has a band once a survey of it has ended by its own rule.
 use Rattle.std.specs.Prelude.{◌≡◌, ◌&&◌, ◌||◌, ◌/◌, ◌%◌, ◌==◌, ℕ, Bool, true, false, not, if◌then◌else◌, refl, List, [], ◌∷◌, Option, Some, None, is_none, option_map}
 use Rattle.std.specs.List.{list_any}
 use Rattle.std.proofs.Common.{sym, ◌∙◌, ap, ap₂}

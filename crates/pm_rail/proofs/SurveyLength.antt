@@ -313,7 +313,7 @@ module _ (apart : CellsAreToldApart) (law : CellsHavePlaces) (k : Known) (whole 
       (law.below (cell_of output p) (there output p small)) in
       get_or-set_same list (place_of (cell_of output p)) (only word) Any fits
 
-  -- where it was possible, the others stay
+  -- the other cells stay as they are, if the word was possible for its cell
   others-stay : (p q : Option Reg) (word : ℕ) → is_possible word (known_possible k (cell_of output p)) ≡ true → same_place p q ≡ false →
       known_possible (known_after k (Good (cell_of output p) word)) (cell_of output q) ≡ known_possible k (cell_of output q)
   others-stay p q word expected two =
@@ -380,7 +380,7 @@ module _ (apart : CellsAreToldApart) (law : CellsHavePlaces) (output : ℕ) (sma
   unfolding now_known lost_at
   found-here = ap₂ (λ (a b : Bool). a && b) here (is-known (cell_of output p) word _ taken (is-only apart law k way.whole output small p word))
 
-  -- where the word was possible
+  -- what is lost of the other cells stays, if the word was possible for its cell
   stays-lost : is_possible word (known_possible k (cell_of output p)) ≡ true → (q : Option Reg) → same_place p q ≡ false →
       lost_at now_known output now_read q ≡ lost_at k output read q
   unfolding now_known lost_at

@@ -164,7 +164,7 @@ differing course job end = course
 abbrev pub told_of : Course → JobEnd → Course
 told_of course end = record (differing course course.survey.asked end) { survey = ended course.survey course.survey.asked end }
 
--- the same by a guard
+-- what a course says next, and what it is then, by a guard's host, registers and limits
 abbrev pub next_by : Guarded → Course → Next
 next_by guard course = next_of guard.registers (limits_at guard course.survey.output) guard.host course
 

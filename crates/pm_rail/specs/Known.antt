@@ -17,8 +17,8 @@ use Rattle.pm_rail.specs.Registers.{Held}
 abbrev pub Cells : Type 0
 Cells = Cell → Possible
 
--- by what a host knows of a part with these registers, in a format: a missing VOUT_MIN and a missing VOUT_MAX stand at one
--- word
+-- what each cell may hold, by what a host knows of a part with these registers, in a format: a missing VOUT_MIN and a
+-- missing VOUT_MAX stand at one word
 abbrev pub cells_of : PartRegisters → Shape → Summary → Cells
 cells_of part shape s (Out output register) = register_known part shape s output register
 cells_of part shape s Protect = possible_at s Protect

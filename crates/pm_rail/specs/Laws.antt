@@ -42,8 +42,8 @@ abbrev pub would_be_cut : Scale → Held → ℕ → Bool
 would_be_cut value held byte =
     is_outside (value (held (selected_register byte))) (value (held VoutMin)) (value (held VoutMax))
 
--- Where the output isn't cut by the words at the end, each order of the plan leaves what it commands, or makes it
--- what it commands at the end (`one`), and so does any number of them from any moment on (`any`). So it never commands
+-- Each order of the plan leaves what the output commands, or makes it what it commands at the end (`one`), and so does
+-- any number of them from any moment on (`any`), if the output isn't cut by the words at the end. So it never commands
 -- anything but its first value and its last, and changes once at most.
 pub record PlansAreWithoutGlitch : Type 0 where
   pub one : (value : Scale) (held : Held) (wants : Wants) → HasDens value → wants Operation ≡ None →
@@ -65,8 +65,8 @@ pub record PlansEnd : Type 0 where
   pub five : (value : Scale) (held : Held) (wants : Wants) → wants Operation ≡ None →
       (register : Reg) → after value wants held 5 register ≡ goal_of held wants register
 
--- Where an output isn't cut, neither by its words nor by those at the end, no order cuts it; and no order cuts what any
--- other byte of OPERATION would select, where that isn't cut either.
+-- No order cuts an output that isn't cut, neither by its words nor by those at the end; and no order cuts what any other
+-- byte of OPERATION would select for such an output, where that isn't cut either.
 pub record PlansCutNothing : Type 0 where
   pub kept : (value : Scale) (held : Held) (wants : Wants) (byte : ℕ) → HasDens value → wants Operation ≡ None →
       is_cut_by value held ≡ false → would_be_cut value held byte ≡ false →

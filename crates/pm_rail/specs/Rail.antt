@@ -18,7 +18,7 @@ abbrev pub are_off : List ℕ → Bool
 are_off [] = true
 are_off (byte ∷ bytes) = is_off byte && are_off bytes
 
--- By the bytes that OPERATION may be. Of one that its cell doesn't take nothing is known.
+-- Whether an output is on, by the bytes that OPERATION may be: not known, if its cell doesn't take one of them.
 abbrev pub power_by : List ℕ → Power
 power_by bytes = if are_on bytes then On else (if are_off bytes then Off else NotKnown)
 

@@ -37,8 +37,8 @@ pub data Answered (part : PartRegisters) (begun : Survey) (first : Summary) : �
       Answered part begun first (checks + 1) (surprises + surprise s cell word)
       (ended (asking v (Some (Check cell))) (Some (Check cell)) Done) after
 
--- Where no answer surprises, a survey that has read nothing takes a check for each cell that it reads (`calm`). Where one
--- does at most, it takes at most one less than two for each (`short`).
+-- A survey that has read nothing takes a check for each cell that it reads, if no answer surprises (`calm`), and at most
+-- one less than two for each, if one does at most (`short`).
 pub record SurveysAreShort : Type 0 where
   pub calm : (part : PartRegisters) (begun v : Survey) (first s : Summary) (checks : ℕ) → HasPlaces first.known →
       begun.output < 8 → begun.read ≡ nothing_read → Answered part begun first checks 0 v s → checks ≡ reads_in v.read

@@ -83,7 +83,7 @@ impl Course {
         self.next_in(host.state(), host.stage(), guard.registers(), &limits)
     }
 
-    /// The same by what is held beside the open job, of a part with these registers and by these limits. The output's
+    /// What to do next, by what is held beside the open job, of a part with these registers, by these limits. The output's
     /// number is below 8.
     pub fn next_in(
         &mut self,
@@ -193,7 +193,7 @@ impl Course {
         }
     }
 
-    // The same of a byte of OPERATION, where no job is open.
+    // The next order of a course to a byte of OPERATION, where no job is open.
     fn power_next(
         &self,
         host: &State,
@@ -238,7 +238,7 @@ impl Course {
         }
     }
 
-    // The same while no order differed a second time, and no job is open.
+    // What the course says while no order differed a second time, and no job is open.
     fn going(&self, host: &State, part: PartRegisters, limits: &Option<Limits>) -> Next
         requires { self.now.survey.output < 8 }
         ensures { result ≡ going_to part limits.now (held None host.now) self.now self.now.byte }
@@ -269,7 +269,7 @@ impl Course {
         }
     }
 
-    // The same once the survey asks for nothing more.
+    // What the course says once the survey asks for nothing more, by the next order.
     fn ordering(&self, order: Result<Option<PlanOrder>, PlanFault>) -> Next
         ensures { result ≡ ordering self.now order }
     {

@@ -34,7 +34,7 @@ pub(crate) fn known_at(
     }
 }
 
-// The same by what the host knows alone.
+// The only word that a cell may hold by what the host knows alone, where it is one that the cell takes.
 fn known_in(host: &State, cell: Cell) -> Option<u16>
     requires { IsCell 8 cell }
     ensures { result ≡ known_word cell (possible_at (held None host.now) cell) }

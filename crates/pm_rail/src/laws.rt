@@ -5,9 +5,9 @@ ghost use Rattle.pm_rail.specs.SurveyLength.{SurveysAreShort};
 
 use pm_table::{cells_are_told_apart, cells_have_places};
 
-/// Where the output isn't cut by the words at the end, each order of the plan leaves what it commands, or makes it
-/// what it commands at the end (`one`), and so does any number of them from any moment on (`any`). So it never commands
-/// anything but its first value and its last, and changes once at most.
+/// Each order of the plan leaves what the output commands, or makes it what it commands at the end (`one`), and so
+/// does any number of them from any moment on (`any`), if the output isn't cut by the words at the end. So it never
+/// commands anything but its first value and its last, and changes once at most.
 pub fn plans_are_without_glitch()
     ensures { PlansAreWithoutGlitch }
 {}
@@ -18,8 +18,8 @@ pub fn plans_end()
     ensures { PlansEnd }
 {}
 
-/// Where an output isn't cut, neither by its words nor by those at the end, no order cuts it; and no order cuts what any
-/// other byte of OPERATION would select, where that isn't cut either.
+/// No order cuts an output that isn't cut, neither by its words nor by those at the end; and no order cuts what any
+/// other byte of OPERATION would select for such an output, where that isn't cut either.
 pub fn plans_cut_nothing()
     ensures { PlansCutNothing }
 {}

@@ -57,8 +57,8 @@ pub fn next_order(
     )
 }
 
-/// The same by what is held beside the open job, of a part with these registers and by these limits. The output's
-/// number is below 8.
+/// The next order, by what is held beside the open job, of a part with these registers and by these limits. The
+/// output's number is below 8.
 pub fn next_order_in(
     host: &State,
     stage: Option<Stage>,
@@ -97,7 +97,7 @@ fn planned_in(
     }
 }
 
-// The same in this format.
+// The next order in this format.
 fn planned_by(
     host: &State,
     part: PartRegisters,

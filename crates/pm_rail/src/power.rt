@@ -62,7 +62,7 @@ pub fn power_in(host: &State, output: u8) -> Power
     }
 }
 
-// The same by the bytes that OPERATION may be.
+// Whether an output is on, by the bytes that OPERATION may be.
 fn power_by(bytes: &[u16]) -> Power
     ensures { result ≡ spec_power_by bytes.now }
 {

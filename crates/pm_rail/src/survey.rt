@@ -169,7 +169,8 @@ impl Survey {
         self.next_in(host.state(), guard.registers())
     }
 
-    /// The same by what is held beside the open job, of a part with these registers. The output's number is below 8.
+    /// What to ask for now, by what is held beside the open job, of a part with these registers. The output's number
+    /// is below 8.
     pub fn next_in(&mut self, host: &State, part: PartRegisters) -> Option<Job>
         requires { self.old.output < 8 }
         ensures job { result ≡ next_job part self.old (held None host.now) }
@@ -209,7 +210,8 @@ impl Survey {
         self.is_done_in(host.state(), guard.registers())
     }
 
-    /// The same by what is held beside the open job, of a part with these registers. The output's number is below 8.
+    /// Whether the survey has ended by its own rule, by what is held beside the open job, of a part with these
+    /// registers. The output's number is below 8.
     pub fn is_done_in(&self, host: &State, part: PartRegisters) -> bool
         requires { self.now.output < 8 }
         ensures { result ≡ is_surveyed part self.now (held None host.now) }
@@ -228,7 +230,7 @@ impl Survey {
         }
     }
 
-    // The same in the output's format.
+    // What is still to be asked for, in the output's format.
     fn due_by(&self, host: &State, part: PartRegisters, format: &AnyFormat) -> Option<Job>
         requires { self.now.output < 8 }
         ensures { result ≡ spec_due_by part self.now (held None host.now) (Some (shape_of format.now)) }
@@ -237,7 +239,7 @@ impl Survey {
         self.due_in(host, part, format, &known, &wanted_of(self.plan))
     }
 
-    // The same by the words that are known and those that are wanted.
+    // What is still to be asked for, by the words that are known and those that are wanted.
     fn due_in(
         &self,
         host: &State,
@@ -279,7 +281,7 @@ impl Survey {
         }
     }
 
-    // The same in the output's format.
+    // Whether a register is needed that isn't known and that the part doesn't have, in the output's format.
     fn is_stuck_by(&self, host: &State, part: PartRegisters, format: &AnyFormat) -> bool
         requires { self.now.output < 8 }
         ensures { result ≡ spec_is_stuck_by part self.now (held None host.now) (Some (shape_of format.now)) }

@@ -33,7 +33,7 @@ impl Wanted {
         }
     }
 
-    /// The same words, and this one for a register; none is wanted of OPERATION, which stays as it is.
+    /// The wanted words with this one for a register; none is wanted of OPERATION, which stays as it is.
     pub fn with(self, register: Reg, word: u16) -> Wanted
         ensures { result ≡ with_word self register word }
     {

@@ -100,7 +100,7 @@ first-none None None (Some x) p q r = cc
 first-none None (Some x) c p q r = cc
 first-none (Some x) b c p q r = cc
 
--- of a register that is there one word alone is possible where one is known
+-- a register that the part has may hold one word alone by what the host knows, if it may by `cells_of`
 sole-there : (part : PartRegisters) (shape : Shape) (s : Summary) (output : ℕ) (register : Reg) → has_register part register ≡ true →
     is_none (sole (cells_of part shape s (Out output register))) ≡ false →
     is_none (sole (possible_at s (Out output register))) ≡ false

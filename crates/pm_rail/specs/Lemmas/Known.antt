@@ -61,7 +61,7 @@ all-off test free register =
       | VoutMin ↦ six.0
     ]
 
--- Where no fault is found of the voltages the test holds of none of these.
+-- The test holds of no voltage register, if no fault is found of the voltages.
 pub none-voltage : (fault : Reg → PlanFault) (test : Reg → Bool) → first_of voltages fault test ≡ None →
     (register : Reg) → is_voltage register ≡ true → test register ≡ false
 none-voltage fault test free register volt =
@@ -79,7 +79,7 @@ none-voltage fault test free register volt =
       | VoutMin ↦ λ v. five.0
     ]) volt
 
--- Where no fault is found of the registers that a byte may select the test holds of none of these.
+-- The test holds of no register that a byte may select, if no fault is found of the selectable ones.
 none-selected : (fault : Reg → PlanFault) (test : Reg → Bool) → first_of selectable fault test ≡ None →
     (byte : ℕ) → test (selected_register byte) ≡ false
 none-selected fault test free byte =
@@ -146,7 +146,7 @@ known-all cells output held wants free register needed =
     not-second (is_needed held wants register) _
     (all-off (is_unknown cells output held wants) (map-none _ (find (is_unknown cells output held wants) registers) free) register) needed
 
--- of a cell that is known one word alone is possible
+-- one word alone is possible for a cell that is known
 pub sole-known : (cell : Cell) (word : Option ℕ) →
     is_none (option_and_then (λ w. rule (cell_accepts cell w) w) word) ≡ false → is_none word ≡ false
 sole-known cell None h = cc
@@ -250,7 +250,7 @@ module _ (value : Scale) (known held : Held) (wants : Wants) (none : wants Opera
       in
       cc
 
--- where no word is out of order the output isn't cut at the end
+-- the output isn't cut at the end, if no word is out of order
 pub uncut-goal : (value : Scale) (known : Held) (wants : Wants) → wants Operation ≡ None → words_fault value known wants ≡ None →
     is_cut_by value (goal_of known wants) ≡ false
 uncut-goal value known wants none free =

@@ -77,7 +77,7 @@ module _ (part : PartRegisters) (limits : Option Bounds) (s : Summary) (course :
         subst (λ (x : Asked). NamesPower part s course byte x)
         (sym (ap (λ (x : PlanOrder). Order (Out course.survey.output x.register) x.word) (some-order order o)) ∙ t.1) orders
 
-  -- where all is reached, the order was read back as it was given, or OPERATION is known to be the byte and the survey has ended
+  -- the order was read back as it was given, if all is reached, or OPERATION is known to be the byte and the survey has ended
   -- by its own rule
   pub power-reached : says part limits s course ≡ Ended Reached → (course.done ≡ true)
       ⊎ ((is_operation_known s course.survey.output byte ≡ true) × (is_surveyed part course.survey s ≡ true))

@@ -272,7 +272,7 @@ module _ (part : PartRegisters) (limits : Option Bounds) (s : Summary) (course :
               (orders order (by-due n (Some order) o) (planned (Ok (Some order)) o)),
         )
 
-  -- where all is reached, the survey has ended by its own rule, and the plan has no further order
+  -- the survey has ended by its own rule, and the plan has no further order, if all is reached
   pub says-reached : says part limits s course ≡ Ended Reached → (is_surveyed part course.survey s ≡ true)
       × (plan_of part s limits course.survey.output (wants_of (wanted_in course.survey.plan)) ≡ Ok None)
   says-reached is = go (said part limits s course) is where
@@ -322,7 +322,7 @@ ended-same v (Some (Order cell word)) e = (refl, refl, refl)
 ended-same v (Some (OrderMicro cell x)) e = (refl, refl, refl)
 ended-same v (Some (Send command)) e = (refl, refl, refl)
 
--- and the byte, and whether something was ordered
+-- the byte, and whether something was ordered, stay with the end of any job
 pub differing-same : (course : Course) (o : Option Asked) (e : JobEnd) → ((differing course o e).byte ≡ course.byte)
     × ((differing course o e).ordered ≡ course.ordered)
 differing-same course None e = (refl, refl)
