@@ -142,7 +142,7 @@ module _ (laws : Below) (config : Config) (passes : ℕ) (part : PartRegisters) 
   abbrev pub Open : List Event → Type 0
   Open events = IsBeside part output (job_in (now config passes events).host)
 
-  -- where the open job is one that others may ask for, it is no order of the output, and no restore
+  -- the open job is no order of the output, and no restore, if it is one that others may ask for
   pub no-order : (events : List Event) → Open events → (q : Reg) (word : ℕ) →
       open_pending config passes events ≡ Some (pending.Order (Out output q) word) → ⊥
   no-order events quiet q word p = go (job_in (now config passes events).host) refl (sym (pending-open laws config passes events) ∙ p) where

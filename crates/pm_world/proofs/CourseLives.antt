@@ -58,7 +58,7 @@ module _ (laws : BelowCourses) (config : Config) (passes : ℕ) (part : PartRegi
   abbrev Way : Course → List Event → Type 0
   Way course es = ways.Way laws config passes part output wanted before spelled here missing course es
 
-  -- where the words stay, so does what is commanded
+  -- what the output commands stays, if its words do
   stay-commands : (later : List Event) → Stays later → (rest piece : List Event) → later ≡ rest ++ piece →
       commands config passes (piece ++ before) output ≡ commands config passes before output
   stay-commands later stays rest piece is = same-commands config passes output (piece ++ before) before
@@ -119,7 +119,7 @@ module _ (laws : BelowCourses) (config : Config) (passes : ℕ) (part : PartRegi
             (subst (λ (l : List Event). IsLived config passes (l ++ (later ++ before))) second.newer_is there)))
       ]
 
-  -- of any two moments
+  -- the output commands, of any two moments, at the later one what it does at the earlier one, or what is wanted
   pub keeps-rail : (course : Course) (es rest newer' later' : List Event) → IsLived config passes (es ++ before) →
       Way course es → es ≡ rest ++ (newer' ++ later') → Moves (later' ++ before) ((newer' ++ later') ++ before)
   keeps-rail course es rest newer' later' lived way split = go way.phase where
@@ -159,7 +159,7 @@ module _ (laws : BelowCourses) (config : Config) (passes : ℕ) (part : PartRegi
       ∙ goal-stays course es lived way register
       ∙ ap (λ (o : Option ℕ). unwrap_or o (held_at config passes before output register)) none
 
-  -- where it has reached its end, each wanted word is held
+  -- each wanted word is held, if the course has ended `Reached`
   pub comes-true : (limits : Option Bounds) (course : Course) (es : List Event) → IsLived config passes (es ++ before) →
       list_any restarts_converter es ≡ false → Way course es → next_of part limits (at es) course ≡ said.Ended Reached →
       (register : Reg) (word : ℕ) → wants register ≡ Some word → held_at config passes (es ++ before) output register ≡ word

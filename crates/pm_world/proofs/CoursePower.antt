@@ -73,7 +73,7 @@ module _ (laws : BelowCourses) (possible : PossibleWordsAreHeld) (config : Confi
   kept-drop [] es kept = kept
   kept-drop (event ∷ rest) es kept = kept-drop rest es kept.1
 
-  -- of any two moments
+  -- each register keeps its word between any two moments, but OPERATION may take the byte
   between : (newer later : List Event) → AreKept (newer ++ later) →
       IsKept (held_at config passes ((newer ++ later) ++ before) output) (held_at config passes (later ++ before) output)
   between [] later kept r = inl refl
@@ -131,7 +131,7 @@ module _ (laws : BelowCourses) (possible : PossibleWordsAreHeld) (config : Confi
     go (inr p) = inr (commands-by-words config passes output ((newer ++ later) ++ before)
         (put (held_at config passes before output) Operation byte) (at-goal (newer ++ later) kept' p.1))
 
-  -- where it has reached its end, OPERATION holds the byte
+  -- OPERATION holds the byte, if the course has ended `Reached`
   pub comes-true : (limits : Option Bounds) (course : Course) (es : List Event) → IsLived config passes (es ++ before) →
       list_any restarts_converter es ≡ false → Way course es → next_of part limits (at es) course ≡ said.Ended Reached →
       held_at config passes (es ++ before) output Operation ≡ byte

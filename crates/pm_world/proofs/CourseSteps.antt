@@ -156,7 +156,7 @@ module _ (laws : BelowCourses) (config : Config) (passes : ℕ) (part : PartRegi
       after_next part limits s course ≡ naming (renewed part limits s course) (said.Job asked')
   named-is limits course s asked' is = ap (λ (n : Said). naming (renewed part limits s course) n) is
 
-  -- and one that names a job of its survey reads on
+  -- a course that reads and names no order reads on
   reading-named : (course : Course) (es : List Event) (asked' : Asked) → Reading course es → is_order asked' ≡ false →
       Reading (naming course (said.Job asked')) es
   reading-named course es asked' was free = record {
@@ -217,7 +217,7 @@ module _ (laws : BelowCourses) (config : Config) (passes : ℕ) (part : PartRegi
           parts.0 (is'.may (now config passes (es ++ before)) event named))
       phase (now-on ordering fine) = inr (ways.ordering-more laws config passes part output wanted before spelled here missing es event ordering parts.0 (fine event named))
 
-  -- and it is told how that ended
+  -- a course that is told how its job ended goes on its way
   way-tells : (limits : Option Bounds) (course : Course) (newer es : List Event) (event : Event) (j : Asked) (end : JobEnd) →
       Way course es → IsLived config passes ((newer ++ event ∷ es) ++ before) →
       list_any restarts_converter (newer ++ event ∷ es) ≡ false →

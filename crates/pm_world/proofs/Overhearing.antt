@@ -303,7 +303,7 @@ arrives-whole : (frame : List ℕ) (message : Message) → is_read_message messa
 arrives-whole frame message reads =
     ap (λ b. is_restart (cond b Restart Stop) && bytes_eq frame frame) reads ∙ (bytes_eq-Decides frame frame).1 refl
 
--- Where a request wasn't heard whole, a return is judged without the answer.
+-- A return is judged without the answer, if the request wasn't heard whole.
 cut-same : (request : List ℕ) (needed : ℕ) (whole : Bool) (answer other bytes : List ℕ) → whole ≡ false
     → is_legal_return request needed whole answer bytes ≡ is_legal_return request needed whole other bytes
 unfolding is_legal_return

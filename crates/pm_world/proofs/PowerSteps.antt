@@ -223,7 +223,7 @@ module _ (laws : BelowCourses) (possible : PossibleWordsAreHeld) (config : Confi
       (told_of (record course { survey = record course.survey { asked = Some k } }) end).done ≡ course.done) part v s
       (λ course end. refl) (λ r has course end. refl) (λ course end. refl) j is
 
-  -- where an order was read back as it was given, one was before, or this one was
+  -- an order that counts as done was read back as it was given: one of before, or this one
   done-order : (course : Course) (o : ℕ) (word : ℕ) (end : JobEnd) →
       (differing course (Some (job.Order (Out o Operation) word)) end).done ≡ true → (course.done ≡ true) ⊎ (end ≡ ends.Done)
   done-order course o word ends.Done d = inr refl

@@ -41,7 +41,7 @@ eqb-same a b c d to from = go (eqb a b) (eqb c d) refl refl where
 ends : ℕ → ℕ → ℕ
 ends third fourth = bit_xor (residues_of third 16 8) (residues_of fourth 8 8)
 
--- these, with what stands before and after them
+-- what the two bytes after the count give, with what stands before and after them
 around : ℕ → ℕ → ℕ → ℕ
 around addr second middle =
     bit_xor (residues_of (write_address addr) 40 8)
@@ -54,7 +54,7 @@ six addr second third fourth =
     ap (λ (t : ℕ). bit_xor (residues_of (write_address addr) 40 8) (bit_xor (residues_of second 32 8) (bit_xor (residues_of 2 24 8) t)))
     (sym (xor_assoc (residues_of third 16 8) (residues_of fourth 8 8) (pec_of (read_address addr ∷ []))))
 
--- of two such requests with one second byte
+-- two such requests with one code and one second byte have one middle
 same_second : (addr second x y : ℕ) → around addr second x ≡ around addr second y → x ≡ y
 unfolding around
 same_second addr second x y h =

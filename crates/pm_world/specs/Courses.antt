@@ -89,7 +89,7 @@ abbrev pub power_goal_at : Config → ℕ → ℕ → ℕ → List Event → Rat
 power_goal_at config passes output byte events = commands_by (value_for config output)
     (put (held_at config passes events output) Operation byte)
 
--- Of these events, and a course to wanted words. Of any two moments of it, the output commands at the later one what it commands
+-- A course to wanted words that these events end with: of any two moments of it, the output commands at the later one what it commands
 -- at the earlier one, or what is wanted, however its jobs ended and wherever it was left (`held`). Where it has ended `Reached`, the
 -- converter holds each wanted word (`come_true`), and the output commands what is wanted (`commanded`). A register of which no word
 -- is wanted keeps its word (`kept`). Where the part doesn't have VOUT_MIN or VOUT_MAX, the converter's cell holds the word that
@@ -119,7 +119,7 @@ pub record KeepsCourses (config : Config) (passes : ℕ) (events : List Event) :
       next_of part limits (now config passes events).host course ≡ Ended Reached →
       commands config passes events output ≡ goal_at config passes output wanted before
 
--- Of these events, and a course to a byte of OPERATION. Of any two moments of it, each register of the output holds at the later
+-- A course to a byte of OPERATION that these events end with: of any two moments of it, each register of the output holds at the later
 -- one what it holds at the earlier one, or OPERATION the byte (`words`); so the output commands what it commands at the earlier
 -- one, or what it commands with that byte (`held`). Where it has ended `Reached`, OPERATION holds the byte (`come_true`).
 pub record KeepsPower (config : Config) (passes : ℕ) (events : List Event) : Type 0 where
