@@ -44,7 +44,8 @@ pub fn words_that_are_possible(
     run_and_step(c, passes, events, more)
 }
 
-/// That life begins in a world that can be made.
+/// The life that leaves possible words begins in a world that can be made (`made`), and has at most twice as many
+/// events as the run and the step together (`short`).
 pub fn a_world_that_can_be_made(
     c: Config,
     passes: u8,

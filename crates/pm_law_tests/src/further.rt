@@ -118,7 +118,8 @@ pub fn orders_after_a_step(
     run_and_step(c, passes, events, more)
 }
 
-/// Its jobs send few frames, undisturbed orders go through, and so does each job on a bus that is good again.
+/// Jobs send few frames after a run and a step, undisturbed orders go through, and so does each job on a bus that is
+/// good again.
 pub fn orders_go_through_after_a_step(
     c: Config,
     passes: u8,
@@ -168,7 +169,7 @@ pub fn words_after_a_step(
     run_and_step(c, passes, events, more)
 }
 
-/// Its outputs stay within limits that their own words lie within.
+/// Outputs stay, after a run and a step, within limits that their own words lie within.
 pub fn limits_after_a_step(
     c: Config,
     passes: u8,
@@ -200,7 +201,7 @@ pub fn a_band_after_a_step(
     short_after_a_step(c, passes, events, more, output)
 }
 
-// Its words have 16 bits.
+// An output's words have 16 bits, after a run and a step.
 fn short_after_a_step(
     c: Config,
     passes: u8,

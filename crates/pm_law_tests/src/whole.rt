@@ -55,7 +55,7 @@ pub fn a_check_that_is_done(
     a_check_that_comes_whole(c, passes, events)
 }
 
-// That read is undisturbed.
+// An exchange that comes whole reads the cell of an open check undisturbed.
 fn check_undisturbed(
     c: Config,
     passes: u8,
@@ -112,7 +112,7 @@ pub fn a_read_back_that_comes_whole(
     }
 }
 
-// That read is undisturbed.
+// An exchange that comes whole reads back an open order undisturbed.
 fn read_back_undisturbed(
     c: Config,
     passes: u8,
@@ -192,7 +192,7 @@ pub fn a_pass_that_went_through(
     a_pass_that_comes_whole(c, passes, events, acked)
 }
 
-// That write and that read are undisturbed.
+// The write and the read of a pass are undisturbed, if they come whole.
 fn pass_undisturbed(
     c: Config,
     passes: u8,
@@ -270,7 +270,7 @@ pub fn a_command_that_comes_whole(
     }
 }
 
-// That write is undisturbed.
+// The write of a command is undisturbed, if it comes whole and is acknowledged.
 fn command_undisturbed(
     c: Config,
     passes: u8,
