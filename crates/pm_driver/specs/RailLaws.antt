@@ -53,7 +53,8 @@ AppliedPlansKeepRails {B = B} gives held restarts = (output : ℕ) (wanted : Wan
     IsStep (goal_at config passes output wanted before)
     (commands config passes (later ++ before) output) (commands config passes ((newer ++ later) ++ before) output)
 
--- The converter holds each wanted word after a plan that ended with all reached, if the bus counted no restart since it began.
+-- The converter holds each wanted word after a plan that ended with all reached, if the bus counted no restart since it
+-- began; of registers that the part doesn't have it asks what `AppliedPlansKeepRails` asks.
 abbrev pub AppliedPlansComeTrue : {B : Type 0} → (B → Call → B → Type 0) → (B → Held) → (B → ℕ) → Type 0
 AppliedPlansComeTrue {B = B} gives held restarts = (output : ℕ) (wanted : Wanted) (tries : ℕ) (old new : Driving B) (course : Course) →
     Courses gives held restarts (course_of output wanted tries) old course new →

@@ -20,7 +20,7 @@ use Rattle.pm_driver.specs.SurveyLaws.{commanded_in}
 
 -- The output commands what is wanted after a plan that ended with all reached, if the bus counted no restart since it
 -- began: by the wanted words, and those that the other registers held before, also where a register decides of which no
--- word is wanted.
+-- word is wanted. Of registers that the part doesn't have it asks what `AppliedPlansKeepRails` asks.
 abbrev pub ReachedPlansAreCommanded : {B : Type 0} → (B → Call → B → Type 0) → (B → Held) → (B → ℕ) → Type 0
 ReachedPlansAreCommanded {B = B} gives held restarts = (output : ℕ) (wanted : Wanted) (tries : ℕ) (old new : Driving B) (course : Course) →
     Courses gives held restarts (course_of output wanted tries) old course new →
