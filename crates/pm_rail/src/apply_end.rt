@@ -8,7 +8,8 @@ pub enum ApplyEnd {
     /// Each register of which a word is wanted has it, by answers that all came after the last order, unless the converter
     /// restarted since the course began.
     Reached,
-    /// It stopped before that. The output commands what it did or what is wanted, unless the converter restarted.
+    /// The course stopped before its end. The output commands what it did or what is wanted, unless the converter
+    /// restarted.
     Stopped {
         /// Why.
         why: StopCause,

@@ -124,7 +124,7 @@ fn stored_words_come_back(rt: HostRuntime) -> Result<(), Fail> {
 
 // WRITE_PROTECT at the start, events after the order, what WRITE_PROTECT then is and what the host says of it.
 static PROTECTED: [(&str, &str, &str); 4] = [
-    // It isn't stored: a restore leaves it, and a restart gives its start word.
+    // WRITE_PROTECT isn't stored: a restore leaves it, and a restart gives its start word.
     (
         "20",
         "order - WRITE_PROTECT 00\ndeliver whole\nfinish ack\nexchange whole whole\nrestore\ndeliver whole\nfinish ack\n",

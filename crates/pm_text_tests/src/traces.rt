@@ -131,7 +131,7 @@ fn is_finished(rt: &impl Abort, decoder: &mut Decoder, wanted: Result<bool, Text
     equal(rt, &finished(decoder), &wanted, &wanted);
 }
 
-// Its counts, and whether it shows a line.
+// The decoder's counts, and whether it shows a line.
 fn stands_at(rt: &impl Abort, decoder: &Decoder, counts: (u64, u64, u64, u64), has_line: bool) {
     equal(rt, &decoder.counts(), &counts, &has_line);
     equal(rt, &decoder.line().is_some(), &has_line, &counts);

@@ -133,7 +133,7 @@ fn a_frame_line_is_heard_however_it_is_written(rt: HostRuntime) {
     }
 }
 
-// Such a text is refused for this, and nothing is written.
+// A text is refused for this fault, and nothing is written.
 fn is_refused(rt: &(impl Abort + AllocGlobal), text: &str, piece: usize, fault: TextFault) {
     let (result, written) = heard(rt.alloc(), text.as_bytes(), piece);
     equal(rt, &result, &Err(fault), &(text, piece));
