@@ -83,7 +83,7 @@ impl Course {
         self.next_in(host.state(), host.stage(), guard.registers(), &limits)
     }
 
-    /// What to do next, by what is held beside the open job, of a part with these registers, by these limits. The output's
+    /// What to do next, by the state beside the open job, of a part with these registers, by these limits. The output's
     /// number is below 8.
     pub fn next_in(
         &mut self,
