@@ -14,9 +14,9 @@ use pm_table::{Cell, Code};
 pub enum Back {
     /// The answer; no bytes where the converter gave none.
     Whole,
-    /// Its first bytes, of this number, or all where there are no more.
+    /// The answer's first bytes, of this number, or all where there are no more.
     Cut(u8),
-    /// Bytes that come in its place.
+    /// Bytes that come in the answer's place.
     Bytes(Frame),
 }
 
@@ -35,12 +35,11 @@ impl Back {
 /// so a cut frame is a prefix of it.
 #[derive(Clone, Debug, PartialEq, Eq, Drop)]
 pub enum Arrival {
-    /// All of its bytes, ended as the host ends them: a write by a stop, a request by a repeated
-    /// start.
+    /// All bytes of the frame, ended as the host ends them: a write by a stop, a request by a repeated start.
     Whole,
-    /// Its first bytes, of this number, or all where there are no more, ended by a stop.
+    /// The frame's first bytes, of this number, or all where there are no more, ended by a stop.
     Cut(u8),
-    /// Bytes that come in its place, with this ending.
+    /// Bytes that come in the frame's place, with this ending.
     Bytes(Frame, Ending),
 }
 

@@ -1,4 +1,4 @@
-//! That the words of a converter are those of a program.
+//! The words of an output's registers, as a converter holds them, have 16 bits.
 
 ghost use Rattle.std.specs.Prelude.{◌<◌, ◌^◌};
 ghost use Rattle.pm_table.specs.declared.cell.Cell.TheVariants.{Out};

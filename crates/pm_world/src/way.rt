@@ -26,15 +26,15 @@ use pm_table::{Cell, is_allowed};
 /// worth says [`ways_are_followed`].
 #[derive(Clone, Copy, Debug, PartialEq, Eq)]
 pub enum Way {
-    /// None is on its way: another job was asked for, WRITE_PROTECT doesn't allow the order's code, or another event
-    /// came in between.
+    /// No order is on its way: another job was asked for, WRITE_PROTECT doesn't allow the order's code, or another
+    /// event came in between.
     Off,
     /// An order of this word for this cell was accepted, and nothing came since then but deliveries of its write, of
     /// which one was heard whole, or none.
     Sent(Cell, u16, bool),
-    /// It was heard whole, and its write is over.
+    /// An order of this word for this cell was heard whole, and its write is over.
     Written(Cell, u16),
-    /// It was read back, too, by an exchange of `Whole` and `Whole`.
+    /// An order of this word for this cell was heard whole and read back, by an exchange of `Whole` and `Whole`.
     Through(Cell, u16),
 }
 
