@@ -1,5 +1,5 @@
 -- A job that a course names takes a try, and is refused by nothing.
-use Rattle.std.specs.Prelude.{◌≡◌, ◌<◌, ◌-◌, ◌==◌, ℕ, false, refl, Option, Some, None, Ok, Err}
+use Rattle.std.specs.Prelude.{true, ◌≡◌, ◌<◌, ◌-◌, ◌==◌, ℕ, false, refl, Option, Some, None, Ok, Err}
 use Rattle.std.proofs.Common.{arith, sym, ◌∙◌, ap, subst}
 use Rattle.std.proofs.lemmas.Bool.Decides.{nat_tests}
 use Rattle.pm_host.specs.declared.job.Job.{Job as Asked}
@@ -9,16 +9,17 @@ use Rattle.pm_host.specs.Summary.{Summary}
 use Rattle.pm_limits.specs.declared.part_registers.PartRegisters.{PartRegisters}
 use Rattle.pm_limits.specs.Bounds.{Bounds}
 use Rattle.pm_limits.specs.Guard.{Guarded, guard_fault, limits_at}
+use Rattle.pm_rail.specs.declared.apply_end.ApplyEnd.TheVariants.{Reached}
 use Rattle.pm_rail.specs.Laws.{PlansAreAccepted}
 use Rattle.pm_rail.specs.Orders.{plan_of}
 use Rattle.pm_rail.specs.Registers.{wants_of}
-use Rattle.pm_rail.specs.Survey.{wanted_in}
+use Rattle.pm_rail.specs.Survey.{is_surveyed, wanted_in}
 use Rattle.pm_rail.specs.declared.course.Course.{Course}
 use Rattle.pm_rail.specs.declared.next.Next.{Next}
-use Rattle.pm_rail.specs.declared.next.Next.TheVariants.{Job}
-use Rattle.pm_rail.specs.Course.{after_next, naming, next_of, renewed, says, told_of}
+use Rattle.pm_rail.specs.declared.next.Next.TheVariants.{Ended, Job}
+use Rattle.pm_rail.specs.Course.{after_next, is_order, naming, next_of, renewed, says, told_of}
 use Rattle.pm_rail.specs.Lemmas.AskedFree.{asked-free}
-use Rattle.pm_rail.specs.Lemmas.Says.{Names, Said, ended-same, orders, reads, renewed-so, off-job, said, says-job, taken}
+use Rattle.pm_rail.specs.Lemmas.Says.{Names, Said, asks-so, ended-same, orders, reads, renewed-so, off-job, said, says-job, says-reached, says-read, taken}
 use Rattle.pm_rail.specs.Lemmas.Says.{says-busy, says-differs, says-due, says-missing, says-off, says-order}
 
 some-left : (left : ℕ) → (left == 0) ≡ false → 0 < left
@@ -76,3 +77,21 @@ free accepted g course job words there is = by named.1 where
   by (reads j asks) = asked-free r.survey g j named.0 in_range asks
   by (orders order surveyed plan) = accepted g r.survey.output (wants_of (wanted_in r.survey.plan)) order.register order.word in_range refl
       (ap (λ (o : ℕ). plan_of g.registers g.host (limits_at g o) r.survey.output (wants_of (wanted_in r.survey.plan))) own ∙ plan)
+
+-- ---- Of one to nothing ----
+
+pub reads-only : (part : PartRegisters) (limits : Option Bounds) (s : Summary) (course : Course) (job : Asked) → course.byte ≡ None →
+    course.survey.plan ≡ None → next_of part limits s course ≡ Job job → is_order job ≡ false
+reads-only part limits s course job words nothing is =
+    let r = renewed part limits s course in
+    let words' = renewed-so (λ (c : Course). c.byte ≡ None) part limits s course words words in
+    let nothing' = renewed-so (λ (c : Course). c.survey.plan ≡ None) part limits s course nothing nothing in
+    asks-so (λ (j : Asked). is_order j ≡ false) part r.survey s refl (λ register has. refl) refl job
+    (says-read part limits s r words' nothing' job is)
+
+pub reached-surveyed : (part : PartRegisters) (limits : Option Bounds) (s : Summary) (course : Course) → course.byte ≡ None →
+    next_of part limits s course ≡ Ended Reached → is_surveyed part (after_next part limits s course).survey s ≡ true
+reached-surveyed part limits s course words is =
+    let r = renewed part limits s course in
+    let words' = renewed-so (λ (c : Course). c.byte ≡ None) part limits s course words words in
+    ap (λ (n : Next). is_surveyed part (naming r n).survey s) is ∙ (says-reached part limits s r words' is).0

@@ -32,11 +32,21 @@ use Rattle.pm_rail.specs.declared.course.Differing.{Differing}
 use Rattle.pm_rail.specs.declared.next.Next.{Next}
 use Rattle.pm_rail.specs.declared.next.Next.TheVariants.{Job, Ended}
 
--- a course begins: to wanted words, with a survey of its output for their plan; and to a byte of OPERATION, with one of
--- what the output commands where the byte leaves it on
+-- A course begins: to wanted words, with a survey of its output for their plan; to nothing, with one of what the output
+-- commands; and to a byte of OPERATION, with a survey too, which is read only where the byte leaves the output on.
 abbrev pub course_of : ℕ → Wanted → ℕ → Course
 course_of output wanted tries = record {
   survey = survey_of output (Some wanted) tries;
+  byte = None;
+  ordered = false;
+  done = false;
+  differed = nothing_read;
+  twice = None;
+}
+
+abbrev pub survey_course_of : ℕ → ℕ → Course
+survey_course_of output tries = record {
+  survey = survey_of output None tries;
   byte = None;
   ordered = false;
   done = false;
@@ -65,9 +75,10 @@ abbrev pub power_next : PartRegisters → Summary → Survey → ℕ → Result 
 power_next part s v byte = if is_operation_known s v.output byte then (if is_surveyed part v s then Ok None
     else Err (NotKnown (Out v.output (selected_register byte)))) else Ok (Some (record { register = Operation; word = byte }))
 
--- what is ordered next by what the host knows: the next order of the plan, or OPERATION
+-- What is ordered next by what the host knows: the next order of the plan, or OPERATION; and nothing where nothing is wanted.
 abbrev pub order_by : PartRegisters → Option Bounds → Summary → Survey → Option ℕ → Result (Option PlanOrder) PlanFault
-order_by part limits s v None = plan_of part s limits v.output (wants_of (wanted_in v.plan))
+order_by part limits s v None = if is_none v.plan && is_surveyed part v s then Ok None
+    else plan_of part s limits v.output (wants_of (wanted_in v.plan))
 order_by part limits s v (Some byte) = if is_busy s then Err Busy else power_next part s v byte
 
 abbrev pub order_next : PartRegisters → Option Bounds → Summary → Course → Result (Option PlanOrder) PlanFault

@@ -19,10 +19,11 @@ use Rattle.pm_limits.specs.Bounds.{Bounds}
 use Rattle.pm_limits.specs.Guard.{Guarded, guard_fault, limits_at}
 use Rattle.pm_limits.specs.Part.{all_registers, has_register}
 use Rattle.pm_rail.specs.declared.course.Course.{Course}
-use Rattle.pm_rail.specs.declared.next.Next.TheVariants.{Job}
+use Rattle.pm_rail.specs.declared.apply_end.ApplyEnd.TheVariants.{Reached}
+use Rattle.pm_rail.specs.declared.next.Next.TheVariants.{Ended, Job}
 use Rattle.pm_rail.specs.declared.orders.PlanOrder.{PlanOrder}
 use Rattle.pm_rail.specs.declared.survey.Survey.{Survey}
-use Rattle.pm_rail.specs.Course.{after_next, next_of, told_of}
+use Rattle.pm_rail.specs.Course.{after_next, is_order, next_of, told_of}
 use Rattle.pm_rail.specs.Known.{cells_of, known_at, known_of, known_word}
 use Rattle.pm_rail.specs.Orders.{is_needed, order_of, plan_of}
 use Rattle.pm_rail.specs.Plan.{after, commands_by, goal_of, is_cut_by, next_register, stepped}
@@ -134,10 +135,16 @@ pub record SurveysEndKnown : Type 0 where
       is_none (band_at part s v.output) ≡ false
 
 -- Each job that a course names takes a try (`takes`), and being told of an end takes none (`told`): so it names as many jobs
--- as it has tries at most. What it names is refused by nothing: neither by the guard's limits nor by its host (`free`).
+-- as it has tries at most. What one to wanted words, or to nothing, names is refused by nothing: neither by the guard's limits
+-- nor by its host (`free`). One to nothing names no order (`reads`). Where one to words or to nothing has reached its end, its
+-- survey has ended by its own rule (`surveyed`), of which `SurveysEndKnown` speaks.
 pub record CoursesEnd : Type 0 where
   pub takes : (part : PartRegisters) (limits : Option Bounds) (s : Summary) (course : Course) (job : Asked) →
       next_of part limits s course ≡ Job job → (after_next part limits s course).survey.left < course.survey.left
   pub told : (course : Course) (end : JobEnd) → (told_of course end).survey.left ≡ course.survey.left
   pub free : (g : Guarded) (course : Course) (job : Asked) → course.byte ≡ None → course.survey.output < g.host.setup.outputs →
       next_of g.registers (limits_at g course.survey.output) g.host course ≡ Job job → guard_fault g job ≡ None
+  pub reads : (part : PartRegisters) (limits : Option Bounds) (s : Summary) (course : Course) (job : Asked) → course.byte ≡ None →
+      course.survey.plan ≡ None → next_of part limits s course ≡ Job job → is_order job ≡ false
+  pub surveyed : (part : PartRegisters) (limits : Option Bounds) (s : Summary) (course : Course) → course.byte ≡ None →
+      next_of part limits s course ≡ Ended Reached → is_surveyed part (after_next part limits s course).survey s ≡ true

@@ -2,7 +2,7 @@ ghost use Rattle.std.specs.Prelude.{◌≡◌, ◌<◌, None, Some};
 ghost use Rattle.pm_host.specs.Image.{held};
 ghost use Rattle.pm_limits.specs.Guard.{limits_at};
 ghost use Rattle.pm_rail.specs.Survey.{due_job};
-ghost use Rattle.pm_rail.specs.Course.{BeginsNext, after_next, course_of, going_to, is_carried_out as spec_is_carried_out, is_operation_known as spec_is_operation_known, naming, next_of, once_more as spec_once_more, order_next as spec_order_next, ordering, power_course_of, power_next as spec_power_next, reading, renewed, says as spec_says, taking, told_of};
+ghost use Rattle.pm_rail.specs.Course.{BeginsNext, after_next, course_of, going_to, is_carried_out as spec_is_carried_out, is_operation_known as spec_is_operation_known, next_of, once_more as spec_once_more, order_next as spec_order_next, ordering, power_course_of, power_next as spec_power_next, reading, renewed, says as spec_says, survey_course_of, taking, told_of};
 
 use crate::apply_end::{ApplyEnd, StopCause};
 use crate::fault::PlanFault;
@@ -56,6 +56,21 @@ impl Course {
         }
     }
 
+    /// The way to nothing, which is a survey of what the output commands: it orders nothing, and has reached its end once all
+    /// of that is known, by `courses_end`.
+    pub fn survey(output: u8, tries: u16) -> Course
+        ensures { result ≡ survey_course_of output tries }
+    {
+        Course {
+            survey: Survey::new(output, None, tries),
+            byte: None,
+            ordered: false,
+            done: false,
+            differed: Reads::nothing(),
+            twice: None,
+        }
+    }
+
     /// The way to a byte of OPERATION, by this many jobs at most. A byte that turns the output off is ordered at once,
     /// whatever is known, and nothing else is read: its way ends `Reached` once that order was read back. A byte that leaves the
     /// output on is ordered after a survey of what the output commands, unless OPERATION is known to be it then.
@@ -100,7 +115,11 @@ impl Course {
             self.once_more();
         }
         let next = self.says(host, stage, part, limits);
-        self.name(next);
+        if let Next::Job(job) = next {
+            self.survey.asked = Some(job);
+            self.survey.left = self.survey.left.saturating_sub(1);
+            self.ordered = self.ordered || matches!(job, Job::Order(..));
+        }
         next
     }
 
@@ -184,6 +203,7 @@ impl Course {
     {
         let output = self.survey.output;
         match self.byte {
+            None if self.survey.plan.is_none() && self.survey.is_done_in(host, part) => Ok(None),
             None => {
                 let wanted = wanted_of(self.survey.plan);
                 next_order_in(host, stage, part, limits, output, &wanted)
@@ -291,17 +311,6 @@ impl Course {
             stopped(StopCause::Spent(job))
         } else {
             Next::Job(job)
-        }
-    }
-
-    // It said so.
-    fn name(&mut self, next: Next)
-        ensures { self.new ≡ naming self.old next }
-    {
-        if let Next::Job(job) = next {
-            self.survey.asked = Some(job);
-            self.survey.left = self.survey.left.saturating_sub(1);
-            self.ordered = self.ordered || matches!(job, Job::Order(..));
         }
     }
 }

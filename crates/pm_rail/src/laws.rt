@@ -56,8 +56,9 @@ pub fn surveys_are_short()
     cells_have_places();
 }
 
-/// Each job that a course names takes a try, so that it names as many as it has tries at most (`takes`, `told`); and what a
-/// course to wanted words names is refused by nothing (`free`).
+/// Each job that a course names takes a try, so that it names as many as it has tries at most (`takes`, `told`). What a course
+/// to wanted words or to nothing names is refused by nothing (`free`). One to nothing orders nothing (`reads`); and where one to
+/// words or to nothing has reached its end, its survey has ended by its own rule (`surveyed`).
 pub fn courses_end()
     ensures { CoursesEnd }
 {

@@ -1,7 +1,7 @@
 -- What a course to wanted words is worth over a life.
 use Rattle.std.proofs.Common.{◌≡◌, ◌⊎◌, inl, inr, ℕ, ◌<◌, true, false, List, [], ◌++◌, Option, Some, None}
 use Rattle.std.proofs.Common.{refl, sym, ◌∙◌, ap, subst, append-nil, append_assoc}
-use Rattle.std.specs.Prelude.{Ok, unwrap_or}
+use Rattle.std.specs.Prelude.{is_none, Ok, unwrap_or}
 use Rattle.std.specs.List.{list_any}
 use Rattle.std.proofs.Math.Path.{fun_ext}
 use Rattle.pm_table.specs.declared.reg.Reg.{Reg}
@@ -173,13 +173,14 @@ module _ (laws : BelowCourses) (config : Config) (passes : ℕ) (part : PartRegi
       way' : Way r es
       way' = asked-of.way-renewed laws config passes part output wanted before spelled here missing limits course es way
 
-      over : (is_surveyed part r.survey (at es) ≡ true)
-          × (plan_of part (at es) limits r.survey.output (wants_of (wanted_in r.survey.plan)) ≡ Ok None)
+      over : (is_surveyed part r.survey (at es) ≡ true) × (is_none r.survey.plan ≡ false →
+          plan_of part (at es) limits r.survey.output (wants_of (wanted_in r.survey.plan)) ≡ Ok None)
       over = says-reached part limits (at es) r way'.words reached
 
       planned : plan_of part (at es) limits output wants ≡ Ok None
       planned = sym (ap (λ (o : ℕ). plan_of part (at es) limits o wants) way'.own)
-          ∙ (sym (ap (λ (p : Option Wanted). plan_of part (at es) limits r.survey.output (wants_of (wanted_in p))) way'.plan) ∙ over.1)
+          ∙ (sym (ap (λ (p : Option Wanted). plan_of part (at es) limits r.survey.output (wants_of (wanted_in p))) way'.plan)
+          ∙ over.1 (ap (λ (p : Option Wanted). is_none p) way'.plan))
 
       since : Reading r es ⊎ Ordering es → IsReadSince config passes output wants (es ++ before)
       since (inl reading) = asked-of.ready laws config passes part output wanted before spelled here missing r es way'.own way'.plan reading lived steady over.0

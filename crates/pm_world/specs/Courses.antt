@@ -139,9 +139,27 @@ pub record KeepsPower (config : Config) (passes : ℕ) (events : List Event) : T
       next_of part limits (now config passes events).host course ≡ Ended Reached →
       held_at config passes events output Operation ≡ byte
 
+-- no order of this output is asked for, by one event and by each of several
+abbrev pub IsNoOrder : ℕ → Option host.Job → Type 0
+IsNoOrder output (Some (host.Order (Out other register) word)) = other ≢ output
+IsNoOrder output job = Unit {0}
+
+abbrev pub AsksNoOrder : Config → ℕ → ℕ → List Event → List Event → Type 0
+AsksNoOrder config passes output [] before = Unit {0}
+AsksNoOrder config passes output (event ∷ later) before =
+    IsNoOrder output (asked (now config passes (later ++ before)) event) × AsksNoOrder config passes output later before
+
+-- Of these events, and any course: until an order of its output is asked for, each register keeps its word. So what is refused
+-- before the first order has written nothing.
+pub record IsUntouched (config : Config) (passes : ℕ) (events : List Event) : Type 0 where
+  pub held : (part : PartRegisters) (begun course : Course) (register : Reg) (later before : List Event) → events ≡ later ++ before →
+      Begins config passes part begun course later before → AsksNoOrder config passes begun.survey.output later before →
+      held_at config passes events begun.survey.output register ≡ held_at config passes before begun.survey.output register
+
 -- in each life
 pub record CoursesHoldInLives : Type 0 where
   pub words : (config : Config) (passes : ℕ) (events : List Event) →
       IsSpelled config → IsLived config passes events → KeepsCourses config passes events
   pub power : (config : Config) (passes : ℕ) (events : List Event) →
       IsSpelled config → IsLived config passes events → KeepsPower config passes events
+  pub untouched : (config : Config) (passes : ℕ) (events : List Event) → IsLived config passes events → IsUntouched config passes events

@@ -7,7 +7,7 @@ use pm_device::{Config, Converter, OutputStart};
 use pm_device_tests::{BASE, OUTPUT};
 use pm_driver::{Bus, Driver, Fault, driver_over};
 use pm_host::Job;
-use pm_rail::{ApplyEnd, PlanFault, StopCause, Survey, Wanted};
+use pm_rail::{ApplyEnd, Course, PlanFault, StopCause, Survey, Wanted};
 use pm_table::{Cell, Coefficients, Reg};
 use pm_world::Back;
 use std::process::Abort;
@@ -108,6 +108,17 @@ fn applied<B: Bus>(
 ) -> ApplyEnd {
     is_true(rt, 0 < driver.host().outputs(), &tries);
     driver.apply(0, wanted, tries)
+}
+
+// Carries a course out, of which the guard refuses nothing.
+fn completed<B: Bus>(
+    rt: &impl Abort,
+    driver: &mut Driver<B>,
+    mut course: Course,
+) -> Option<ApplyEnd> {
+    let output = course.survey.output;
+    is_true(rt, output < driver.host().outputs(), &output);
+    driver.complete(&mut course).ok()
 }
 
 // What a register of the first output is known to hold.
@@ -414,6 +425,95 @@ fn what_is_not_known_is_told(rt: HostRuntime) {
                 &0x34CD,
                 &3,
             );
+        }
+        None => panic!(rt; "refused"),
+    }
+}
+
+// What goes wrong with a course that turns the first output off, and its tries; how it ends, after how many frames, and the
+// byte of OPERATION that is held then.
+static OFFS: [(&[(usize, Wrong)], u16, ApplyEnd, usize, u16); 6] = [
+    // The order is the first frame, and its read-back the second: nothing else is read.
+    (&[], 1, ApplyEnd::Reached, 2, 0x00),
+    (
+        &[],
+        0,
+        ApplyEnd::Stopped {
+            why: StopCause::Spent(Job::Order(Cell::Out(0, Reg::Operation), 0x00)),
+        },
+        0,
+        0x80,
+    ),
+    // An order whose read-back doesn't come, or differs, is given once more.
+    (&[(1, Cut)], 4, ApplyEnd::Reached, 4, 0x00),
+    (&[(0, Lost)], 4, ApplyEnd::Reached, 4, 0x00),
+    // Where it differs again, that is the end.
+    (
+        &[(0, Lost), (2, Lost)],
+        4,
+        ApplyEnd::Stopped {
+            why: StopCause::Differs(Reg::Operation, 0x80),
+        },
+        4,
+        0x80,
+    ),
+    // No try is left for the second order.
+    (
+        &[(0, Lost)],
+        1,
+        ApplyEnd::Stopped {
+            why: StopCause::Spent(Job::Order(Cell::Out(0, Reg::Operation), 0x00)),
+        },
+        2,
+        0x80,
+    ),
+];
+
+#[test]
+fn an_output_is_turned_off_before_anything_is_read(rt: HostRuntime) {
+    for (wrong, tries, end, frames, byte) in &OFFS {
+        let plan = plan(wrong);
+        match driver_over(BASE, 1, &plan) {
+            Some(mut driver) => {
+                let ended = completed(&rt, &mut driver, Course::power(0, 0x00, *tries));
+                equal(&rt, &ended, &Some(*end), frames);
+                equal(&rt, &driver.bus().next, frames, frames);
+                equal(
+                    &rt,
+                    &held(&driver.bus().device, Reg::Operation),
+                    byte,
+                    frames,
+                );
+            }
+            None => panic!(rt; "refused"),
+        }
+    }
+}
+
+#[test]
+fn courses_to_a_byte_and_to_nothing_are_carried_out(rt: HostRuntime) {
+    let plan = plan(&[]);
+    match driver_over(BASE, 1, &plan) {
+        Some(mut driver) => {
+            // Off is ordered once more where the byte is known.
+            let end = completed(&rt, &mut driver, Course::power(0, 0x00, 4));
+            equal(&rt, &end, &Some(ApplyEnd::Reached), &1);
+            let end = completed(&rt, &mut driver, Course::power(0, 0x00, 4));
+            equal(&rt, &end, &Some(ApplyEnd::Reached), &2);
+            equal(&rt, &driver.bus().next, &4, &2);
+            // To nothing: a learn and four checks, and no order.
+            let end = completed(&rt, &mut driver, Course::survey(0, 5));
+            equal(&rt, &end, &Some(ApplyEnd::Reached), &3);
+            equal(&rt, &driver.bus().next, &9, &3);
+            // On: as many, the order, and all of these once more.
+            let end = completed(&rt, &mut driver, Course::power(0, 0x80, 60));
+            equal(&rt, &end, &Some(ApplyEnd::Reached), &4);
+            equal(&rt, &driver.bus().next, &21, &4);
+            equal(&rt, &held(&driver.bus().device, Reg::Operation), &0x80, &4);
+            // It is known then, and isn't ordered again.
+            let end = completed(&rt, &mut driver, Course::power(0, 0x80, 60));
+            equal(&rt, &end, &Some(ApplyEnd::Reached), &5);
+            equal(&rt, &driver.bus().next, &26, &5);
         }
         None => panic!(rt; "refused"),
     }

@@ -1,9 +1,9 @@
 -- What a course names, and when it has reached its end.
-use Rattle.std.specs.Prelude.{◌≡◌, ◌==◌, ◌&&◌, ◌||◌, ℕ, Bool, true, false, not, if◌then◌else◌, refl, find, Option, Some}
+use Rattle.std.specs.Prelude.{◌≡◌, ◌⊎◌, ◌==◌, ◌&&◌, ◌||◌, ℕ, Bool, true, false, not, if◌then◌else◌, refl, find, Option, Some}
 use Rattle.std.specs.Prelude.{None, is_none, is_some, option_map, unwrap_or, Result, Ok, Err, List, [], ◌∷◌}
 use Rattle.std.specs.List.{list_any}
 use Rattle.std.specs.Option.{option_or}
-use Rattle.std.proofs.Common.{sym, ◌∙◌, ap, subst}
+use Rattle.std.proofs.Common.{inl, inr, sym, ◌∙◌, ap, subst}
 use Rattle.pm_num.specs.AnyFormat.{Shape}
 use Rattle.pm_table.specs.declared.cell.Cell.TheVariants.{Out, Protect}
 use Rattle.pm_table.specs.declared.reg.Reg.{Reg}
@@ -24,6 +24,7 @@ use Rattle.pm_rail.specs.declared.fault.PlanFault.{PlanFault}
 use Rattle.pm_rail.specs.declared.fault.PlanFault.TheVariants.{Busy}
 use Rattle.pm_rail.specs.declared.orders.PlanOrder.{PlanOrder}
 use Rattle.pm_rail.specs.declared.survey.Survey.{Survey}
+use Rattle.pm_rail.specs.declared.wanted.Wanted.{Wanted}
 use Rattle.pm_rail.specs.Known.{Cells, cells_of, known_at, known_of}
 use Rattle.pm_rail.specs.Lemmas.Known.{IsPlanned, all-off, is-planned}
 use Rattle.pm_rail.specs.Lemmas.Steps.{first-of}
@@ -231,6 +232,10 @@ pub asks-due : (part : PartRegisters) (v : Survey) (s : Summary) (job : Asked) �
     due_job part v s ≡ Some job → next_job part v s ≡ Some job
 asks-due part v s job left due = ap (λ (b : Bool). if b then None else due_job part v s) left ∙ due
 
+-- no order is no order
+none-some : (order : PlanOrder) → ◌≡◌ {A = Result (Option PlanOrder) PlanFault} (Ok (Some order)) (Ok None) → ⊥
+none-some order e = cc
+
 -- how a course comes to name a job: its survey asks for it, or has ended by its own rule and the order is the next one
 pub data Names (part : PartRegisters) (limits : Option Bounds) (s : Summary) (course : Course) : Asked → Type 0 where
   reads : (job : Asked) → next_job part course.survey s ≡ Some job → Names part limits s course job
@@ -239,18 +244,33 @@ pub data Names (part : PartRegisters) (limits : Option Bounds) (s : Summary) (co
       Names part limits s course (Order (Out course.survey.output order.register) order.word)
 
 module _ (part : PartRegisters) (limits : Option Bounds) (s : Summary) (course : Course) (words : course.byte ≡ None) where
-  -- the order is that of the plan
+  -- the order is that of the plan, or none where nothing is wanted
   planned : (o : Result (Option PlanOrder) PlanFault) → order_next part limits s course ≡ o →
-      plan_of part s limits course.survey.output (wants_of (wanted_in course.survey.plan)) ≡ o
-  planned o e = sym (ap (λ (b : Option ℕ). order_by part limits s course.survey b) words) ∙ e
+      ((o ≡ Ok None) × (is_none course.survey.plan ≡ true) × (is_surveyed part course.survey s ≡ true))
+      ⊎ (plan_of part s limits course.survey.output (wants_of (wanted_in course.survey.plan)) ≡ o)
+  planned o e = go (is_none course.survey.plan) (is_surveyed part course.survey s) refl refl
+      (sym (ap (λ (b : Option ℕ). order_by part limits s course.survey b) words) ∙ e) where
+        go : (a b : Bool) → is_none course.survey.plan ≡ a → is_surveyed part course.survey s ≡ b →
+            (if a && b then Ok None else plan_of part s limits course.survey.output (wants_of (wanted_in course.survey.plan))) ≡ o →
+            ((o ≡ Ok None) × (is_none course.survey.plan ≡ true) × (is_surveyed part course.survey s ≡ true))
+            ⊎ (plan_of part s limits course.survey.output (wants_of (wanted_in course.survey.plan)) ≡ o)
+        go true true n v is = inl (sym is, n, v)
+        go true false n v is = inr is
+        go false b n v is = inr is
 
   -- a survey that asks for nothing has ended by its own rule where the plan isn't refused
   by-due : due_job part course.survey s ≡ None → (o : Option PlanOrder) →
       order_next part limits s course ≡ Ok o → is_surveyed part course.survey s ≡ true
-  by-due due o is = go (is_stuck part course.survey s) refl where
-    go : (b : Bool) → is_stuck part course.survey s ≡ b → is_surveyed part course.survey s ≡ true
-    go true stuck = absurd (stuck-plan part course.survey s limits o stuck (planned (Ok o) is))
-    go false free = ap (λ (d : Option Asked). is_none d && not (is_stuck part course.survey s)) due ∙ ap not free
+  by-due due o is = elim (planned (Ok o) is) [
+    | inl nothing ↦ nothing.2
+    | inr plan ↦ go (is_stuck part course.survey s) refl plan
+  ]
+    where
+      go : (b : Bool) → is_stuck part course.survey s ≡ b →
+          plan_of part s limits course.survey.output (wants_of (wanted_in course.survey.plan)) ≡ Ok o →
+          is_surveyed part course.survey s ≡ true
+      go true stuck plan = absurd (stuck-plan part course.survey s limits o stuck plan)
+      go false free plan = ap (λ (d : Option Asked). is_none d && not (is_stuck part course.survey s)) due ∙ ap not free
 
   -- what a job that is named comes from
   pub says-job : (job : Asked) → says part limits s course ≡ Job job → (is_busy s ≡ false) × Names part limits s course job
@@ -268,23 +288,52 @@ module _ (part : PartRegisters) (limits : Option Bounds) (s : Summary) (course :
     go (says-order (Ok (Some order)) idle n o) e =
         let t = taken course (Order (Out course.survey.output order.register) order.word) job e in (
           idle,
-          subst (λ (x : Asked). Names part limits s course x) t.1
-              (orders order (by-due n (Some order) o) (planned (Ok (Some order)) o)),
+          subst (λ (x : Asked). Names part limits s course x) t.1 (elim (planned (Ok (Some order)) o) [
+            | inl nothing ↦ absurd (none-some order nothing.0)
+            | inr plan ↦ orders order (by-due n (Some order) o) plan
+          ]),
         )
+
+  -- each job is one of the survey if nothing is wanted
+  pub says-read : course.survey.plan ≡ None → (job : Asked) → says part limits s course ≡ Job job →
+      next_job part course.survey s ≡ Some job
+  says-read plan job is = go (said part limits s course) is where
+    go : {n : Next} → Said part limits s course n → n ≡ Job job → next_job part course.survey s ≡ Some job
+    go (says-busy b) e = cc
+    go (says-differs d t) e = cc
+    go (says-missing fault idle) e = cc
+    go (says-off byte idle b) e = let no = sym words ∙ b in cc
+    go (says-due j idle n) e =
+        let t = taken course j job e in
+        asks-due part course.survey s j t.0 n ∙ ap (λ (x : Asked). Some x) t.1
+    go (says-order (Err fault) idle n o) e = cc
+    go (says-order (Ok None) idle n o) e = cc
+    go (says-order (Ok (Some order)) idle n o) e = absurd (none-some order (sym (sym (ap (λ (b : Bool). if b then Ok None
+        else plan_of part s limits course.survey.output (wants_of (wanted_in course.survey.plan)))
+        (ap (λ (p : Option Wanted). is_none p && is_surveyed part course.survey s) plan ∙ by-due n (Some order) o))
+        ∙ (sym (ap (λ (b : Option ℕ). order_by part limits s course.survey b) words) ∙ o))))
 
   -- the survey has ended by its own rule, and the plan has no further order, if all is reached
   pub says-reached : says part limits s course ≡ Ended Reached → (is_surveyed part course.survey s ≡ true)
-      × (plan_of part s limits course.survey.output (wants_of (wanted_in course.survey.plan)) ≡ Ok None)
+      × (is_none course.survey.plan ≡ false →
+      plan_of part s limits course.survey.output (wants_of (wanted_in course.survey.plan)) ≡ Ok None)
   says-reached is = go (said part limits s course) is where
     go : {n : Next} → Said part limits s course n → n ≡ Ended Reached → (is_surveyed part course.survey s ≡ true)
-        × (plan_of part s limits course.survey.output (wants_of (wanted_in course.survey.plan)) ≡ Ok None)
+        × (is_none course.survey.plan ≡ false →
+        plan_of part s limits course.survey.output (wants_of (wanted_in course.survey.plan)) ≡ Ok None)
     go (says-busy b) e = cc
     go (says-differs d t) e = cc
     go (says-missing fault idle) e = cc
     go (says-off byte idle b) e = let no = sym words ∙ b in cc
     go (says-due j idle n) e = absurd (none-reached course j e)
     go (says-order (Err fault) idle n o) e = cc
-    go (says-order (Ok None) idle n o) e = (by-due n None o, planned (Ok None) o)
+    go (says-order (Ok None) idle n o) e = (
+      by-due n None o,
+      λ some. elim (planned (Ok None) o) [
+        | inl nothing ↦ let no = sym nothing.1 ∙ some in cc
+        | inr plan ↦ plan
+      ],
+    )
     go (says-order (Ok (Some order)) idle n o) e = absurd (none-reached course _ e)
 
 -- ---- What stays ----
