@@ -78,8 +78,8 @@ export class Bus {
 // Carries the host's open job out over a bus, and says how it ended.
 export function carry(host, bus) {
     for (;;) {
-        const sending = host.sending();
-        const step = sending.reads ? host.got(bus.read(sending.bytes)) : host.finished(bus.write(sending.bytes));
+        const sending = host.frame();
+        const step = sending.reads ? host.readEnded(bus.read(sending.bytes)) : host.writeEnded(bus.write(sending.bytes));
         if (step.end !== "next") return step;
     }
 }
@@ -127,8 +127,8 @@ export function compare(library, plan) {
     const success = page.order(plain, ...ordered);
     const state = (bus) => [0, 1].map((output) => bus.part.microvolts(output));
     const known = [0, 1].map((output) => ({
-        confirmed: host.standing(output, CODE.VOUT_COMMAND),
-        possible: host.possible(output, CODE.VOUT_COMMAND),
+        confirmed: host.confirmedWord(output, CODE.VOUT_COMMAND),
+        possible: host.possibleWords(output, CODE.VOUT_COMMAND),
     }));
     return {
         proved: {told: proved.told, end: step.end, word: step.word, known, seen: host.restartSeen(), outputs: state(proved),

@@ -103,7 +103,7 @@ export class Host {
     restart() { this.library.ask("pm_host_restart", pointer(this.at)); }
 
     // Limits of an output in microvolts, or narrower ones: each later order is judged by them.
-    narrow(output, least, most) { this.library.ask("pm_host_set_limits", pointer(this.at), output, BigInt(least), BigInt(most)); }
+    setLimits(output, least, most) { this.library.ask("pm_host_set_limits", pointer(this.at), output, BigInt(least), BigInt(most)); }
 
     // Whether an output's voltage is known to lie within its limits: within, outside or not known.
     within(output) {
@@ -113,7 +113,7 @@ export class Host {
     }
 
     // {reads, bytes, wanted}: `wanted` is how many bytes a whole answer has; null where there is nothing to send.
-    sending() {
+    frame() {
         this.library.ask("pm_host_frame", pointer(this.at), pointer(this.frame));
         const [kind, length, wanted] = this.library.bytes(this.frame, 3);
         if (kind === 0) return null;
@@ -129,22 +129,22 @@ export class Host {
         return {end: END[kind], word};
     }
 
-    finished(acked) { return this.step("pm_host_write_ended", acked ? 1 : 0); }
+    writeEnded(acked) { return this.step("pm_host_write_ended", acked ? 1 : 0); }
 
-    got(bytes) {
+    readEnded(bytes) {
         this.library.bytes(this.room, 16).fill(0).set(bytes);
         return this.step("pm_host_read_ended", pointer(this.room), BigInt(bytes.length));
     }
 
     // The confirmed word, or null.
-    standing(output, code) {
+    confirmedWord(output, code) {
         this.library.ask("pm_host_confirmed_word", pointer(this.at), output, code, pointer(this.library.scratch));
         const view = this.library.view(this.library.scratch, 4);
         return view.getUint16(0, true) === 1 ? view.getUint16(2, true) : null;
     }
 
     // The words that the cell may hold, or null for any word.
-    possible(output, code) {
+    possibleWords(output, code) {
         this.library.ask("pm_host_possible_words", pointer(this.at), output, code, pointer(this.library.scratch));
         const view = this.library.view(this.library.scratch, 34);
         const count = view.getUint16(0, true);

@@ -1,7 +1,7 @@
 """Parts that are busy or away for a while of the clock of runs.py, that fall silent, or whose lines are held low."""
 import errno
 
-from pmhost import Output, Part
+from pmhost import Output, ModelPart
 
 from . import kernel, odd_parts, runs
 
@@ -155,7 +155,7 @@ class ProtectedAt48(odd_parts.Named):
 
     def __init__(self):
         super().__init__(0x48)
-        self.part = Part(0x48, [Output(command=word) for word in self.commands], protect=0x40)
+        self.part = ModelPart(0x48, [Output(command=word) for word in self.commands], protect=0x40)
 
     def hear(self, frame, ending):
         self.before(frame[1:])

@@ -1,12 +1,12 @@
 """A part with two outputs on a bus that keeps what was sent, and a bus with faults."""
-from pmhost import Output, Part, PartBus, Pmbus
+from pmhost import Output, ModelPart, ModelPartBus, Device
 
 ADDRESS = 0x58
 # ULINEAR16 with the exponent -12: 3.3 V is 34CDh, 1 V is 1000h.
 RAILS = (Output(command=0x34CD, max=0x3770, high=0x3600, low=0x3400, min=0x3334), Output())
 
 
-class Recorded(PartBus):
+class Recorded(ModelPartBus):
     """It keeps each frame."""
 
     def __init__(self, part):
@@ -22,7 +22,7 @@ class Recorded(PartBus):
         return super().read(request, count)
 
 
-class Faulty(PartBus):
+class Faulty(ModelPartBus):
     """Each transfer meets the next fate of a list; at its end all goes well.
 
     `ok`, `lost` (heard, and the acknowledgement or the answer is lost), `deaf` (not heard), `error` (an OSError), `cut` (the
@@ -55,9 +55,9 @@ class Faulty(PartBus):
                 "long": answer + b"\0"}.get(fate, answer)
 
 
-def rails(bus_type=PartBus, **named):
+def rails(bus_type=ModelPartBus, **named):
     """A part with two learned rails; output 0 has limits of 3.2 to 3.465 V."""
-    part = Part(ADDRESS, RAILS)
-    pmbus = Pmbus(bus_type(part), ADDRESS, outputs=2, **{"limits": {0: ("3.2", "3.465")}, **named})
+    part = ModelPart(ADDRESS, RAILS)
+    pmbus = Device(bus_type(part), ADDRESS, outputs=2, **{"limits": {0: ("3.2", "3.465")}, **named})
     pmbus.learn_all()
     return pmbus

@@ -28,7 +28,7 @@ import errno
 import os
 import signal
 
-from pmhost import Output, Part as ProvedPart, PartRefused, SetupRefused
+from pmhost import Output, ModelPart as ProvedPart, PartRefused, SetupRefused
 from pmhost.bus.linux import I2C_FUNC_I2C, I2C_FUNCS, I2C_M_RD, I2C_RDWR, I2C_SLAVE, Messages
 
 from . import plain_model  # noqa: F401

@@ -1,7 +1,7 @@
 """Parts that aren't as they should be, as FakeKernel hears them: the proved part, with one thing in front of it that differs."""
 import errno
 
-from pmhost import Output, Part, PartRefused, pec
+from pmhost import Output, ModelPart, PartRefused, pec
 
 ADDRESS = 0x58
 CLEAR_FAULTS, PAGE_PLUS_WRITE, PAGE_PLUS_READ, ON_OFF_CONFIG = 0x03, 0x05, 0x06, 0x02
@@ -18,7 +18,7 @@ class Proved:
     commands = COMMANDS
 
     def __init__(self, address=ADDRESS):
-        self.address, self.part = address, Part(address, [Output(command=word) for word in self.commands])
+        self.address, self.part = address, ModelPart(address, [Output(command=word) for word in self.commands])
         self.lines = []
 
     def restart(self):
@@ -66,7 +66,7 @@ class Exchanged(Proved):
     def asked(self, request):
         self.asked_for_mode += request[1:2] + request[3:5] == bytes([PAGE_PLUS_READ, 0, VOUT_MODE])
         if self.asked_for_mode == 2:
-            self.part = Part(self.address, [Output(mode=0x15, command=0x0800) for _ in self.commands])
+            self.part = ModelPart(self.address, [Output(mode=0x15, command=0x0800) for _ in self.commands])
         return super().asked(request)
 
 
@@ -264,7 +264,7 @@ class Protected(Proved):
 
     def __init__(self):
         super().__init__()
-        self.part = Part(ADDRESS, [Output(command=word) for word in self.commands], protect=0x80)
+        self.part = ModelPart(ADDRESS, [Output(command=word) for word in self.commands], protect=0x80)
 
 
 class Telemetry(Proved):
@@ -301,7 +301,7 @@ class DirectTelemetry(Telemetry):
 
     def __init__(self, address=ADDRESS):
         super().__init__(address)
-        self.part = Part(address, [Output(0x40, command=0x0FA0, max=0x2710, high=0x1000, low=0x0F00, min=0)], (1000, 0, 0))
+        self.part = ModelPart(address, [Output(0x40, command=0x0FA0, max=0x2710, high=0x1000, low=0x0F00, min=0)], (1000, 0, 0))
         for name, word in (("READ_VOUT", 0x0CE4), ("READ_IOUT", 0x04E2)):
             self.part.set_reading(0, name, word)
         for name, word in (("READ_VIN", 0x2EE0), ("READ_TEMPERATURE_1", 0x00FF)):

@@ -47,11 +47,11 @@ class Clock:
         return self.now
 
 
-# No test waits. Where a row doesn't give --patience, none is had: its mishaps befall the frames of its jobs alone.
+# No test waits. Where a row doesn't give --busy-timeout, none is had: its mishaps befall the frames of its jobs alone.
 CLOCK = Clock()
 clock.until = CLOCK.until
-PATIENCE, LONG_PATIENCE = patient.PATIENCE, patient.LONG_PATIENCE
-patient.PATIENCE = patient.LONG_PATIENCE = 0
+TIMEOUT, LONG_TIMEOUT = patient.TIMEOUT, patient.LONG_TIMEOUT
+patient.TIMEOUT = patient.LONG_TIMEOUT = 0
 DATA = os.path.join(os.path.dirname(os.path.abspath(__file__)), "data")
 
 

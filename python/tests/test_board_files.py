@@ -282,7 +282,7 @@ class Files(unittest.TestCase):
 
     def test_the_same_object_as_of_one_part(self):
         board = json.loads(applied(self.text, self.over(), "--json")[1])
-        one = json.loads(called(["-b", "desk", "--json", "read", "0"], None)[1])
+        one = json.loads(called(["-b", "model", "--json", "read", "0"], None)[1])
         self.assertEqual(list(board), list(one))
         self.assertEqual([(row["rail"], row["part"], row["output"], row["commands"]) for row in board["rows"]],
                          [("core", "u12", 0, [0.9375, 0.9375]), ("io", "u13", 1, [0.9375, 0.9375]), ("pll", "u14", 0, [0.9375, 0.9375])])
@@ -301,8 +301,8 @@ class Files(unittest.TestCase):
         self.assertEqual(found, {("# bus 7", "9E"), ("# bus 7", "A0"), ("# bus 8", "9E")})
 
     def test_model_parts_on_a_desk(self):
-        text = re.sub("bus = [78]", 'bus = "desk"', self.text).replace('model = "LTC3880"', "")
-        text = text.replace('[parts.u14]\nbus = "desk"\naddress = "4F"', '[parts.u14]\nbus = "desk"\naddress = "51"')
+        text = re.sub("bus = [78]", 'bus = "model"', self.text).replace('model = "LTC3880"', "")
+        text = text.replace('[parts.u14]\nbus = "model"\naddress = "4F"', '[parts.u14]\nbus = "model"\naddress = "51"')
         status, out, err = applied(text, None)
         self.assertEqual((status, err), (0, ""))
         self.assertEqual(out.splitlines()[0], "part  rail  setting       wanted        read back")

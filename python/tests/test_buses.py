@@ -1,4 +1,4 @@
-"""The buses: that of Linux over the stand-in for the kernel, that of smbus2 over a stand-in for the package, and the desk's."""
+"""The buses: that of Linux over the stand-in for the kernel, that of smbus2 over a stand-in for the package, and that of a model part."""
 import errno
 import sys
 import tempfile
@@ -7,7 +7,7 @@ import unittest
 from decimal import Decimal
 from unittest import mock
 
-from pmhost import DeskBus, LinuxBus, NoBus, NoTransfer, Pmbus, Smbus2Bus, Unknown
+from pmhost import ModelBus, LinuxBus, NoBus, NoTransfer, Device, Smbus2Bus, Unknown
 from pmhost.bus.ones import given
 from pmhost.bus import Trace, linux
 from pmhost.bus.linux import I2C_FUNCS, I2C_RDWR, I2C_SLAVE, BusTrace, Message, Messages
@@ -26,7 +26,7 @@ class Linux(unittest.TestCase):
 
     def test_an_order(self):
         with self.bus() as bus:
-            pmbus = Pmbus(bus, ADDRESS, outputs=2)
+            pmbus = Device(bus, ADDRESS, outputs=2)
             pmbus.learn(0)
             self.over.mishaps = ["lost", "hung", "short0", "short1"]
             self.assertEqual(pmbus.order_volts(0, "3.25"), Decimal("3.25"))
@@ -42,7 +42,7 @@ class Linux(unittest.TestCase):
     def test_a_closed_bus_sends_nothing_and_closes_once(self):
         """The number of its file may be another bus's by then."""
         bus = self.bus()
-        pmbus = Pmbus(bus, ADDRESS)
+        pmbus = Device(bus, ADDRESS)
         pmbus.learn(0)
         bus.close()
         self.over.opened = 1
@@ -60,7 +60,7 @@ class Linux(unittest.TestCase):
         with self.assertRaisesRegex(NoTransfer, "the bus was opened for another address"):
             bus.write(bytes.fromhex("B205040021CD34") + b"\x5a")
         with self.assertRaises(Unknown):
-            Pmbus(bus, 0x59).learn(0)
+            Device(bus, 0x59).learn(0)
         with self.assertRaisesRegex(ValueError, "packet: give its address byte"):
             bus.write(b"")
 
@@ -191,7 +191,7 @@ class Smbus2(unittest.TestCase):
 
     def test_an_order(self):
         stand = Smbus2Stand()
-        pmbus = Pmbus(Smbus2Bus(stand), ADDRESS, outputs=2)
+        pmbus = Device(Smbus2Bus(stand), ADDRESS, outputs=2)
         pmbus.learn(0)
         stand.bus._kernel.mishaps = ["lost", "deaf", "ok", "ok"]
         self.assertEqual(pmbus.order_volts(0, "3.25"), Decimal("3.25"))
@@ -213,13 +213,13 @@ class Smbus2(unittest.TestCase):
             Smbus2Bus(7)
 
 
-class Desk(unittest.TestCase):
+class Model(unittest.TestCase):
     def test_an_order_and_its_trace(self):
         with tempfile.NamedTemporaryFile() as file:
-            bus = DeskBus(ADDRESS, 2, file.name)
-            Pmbus(bus, ADDRESS, outputs=2).order(1, "VOUT_COMMAND", 0x34CD)
+            bus = ModelBus(ADDRESS, 2, file.name)
+            Device(bus, ADDRESS, outputs=2).order(1, "VOUT_COMMAND", 0x34CD)
             with self.assertRaisesRegex(NoTransfer, "Remote I/O error"):
                 bus.read(bytes.fromhex("B006020721"), 4)
             bus.close()
             self.assertEqual(file.read().decode().splitlines()[-1], "# failed: B0 06 02 07 21: Remote I/O error")
-        self.assertEqual((bus.part.word(1, "VOUT_COMMAND"), repr(bus)), (0x34CD, "DeskBus(0x58)"))
+        self.assertEqual((bus.part.word(1, "VOUT_COMMAND"), repr(bus)), (0x34CD, "ModelBus(0x58)"))

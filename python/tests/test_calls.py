@@ -17,28 +17,28 @@ class Frames(unittest.TestCase):
     def test_an_order_is_written_and_read_back(self):
         host = Host(0x58, 2, 2)
         host.order(0, "VOUT_COMMAND", 0x34CD)
-        self.assertEqual(host.sending(), Sending(bytes.fromhex("B0050400 21CD345A"), False, 0))
-        self.assertEqual(host.finished(False), Step("next"))
-        self.assertEqual(host.sending(), Sending(bytes.fromhex("B006020021"), True, 4))
-        self.assertEqual(host.got(bytes.fromhex("B102CD34B9")), Step("done"))
-        self.assertEqual((host.sending(), host.standing(0, 0x21)), (None, 0x34CD))
-        self.assertEqual(host.possible(0, "VOUT_COMMAND"), (0x34CD,))
+        self.assertEqual(host.frame(), Sending(bytes.fromhex("B0050400 21CD345A"), False, 0))
+        self.assertEqual(host.write_ended(False), Step("next"))
+        self.assertEqual(host.frame(), Sending(bytes.fromhex("B006020021"), True, 4))
+        self.assertEqual(host.read_ended(bytes.fromhex("B102CD34B9")), Step("done"))
+        self.assertEqual((host.frame(), host.confirmed_word(0, 0x21)), (None, 0x34CD))
+        self.assertEqual(host.possible_words(0, "VOUT_COMMAND"), (0x34CD,))
         self.assertFalse(host.restart_seen)
 
     def test_a_host_is_copied_and_saved(self):
         host = Host(0x58)
         other = host.copy()
         host.order(0, "OPERATION", 0x80)
-        self.assertIsNone(other.sending())
+        self.assertIsNone(other.frame())
         self.assertEqual((len(host.save()), host.address, host.outputs, host.passes), (_library.HOST_SIZE, 0x58, 1, 3))
         self.assertNotEqual(host.save(), other.save())
 
     def test_copies_share_nothing(self):
-        host, part = Host(0x58), pmhost.Part(0x58, [pmhost.Output()])
+        host, part = Host(0x58), pmhost.ModelPart(0x58, [pmhost.Output()])
         other, another = copy.copy(host), copy.copy(part)
         other.order(0, "OPERATION", 0x80)
         another.hear(bytes.fromhex("B0050400 21CD345A"))
-        self.assertIsNone(host.sending())
+        self.assertIsNone(host.frame())
         self.assertNotEqual(part.word(0, "VOUT_COMMAND"), another.word(0, "VOUT_COMMAND"))
 
     def test_errors_go_to_other_processes_whole(self):
@@ -94,17 +94,17 @@ class Jobs(unittest.TestCase):
 
     def test_limits_and_the_band(self):
         pmbus = rails()
-        self.assertIsNone(pmbus.within(0))
+        self.assertEqual(pmbus.limits_state(0), "not known")
         pmbus.check_all([0])
         self.assertEqual(pmbus.band(0), (Decimal("3.300048"), Decimal("3.300049")))
-        self.assertTrue(pmbus.within(0))
+        self.assertEqual(pmbus.limits_state(0), "within")
         self.assertEqual(pmbus.limits(0), (Decimal("3.2"), Decimal("3.465")))
         self.assertEqual(pmbus.host.limits(0), Limits(3200000, 3465000))
         self.assertIsNone(pmbus.limits(1))
         self.assertEqual(pmbus.host.band(0), Band(3300048, 3300049))
         pmbus.turn_on(0)
-        pmbus.limit(0, "3.2", "3.25")
-        self.assertFalse(pmbus.within(0))
+        pmbus.set_limits(0, "3.2", "3.25")
+        self.assertEqual(pmbus.limits_state(0), "outside")
         pmbus.turn_off(0)
         pmbus.restart()
         self.assertEqual((pmbus.limits(0)[1], pmbus.band(0)), (Decimal("3.25"), None))
@@ -116,21 +116,21 @@ class Jobs(unittest.TestCase):
         pmbus.store()
         pmbus.order(1, "VOUT_MAX", 0x2000)
         pmbus.restore()
-        self.assertIsNone(pmbus.host.possible(1, "VOUT_MAX"))
+        self.assertIsNone(pmbus.host.possible_words(1, "VOUT_MAX"))
         self.assertEqual(pmbus.host.format(1), Format("ULINEAR16", -12))
 
     def test_what_is_known_of_every_register(self):
         pmbus = rails()
         pmbus.check(1, "VOUT_MIN")
-        known = pmbus.known()
+        known = pmbus.known_cells()
         self.assertEqual([(it.output, it.register) for it in known[:6]],
                          [(0, name) for name in ("OPERATION", "VOUT_COMMAND", "VOUT_MAX", "VOUT_MARGIN_HIGH", "VOUT_MARGIN_LOW", "VOUT_MIN")])
         self.assertEqual((len(known), known[11], known[12]),
                          (13, Known(1, "VOUT_MIN", 0, (0,)), Known(None, "WRITE_PROTECT", None, None)))
         for it in known:
             output = it.output or 0
-            self.assertEqual(it.possible, pmbus.host.possible(output, it.register))
-            self.assertEqual(it.confirmed, pmbus.host.standing(output, it.register))
+            self.assertEqual(it.possible, pmbus.host.possible_words(output, it.register))
+            self.assertEqual(it.confirmed, pmbus.host.confirmed_word(output, it.register))
 
     def test_a_restart_of_the_part_is_seen(self):
         pmbus = rails()

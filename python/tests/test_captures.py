@@ -11,7 +11,7 @@ import threading
 import unittest
 import unittest.mock
 
-from pmhost import Output, Part
+from pmhost import Output, ModelPart
 from pmhost.capture import NoCapture, clock_of, i2ctransfer, trace
 from pmhost.capture.vcd import waveform
 from pmhost.faults import heard_by
@@ -345,7 +345,7 @@ class Frames(unittest.TestCase):
 
 def serve(said, answered, count):
     """A model part hears frames in lines of pairs of digits, of which a / behind them is a repeated start, and answers each."""
-    part = Part(0x58, [Output()] * 2)
+    part = ModelPart(0x58, [Output()] * 2)
     for _ in range(count):
         line = said.readline().decode()
         heard, _ = heard_by(part, bytes.fromhex(line.replace("/", "")), "/" in line)

@@ -2,7 +2,7 @@
 import itertools
 import unittest
 
-from pmhost import Host, Output, Part, PartBus, Pmbus, Refused, Unknown
+from pmhost import Host, Output, ModelPart, ModelPartBus, Device, Refused, Unknown
 
 from .fixtures import ADDRESS, RAILS, Recorded, rails
 
@@ -38,7 +38,7 @@ class DeadBuses(unittest.TestCase):
                 with self.subTest(name=name, written=written):
                     bus = Answering(written)
                     with self.assertRaises(Unknown) as raised:
-                        call(Pmbus(bus, ADDRESS, passes=3))
+                        call(Device(bus, ADDRESS, passes=3))
                     # A store is sent once.
                     failed, frames = ("1 transfer failed", 1) if name == "store" else ("3 transfers failed", 3)
                     self.assertEqual(str(raised.exception), f"{name} at 58h: no good answer: {failed}, the last: {why}")
@@ -52,13 +52,13 @@ class DeadBuses(unittest.TestCase):
                 raise errors[min(self._does(self.frames), 2)]
 
         with self.assertRaises(Unknown) as raised:
-            Pmbus(Each(), 0x3A).learn(0)
+            Device(Each(), 0x3A).learn(0)
         self.assertEqual(str(raised.exception), "learn 0 at 3Ah: no good answer: 3 transfers failed, the last: No such device or address")
         self.assertIs(raised.exception.__cause__, ABSENT)
 
     def test_what_was_wrong_with_answers_is_told(self):
         with self.assertRaises(Unknown) as raised:
-            Pmbus(Answering(came=b"\x02\xCD\x34\x00"), ADDRESS, passes=2).check(0)
+            Device(Answering(came=b"\x02\xCD\x34\x00"), ADDRESS, passes=2).check(0)
         self.assertEqual(str(raised.exception), "check 0 VOUT_COMMAND at 58h: no good answer: 2 answers weren't good: F5 WrongPec")
         self.assertIsNone(raised.exception.__cause__)
 
@@ -69,10 +69,10 @@ class WrongBuses(unittest.TestCase):
                                (Answering(came="12"), lambda it: it.check(0), "read: bytes are wanted"),
                                (Answering(written=1), lambda it: it.store(), "write: True or False is wanted, and not 1"),
                                (Answering(written=None), lambda it: it.order(0, "VOUT_COMMAND", 1), "write: True or False is wanted")):
-            pmbus = Pmbus(bus, ADDRESS)
+            pmbus = Device(bus, ADDRESS)
             with self.subTest(said=said), self.assertRaisesRegex(TypeError, said):
                 job(pmbus)
-            self.assertIsNone(pmbus.host.sending())
+            self.assertIsNone(pmbus.host.frame())
 
 
 class Telling(Host):
@@ -82,19 +82,19 @@ class Telling(Host):
         super().__init__(*words)
         self.told = []
 
-    def finished(self, acked):
+    def write_ended(self, acked):
         self.told.append(acked)
-        return super().finished(acked)
+        return super().write_ended(acked)
 
-    def got(self, answer):
+    def read_ended(self, answer):
         self.told.append(answer)
-        return super().got(answer)
+        return super().read_ended(answer)
 
 
 class Interruptions(unittest.TestCase):
     def interrupted(self, at, job):
         """A job whose transfer of this number is broken off; whether the part heard it."""
-        class Broken(PartBus):
+        class Broken(ModelPartBus):
             count = 0
 
             def _count(self):
@@ -113,7 +113,7 @@ class Interruptions(unittest.TestCase):
                     raise KeyboardInterrupt
                 return answer
 
-        pmbus = Pmbus(Broken(Part(ADDRESS, RAILS)), ADDRESS, outputs=2)
+        pmbus = Device(Broken(ModelPart(ADDRESS, RAILS)), ADDRESS, outputs=2)
         with self.assertRaises(KeyboardInterrupt):
             job(pmbus)
         return pmbus
@@ -121,8 +121,8 @@ class Interruptions(unittest.TestCase):
     def test_an_interrupted_order_ends_as_unknown(self):
         for at in (1, 2):
             pmbus = self.interrupted(at, lambda it: it.order(0, "VOUT_COMMAND", 0x3400))
-            self.assertIsNone(pmbus.host.sending())
-            self.assertIsNone(pmbus.host.possible(0, "VOUT_COMMAND"))
+            self.assertIsNone(pmbus.host.frame())
+            self.assertIsNone(pmbus.host.possible_words(0, "VOUT_COMMAND"))
             self.assertEqual(pmbus.bus.count, at, "no frame is sent behind an interrupt")
             # The host isn't busy: what it doesn't know can be read at once.
             self.assertEqual(pmbus.check(0), 0x3400)
@@ -131,29 +131,29 @@ class Interruptions(unittest.TestCase):
         def job(pmbus):
             pmbus.host.check(0, "VOUT_COMMAND")
             pmbus.host.run(pmbus.bus)
-        self.assertIsNone(self.interrupted(1, job).host.sending())
+        self.assertIsNone(self.interrupted(1, job).host.frame())
 
     def test_what_was_known_before_stays_possible(self):
         def job(pmbus):
             pmbus.check(0)
             pmbus.order(0, "VOUT_COMMAND", 0x3400)
         pmbus = self.interrupted(2, job)
-        self.assertEqual(pmbus.host.possible(0, "VOUT_COMMAND"), (RAILS[0].command, 0x3400))
+        self.assertEqual(pmbus.host.possible_words(0, "VOUT_COMMAND"), (RAILS[0].command, 0x3400))
 
     def test_every_job_can_be_broken_off(self):
         for job in (lambda it: it.learn(0), lambda it: it.check(0), lambda it: it.store(), lambda it: it.restore(), lambda it: it.clear(1)):
-            self.assertIsNone(self.interrupted(1, job).host.sending())
+            self.assertIsNone(self.interrupted(1, job).host.frame())
 
     def test_a_host_gives_up_at_each_place(self):
         for passes, told in itertools.product(range(1, 4), range(6)):
             host = Telling(ADDRESS, 2, passes)
             host.order(1, "VOUT_COMMAND", 0x1234)
             for _ in range(min(told, 2 * passes - 1)):
-                host.got(b"") if host.sending().is_request else host.finished(True)
+                host.read_ended(b"") if host.frame().is_request else host.write_ended(True)
             del host.told[:]
             host.give_up()
-            self.assertIsNone(host.sending())
-            self.assertIsNone(host.standing(1, "VOUT_COMMAND"))
+            self.assertIsNone(host.frame())
+            self.assertIsNone(host.confirmed_word(1, "VOUT_COMMAND"))
             self.assertLessEqual(set(host.told), {False, b""}, "no frame that is left is told as acknowledged")
 
 
@@ -172,17 +172,17 @@ class WordsOnTheWire(unittest.TestCase):
             self.assertEqual(pmbus.bus.frames[-1][:-1], bytes.fromhex(frame))
 
     def test_microvolts_reach_the_part_by_no_float(self):
-        part = Part(ADDRESS, [Output(mode=0x40, max=0x7FFF, command=0)], coefficients=(1, 0, 6))
-        pmbus = Pmbus(PartBus(part), ADDRESS)
+        part = ModelPart(ADDRESS, [Output(mode=0x40, max=0x7FFF, command=0)], coefficients=(1, 0, 6))
+        pmbus = Device(ModelPartBus(part), ADDRESS)
         pmbus.learn(0)
         for micro in (1, 4, 999, 1001, 16_385, 32_766, 32_767):
             pmbus.order_volts(0, f"0.{micro:06d}")
             self.assertEqual(part.word(0, "VOUT_COMMAND"), micro)
-        part = Part(ADDRESS, [Output(mode=0x40, max=0x7FFF, command=0)], coefficients=(1000, 0, 0))
-        pmbus = Pmbus(PartBus(part), ADDRESS)
+        part = ModelPart(ADDRESS, [Output(mode=0x40, max=0x7FFF, command=0)], coefficients=(1000, 0, 0))
+        pmbus = Device(ModelPartBus(part), ADDRESS)
         pmbus.learn(0)
         pmbus.host.order_micro(0, "VOUT_COMMAND", 1_001_000)
-        pmbus.carried_out()
+        pmbus.run()
         pmbus.order_volts(0, "4.1")
         self.assertEqual(part.word(0, "VOUT_COMMAND"), 4100)
 
@@ -190,21 +190,21 @@ class WordsOnTheWire(unittest.TestCase):
         """The limits stand one microvolt beside an order, so an order that a float rounded is refused."""
         for micro in (1_001_000, 1_000_999, 4_100_000, 5_999_999):
             host = Host(ADDRESS)
-            learned = Pmbus(PartBus(Part(ADDRESS, [Output(mode=0x40)], coefficients=(1000, 0, 0))), ADDRESS)
+            learned = Device(ModelPartBus(ModelPart(ADDRESS, [Output(mode=0x40)], coefficients=(1000, 0, 0))), ADDRESS)
             learned.host = host
             learned.learn(0)
-            learned.limit(0, f"{micro / 10**6:.6f}", f"{micro / 10**6:.6f}")
+            learned.set_limits(0, f"{micro / 10**6:.6f}", f"{micro / 10**6:.6f}")
             self.assertEqual((host.limits(0).least, host.limits(0).most), (micro, micro))
 
     def test_limits_of_an_output_that_is_not_there(self):
         pmbus = rails()
-        for call in (lambda: pmbus.limits(9), lambda: pmbus.within(9), lambda: pmbus.host.limits(2), lambda: pmbus.host.limits(9)):
+        for call in (lambda: pmbus.limits(9), lambda: pmbus.limits_state(9), lambda: pmbus.host.limits(2), lambda: pmbus.host.limits(9)):
             with self.assertRaises((ValueError, Refused)):
                 call()
 
     def test_two_outputs_of_two_formats(self):
-        part = Part(ADDRESS, [Output(), Output(mode=0x40, max=0x7FFF)], coefficients=(1000, 0, 0))
-        pmbus = Pmbus(PartBus(part), ADDRESS, outputs=2)
+        part = ModelPart(ADDRESS, [Output(), Output(mode=0x40, max=0x7FFF)], coefficients=(1000, 0, 0))
+        pmbus = Device(ModelPartBus(part), ADDRESS, outputs=2)
         pmbus.learn_all()
         pmbus.order_volts(0, "1.5")
         pmbus.order_volts(1, "1.5")

@@ -3,7 +3,7 @@ import itertools
 import random
 import unittest
 
-from pmhost import Differs, Part, Pmbus, Unknown
+from pmhost import Differs, ModelPart, Device, Unknown
 
 from .fixtures import ADDRESS, RAILS, Faulty
 
@@ -11,7 +11,7 @@ FATES = ("ok", "lost", "deaf", "error", "cut", "bit", "long", "acked")
 
 
 def faulty(fates, passes=2):
-    pmbus = Pmbus(Faulty(Part(ADDRESS, RAILS)), ADDRESS, outputs=2, passes=passes)
+    pmbus = Device(Faulty(ModelPart(ADDRESS, RAILS)), ADDRESS, outputs=2, passes=passes)
     pmbus.learn_all()
     pmbus.bus.fates = list(fates)
     return pmbus
@@ -57,8 +57,8 @@ class Faults(unittest.TestCase):
                     pmbus.order(1, "VOUT_COMMAND", word)
                 except (Differs, Unknown):
                     pass
-                confirmed = pmbus.host.standing(1, "VOUT_COMMAND")
+                confirmed = pmbus.host.confirmed_word(1, "VOUT_COMMAND")
                 held = pmbus.bus.part.word(1, "VOUT_COMMAND")
                 self.assertIn(confirmed, (None, held))
-                possible = pmbus.host.possible(1, "VOUT_COMMAND")
+                possible = pmbus.host.possible_words(1, "VOUT_COMMAND")
                 self.assertTrue(possible is None or held in possible)

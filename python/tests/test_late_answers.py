@@ -60,8 +60,8 @@ class OfLibrary:
 
     def carry_out(self, bus):
         step = None
-        while (sending := self.host.sending()) is not None:
-            step = self.host.got(bus.read(sending.frame))
+        while (sending := self.host.frame()) is not None:
+            step = self.host.read_ended(bus.read(sending.frame))
         return step
 
     def survey(self, output, wanted, bus):
@@ -71,7 +71,7 @@ class OfLibrary:
         return state
 
     def possible(self, cell):
-        found = self.host.possible(cell[0] or 0, NAMES[cell[1]])
+        found = self.host.possible_words(cell[0] or 0, NAMES[cell[1]])
         return None if found is None else [*found]
 
 

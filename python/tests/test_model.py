@@ -13,7 +13,7 @@ from plain.host import ANY, Host as PlainHost  # noqa: E402
 
 ADDRESS, EVENTS = 0x58, int(os.environ.get("PMHOST_EVENTS", "10000"))
 WORDS = (0x00, 0x40, 0x80, 0x94, 0xA8, 0x20)
-WITHIN = {"yes": True, "no": False, "unknown": None}
+STATES = {"yes": "within", "no": "outside", "unknown": "not known"}
 
 
 class Life:
@@ -32,7 +32,7 @@ class Life:
         self.host = Host(ADDRESS, self.count, passes)
         for output, pair in enumerate(self.limits):
             if pair:
-                self.host.narrow(output, *pair)
+                self.host.set_limits(output, *pair)
 
     def cell(self):
         return PROTECT if self.draw.random() < 0.1 else (self.draw.randrange(self.count), self.draw.choice(REGISTERS))
@@ -69,18 +69,18 @@ class Life:
 
     def told(self):
         frame, reads, fate = list(self.plain.sending_frame()), self.plain.sending_reads(), self.draw.random()
-        sending = self.host.sending()
+        sending = self.host.frame()
         self.case.assertEqual((list(sending.frame), sending.is_request), (frame, reads))
         answer = self.device.hear(frame, "restart" if reads else "stop") if fate > 0.1 else None
         if not reads:
             acked = self.draw.random() < 0.7
             self.plain.told(("finished", acked))
-            return self.host.finished(acked)
+            return self.host.write_ended(acked)
         got = list(answer) if isinstance(answer, (list, tuple, bytes)) and answer else []
         if self.draw.random() < 0.1 and got:
             got[self.draw.randrange(len(got))] ^= 1 << self.draw.randrange(8)
         self.plain.told(("got", got))
-        return self.host.got(bytes(got))
+        return self.host.read_ended(bytes(got))
 
     def event(self):
         draw = self.draw.random()
@@ -101,11 +101,11 @@ class Life:
         output = self.draw.randrange(self.count)
         for register in REGISTERS:
             possible = self.plain.possible((output, register))
-            self.case.assertEqual(self.host.possible(output, register), None if possible is ANY else tuple(possible))
-            self.case.assertEqual(self.host.standing(output, register), self.plain.standing((output, register)))
+            self.case.assertEqual(self.host.possible_words(output, register), None if possible is ANY else tuple(possible))
+            self.case.assertEqual(self.host.confirmed_word(output, register), self.plain.standing((output, register)))
         self.case.assertEqual(self.host.restart_seen, self.plain.restart_seen())
         found = plain_limits.band(self.plain, output)
-        self.case.assertEqual(self.host.within(output), WITHIN[plain_limits.within(self.limits[output], found)])
+        self.case.assertEqual(self.host.limits_state(output), STATES[plain_limits.within(self.limits[output], found)])
         if found is not None:
             band = self.host.band(output)
             least, greatest = (it * 10**6 for it in found)

@@ -5,7 +5,7 @@ import os
 import random
 import unittest
 
-from pmhost import Host, Output, Part, PartRefused, Refused
+from pmhost import Host, Output, ModelPart, PartRefused, Refused
 
 from . import plain_model  # noqa: F401
 from plain.converter import COMMAND, HIGH, LOW, MAX, MIN, OPERATION, PROTECT, REGISTERS, Converter
@@ -27,7 +27,7 @@ class Pair:
         words = {OPERATION: 0x80, COMMAND: 0x1000, MAX: 0x4000, HIGH: 0x1100, LOW: 0x0F00, MIN: 0}
         modes, coefficients = [draw.choice((0x14, 0x17, 0x40)) for _ in range(count)], (draw.choice((1, -3)), 5, 0)
         starts = [Output(mode, *(words[code] for code in (OPERATION, COMMAND, MAX, HIGH, LOW, MIN))) for mode in modes]
-        self.part, self.host = Part(address, starts, coefficients), Host(address, count, passes)
+        self.part, self.host = ModelPart(address, starts, coefficients), Host(address, count, passes)
         self.plain_part = Converter({"address": address, "count": count, "outputs": [(mode, dict(words)) for mode in modes],
                                      "protect": 0, "coefficients": coefficients, "version": 2})
         self.plain_host = PlainHost(address, count, passes)
@@ -56,11 +56,11 @@ class Pair:
 
     def told(self, acked, came, own):
         """What became of the frame that is sent; of bytes that another part answered the plain host hears as of none."""
-        if self.host.sending().is_request:
-            self.host.got(bytes(came))
+        if self.host.frame().is_request:
+            self.host.read_ended(bytes(came))
             self.plain_host.told(("got", list(own)))
         else:
-            self.host.finished(acked)
+            self.host.write_ended(acked)
             self.plain_host.told(("finished", acked))
 
     # ---- What is so ----
@@ -68,13 +68,13 @@ class Pair:
     def looked_at(self):
         """What the part holds and the host knows, by the library and by the plain pair."""
         host, part, plain, device = self.host, self.part, self.plain_host, self.plain_part
-        sending = host.sending()
+        sending = host.frame()
         proved, alone = [sending and sending.frame, host.restart_seen, part.page], [
             plain.sending() and bytes(plain.sending_frame()), plain.restart_seen(), device.page]
         for cell in self.cells:
             output, name = cell[0] or 0, name_of(cell[1])
             possible = plain.possible(cell)
-            proved += [part.word(output, name), host.possible(output, name), host.standing(output, name)]
+            proved += [part.word(output, name), host.possible_words(output, name), host.confirmed_word(output, name)]
             alone += [device.cells[cell], None if possible is ANY else tuple(possible), plain.standing(cell)]
             if cell != PROTECT:
                 proved.append(part.stored(output, name))
@@ -108,7 +108,7 @@ class Wire:
 
     def sent(self, pair):
         """A pair's frame goes over the bus."""
-        sending = pair.host.sending()
+        sending = pair.host.frame()
         arrival, back = self.draw.choice(ARRIVALS), self.draw.choice(RETURNS)
         frame = arrived(self.draw, arrival, sending.frame, self.pairs)
         acked, answer, who = False, b"", None
@@ -166,7 +166,7 @@ class Boards(unittest.TestCase):
             elif chance < 0.015:
                 pair.host.restart()
                 pair.plain_host.restart()
-            elif pair.host.sending() is None:
+            elif pair.host.frame() is None:
                 pair.begin()
             else:
                 wire.sent(pair)

@@ -3,7 +3,7 @@ import unittest
 from decimal import Decimal
 
 import pmhost
-from pmhost import Output, Part, PartRefused, SetupRefused
+from pmhost import Output, ModelPart, PartRefused, SetupRefused
 
 from .fixtures import ADDRESS, RAILS
 
@@ -15,7 +15,7 @@ STORE = bytes.fromhex("B01524")
 
 class Made(unittest.TestCase):
     def test_coefficients_that_are_left_out_are_those_of_millivolts(self):
-        self.assertEqual(Part(ADDRESS, [Output(mode=0x40, command=3300)]).volts(0), Decimal("3.3"))
+        self.assertEqual(ModelPart(ADDRESS, [Output(mode=0x40, command=3300)]).volts(0), Decimal("3.3"))
 
     def test_numbers_that_its_memory_cannot_hold_are_refused(self):
         """A field would keep another number without a word."""
@@ -23,18 +23,18 @@ class Made(unittest.TestCase):
             for number in (least, most):
                 coefficients = [1, 0, 0]
                 coefficients[place] = number
-                self.assertEqual(Part(ADDRESS, [Output(mode=0x40)], tuple(coefficients)).outputs, 1)
+                self.assertEqual(ModelPart(ADDRESS, [Output(mode=0x40)], tuple(coefficients)).outputs, 1)
         for place, numbers in enumerate(((-2**15 - 1, 2**15), (-2**15 - 1, 2**15), (-2**7 - 1, 2**7))):
             for number in numbers:
                 coefficients = [1, 0, 0]
                 coefficients[place] = number
                 with self.assertRaises(ValueError):
-                    Part(ADDRESS, [Output(mode=0x40)], tuple(coefficients))
+                    ModelPart(ADDRESS, [Output(mode=0x40)], tuple(coefficients))
 
 
 class Heard(unittest.TestCase):
     def setUp(self):
-        self.part = Part(ADDRESS, (Output(), Output()))
+        self.part = ModelPart(ADDRESS, (Output(), Output()))
 
     def test_a_plain_word_goes_to_the_selected_output(self):
         self.assertEqual(self.part.hear(PAGE_1), b"")
@@ -88,21 +88,21 @@ class Made(unittest.TestCase):
     def test_what_no_part_starts_with_is_refused_by_its_first_fault(self):
         bad = Output(mode=0xFF)
         for letter, made in [
-            ("V1", lambda: Part(ADDRESS, ())),
-            ("V1", lambda: Part(0x78, [bad] * 9)),
-            ("V2", lambda: Part(0x78, (Output(operation=0xB0), bad))),
-            ("V2", lambda: Part(ADDRESS, protect=0x100)),
-            ("V3", lambda: Part(0x78, (bad,))),
-            ("V4", lambda: Part(ADDRESS, (bad, Output(mode=0x40)), (0, 0, 0))),
-            ("V5", lambda: Part(ADDRESS, (Output(mode=0x40),), (0, 0, 0))),
-            ("V5", lambda: Part(ADDRESS, (Output(mode=0x40),), (1, 0, 13))),
+            ("V1", lambda: ModelPart(ADDRESS, ())),
+            ("V1", lambda: ModelPart(0x78, [bad] * 9)),
+            ("V2", lambda: ModelPart(0x78, (Output(operation=0xB0), bad))),
+            ("V2", lambda: ModelPart(ADDRESS, protect=0x100)),
+            ("V3", lambda: ModelPart(0x78, (bad,))),
+            ("V4", lambda: ModelPart(ADDRESS, (bad, Output(mode=0x40)), (0, 0, 0))),
+            ("V5", lambda: ModelPart(ADDRESS, (Output(mode=0x40),), (0, 0, 0))),
+            ("V5", lambda: ModelPart(ADDRESS, (Output(mode=0x40),), (1, 0, 13))),
         ]:
             with self.subTest(letter=letter), self.assertRaises(SetupRefused) as raised:
                 made()
             self.assertEqual(raised.exception.letter, letter)
 
     def test_it_starts_with_its_words_in_the_store(self):
-        part = Part(ADDRESS, RAILS, protect=0x80)
+        part = ModelPart(ADDRESS, RAILS, protect=0x80)
         for output, rail in enumerate(RAILS):
             self.assertEqual((part.word(output, "VOUT_MAX"), part.stored(output, "VOUT_MAX")), (rail.max, rail.max))
         self.assertEqual(part.word(1, "WRITE_PROTECT"), 0x80)

@@ -55,10 +55,10 @@ WAYS = ((False, False), (True, False), (True, True))
 class EightOrders(unittest.TestCase):
     """Eight orders, a store and two checks at a part that is busy behind each write."""
 
-    def carried_out(self, milliseconds, way, patience):
+    def carry_out(self, milliseconds, way, patience):
         """The status, and whether what `known` says is held."""
         part = Timed(milliseconds, *way)
-        given = ["--patience", str(patience)] if patience is not None else []
+        given = ["--busy-timeout", f"{patience}ms"] if patience is not None else []
         status, out, _ = runs.called(["-b", "7", "-a", "58", "--outputs", "2", "--no-limit", *given, *JOBS.split()], FakeKernel(part))
         for output, word, possible in re.findall("^([01]) VOUT_COMMAND (?:([0-9A-F]{4}) .*confirmed|possible (.*))$", out, re.M):
             held = f"{part.converter.cells[int(output), 0x21]:04X}"
@@ -66,14 +66,14 @@ class EightOrders(unittest.TestCase):
         return status, [part.converter.cells[output, 0x21] for output in (0, 1)]
 
     def test_they_end_well(self):
-        with mock.patch.object(patient, "PATIENCE", runs.PATIENCE), mock.patch.object(patient, "LONG_PATIENCE", runs.LONG_PATIENCE):
+        with mock.patch.object(patient, "TIMEOUT", runs.TIMEOUT), mock.patch.object(patient, "LONG_TIMEOUT", runs.LONG_TIMEOUT):
             for milliseconds in (0, 1, 10, 30, 150):
                 for way in WAYS:
                     with self.subTest(milliseconds=milliseconds, way=way):
-                        self.assertEqual(self.carried_out(milliseconds, way, None), (0, [WORDS[6], WORDS[7]]))
+                        self.assertEqual(self.carry_out(milliseconds, way, None), (0, [WORDS[6], WORDS[7]]))
 
     def test_without_patience_nothing_false_is_said(self):
-        ends = {(milliseconds, way): self.carried_out(milliseconds, way, 0)[0] for milliseconds in (0, 1, 10, 30, 150) for way in WAYS}
+        ends = {(milliseconds, way): self.carry_out(milliseconds, way, 0)[0] for milliseconds in (0, 1, 10, 30, 150) for way in WAYS}
         self.assertEqual({ends[milliseconds, way] for milliseconds in (30, 150) for way in WAYS}, {1})
         self.assertLessEqual(set(ends.values()), {0, 1})
 
@@ -99,12 +99,12 @@ class Patience(unittest.TestCase):
                 self.assertLessEqual(below.times[-1], milliseconds)
 
     def test_how_long_where_nothing_is_given(self):
-        self.assertEqual((runs.PATIENCE, runs.LONG_PATIENCE), (200, 1000))
-        with mock.patch.object(patient, "PATIENCE", runs.PATIENCE), mock.patch.object(patient, "LONG_PATIENCE", runs.LONG_PATIENCE):
+        self.assertEqual((runs.TIMEOUT, runs.LONG_TIMEOUT), (200, 1000))
+        with mock.patch.object(patient, "TIMEOUT", runs.TIMEOUT), mock.patch.object(patient, "LONG_TIMEOUT", runs.LONG_TIMEOUT):
             bus = PatientBus(Scripted())
-            self.assertEqual([bus.patience(each) for each in (FRAME, CLEAR, STORE, RESTORE)], [200, 200, 1000, 1000])
+            self.assertEqual([bus.busy_timeout(each) for each in (FRAME, CLEAR, STORE, RESTORE)], [200, 200, 1000, 1000])
             bus = PatientBus(Scripted(), 0, 30)
-            self.assertEqual([bus.patience(each) for each in (FRAME, CLEAR, STORE, RESTORE)], [30] * 4)
+            self.assertEqual([bus.busy_timeout(each) for each in (FRAME, CLEAR, STORE, RESTORE)], [30] * 4)
 
     def test_a_write_whose_address_nobody_acknowledged_is_sent_again(self):
         below = Scripted(errno.ENXIO, errno.ENXIO, True)
@@ -177,10 +177,10 @@ class Patience(unittest.TestCase):
 
     def test_probe_asks_nothing_behind_its_writes(self):
         part = Proved()
-        runs.called("-b 7 -a 58 --patience 200 probe --writes".split(), FakeKernel(part))
+        runs.called("-b 7 -a 58 --busy-timeout 200ms probe --writes".split(), FakeKernel(part))
         self.assertIn("B0 03 46", part.lines)
         self.assertNotIn("B0 19 /", part.lines)
-        runs.called("-b 7 -a 58 --outputs 2 --patience 200 clear 0".split(), FakeKernel(part))
+        runs.called("-b 7 -a 58 --outputs 2 --busy-timeout 200ms clear 0".split(), FakeKernel(part))
         self.assertIn("B0 19 /", part.lines)
 
     def test_each_store_is_sent_once(self):

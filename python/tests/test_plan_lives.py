@@ -51,7 +51,7 @@ class Life:
         """An event: a job begins, or a frame goes over the bus; the host may restart."""
         if self.draw.random() < 0.003:
             self.host.restart()
-        elif self.host.sending() is None:
+        elif self.host.frame() is None:
             self.begin()
         else:
             self.send()
@@ -97,7 +97,7 @@ class Life:
 
     def send(self):
         """The frame that is sent meets its fate."""
-        sending, fate = self.host.sending(), self.draw.choice(FATES)
+        sending, fate = self.host.frame(), self.draw.choice(FATES)
         frame, ending = list(sending.frame), "restart" if sending.is_request else "stop"
         if fate == "cut":
             frame = frame[:self.draw.randrange(len(frame))]
@@ -112,9 +112,9 @@ class Life:
             came = reply if isinstance(reply, list) and fate != "mute" else []
             if came and self.draw.random() < 0.05:
                 came = [*came[:-1], came[-1] ^ 1 << self.draw.randrange(8)]
-            step = self.host.got(bytes(came))
+            step = self.host.read_ended(bytes(came))
         else:
-            step = self.host.finished(fate == "false" or fate != "mute" and reply != "silent")
+            step = self.host.write_ended(fate == "false" or fate != "mute" and reply != "silent")
         for course in self.courses:
             if step.is_over and course.survey is not None:
                 course.survey.told(step)

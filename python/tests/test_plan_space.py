@@ -29,9 +29,9 @@ COEFFICIENTS = (-1).to_bytes(2, "little", signed=True) + bytes(3)
 
 def answered(host, payload, is_counted=True):
     """Carries the open job's request out with a good answer of these bytes."""
-    sending = host.sending()
+    sending = host.frame()
     came = bytes([ADDRESS << 1 | 1, *([len(payload)] if is_counted else []), *payload])
-    return host.got(came + bytes([pec(sending.frame + came)]))
+    return host.read_ended(came + bytes([pec(sending.frame + came)]))
 
 
 class Known:

@@ -13,7 +13,7 @@ from .fixtures import Faulty, Recorded, rails
 
 VOLTS = {"VOUT_COMMAND": 0x3500}
 REACHED, SPENT = RailEnd("reached"), RailEnd("spent")
-AT_3V3 = RailState(True, Band(3300048, 3300049), True)
+AT_3V3 = RailState(True, Band(3300048, 3300049), "within")
 
 
 def codes(frames):
@@ -39,12 +39,12 @@ def refused(pmbus, wanted):
 class Rails(unittest.TestCase):
     def test_a_rail_is_told_by_what_is_known(self):
         pmbus = rails()
-        self.assertEqual(pmbus.rail(0), RailState(None, Band(0, 15999756), None))
+        self.assertEqual(pmbus.rail(0), RailState(None, Band(0, 15999756), "not known"))
         self.assertEqual(pmbus.survey(0), REACHED)
         self.assertEqual(pmbus.rail(0), AT_3V3)
         pmbus.turn_off(0)
-        self.assertEqual(pmbus.rail(0), RailState(False, AT_3V3.band, True))
-        self.assertEqual(Host(0x58).rail(0), RailState(None, None, True))
+        self.assertEqual(pmbus.rail(0), RailState(False, AT_3V3.band, "within"))
+        self.assertEqual(Host(0x58).rail(0), RailState(None, None, "within"))
 
     def test_a_survey_reads_what_decides_and_no_more(self):
         pmbus = recorded()
@@ -68,40 +68,40 @@ class Rails(unittest.TestCase):
         with self.assertRaises(pmhost.MemoryRefused) as it:
             survey.told(Step("next"))
         self.assertEqual(it.exception.name, "NoEnd")
-        survey.told(host.got(b""))
+        survey.told(host.read_ended(b""))
         self.assertEqual(host.survey(survey), "begun")
 
     def test_a_part_without_a_register_is_never_asked_for_it(self):
-        pmbus = recorded(without=("VOUT_MIN", "VOUT_MARGIN_HIGH"))
+        pmbus = recorded(lacks=("VOUT_MIN", "VOUT_MARGIN_HIGH"))
         self.assertEqual(pmbus.apply(0, VOLTS), REACHED)
         self.assertNotIn(0x2B, {frame[4] for frame in pmbus.bus.frames if len(frame) > 4})
-        self.assertEqual(pmbus.rail(0), RailState(True, Band(3312500, 3312500), True))
+        self.assertEqual(pmbus.rail(0), RailState(True, Band(3312500, 3312500), "within"))
         for call in (lambda: pmbus.host.check(0, "VOUT_MIN"), lambda: pmbus.host.order(0, "OPERATION", 0xA8)):
             with self.assertRaises(pmhost.LimitRefused) as it:
                 call()
             self.assertEqual((it.exception.letter, it.exception.name), ("L7", "MissingRegister"))
         with self.assertRaises(ValueError):
-            Host(0x58, without=("VOUT_COMMAND",))
+            Host(0x58, lacks=("VOUT_COMMAND",))
         pmbus.bus.frames.clear()
         end = pmbus.apply(0, {"VOUT_MIN": 0x3400, "VOUT_COMMAND": 0x3480})
         self.assertEqual((end.kind, end.refused.letter, end.register, codes(pmbus.bus.frames)), ("refused", "L7", "VOUT_MIN", []))
 
     def test_every_register_that_the_part_has_is_read(self):
-        pmbus = recorded(without=("VOUT_MAX",))
+        pmbus = recorded(lacks=("VOUT_MAX",))
         pmbus.check_all()
-        self.assertEqual([it.register for it in pmbus.known() if it.confirmed is None], ["VOUT_MAX", "VOUT_MAX", "WRITE_PROTECT"])
+        self.assertEqual([it.register for it in pmbus.known_cells() if it.confirmed is None], ["VOUT_MAX", "VOUT_MAX", "WRITE_PROTECT"])
 
     def test_an_output_of_avsbus_has_no_band(self):
         pmbus = recorded()
         pmbus.host.check(0, "OPERATION")
         answer = bytes.fromhex("B006020001B101B0")
-        pmbus.host.got(answer[5:] + bytes([pmhost.pec(answer)]))
+        pmbus.host.read_ended(answer[5:] + bytes([pmhost.pec(answer)]))
         self.assertEqual((pmbus.band(0), pmbus.rail(0).band), (None, None))
 
     def test_a_survey_is_stuck_at_a_missing_margin(self):
         pmbus = recorded(limits=None)
         pmbus.order(0, "OPERATION", 0xA8)
-        lacking = pmhost.Pmbus(pmbus.bus, 0x58, 2, without=("VOUT_MARGIN_HIGH",))
+        lacking = pmhost.Device(pmbus.bus, 0x58, 2, lacks=("VOUT_MARGIN_HIGH",))
         end = lacking.survey(0)
         self.assertEqual((end.kind, end.refused.letter), ("refused", "L7"))
         pmbus.bus.frames.clear()
@@ -116,9 +116,9 @@ class Plans(unittest.TestCase):
         pmbus.survey(0, VOLTS)
         self.assertEqual(pmbus.host.plan(0, VOLTS), PlanOrder("VOUT_COMMAND", 0x3500))
         self.assertEqual(pmbus.host.plan(0, {0x21: 0x34CD}), None)
-        self.assertEqual((pmbus.host.next(0, {}), pmbus.host.sending()), (None, None))
+        self.assertEqual((pmbus.host.next(0, {}), pmbus.host.frame()), (None, None))
         self.assertEqual(pmbus.host.next(0, VOLTS), PlanOrder("VOUT_COMMAND", 0x3500))
-        self.assertEqual(pmbus.host.sending().frame, bytes.fromhex("B0050400 21003559"))
+        self.assertEqual(pmbus.host.frame().frame, bytes.fromhex("B0050400 21003559"))
         with self.assertRaises(pmhost.HostRefused):
             pmbus.host.plan(0, VOLTS)
 
@@ -128,14 +128,14 @@ class Plans(unittest.TestCase):
         pmbus.survey(0, VOLTS)
         self.assertEqual(refused(pmbus, {"VOUT_COMMAND": 0x3800}), ("P6", "AboveMax", "VOUT_COMMAND"))
         self.assertEqual(refused(pmbus, {"VOUT_COMMAND": 0x3000}), ("P5", "BelowMin", "VOUT_COMMAND"))
-        pmbus.limit(0, "3.2", "3.465")
+        pmbus.set_limits(0, "3.2", "3.465")
         self.assertEqual(refused(pmbus, {"VOUT_MAX": 0x3000}), ("P2", "BelowLimit", "VOUT_MAX"))
         self.assertEqual(refused(pmbus, {"VOUT_MARGIN_HIGH": 0xFFFF}), ("P3", "AboveLimit", "VOUT_MARGIN_HIGH"))
         pmbus.order(0, "WRITE_PROTECT", 0x80)
         self.assertEqual(refused(pmbus, VOLTS), ("P7", "Protected", "VOUT_COMMAND"))
         pmbus.restart()
         self.assertEqual(refused(pmbus, VOLTS), ("P1", "FormatUnknown", None))
-        lacking = rails(without=("VOUT_MIN",))
+        lacking = rails(lacks=("VOUT_MIN",))
         with self.assertRaises(pmhost.LimitRefused):
             lacking.host.plan(0, {"VOUT_MIN": 0x3400})
 
@@ -202,15 +202,15 @@ class Applies(unittest.TestCase):
             with self.assertRaises(fault):
                 pmbus.apply(0, VOLTS, before_order=mock.Mock(side_effect=fault))
             self.assertEqual([frame for frame in pmbus.bus.frames if frame[1] == 0x05], [])
-            self.assertIsNone(pmbus.host.sending())
+            self.assertIsNone(pmbus.host.frame())
 
     def test_a_job_that_is_interrupted_before_its_first_frame_has_ended(self):
         pmbus = recorded()
         for job in (lambda: pmbus.order(0, "VOUT_COMMAND", 0x3480), lambda: pmbus.order_volts(0, "3.3"), lambda: pmbus.check(0),
                     lambda: pmbus.learn(0), lambda: pmbus.clear(0), pmbus.store, pmbus.restore):
-            with mock.patch("pmhost.pmbus.Transfers", side_effect=KeyboardInterrupt), self.assertRaises(KeyboardInterrupt):
+            with mock.patch("pmhost.device.Transfers", side_effect=KeyboardInterrupt), self.assertRaises(KeyboardInterrupt):
                 job()
-            self.assertIsNone(pmbus.host.sending())
+            self.assertIsNone(pmbus.host.frame())
 
     def test_a_refused_call_leaves_the_callers_open_job(self):
         pmbus = recorded()
@@ -218,7 +218,7 @@ class Applies(unittest.TestCase):
         for job in (lambda: pmbus.order(0, "VOUT_COMMAND", 0x3480), lambda: pmbus.apply(0, {"VOUT_COMMAND": "x"}), pmbus.store):
             with self.assertRaises((pmhost.HostRefused, TypeError)):
                 job()
-        self.assertIsNotNone(pmbus.host.sending())
+        self.assertIsNotNone(pmbus.host.frame())
 
     def test_tries_bound_all_jobs(self):
         pmbus = recorded()
@@ -237,7 +237,7 @@ class Applies(unittest.TestCase):
         self.assertEqual((recorded().apply(0, VOLTS, tries=0), recorded().apply(0, VOLTS, tries=65535)), (SPENT, REACHED))
         with self.assertRaises(pmhost.Unknown):
             recorded().set_volts(0, "3.3125", tries=0)
-        self.assertEqual(recorded().set_volts(0, "3.3125", tries=65535), RailState(True, Band(3312500, 3312500), True))
+        self.assertEqual(recorded().set_volts(0, "3.3125", tries=65535), RailState(True, Band(3312500, 3312500), "within"))
 
     def test_an_apply_without_a_try_left_says_so(self):
         with self.assertRaisesRegex(pmhost.Unknown, "none of 3 tries is left$"):
@@ -245,7 +245,7 @@ class Applies(unittest.TestCase):
 
     def test_volts_are_set_and_the_rail_is_told(self):
         pmbus = rails()
-        self.assertEqual(pmbus.set_volts(0, "3.25"), RailState(True, Band(3250000, 3250000), True))
+        self.assertEqual(pmbus.set_volts(0, "3.25"), RailState(True, Band(3250000, 3250000), "within"))
         self.assertEqual(pmbus.set_volts(0, Decimal("3.3")), AT_3V3)
         pmbus.order(0, "OPERATION", 0xA8)
         margin = pmbus.set_volts(0, "3.25")
@@ -269,7 +269,7 @@ class Exchanged(Recorded):
 
     def read(self, request, count):
         if self.reads == 0:
-            self.part = pmhost.Part(0x58, [pmhost.Output(mode=0x15, command=0x0800)])
+            self.part = pmhost.ModelPart(0x58, [pmhost.Output(mode=0x15, command=0x0800)])
         self.reads -= 1
         return super().read(request, count)
 
@@ -313,11 +313,11 @@ class Bounds(unittest.TestCase):
         form, host = pmhost.Format("ULINEAR16", -12), Host(0x58)
         for least, most in ((-2**63, 0), (0, 2**63 - 1)):
             with self.assertRaises(pmhost.NumberRefused):
-                host.narrow(0, least, most)
+                host.set_limits(0, least, most)
             with self.assertRaises(pmhost.NumberRefused):
                 form.nearest(least or most)
         for number in (-2**63 - 1, 2**63):
-            for call in (lambda: host.narrow(0, number, 0), lambda: host.narrow(0, 0, number), lambda: form.nearest(number),
+            for call in (lambda: host.set_limits(0, number, 0), lambda: host.set_limits(0, 0, number), lambda: form.nearest(number),
                          lambda: host.order_micro(0, "VOUT_COMMAND", number)):
                 with self.assertRaises(ValueError):
                     call()

@@ -4,7 +4,7 @@ import tempfile
 import unittest
 from unittest import mock
 
-from pmhost import PartBus, Part, Output, pec, reads
+from pmhost import ModelPartBus, ModelPart, Output, pec, reads
 from pmhost.cli.probe import revision_words
 from pmhost.probe import Probe
 
@@ -46,7 +46,7 @@ class Rows(Blocks):
             "odd.PageBlind": ("the part doesn't look at the page", 1), "odd.WithoutPec": ("no PEC (PMBUS_REVISION gave", 1),
             "odd.PecOptional": ("this host can't drive the part: a write without a PEC is taken", 1),
             "odd.AnyPec": ("this host can't drive the part: a write with a wrong PEC is taken", 1),
-            "odd.WithoutMinimum": ("--without VOUT_MIN", 0), "odd.Vid": ("1 VID (VOUT_MODE 21)", 1),
+            "odd.WithoutMinimum": ("--lacks VOUT_MIN", 0), "odd.Vid": ("1 VID (VOUT_MODE 21)", 1),
             "odd.Late": ("answered at a second or third try alone: the part is busy, or the bus loses transfers", 0),
             "odd.High": ("nothing but FFh, which counts as none", 0)}
         for part, (words, status) in wanted.items():
@@ -140,7 +140,7 @@ class Busy(unittest.TestCase):
 
     def test_a_part_that_answers_at_once_is_waited_for_only_where_it_lacks_something(self):
         with mock.patch("pmhost.reads.clock.wait") as slept:
-            found = Probe(PartBus(Part(ADDRESS, [Output()])), ADDRESS, 1).run()
+            found = Probe(ModelPartBus(ModelPart(ADDRESS, [Output()])), ADDRESS, 1).run()
         # Two waits for each of MFR_ID, MFR_MODEL, MFR_REVISION and ON_OFF_CONFIG.
         self.assertEqual((found.late, slept.call_count), (0, 8))
 
@@ -163,7 +163,7 @@ class WritesWithAFault(unittest.TestCase):
                              ((unknown, taken, unknown), (False, "not known, STATUS_CML 80")),
                              ((unknown, unknown, unknown), (False, "not known, STATUS_CML 80"))):
             probe = Probe(None, 0x58)
-            with self.subTest(tries=tries), mock.patch.object(probe, "_tried", side_effect=tries):
+            with self.subTest(tries=tries), mock.patch.object(probe, "_try", side_effect=tries):
                 self.assertEqual(probe._became_of(b""), found)
 
 

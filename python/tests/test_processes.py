@@ -91,7 +91,7 @@ class Processes(unittest.TestCase):
     def test_both_names_of_the_command(self):
         script = "import sys; from pmhost.cli import main; sys.exit(main())"
         for given in ([sys.executable, "-m", "pmhost"], [sys.executable, "-c", script]):
-            ran = subprocess.run([*given, "-b", "desk", "read", "0"], capture_output=True, text=True, check=False)
+            ran = subprocess.run([*given, "-b", "model", "read", "0"], capture_output=True, text=True, check=False)
             self.assertEqual((ran.returncode, ran.stdout), (0, "read 0: VOUT_COMMAND 1000 1V confirmed\n"))
 
     def test_help_of_each_command(self):
@@ -111,7 +111,7 @@ class Processes(unittest.TestCase):
                 self.assertIn("`pip install ./python` makes this package's library, PMHOST_LIBRARY names another", last)
 
     def test_the_command_without_a_library_says_so_in_one_line(self):
-        ended = subprocess.run([sys.executable, "-B", "-m", "pmhost", "-b", "desk", "read", "0"], check=False, text=True,
+        ended = subprocess.run([sys.executable, "-B", "-m", "pmhost", "-b", "model", "read", "0"], check=False, text=True,
                                env={**os.environ, "PMHOST_LIBRARY": "/nowhere.so"}, stderr=subprocess.PIPE, stdout=subprocess.PIPE)
         self.assertEqual((ended.returncode, ended.stdout), (2, ""))
         self.assertRegex(ended.stderr, r"\Apmhost: /nowhere\.so: .*; `pip install ./python` makes this package's library, .*\n\Z")
@@ -123,7 +123,7 @@ class Processes(unittest.TestCase):
             other = os.path.join(folder, "libpmpart.so")
             subprocess.run(["gcc", "-shared", "-fPIC", "-x", "c", "-", "-o", other], check=True, text=True,
                            input="unsigned long pm_part_size(void) { return 372; }\n")
-            ended = subprocess.run([sys.executable, "-B", "-m", "pmhost", "-b", "desk", "read", "0"], check=False, text=True,
+            ended = subprocess.run([sys.executable, "-B", "-m", "pmhost", "-b", "model", "read", "0"], check=False, text=True,
                                    env={**os.environ, "PMHOST_LIBRARY": other}, stderr=subprocess.PIPE, stdout=subprocess.PIPE)
         self.assertEqual((ended.returncode, ended.stdout), (2, ""))
         self.assertRegex(ended.stderr, r"\Apmhost: .*libpmpart\.so is another library than this package is for: it has no pm_\w+\n\Z")
@@ -134,7 +134,7 @@ class Processes(unittest.TestCase):
             with open(os.path.join(folder, "dataclasses.py"), "w", encoding="utf-8") as file:
                 file.write("import os, signal\nos.kill(os.getpid(), signal.SIGINT)\n")
             around = {**os.environ, "PYTHONPATH": os.pathsep.join([folder, os.environ.get("PYTHONPATH", "")])}
-            ended = subprocess.run([sys.executable, "-B", "-m", "pmhost", "-b", "desk", "read", "0"], check=False, text=True, env=around,
+            ended = subprocess.run([sys.executable, "-B", "-m", "pmhost", "-b", "model", "read", "0"], check=False, text=True, env=around,
                                    stderr=subprocess.PIPE, stdout=subprocess.PIPE, preexec_fn=with_signals)
         self.assertEqual((ended.returncode, ended.stdout, ended.stderr), (-signal.SIGINT, "", ""))
 
@@ -144,7 +144,7 @@ class Colours(unittest.TestCase):
         """What a process writes on a terminal."""
         above, below = pty.openpty()
         env = {name: it for name, it in os.environ.items() if name != "NO_COLOR"} | around
-        process = subprocess.Popen([sys.executable, "-m", "pmhost", "-b", "desk", "read", "0"], stdout=below, env=env)
+        process = subprocess.Popen([sys.executable, "-m", "pmhost", "-b", "model", "read", "0"], stdout=below, env=env)
         os.close(below)
         process.wait()
         text = os.read(above, 4096).decode()
@@ -158,5 +158,5 @@ class Colours(unittest.TestCase):
         self.assertEqual(self.on_a_terminal(NO_COLOR="1"), "read 0: VOUT_COMMAND 1000 1V confirmed\r\n")
 
     def test_a_pipe_gets_none(self):
-        ran = subprocess.run([sys.executable, "-m", "pmhost", "-b", "desk", "read", "0"], capture_output=True, text=True, check=False)
+        ran = subprocess.run([sys.executable, "-m", "pmhost", "-b", "model", "read", "0"], capture_output=True, text=True, check=False)
         self.assertNotIn("\033", ran.stdout)

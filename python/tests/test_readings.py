@@ -3,7 +3,7 @@ import unittest
 from decimal import Decimal
 from unittest import mock
 
-from pmhost import (Format, FrameRefused, MemoryRefused, Output, Part, PartBus, Pmbus, code_request, pec, read_block, read_plain, readings)
+from pmhost import (Format, FrameRefused, MemoryRefused, Output, ModelPart, ModelPartBus, Device, code_request, pec, read_block, read_plain, readings)
 from pmhost.readings import KINDS, Reading
 from pmhost.reads import Read, Reads
 from pmhost.status import BITS, names_of
@@ -57,7 +57,7 @@ class Bits(unittest.TestCase):
         self.assertEqual({name for name, kind in KINDS.items() if not kind.unit}, set(BY_HAND))
 
 
-class Odd(PartBus):
+class Odd(ModelPartBus):
     """The bus of an odd part."""
 
     def __init__(self, part):
@@ -98,18 +98,18 @@ class Values(unittest.TestCase):
         self.assertEqual(part.lines, ["B0 06 02 00 8B /", "B0 06 02 00 89 /", "B0 89 /", "B0 88 /"])
 
     def test_the_host_is_told_of_nothing(self):
-        pmbus = Pmbus(PartBus(Part(0x58, [Output()])), 0x58)
+        pmbus = Device(ModelPartBus(ModelPart(0x58, [Output()])), 0x58)
         before = pmbus.host.save()
         self.assertEqual(readings.read(pmbus.bus, 0x58, 0, "STATUS_VOUT", None), Reading("STATUS_VOUT", 0))
         self.assertEqual(readings.noted(pmbus.bus, 0x58, 0), "STATUS_CML 00, STATUS_VOUT 00")
         self.assertEqual(pmbus.host.save(), before)
 
     def test_what_the_part_noted(self):
-        part = Part(0x58, [Output()], protect=0x80)
-        bus = PartBus(part)
-        pmbus = Pmbus(bus, 0x58, passes=1)
+        part = ModelPart(0x58, [Output()], protect=0x80)
+        bus = ModelPartBus(part)
+        pmbus = Device(bus, 0x58, passes=1)
         pmbus.host.order(0, "VOUT_COMMAND", 0x34CD)
-        pmbus.carried_out()
+        pmbus.run()
         self.assertEqual(readings.noted(bus, 0x58, 0), "STATUS_CML 80 COMMAND, STATUS_VOUT 00")
         self.assertEqual(readings.noted(bus, 0x58, None), "STATUS_CML 80 COMMAND")
         silent = Recorded(part)
@@ -169,12 +169,12 @@ class OtherReads(unittest.TestCase):
 
     def test_a_block_is_cut_at_its_end(self):
         """An adapter reads 34 bytes: what stands behind a block's packet error code is nothing."""
-        class Long(PartBus):
+        class Long(ModelPartBus):
             def read(self, request, count):
                 found = {0x99: "034C54439F", 0x9A: "0050", 0x9B: "21"}[request[1]]
                 return (bytes.fromhex(found) + b"\xFF" * 40)[:count]
 
-        reads = Reads(Long(Part(0x58, [Output()])), 0x58)
+        reads = Reads(Long(ModelPart(0x58, [Output()])), 0x58)
         found = [reads.block(code) for code in (0x99, 0x9A, 0x9B)]
         self.assertEqual([(it.payload, it.why) for it in found], [(b"LTC", ""), (None, "F5 WrongPec"), (None, "F4 WrongCount")])
 

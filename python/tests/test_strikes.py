@@ -9,7 +9,7 @@ import tempfile
 import unittest
 import unittest.mock
 
-from pmhost import Part, faults
+from pmhost import ModelPart, faults
 
 from . import running
 from .data.strike_rows import (APPLIED, ASKED, BELIEVED, BOARD, CONFIRMED, DOUBTS, JOBS, NOTED, ORDER, PROVED, RAILED, RAILS, REFUSED,
@@ -158,7 +158,7 @@ class Recorder:
 
 def bus_over(part, strikes, tell=lambda transfer: None):
     """A bus with faults over a part that keeps what it hears."""
-    bus = faults.FaultyBus(Part(0x58), strikes, tell)
+    bus = faults.FaultyBus(ModelPart(0x58), strikes, tell)
     bus.part = part
     return bus
 

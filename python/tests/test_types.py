@@ -9,11 +9,11 @@ from .running import SOURCE
 
 SCRIPT = '''from decimal import Decimal
 
-from pmhost import DeskBus, Differs, LinuxBus, Pmbus, Unknown
+from pmhost import ModelBus, Differs, LinuxBus, Device, Unknown
 
 
-def order(bus: LinuxBus | DeskBus, volts: str) -> Decimal:
-    part = Pmbus(bus, 0x58, outputs=2, limits={0: ("3.135", "3.465")})
+def order(bus: LinuxBus | ModelBus, volts: str) -> Decimal:
+    part = Device(bus, 0x58, outputs=2, limits={0: ("3.135", "3.465")})
     part.learn(0)
     try:
         return part.order_volts(0, volts)
@@ -21,11 +21,11 @@ def order(bus: LinuxBus | DeskBus, volts: str) -> Decimal:
         print(unknown, unknown.__cause__, unknown.possible)
         raise
     except Differs as differs:
-        print(f"{differs.word:04X}" if differs.word is not None else "", part.band(0), part.within(0), part.limits(0))
+        print(f"{differs.word:04X}" if differs.word is not None else "", part.band(0), part.limits_state(0), part.limits(0))
         raise
 
 
-print(order(DeskBus(0x58), "3.3"), [(it.register, it.confirmed) for it in Pmbus(DeskBus(0x58), 0x58).known()])
+print(order(ModelBus(0x58), "3.3"), [(it.register, it.confirmed) for it in Device(ModelBus(0x58), 0x58).known_cells()])
 '''
 
 

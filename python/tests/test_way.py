@@ -6,7 +6,7 @@ import tempfile
 import unittest
 from unittest import mock
 
-from pmhost import Output, Part
+from pmhost import Output, ModelPart
 from pmhost.cli import place
 from pmhost.cli.call import Interrupted
 from pmhost.picture import drawing, lane
@@ -45,7 +45,7 @@ class Desk(Faulty):
     frame."""
 
     def __init__(self, starts, fates):
-        super().__init__(Part(0x58, starts), fates)
+        super().__init__(ModelPart(0x58, starts), fates)
         self.frames, self.has_written = [], False
 
     def fate(self):
@@ -120,8 +120,8 @@ class Ways(unittest.TestCase):
         """The status of a call, what it says, and the frames that it sent."""
         with open(self.rails, "w", encoding="utf-8") as file:
             file.write(text)
-        made, bus = Desk(starts, fates), ["-b", "desk"]
-        with mock.patch.object(place, "DeskBus", lambda *_: made):
+        made, bus = Desk(starts, fates), ["-b", "model"]
+        with mock.patch.object(place, "ModelBus", lambda *_: made):
             found = runs.called([*bus, "apply", self.rails, *options], None)
         return found, made.frames
 

@@ -163,8 +163,8 @@ END
 # The same of the command pmhost, which makes its own calls of the kernel; \n parts the lines.
 command_rows() {
     cat << 'END'
-ok short1 ok short0 short0 ok ok|-b 1 -a 58 --outputs 1 --no-limit --patience 0 set 0 3.3V|0|set 0: VOUT_COMMAND 34CD 3.300048V confirmed; the output commands 3.300048V, without limits|
-ok short0 short0 short0|-b 1 -a 58 --outputs 1 --patience 0 clear 0|1|clear 0: unknown|clear 0: 3 transfers failed, the last: 0 of 1 message went; STATUS_CML 00, STATUS_VOUT 00
+ok short1 ok short0 short0 ok ok|-b 1 -a 58 --outputs 1 --no-limit --busy-timeout 0ms set 0 3.3V|0|set 0: VOUT_COMMAND 34CD 3.300048V confirmed; the output commands 3.300048V, without limits|
+ok short0 short0 short0|-b 1 -a 58 --outputs 1 --busy-timeout 0ms clear 0|1|clear 0: unknown|clear 0: 3 transfers failed, the last: 0 of 1 message went; STATUS_CML 00, STATUS_VOUT 00
 deaf deaf deaf|-b 1 -a 58 learn 0|1|learn 0: unknown|learn 0: 3 transfers failed, the last: No such device or address; STATUS_CML 00, STATUS_VOUT 00
 damaged empty damaged|-b 1 -a 58 learn 0|1|learn 0: unknown|learn 0: 3 answers weren't good: F4 WrongCount; STATUS_CML 00, STATUS_VOUT 00
 ok deaf deaf ok deaf ok|-b 1 -a 58 --outputs 1 --passes 1 clear 0|0|clear 0: acknowledged|
@@ -475,7 +475,7 @@ if command -v python3 > /dev/null && python3 -c 'import venv, ensurepip' 2> /dev
     packaged "Python package, installed" sh -c "python3 -m venv '$folder/venv' && cp -r python '$folder/python' &&
         PMHOST_ARCHIVES='$built' '$folder/venv/bin/pip' install --no-index '$folder/python' &&
         cp '$folder'/venv/lib/python3*/site-packages/pmhost/libpmhost.so '$folder/venv/'"
-    packaged "Python package, its command" sh -c "cd '$folder' && venv/bin/pmhost -b desk --outputs 1 --no-limit set 0 3.3V"
+    packaged "Python package, its command" sh -c "cd '$folder' && venv/bin/pmhost -b model --outputs 1 --no-limit set 0 3.3V"
     packaged "Python package" env PMHOST_LIBRARY="$folder/venv/libpmhost.so" PYTHONPATH=python/src \
         python3 -B -m unittest discover -s python/tests -t python
 else

@@ -59,7 +59,7 @@ class Run:
         write(RAILS, file.text)
         out, err = io.StringIO(), io.StringIO()
         with contextlib.redirect_stdout(out), contextlib.redirect_stderr(err):
-            self.status = cli.main(["--patience=0", "apply", RAILS])
+            self.status = cli.main(["--busy-timeout=0ms", "apply", RAILS])
         self.out, self.err, self.told = out.getvalue(), err.getvalue(), bench.ask()
         for name, part in self.board.parts.items():
             told = self.told["all"][PLACES[name]]

@@ -40,7 +40,7 @@ class Run:
         write(RAILS, "\n".join(rail.text for rail in self.board.rails))
         out, err = io.StringIO(), io.StringIO()
         with contextlib.redirect_stdout(out), contextlib.redirect_stderr(err):
-            self.status = cli.main(["-b", str(bench.number), "-a", "58", "--patience=0", "apply", RAILS, *options])
+            self.status = cli.main(["-b", str(bench.number), "-a", "58", "--busy-timeout=0ms", "apply", RAILS, *options])
         self.out, self.err, self.told = out.getvalue(), err.getvalue(), bench.ask()
         for output in range(len(self.board.rails)):
             for register in CODES:

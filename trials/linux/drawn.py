@@ -36,7 +36,7 @@ class Run:
         bench.put(f"at {address}", " ".join(plan))
         out, err = io.StringIO(), io.StringIO()
         with contextlib.redirect_stdout(out), contextlib.redirect_stderr(err):
-            self.status = cli.main(["-b", str(bench.number), "-a", address, "--outputs=2", "--no-limit", "--patience=0", f"--passes={passes}",
+            self.status = cli.main(["-b", str(bench.number), "-a", address, "--outputs=2", "--no-limit", "--busy-timeout=0ms", f"--passes={passes}",
                                     *" + ".join(JOBS).split()])
         self.said, self.err, self.told = out.getvalue().splitlines(), err.getvalue(), bench.ask()
         self.has_restarted = not {"restart", "power"}.isdisjoint(plan)

@@ -38,7 +38,7 @@ class Run:
     def __init__(self, bench, plan, passes, part="proved"):
         bench.put(part, " ".join(plan))
         out, err = io.StringIO(), io.StringIO()
-        words = ["-b", str(bench.number), "-a", "58", "--outputs=2", "--no-limit", "--patience=0", f"--passes={passes}",
+        words = ["-b", str(bench.number), "-a", "58", "--outputs=2", "--no-limit", "--busy-timeout=0ms", f"--passes={passes}",
                  *f"{ORDERS} + known".split()]
         with contextlib.redirect_stdout(out), contextlib.redirect_stderr(err):
             self.status = cli.main(words)

@@ -35,7 +35,7 @@ TRACE = "/run/lines.trace"
 def call(bench, words, *more, outputs=2):
     out, err = io.StringIO(), io.StringIO()
     with contextlib.redirect_stdout(out), contextlib.redirect_stderr(err):
-        status = cli.main(["-b", str(bench.number), "-a", "58", f"--outputs={outputs}", "--no-limit", "--patience=0", *more, *words.split()])
+        status = cli.main(["-b", str(bench.number), "-a", "58", f"--outputs={outputs}", "--no-limit", "--busy-timeout=0ms", *more, *words.split()])
     return status, out.getvalue(), err.getvalue()
 
 

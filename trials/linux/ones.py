@@ -67,7 +67,7 @@ class Command:
     def call(self, *words):
         out, err = io.StringIO(), io.StringIO()
         with contextlib.redirect_stdout(out), contextlib.redirect_stderr(err):
-            status = cli.main(["-b", str(self.bench.number), "-a", self.address, "--patience=0", *words])
+            status = cli.main(["-b", str(self.bench.number), "-a", self.address, "--busy-timeout=0ms", *words])
         return status, out.getvalue(), err.getvalue()
 
     def wrong_cells(self):

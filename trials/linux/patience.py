@@ -103,7 +103,7 @@ def main(words):
             part = f"busy {way} {delay} {AWAY}"
             call = Call(bench, part, [])
             tally.tell(f"bus {bench.number}, {part}", [*call.false_statements(), *call.short_of_done()])
-            call = Call(bench, part, ["--patience=0"])
+            call = Call(bench, part, ["--busy-timeout=0ms"])
             is_short = delay >= long and call.done == len(OUTPUTS)
             tally.tell(f"bus {bench.number}, {part}, no patience", [*call.false_statements(), *(["all is done without patience"] if is_short else [])])
             said = [f"{call.done} of {len(OUTPUTS)} orders done by pmhost"]

@@ -100,7 +100,7 @@ class Call:
     def __init__(self, program, orders, passes):
         self.program, self.place, self.orders = program, program.place, orders
         jobs = [*(f"word {output} {register} {word:04X}" for (output, register), word in orders.items()), "known"]
-        program.begin(["-b", program.bus, "-a", self.place.rpartition("/")[2], "--outputs=2", "--no-limit", "--patience=0",
+        program.begin(["-b", program.bus, "-a", self.place.rpartition("/")[2], "--outputs=2", "--no-limit", "--busy-timeout=0ms",
                        f"--passes={passes}", *" + ".join(jobs).split()])
 
     def end(self):

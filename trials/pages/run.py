@@ -5,7 +5,7 @@ README.md and docs/, in its order, a shell for each page.
     trials/pages/run.py --built FOLDER [--minutes] [PAGE ..]
 
 FOLDER has libpm_host_c.a, libpm_device_c.a, and the program pmb. A command for the part at address 58 of bus 1
-runs on the model part (`-b desk`), an install goes to the user's own folder, `rt lib` and `rt check` and what stands in tools/ and
+runs on the model part (`-b model`), an install goes to the user's own folder, `rt lib` and `rt check` and what stands in tools/ and
 trials/ is held by its parse alone, since it takes many minutes: the crate is there, the command is one of rt's, the program answers
 --help. --minutes runs `rt try` and `tools/test quick` too. What no test runs (a board's own tools) has to stand on its page in a line
 that begins with "No test runs". Lines that begin with `$` are those of tools/try_pages.py, which compares what they print.
@@ -101,7 +101,7 @@ class Place:
 
 def over_a_model(line):
     """A command for a board, on the model part."""
-    return line.replace("-b 1 -a 58", "-b desk").replace("bus.trace", "desk.trace")
+    return line.replace("-b 1 -a 58", "-b model").replace("bus.trace", "model.trace")
 
 
 def parsed(place, line, has_minutes):

@@ -9,7 +9,7 @@ import paths  # noqa: F401
 from pmhost.errors import NumberRefused, PartRefused, PmhostError, Refused as LibraryRefused
 from pmhost.host import Known, Sending, Step
 from pmhost.packets import read_answer, read_request
-from pmhost.part import Output, Part
+from pmhost.part import Output, ModelPart
 from pmhost.values import NAMES
 from program import needed
 
@@ -81,13 +81,13 @@ class Life:
         if event.begins:
             self._begun(event)
             return "none", ""
-        sending = self.host.sending()
+        sending = self.host.frame()
         assert sending is not None
         if event.kind == "deliver":
             return self._delivered(event, sending.frame)
         if event.kind == "exchange":
             return self._exchanged(event, sending)
-        self._told(self.host.finished(event.is_acknowledged))
+        self._told(self.host.write_ended(event.is_acknowledged))
         if event.is_acknowledged:
             return ("good", "acknowledged") if taken else ("fault", "acknowledged, not taken")
         return "fault", "taken, not acknowledged" if taken else "not acknowledged"
@@ -140,7 +140,7 @@ class Life:
         frame, is_request = event.arrival.of(sending.frame, True)
         _, answer = self._heard(frame, is_request)
         got, _ = event.back.of(answer)
-        self._told(self.host.got(got))
+        self._told(self.host.read_ended(got))
         if frame != sending.frame:
             return "fault", harm(frame, sending.frame, "the request")
         request = read_request(self.setup.address, sending.frame)
@@ -159,7 +159,7 @@ class Life:
     # ---- What both ends are at ----
 
     def state(self) -> State:
-        part, known = self.part, {Cell(it.output, it.register): it for it in self.host.known()}
+        part, known = self.part, {Cell(it.output, it.register): it for it in self.host.known_cells()}
         words = {cell: part.word(*code_of_cell(cell)) for cell in self.cells}
         found = {output: self._commanded(output) for output in self.outputs}
         return State(
@@ -206,9 +206,9 @@ class Life:
         form, sign = self.words.formats[output], self._sign(output)
         if form.kind == "DIRECT":
             ends = (0x8000, 0x7FFF)[::sign]
-            part = Part(self.setup.address, [Output(DIRECT, operation, command, ends[1], high, low, ends[0])], (sign, 0, 3))
+            part = ModelPart(self.setup.address, [Output(DIRECT, operation, command, ends[1], high, low, ends[0])], (sign, 0, 3))
             return sign * int(part.volts(0) * 1000) & 0xFFFF
-        part = Part(self.setup.address, [Output(LINEAR, operation, command, 0xFFFF, high, low, 0x0000)])
+        part = ModelPart(self.setup.address, [Output(LINEAR, operation, command, 0xFFFF, high, low, 0x0000)])
         return round(part.volts(0) * 4096)
 
     def _sign(self, output: int) -> int:

@@ -4,7 +4,7 @@ from __future__ import annotations
 from dataclasses import dataclass
 
 import paths  # noqa: F401
-from pmhost import Host, Output, Part, PartBus
+from pmhost import Host, Output, ModelPart, ModelPartBus
 from pmhost.texts import numbered
 from pmhost.values import CODES, Format
 
@@ -38,15 +38,15 @@ class Setup:
         """The registers of an output that the text names."""
         return REGISTERS if self.version > 1 else REGISTERS[:-1]
 
-    def part(self) -> Part:
-        return Part(self.address, self.outputs, self.coefficients, self.protect)
+    def part(self) -> ModelPart:
+        return ModelPart(self.address, self.outputs, self.coefficients, self.protect)
 
     def host(self) -> Host:
         return Host(self.address, len(self.outputs), self.passes)
 
     def formats(self) -> tuple[Format, ...]:
         """The format of each output's voltages, as a host learns it of the part."""
-        host, bus = self.host(), PartBus(self.part())
+        host, bus = self.host(), ModelPartBus(self.part())
         found = []
         for output in range(len(self.outputs)):
             host.learn(output)

@@ -66,30 +66,30 @@ row("a host of no address", refusal(() => new Host(library, 0x07, 2, 3)), 0xE3);
 row("a part of a bad mode", refusal(() => new Part(library, {address: 0x58, outputs: [{...OUTPUT, mode: 0xFF}]})), 0x54);
 const host = new Host(library, 0x58, 2, 3);
 row("an order of a missing output", refusal(() => host.order(2, 0x21, 0)), 0x04);
-row("an answer that nobody asked for", refusal(() => host.got([])), 0xE2);
-row("nothing is sent", host.sending(), null);
-row("any word", host.possible(0, 0x21), null);
+row("an answer that nobody asked for", refusal(() => host.readEnded([])), 0xE2);
+row("nothing is sent", host.frame(), null);
+row("any word", host.possibleWords(0, 0x21), null);
 host.order(0, 0x21, 0x34CD);
-row("the frame of an order", host.sending().bytes, [0xB0, 0x05, 0x04, 0x00, 0x21, 0xCD, 0x34, 0x5A]);
+row("the frame of an order", host.frame().bytes, [0xB0, 0x05, 0x04, 0x00, 0x21, 0xCD, 0x34, 0x5A]);
 row("a second job", refusal(() => host.check(0, 0x21)), 0x03);
 row("the name of a refusal, and none", [library.nameOf(0x24), library.nameOf(0xFF)], ["L4 AboveLimit", ""]);
 
 // Limits of output 0, from 0.9 V to 1.2 V, are kept in the host's memory.
 const [limited, bus] = [new Host(library, 0x58, 2, 3), new Bus(library, [])];
-limited.narrow(0, 900000, 1200000);
-row("wider limits", refusal(() => limited.narrow(0, 900000, 1300000)), 0x26);
+limited.setLimits(0, 900000, 1200000);
+row("wider limits", refusal(() => limited.setLimits(0, 900000, 1300000)), 0x26);
 row("an order before the format is known", refusal(() => limited.order(0, 0x21, 0x1199)), 0x22);
 limited.learn(0);
 row("a learn", carry(limited, bus).end, "learned");
 row("3.3 V where 1.2 V is the most", refusal(() => limited.order(0, 0x21, 0x34CD)), 0x24);
 row("0.8 V where 0.9 V is the least", refusal(() => limited.order(0, 0x21, 0x0CCD)), 0x23);
-row("nothing is sent after a refusal", limited.sending(), null);
+row("nothing is sent after a refusal", limited.frame(), null);
 row("1.1 V, and 3.3 V for the output with no limits",
     [provedOrder(limited, bus, 0, 0x1199).end, provedOrder(limited, bus, 1, 0x34CD).end], ["done", "done"]);
 row("what the part has", [0, 1].map((output) => bus.part.word(output, 0x21)), [0x1199, 0x34CD]);
 row("within limits: registers that nobody read, no limits, no output",
     [limited.within(0), limited.within(1), refusal(() => limited.within(2))], ["not known", "within", 0x04]);
 limited.restart();
-row("limits after a restart", refusal(() => limited.narrow(0, 900000, 1300000)), 0x26);
+row("limits after a restart", refusal(() => limited.setLimits(0, 900000, 1300000)), 0x26);
 console.log(`${passed} passed, ${failed} failed`);
 process.exit(failed ? 1 : 0);

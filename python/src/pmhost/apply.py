@@ -16,7 +16,7 @@ from .errors import PlanRefused, Refused
 from .host import Step
 from .parts import BoardPart
 from .plans import PlanOrder, Wanted
-from .pmbus import Pmbus
+from .device import Device
 from .rails import BOUNDS, MARGINS, SETTINGS, WORDS, Rail
 from .reads import Reads
 from .rounded import is_near
@@ -62,14 +62,14 @@ class Setting:
 @dataclass
 class Board:
     """The rails of a file, and the parts that have them, by their names. `described` has what a board file says of its parts; why a
-    part doesn't answer is said by `unanswered`, with nothing where it answers. `accept` is how near a word has to be that a part makes
+    part doesn't answer is said by `ask_operation`, with nothing where it answers. `accept` is how near a word has to be that a part makes
     of an ordered one, in microvolts; `before_order` is told of each order before its first frame, `after_order` behind its last
     one whether it is confirmed, and `seen` of a rail behind each survey, and behind each order how that ended."""
 
-    parts: dict[str, Pmbus]
+    parts: dict[str, Device]
     rails: list[Rail]
     described: dict[str, BoardPart] = field(default_factory=dict)
-    unanswered: Callable[[str], str] = lambda name: ""
+    ask_operation: Callable[[str], str] = lambda name: ""
     accept: int | None = None
     wants_store: bool = False
     before_order: Callable[[Setting], None] = lambda setting: None
@@ -87,11 +87,11 @@ class Board:
     # The parts of which a restart had been seen before, or is looked for no more.
     had_restarted: set[str] = field(default_factory=set)
 
-    def on(self, rail: Rail) -> Pmbus:
+    def on(self, rail: Rail) -> Device:
         """The part that has a rail."""
         return self.parts[rail.part]
 
-    def having_rails(self) -> dict[str, Pmbus]:
+    def having_rails(self) -> dict[str, Device]:
         """The parts that have rails."""
         return {name: part for name, part in self.parts.items() if any(rail.part == name for rail in self.rails)}
 
@@ -105,7 +105,7 @@ class Board:
 
     def why_not_there(self, name: str, part: BoardPart) -> str:
         """Why a part isn't the one that the file says: nothing where it is."""
-        if why := self.unanswered(name):
+        if why := self.ask_operation(name):
             return f"{name}: no part answers at {part.place}: {why}"
         if not part.model:
             return ""
@@ -124,7 +124,7 @@ class Board:
         for rail in self.rails:
             part = self.on(rail)
             part.host.learn(rail.output)
-            if part.carried_out().kind != "learned":
+            if part.run().kind != "learned":
                 raise Stopped(f"{rail.name}: its format isn't known: {probe.why_not_learned(part, rail.output)}", rail.part, rail.output)
             form = part.host.format(rail.output)
             assert form is not None
@@ -226,14 +226,14 @@ class Board:
         """Gives the orders of a rail's plan, one after another, and surveys it behind them."""
         part, differed = self.on(rail), set[str]()
         for _ in range(MOST_ORDERS):
-            held = {it.register: part.host.possible(rail.output, it.register) for it in self.of(rail)}
+            held = {it.register: part.host.possible_words(rail.output, it.register) for it in self.of(rail)}
             order = self.next_order(rail)
             if order is None:
                 break
             it = next(each for each in self.of(rail) if each.register == order.register)
             self.before_order(it)
             it.is_ordered, self.orders = True, self.orders + 1
-            step = part.carried_out()
+            step = part.run()
             self.seen(rail, it, step)
             self.after_order(it, step.kind == "done")
             if step.kind == "differs":
@@ -333,7 +333,7 @@ class Board:
             known = {True: "the output is on", False: "the output is off", None: "whether the output is on isn't known"}
             return f"{known[found.is_on]}, and is to be {'on' if rail.is_on else 'off'}"
         if not found.is_well:
-            return ("the output commands a voltage outside its limits" if found.within is False else
+            return ("the output commands a voltage outside its limits" if found.limits_state == "outside" else
                     "the output isn't known to command a voltage within its limits")
         if rail.is_on and found.selected != SETTINGS["volts"]:
             return f"OPERATION selects {found.selected}, and not {SETTINGS['volts']}"
@@ -345,7 +345,7 @@ class Board:
         """Sends STORE_USER_ALL to a part, once. Stopped."""
         part = self.parts[name]
         part.host.store()
-        if part.carried_out().kind != "done":
+        if part.run().kind != "done":
             why = part.transfers.why() or "no good answer"
             raise Stopped(f"{f'{name}: ' * bool(name)}store: it may have been carried out or not: {why}", name)
 
@@ -422,7 +422,7 @@ class Board:
             return False
         judge = self.on(it.rail).host.copy()
         try:
-            judge.narrow(it.rail.output, *it.rail.limits)
+            judge.set_limits(it.rail.output, *it.rail.limits)
             judge.order(it.rail.output, it.register, it.last)
         except Refused as fault:
             return fault.letter in ("L3", "L4")

@@ -67,20 +67,20 @@ class Limits:
     most: int
 
 
-WITHIN = {0x91: True, 0x92: False, 0x93: None}
+LIMITS_STATES = {0x91: "within", 0x92: "outside", 0x93: "not known"}
 POWER = {0: None, 1: True, 2: False}
 PLAN_DONE = 0x94
 SURVEYS = {0: "begun", 0x95: "done", 0x96: "spent", 0x97: "stuck"}
 MISSING_REGISTER = 0x27
 
 
-def registers_image(without: Iterable[str | int]) -> at.RegistersImage:
+def registers_image(lacks: Iterable[str | int]) -> at.RegistersImage:
     """Which registers a part has that lacks these."""
     image = at.RegistersImage(*(1 for _ in at.RegistersImage._fields_))
-    for register in without:
+    for register in lacks:
         name = NAMES[code_of(register)]
         if not hasattr(image, name.lower()):
-            raise ValueError(f"without: {name} is a register that every part has")
+            raise ValueError(f"lacks: {name} is a register that every part has")
         setattr(image, name.lower(), 0)
     return image
 
@@ -94,24 +94,24 @@ def word_of(image: at.StandingImage) -> int | None:
 
 
 class Host:
-    """A host for the device at an address, 08h to 77h, with 1 to 8 outputs; a job has at most 1 to 15 passes. `without` names the
+    """A host for the device at an address, 08h to 77h, with 1 to 8 outputs; a job has at most 1 to 15 passes. `lacks` names the
     registers that the part doesn't have: of VOUT_MAX, VOUT_MARGIN_HIGH, VOUT_MARGIN_LOW and VOUT_MIN.
 
-    It says by `sending` what to send, and is told what became of it by `finished` or `got`; `run` does so over a bus.
+    It says by `frame` what to send, and is told what became of it by `write_ended` or `read_ended`; `run` does so over a bus.
     Copies share nothing. It isn't for several threads at once.
     """
 
-    def __init__(self, address: int, outputs: int = 1, passes: int = 3, without: Iterable[str | int] = ()) -> None:
+    def __init__(self, address: int, outputs: int = 1, passes: int = 3, lacks: Iterable[str | int] = ()) -> None:
         self._image = at.HostImage()
         self._address = whole(address, 0x08, 0x77, "address", "seven bits, as 0x58, which the wire shows as B0h")
         self._outputs = whole(outputs, 1, 8, "outputs")
         self._passes = whole(passes, 1, 15, "passes")
-        has = registers_image(without)
+        has = registers_image(lacks)
         accepted(library.pm_host_new_with(REFERENCE(self._image), address, outputs, passes, REFERENCE(has)))
 
     def __repr__(self) -> str:
         known = [f"{'' if it.output is None else f'{it.output} '}{it.register} {it.confirmed:04X}"
-                 for it in self.known() if it.confirmed is not None]
+                 for it in self.known_cells() if it.confirmed is not None]
         return (f"{type(self).__name__}(0x{self._address:02X}, outputs={self._outputs}, passes={self._passes}; "
                 f"confirmed: {', '.join(known) or 'nothing'})")
 
@@ -132,7 +132,7 @@ class Host:
 
     # ---- Limits ----
 
-    def narrow(self, output: int, least: int, most: int) -> None:
+    def set_limits(self, output: int, least: int, most: int) -> None:
         """Gives an output limits in microvolts, or narrower ones. N5, L1, L6; H3 while an order is open that they would refuse."""
         least = whole(least, -(2**63), 2**63 - 1, "least")
         most = whole(most, -(2**63), 2**63 - 1, "most")
@@ -147,13 +147,13 @@ class Host:
         accepted(number)
         return Limits(found.least, found.most)
 
-    def within(self, output: int) -> bool | None:
-        """Whether an output's voltage lies within its limits, by what is known: True where it has none, None where that doesn't
-        tell."""
+    def limits_state(self, output: int) -> str:
+        """How an output's voltage lies to its limits, by what is known: `within`, which it is where it has none, `outside`, or
+        `not known` where that doesn't tell."""
         number = library.pm_host_limits_state(REFERENCE(self._image), self._there(output))
-        if number not in WITHIN:
+        if number not in LIMITS_STATES:
             raise refusal(number)
-        return WITHIN[number]
+        return LIMITS_STATES[number]
 
     def band(self, output: int) -> Band:
         """Which voltages an output may be commanded to. H7 where its format isn't known, NoBand where OPERATION may hand its voltage
@@ -167,7 +167,7 @@ class Host:
         found = at.RailImage()
         accepted(library.pm_host_rail(REFERENCE(self._image), self._there(output), REFERENCE(found)))
         band = None if found.band else Band(found.ends.least, found.ends.greatest)
-        return RailState(POWER[found.power], band, WITHIN[found.within])
+        return RailState(POWER[found.power], band, LIMITS_STATES[found.within])
 
     # ---- Plans and surveys ----
 
@@ -236,7 +236,7 @@ class Host:
 
     # ---- Frames ----
 
-    def sending(self) -> Sending | None:
+    def frame(self) -> Sending | None:
         """What to send now, None where no job is open."""
         found = at.SendingImage()
         accepted(library.pm_host_frame(REFERENCE(self._image), REFERENCE(found)))
@@ -245,13 +245,13 @@ class Host:
         is_request = found.kind == 2
         return Sending(bytes(found.bytes[: found.length]), is_request, found.answer - 1 if is_request else 0)
 
-    def finished(self, acked: bool) -> Step:
+    def write_ended(self, acked: bool) -> Step:
         """A write was sent, and acknowledged or not."""
         if not isinstance(acked, bool):
             raise TypeError(f"acked: True or False is wanted, and not {acked!r}")
         return self._step(library.pm_host_write_ended(REFERENCE(self._image), acked))
 
-    def got(self, answer: bytes) -> Step:
+    def read_ended(self, answer: bytes) -> Step:
         """A request was sent, and these bytes came back, the read address first; none where there was no answer."""
         taken = frame_bytes(answer, 2**16, "answer")
         return self._step(library.pm_host_read_ended(REFERENCE(self._image), taken, len(taken)))
@@ -271,8 +271,8 @@ class Host:
         step, kept = None, Transfers() if transfers is None else transfers
         kept.has_stored = False
         try:
-            while (sending := self.sending()) is not None:
-                step = self._asked(bus, sending, kept) if sending.is_request else self._written(bus, sending, kept)
+            while (sending := self.frame()) is not None:
+                step = self._ask(bus, sending, kept) if sending.is_request else self._write(bus, sending, kept)
         except BaseException:
             self.give_up()
             raise
@@ -283,14 +283,14 @@ class Host:
     def run_survey(self, survey: Survey, bus: Bus, transfers: Transfers | None = None) -> RailEnd:
         """Carries a survey out over a bus, job after job, as `run` does each."""
         try:
-            return self._surveyed(survey, bus, transfers, Tries(survey.tries))
+            return self._run_survey(survey, bus, transfers, Tries(survey.tries))
         except (Refused, TypeError, ValueError):
             raise
         except BaseException:
             self.give_up()
             raise
 
-    def _surveyed(self, survey: Survey, bus: Bus, transfers: Transfers | None, tries: Tries) -> RailEnd:
+    def _run_survey(self, survey: Survey, bus: Bus, transfers: Transfers | None, tries: Tries) -> RailEnd:
         while True:
             try:
                 state = self.survey(survey)
@@ -316,19 +316,19 @@ class Host:
         survey learns another, nothing more is ordered. The tries that a `Tries` has left are taken from it."""
         left = tries if isinstance(tries, Tries) else Tries(whole(tries, 0, 0xFFFF, "tries"))
         try:
-            return self._applied(output, wanted, bus, left, transfers, before_order, after_order, form)
+            return self._run_apply(output, wanted, bus, left, transfers, before_order, after_order, form)
         except (Refused, TypeError, ValueError):
             raise
         except BaseException:
             self.give_up()
             raise
 
-    def _applied(self, output: int, wanted: Wanted, bus: Bus, left: Tries, transfers: Transfers | None,
+    def _run_apply(self, output: int, wanted: Wanted, bus: Bus, left: Tries, transfers: Transfers | None,
                  before_order: Callable[[PlanOrder], None], after_order: Callable[[PlanOrder, Step], None],
                  form: Format | None) -> RailEnd:
         differed: set[str] = set()
         while True:
-            end = self._surveyed(Survey(output, wanted, left.left), bus, transfers, left)
+            end = self._run_survey(Survey(output, wanted, left.left), bus, transfers, left)
             if end.refused is not None and end.refused.number == MISSING_REGISTER:
                 return self._stuck(output, wanted, end)
             if end.kind != "reached":
@@ -378,53 +378,53 @@ class Host:
 
     def give_up(self) -> None:
         """Ends the open job: its frames that are left aren't sent, and are told as failed."""
-        while (sending := self.sending()) is not None:
+        while (sending := self.frame()) is not None:
             if sending.is_request:
-                self.got(b"")
+                self.read_ended(b"")
             else:
-                self.finished(False)
+                self.write_ended(False)
 
-    def _written(self, bus: Bus, sending: Sending, transfers: Transfers) -> Step:
+    def _write(self, bus: Bus, sending: Sending, transfers: Transfers) -> Step:
         if sending.frame[1:-1] == STORE_USER_ALL:
             if transfers.has_stored:
                 # A store may take a second and wears the memory: a later pass isn't sent.
-                return self.finished(False)
+                return self.write_ended(False)
             transfers.has_stored = True
         transfers.has_written = True
         try:
             acked = bus.write(sending.frame)
         except OSError as fault:
             transfers.fault(fault)
-            return self.finished(False)
+            return self.write_ended(False)
         if not isinstance(acked, bool):
             raise TypeError(f"write: True or False is wanted, and not {acked!r}")
         if not acked:
             transfers.unheard("no acknowledgement")
-        return self.finished(acked)
+        return self.write_ended(acked)
 
-    def _asked(self, bus: Bus, sending: Sending, transfers: Transfers) -> Step:
+    def _ask(self, bus: Bus, sending: Sending, transfers: Transfers) -> Step:
         try:
             came = bus.read(sending.frame, sending.answer)
         except OSError as fault:
             transfers.fault(fault)
-            return self.got(b"")
+            return self.read_ended(b"")
         taken = frame_bytes(came, 2**16, "read")
         if not taken:
             transfers.unheard(getattr(came, "why", "no answer"))
-            return self.got(b"")
+            return self.read_ended(b"")
         answer = bytes([self._address << 1 | 1]) + taken
         transfers.answered(self._address, sending.frame, answer)
-        return self.got(answer)
+        return self.read_ended(answer)
 
     # ---- What is known ----
 
-    def standing(self, output: int, register: str | int) -> int | None:
+    def confirmed_word(self, output: int, register: str | int) -> int | None:
         """The word of a register, where it is confirmed."""
         code, found = code_of(register), at.StandingImage()
         accepted(library.pm_host_confirmed_word(REFERENCE(self._image), self._there(output), code, REFERENCE(found)))
         return word_of(found)
 
-    def possible(self, output: int, register: str | int) -> tuple[int, ...] | None:
+    def possible_words(self, output: int, register: str | int) -> tuple[int, ...] | None:
         """The words that a register may hold, None for any."""
         code, found = code_of(register), at.WordsImage()
         accepted(library.pm_host_possible_words(REFERENCE(self._image), self._there(output), code, REFERENCE(found)))
@@ -436,7 +436,7 @@ class Host:
         accepted(library.pm_host_format(REFERENCE(self._image), self._there(output), REFERENCE(found)))
         return Format.read(found)
 
-    def known(self) -> list[Known]:
+    def known_cells(self) -> list[Known]:
         """What is known of every register."""
         found = at.KnownImage()
         accepted(library.pm_host_known_cells(REFERENCE(self._image), REFERENCE(found)))

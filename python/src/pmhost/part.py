@@ -1,4 +1,4 @@
-"""A model of a part, for a desk: scripts are tried against it before they meet a board."""
+"""A model of a part: scripts are tried against it before they meet a board."""
 from __future__ import annotations
 
 import ctypes
@@ -34,7 +34,7 @@ DEVICE_READINGS = {"READ_VIN": 0x88, "READ_TEMPERATURE_1": 0x8D}
 READINGS = OUTPUT_READINGS | DEVICE_READINGS
 
 
-class Part:
+class ModelPart:
     """A model converter, with PAGE, a user store, readings and latched status.
 
     A SetupRefused, V1 to V5, where no converter starts so; the library says so, and of numbers that its fields can't hold
@@ -68,14 +68,14 @@ class Part:
     def address(self) -> int:
         return self._address
 
-    def copy(self) -> Part:
+    def copy(self) -> ModelPart:
         """Another part, which holds the same."""
-        other = object.__new__(Part)
+        other = object.__new__(ModelPart)
         other._image = PartImage.from_buffer_copy(self._image)
         other._address, other._outputs = self._address, self._outputs
         return other
 
-    def __copy__(self) -> Part:
+    def __copy__(self) -> ModelPart:
         return self.copy()
 
     def _asked(self, call: Callable[..., int], kind: Any, *words: int) -> int:
@@ -157,12 +157,12 @@ class Part:
         return self._asked(library.pm_part_status_cml, ctypes.c_uint8)
 
 
-class PartBus:
-    """A bus with one part on a desk."""
+class ModelPartBus:
+    """A bus with one model part."""
 
-    def __init__(self, part: Part) -> None:
-        if not isinstance(part, Part):
-            raise TypeError(f"part: a pmhost.Part is wanted, and not {part!r}")
+    def __init__(self, part: ModelPart) -> None:
+        if not isinstance(part, ModelPart):
+            raise TypeError(f"part: a pmhost.ModelPart is wanted, and not {part!r}")
         self.part = part
 
     def write(self, frame: bytes) -> bool:

@@ -1,11 +1,11 @@
 """The parts of a board file: where each one is, and what it has.
 
     [parts.u12]
-    bus = 1                   # /dev/i2c-1; "desk" for a model part
+    bus = 1                   # /dev/i2c-1; "model" for a model part
     address = "4F"
     outputs = 2
     model = "LTC3880"         # MFR_MODEL has to begin with this
-    without = ["VOUT_MIN"]    # registers that the part doesn't have
+    lacks = ["VOUT_MIN"]      # registers that the part doesn't have
 
 A multiplexer that the kernel drives is part of the adapter: each of its channels is a bus with a number of its own.
 """
@@ -17,10 +17,10 @@ from typing import TypeGuard
 
 ADDRESS = re.compile(r"(?:0[xX])?([0-9A-Fa-f]{2})[hH]?\Z")
 NAME = re.compile(r"[A-Za-z0-9_.+-]{1,32}\Z")
-DESK = "desk"
-# The registers that a part may be without.
+MODEL_BUS = "model"
+# The registers that a part may lack.
 MISSABLE = ("VOUT_MAX", "VOUT_MARGIN_HIGH", "VOUT_MARGIN_LOW", "VOUT_MIN")
-KEYS = ("bus", "address", "outputs", "model", "without")
+KEYS = ("bus", "address", "outputs", "model", "lacks")
 MODEL = re.compile(r"[ -~]{1,32}\Z")
 MOST_BUS, MOST_OUTPUTS = 10**9 - 1, 8
 
@@ -31,7 +31,7 @@ class BadRails(Exception):
 
 @dataclass(frozen=True)
 class BoardPart:
-    """A part: its bus, `desk` or the number of one of Linux, and its address, which are empty and 0 where the command line has them;
+    """A part: its bus, `model` or the number of one of Linux, and its address, which are empty and 0 where the command line has them;
     how many outputs it has, what its MFR_MODEL begins with, and the registers that it doesn't have."""
 
     name: str
@@ -39,7 +39,7 @@ class BoardPart:
     address: int
     outputs: int
     model: str = ""
-    without: tuple[str, ...] = ()
+    lacks: tuple[str, ...] = ()
 
     @property
     def place(self) -> str:
@@ -68,7 +68,7 @@ def is_whole(number: object) -> TypeGuard[int]:
     return isinstance(number, int) and not isinstance(number, bool)
 
 
-def without_of(at: str, names: object) -> tuple[str, ...]:
+def lacks_of(at: str, names: object) -> tuple[str, ...]:
     """The registers that a part doesn't have."""
     if not isinstance(names, list) or any(name not in MISSABLE for name in names):
         raise BadRails(f"{at}: give a list of {', '.join(MISSABLE)}")
@@ -89,8 +89,8 @@ def part_of(name: str, table: object) -> BoardPart:
         if key not in table:
             raise BadRails(f"{at}: {key} is missing")
     bus, address, outputs, model = table["bus"], table["address"], table["outputs"], table.get("model", "")
-    if bus != DESK and not (is_whole(bus) and 0 <= bus <= MOST_BUS):
-        raise BadRails(f'{at}.bus: give the number of /dev/i2c-N, as 1, or "{DESK}"')
+    if bus != MODEL_BUS and not (is_whole(bus) and 0 <= bus <= MOST_BUS):
+        raise BadRails(f'{at}.bus: give the number of /dev/i2c-N, as 1, or "{MODEL_BUS}"')
     if not isinstance(address, str):
         raise BadRails(f'{at}.address: {address}: give a text of hexadecimal digits, as "4F"')
     try:
@@ -101,4 +101,4 @@ def part_of(name: str, table: object) -> BoardPart:
         raise BadRails(f"{at}.outputs: give a whole number from 1 to {MOST_OUTPUTS}")
     if "model" in table and (not isinstance(model, str) or not MODEL.match(model)):
         raise BadRails(f'{at}.model: give what MFR_MODEL begins with, as "LTC3880"')
-    return BoardPart(name, str(bus), found, outputs, model, without_of(f"{at}.without", table.get("without", [])))
+    return BoardPart(name, str(bus), found, outputs, model, lacks_of(f"{at}.lacks", table.get("lacks", [])))

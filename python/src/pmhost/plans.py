@@ -34,12 +34,12 @@ class Band:
 @dataclass(frozen=True)
 class RailState:
     """What an output commands, by what is known: whether it is on, None where OPERATION doesn't tell; its band, None where its
-    format isn't known, where OPERATION may hand its voltage to AVSBus, or where an end is beyond 10^15 microvolts; and whether that
-    lies within its limits, True where it has none, None where it doesn't tell."""
+    format isn't known, where OPERATION may hand its voltage to AVSBus, or where an end is beyond 10^15 microvolts; and how that
+    lies to its limits: `within`, which it is where it has none, `outside`, or `not known`."""
 
     is_on: Optional[bool]
     band: Optional[Band]
-    within: Optional[bool]
+    limits_state: str
 
 
 @dataclass(frozen=True)

@@ -5,11 +5,11 @@ from dataclasses import dataclass, field
 
 from .host import Bus, Host
 from .packets import Packet
-from .pmbus import Pmbus
+from .device import Device
 from .reads import TRIES, Read, Reads
 from .transfers import Transfers
 from .values import CODES, Format
-from .zeros import NotBelieved, guarded
+from .zeros import NotBelieved, guard
 
 MOST_OUTPUTS = 8
 # A page that no part of at most eight outputs has.
@@ -69,12 +69,12 @@ class Found:
 
 
 class Probe:
-    """The questions to the part at an address: those of `run` are reads alone, `write` sends CLEAR_FAULTS. `without` names registers
+    """The questions to the part at an address: those of `run` are reads alone, `write` sends CLEAR_FAULTS. `lacks` names registers
     that the part doesn't have: it isn't asked for them."""
 
-    def __init__(self, bus: Bus, address: int, outputs: int | None = None, without: tuple[str, ...] = ()) -> None:
+    def __init__(self, bus: Bus, address: int, outputs: int | None = None, lacks: tuple[str, ...] = ()) -> None:
         self.reads, self.address, self.given = Reads(bus, address), address, outputs
-        self.registers = [each for each in REGISTERS if each not in without]
+        self.registers = [each for each in REGISTERS if each not in lacks]
         self.host, self.found = Host(address, MOST_OUTPUTS, TRIES), Found()
 
     def run(self) -> Found:
@@ -107,7 +107,7 @@ class Probe:
             return read.payload != b"\0" or self.reads.packet(PROTECT).payload == b"\0"
 
         try:
-            return guarded(self.address, "WRITE_PROTECT", lambda: self._word(0, "OPERATION")[1], lambda: self.reads.packet(PROTECT),
+            return guard(self.address, "WRITE_PROTECT", lambda: self._word(0, "OPERATION")[1], lambda: self.reads.packet(PROTECT),
                            is_held)
         except NotBelieved as doubt:
             self.found.doubt = self.found.doubt or "WRITE_PROTECT gave no answer that can be believed: probe again"
@@ -165,7 +165,7 @@ class Probe:
         transfers = Transfers()
         self.host.check(number, register)
         if self.host.run(self.reads, transfers).kind == "done":
-            return self.host.standing(number, register), ""
+            return self.host.confirmed_word(number, register), ""
         return None, (transfers.faults or transfers.failed or ["no answer"])[-1]
 
     def _judge_page(self) -> None:
@@ -214,7 +214,7 @@ class Probe:
         seen: list[bool | None] = []
         words = ""
         for _ in range(TRIES):
-            is_taken, words = self._tried(faulty)
+            is_taken, words = self._try(faulty)
             if is_taken is not None and is_taken in seen:
                 return not is_taken, words
             seen.append(is_taken)
@@ -222,7 +222,7 @@ class Probe:
             words = "not known, it was taken in one try and not in another"
         return False, words if words.startswith("not known") else f"not known, two tries of three failed; in the other: {words}"
 
-    def _tried(self, faulty: bytes) -> tuple[bool | None, str]:
+    def _try(self, faulty: bytes) -> tuple[bool | None, str]:
         """Whether a write with a fault is taken, by STATUS_CML before it and behind it, and in words; None where that isn't known."""
         self._sent(CLEAR.frame(self.address))
         before = self._status()
@@ -324,7 +324,7 @@ def unspoken_words(transfers: Transfers, page: int) -> str:
     return f"DIRECT {found}" if found else f"DIRECT without COEFFICIENTS ({(transfers.faults or transfers.failed or [''])[-1]})"
 
 
-def why_not_learned(part: Pmbus, output: int) -> str:
+def why_not_learned(part: Device, output: int) -> str:
     """Why a job that was to learn a format ended badly."""
     transfers = part.transfers
     mode, found = mode_of(transfers, output), coefficients_words(transfers)

@@ -14,7 +14,7 @@ A rail has an output, its volts and its limits; margins, min and max (VOUT_MIN, 
 unless `on = false` says that it is off. Voltages are texts with their unit, exactly as they are written, to a whole microvolt.
 
 A board with several parts has a table for each (`parts`), and `part = "u12"` in each rail. Without them the file is of one part, whose
-place is given on the command line: `without = ["VOUT_MIN"]` above the first rail names registers that it doesn't have, and without
+place is given on the command line: `lacks = ["VOUT_MIN"]` above the first rail names registers that it doesn't have, and without
 `outputs = N` it has as many outputs as the highest that the file names.
 """
 from __future__ import annotations
@@ -25,7 +25,7 @@ from decimal import Decimal
 from typing import Callable, TypeVar
 
 from . import voltages
-from .parts import MOST_OUTPUTS, NAME, BadRails, BoardPart, is_whole, part_of, without_of
+from .parts import MOST_OUTPUTS, NAME, BadRails, BoardPart, is_whole, lacks_of, part_of
 
 # The settings of a rail, by their registers.
 SETTINGS = {"volts": "VOUT_COMMAND", "margin_high": "VOUT_MARGIN_HIGH", "margin_low": "VOUT_MARGIN_LOW", "max": "VOUT_MAX",
@@ -103,15 +103,15 @@ def judged(found: dict[str, object]) -> Rails:
     """The rails of a table. A BadRails has what is wrong in all of its parts and rails."""
     faults: list[str] = []
     for key in found:
-        if key not in ("outputs", "without", "parts", "rails"):
-            raise BadRails(f"{key}: there are `outputs`, `without`, `[parts.NAME]` and `[rails.NAME]`")
+        if key not in ("outputs", "lacks", "parts", "rails"):
+            raise BadRails(f"{key}: there are `outputs`, `lacks`, `[parts.NAME]` and `[rails.NAME]`")
     parts = all_of("parts", found, part_of, "no parts: give a table for each, as [parts.u12]", faults) if "parts" in found else None
     rails = all_of("rails", found, lambda name, table: rail_of(name, table, parts is not None),
                    "no rails: give a table for each, as [rails.core]", faults)
     if parts is None:
         parts = only_part(found, list(rails.values()), faults)
     else:
-        faults += [f"{key}: with `[parts.NAME]` it stands in each part" for key in ("outputs", "without") if key in found]
+        faults += [f"{key}: with `[parts.NAME]` it stands in each part" for key in ("outputs", "lacks") if key in found]
         faults += places_of(list(parts.values()))
     tables = found.get("parts")
     faults += outputs_of(list(rails.values()), parts, set(tables) if isinstance(tables, dict) else set())
@@ -142,7 +142,7 @@ def only_part(found: dict[str, object], rails: list[Rail], faults: list[str]) ->
         faults.append(f"outputs: give a whole number from {least} to {MOST_OUTPUTS}")
         return {}
     try:
-        return {ONLY: BoardPart(ONLY, "", 0, outputs, "", without_of("without", found.get("without", [])))}
+        return {ONLY: BoardPart(ONLY, "", 0, outputs, "", lacks_of("lacks", found.get("lacks", [])))}
     except BadRails as fault:
         faults.append(str(fault))
         return {}
@@ -174,9 +174,9 @@ def outputs_of(rails: list[Rail], parts: dict[str, BoardPart], named: set[str]) 
             continue
         if rail.output >= part.outputs:
             faults.append(f"{at}.output: {rail.part} has {part.outputs} output{'s' * (part.outputs > 1)}, from 0")
-        whose = f"parts.{rail.part}.without" if rail.part else "`without`"
+        whose = f"parts.{rail.part}.lacks" if rail.part else "`lacks`"
         faults += [f"{at}.{key}: {whose} says that the part has no {SETTINGS[key]}" for key in rail.settings
-                   if SETTINGS[key] in part.without]
+                   if SETTINGS[key] in part.lacks]
     return faults
 
 

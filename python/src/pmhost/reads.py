@@ -84,7 +84,7 @@ class Reads:
 
     def packet(self, asked: Packet) -> Read:
         """A packet of the library's table."""
-        return self._tried(asked.frame(self.address), asked.answer, lambda came: read_answer(self.address, asked, came))
+        return self._try(asked.frame(self.address), asked.answer, lambda came: read_answer(self.address, asked, came))
 
     def coefficients(self, code: int, side: int) -> Read:
         """m, b and R of a code of the library's table, as COEFFICIENTS answers them; of another code none."""
@@ -102,18 +102,18 @@ class Reads:
     def of_page(self, page: int, code: int, size: int) -> Read:
         """So many bytes of a page by PAGE_PLUS, of any code."""
         request = bytes([self.address << 1, PAGE_PLUS_READ, 2, page, code])
-        return self._tried(request, size + 2, lambda came: self._counted(request, came, size))
+        return self._try(request, size + 2, lambda came: self._counted(request, came, size))
 
     def plain(self, code: int, size: int) -> Read:
         """So many bytes of the device, of any code."""
-        return self._tried(code_request(self.address, code), size + 1, lambda came: read_plain(self.address, code, size, came))
+        return self._try(code_request(self.address, code), size + 1, lambda came: read_plain(self.address, code, size, came))
 
     def block(self, code: int) -> Read:
         """A block of at most 32 bytes, of any code. What was read behind its packet error code is nothing."""
         def payload(came: bytes) -> bytes:
             return read_block(self.address, code, came[:came[1] + 3] if came[1] <= MOST_BLOCK else came)
 
-        return self._tried(code_request(self.address, code), MOST_BLOCK + 2, payload)
+        return self._try(code_request(self.address, code), MOST_BLOCK + 2, payload)
 
     def with_pec(self, request: bytes, came: bytes) -> bytes:
         """Bytes that came, with the packet error code that they should have in their last place."""
@@ -133,7 +133,7 @@ class Reads:
             raise NotGood("F5 WrongPec")
         return came[2:-1]
 
-    def _tried(self, request: bytes, count: int, payload: Callable[[bytes], bytes]) -> Read:
+    def _try(self, request: bytes, count: int, payload: Callable[[bytes], bytes]) -> Read:
         """What three tries give; `payload` judges what came behind the read address, which stands in front."""
         last, why = b"", ""
         for _ in range(TRIES):

@@ -2,10 +2,10 @@
 from __future__ import annotations
 
 from .errors import Refused
-from .pmbus import Pmbus
+from .device import Device
 
 
-def is_near(part: Pmbus, output: int, register: str, wanted: int, accept: int, held: tuple[int, ...] | None,
+def is_near(part: Device, output: int, register: str, wanted: int, accept: int, held: tuple[int, ...] | None,
             word: int | None) -> bool:
     """Whether a word is that near to the wanted microvolts, wasn't possible before the order, so that the part made it of this
     one, and lies within the limits. `held` has the words that were possible, None for any."""

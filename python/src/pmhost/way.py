@@ -9,7 +9,7 @@ from .apply import Board, Setting
 from .host import Step
 from .packets import pec, read_write
 from .parts import BoardPart
-from .pmbus import Pmbus
+from .device import Device
 from .rails import SETTINGS, Rail
 from .survey import only_word
 
@@ -43,10 +43,10 @@ class WayRow:
     known: Knowledge
 
 
-def known_of(part: Pmbus, output: int, without: tuple[str, ...] = ()) -> Knowledge:
+def known_of(part: Device, output: int, lacks: tuple[str, ...] = ()) -> Knowledge:
     """What is known of an output of a part that lacks these registers."""
     state, form, bounds = part.host.rail(output), part.host.format(output), dict[str, int | None]()
-    for key in (it for it in BOUNDS if SETTINGS[it] not in without):
+    for key in (it for it in BOUNDS if SETTINGS[it] not in lacks):
         # What the library can't tell in microvolts is beyond every scale.
         bounds[key] = None if form is None else form.told(only_word(part, output, SETTINGS[key]))
     return Knowledge(state.is_on, None if state.band is None else (state.band.least, state.band.greatest), bounds)
@@ -99,15 +99,15 @@ class Way:
     def rehearse(self, rail: Rail) -> None:
         """What the plan of a rail orders where each order is confirmed: a copy of the host is told so, and nothing is sent."""
         host, wanted = self.board.on(rail).host.copy(), self.board.wanted(rail)
-        part = Pmbus(Taking(host.address), host.address, host.outputs)
+        part = Device(Taking(host.address), host.address, host.outputs)
         part.host = host
         while (order := host.next(rail.output, wanted)) is not None:
             it = next(each for each in self.board.of(rail) if each.register == order.register)
-            part.carried_out()
+            part.run()
             self.rows[rail.name].append(WayRow(self.order_words(it), "", PLANNED, self.known(rail, part)))
 
-    def known(self, rail: Rail, part: Pmbus) -> Knowledge:
-        return known_of(part, rail.output, self.parts[rail.part].without)
+    def known(self, rail: Rail, part: Device) -> Knowledge:
+        return known_of(part, rail.output, self.parts[rail.part].lacks)
 
     def order_words(self, it: Setting) -> str:
         """An order in words: the register, and the volts of its word."""

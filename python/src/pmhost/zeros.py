@@ -17,16 +17,16 @@ class NotBelieved(Exception):
     """Why an answer of WRITE_PROTECT isn't taken for its word."""
 
 
-def guarded(address: int, register: str, unanswered: Callable[[], str], read: Callable[[], T], is_held: Callable[[T], bool]) -> T:
+def guard(address: int, register: str, ask_operation: Callable[[], str], read: Callable[[], T], is_held: Callable[[T], bool]) -> T:
     """What a read of a register gives, or a job that ends by one. NotBelieved where zeros would be a good answer of it and a check of
-    OPERATION before or behind isn't good: `unanswered` carries one out, and says why it gave no good answer, nothing where it gave one.
+    OPERATION before or behind isn't good: `ask_operation` carries one out, and says why it gave no good answer, nothing where it gave one.
     Where the one before isn't good nothing is read. `is_held` says that no zeros came, or that a second read gives them too;
     NotBelieved where it doesn't."""
     is_guarded = (address, register) == (ADDRESS, REGISTER)
-    if is_guarded and (why := unanswered()):
+    if is_guarded and (why := ask_operation()):
         raise beside(why)
     found = read()
-    if is_guarded and (why := unanswered()):
+    if is_guarded and (why := ask_operation()):
         raise beside(why)
     if is_guarded and not is_held(found):
         raise NotBelieved(f"zeros came, which a line held low gives and which are a good answer of {REGISTER} at {ADDRESS:02X}, and a "

@@ -116,7 +116,7 @@ HEXADECIMAL = "give one from 08 to 77, in hexadecimal"
 RATE = "give the samples a second, as `sigrok-cli -i FILE --show` has them: 1000000, or 1MHz"
 WRONG = [
     ("linux --bus=x", "capture linux: bus x: give the number of /dev/i2c-N, as 1"),
-    ("linux --bus=desk", "capture linux: bus desk: give the number of /dev/i2c-N, as 1"),
+    ("linux --bus=model", "capture linux: bus model: give the number of /dev/i2c-N, as 1"),
     ("sigrok --bus=1", "--bus: no such option here; pmhost --help tells those of a bus, and COMMAND --help those that stand behind a command"),
     ("linux --bus=1 --bus=2", "capture linux: --bus: it stands twice"),
     ("linux --address=80", f"capture linux: address 80: {HEXADECIMAL}: on the wire 80 is 40h"),

@@ -1,7 +1,7 @@
-"""Buses: that of Linux, that of smbus2, and the model part on a desk."""
-from .desk import DeskBus
+"""Buses: that of Linux, that of smbus2, and that of a model part."""
 from .linux import LinuxBus, NoBus, NoTransfer, Trace
+from .model import ModelBus
 from .patient import PatientBus
 from .smbus2 import Smbus2Bus
 
-__all__ = ["DeskBus", "LinuxBus", "NoBus", "NoTransfer", "PatientBus", "Smbus2Bus", "Trace"]
+__all__ = ["LinuxBus", "ModelBus", "NoBus", "NoTransfer", "PatientBus", "Smbus2Bus", "Trace"]

@@ -15,16 +15,16 @@ from .. import clock
 CAPABILITY, STORE_USER_ALL, RESTORE_USER_ALL = 0x19, 0x15, 0x16
 # Seconds between two questions.
 STEP = 0.005
-# Milliseconds of patience behind a write, and behind a store and a restore.
-PATIENCE, LONG_PATIENCE = 200, 1000
+# For how many milliseconds a busy part is waited for behind a write, and behind a store and a restore.
+TIMEOUT, LONG_TIMEOUT = 200, 1000
 # What the kernel's adapters say of a write whose address wasn't acknowledged. EREMOTEIO and EIO are said of a byte behind it, too:
 # the part may have heard it then.
 UNHEARD = errno.ENXIO
 
 
-def patience_of(given: int | None, is_long: bool) -> int:
-    """The milliseconds of patience: those that were given, or those for a store and a restore, or for another write."""
-    return given if given is not None else LONG_PATIENCE if is_long else PATIENCE
+def timeout_of(given: int | None, is_long: bool) -> int:
+    """For how many milliseconds a busy part is waited for: those that were given, or those for a store and a restore, or for another write."""
+    return given if given is not None else LONG_TIMEOUT if is_long else TIMEOUT
 
 
 def is_command(frame: bytes, code: int) -> bool:
@@ -43,30 +43,30 @@ class Bare(Protocol):
 
 
 class PatientBus:
-    """A bus over another one. `settle` is the wait before each transfer and `patience` how long it waits for a busy part behind
-    each write, both in milliseconds; without `patience` 200, and 1,000 behind a store and a restore."""
+    """A bus over another one. `delay` is the wait before each transfer and `busy_timeout` how long it waits for a busy part behind
+    each write, both in milliseconds; without `busy_timeout` 200, and 1,000 behind a store and a restore."""
 
-    def __init__(self, bus: Bare, settle: int = 0, patience: int | None = None) -> None:
-        self.bus, self.settle, self._patience = bus, settle, patience
+    def __init__(self, bus: Bare, delay: int = 0, busy_timeout: int | None = None) -> None:
+        self.bus, self.delay, self._busy_timeout = bus, delay, busy_timeout
 
     def __repr__(self) -> str:
-        return f"PatientBus({self.bus!r}, {self.settle}, {self._patience})"
+        return f"PatientBus({self.bus!r}, {self.delay}, {self._busy_timeout})"
 
-    def patience(self, frame: bytes) -> int:
-        """The milliseconds of patience behind a frame."""
-        return patience_of(self._patience, is_command(frame, STORE_USER_ALL) or is_command(frame, RESTORE_USER_ALL))
+    def busy_timeout(self, frame: bytes) -> int:
+        """For how many milliseconds a busy part is waited for behind a frame."""
+        return timeout_of(self._busy_timeout, is_command(frame, STORE_USER_ALL) or is_command(frame, RESTORE_USER_ALL))
 
     def write(self, frame: bytes) -> bool:
         """Sends a packet, again where its address wasn't acknowledged, and waits until the part is ready. The end is that of the
         last try."""
-        patience = self.patience(frame)
-        deadline = clock.until() + patience / 1000
+        busy_timeout = self.busy_timeout(frame)
+        deadline = clock.until() + busy_timeout / 1000
         try:
-            is_acknowledged = self._written(frame, deadline)
+            is_acknowledged = self._write(frame, deadline)
         except OSError:
-            self._wait_for_part(frame[0], patience, deadline)
+            self._wait_for_part(frame[0], busy_timeout, deadline)
             raise
-        self._wait_for_part(frame[0], patience, deadline)
+        self._wait_for_part(frame[0], busy_timeout, deadline)
         return is_acknowledged
 
     def read(self, request: bytes, count: int) -> bytes:
@@ -75,18 +75,18 @@ class PatientBus:
 
     def _settled(self) -> Bare:
         """The bus below, after the wait before a transfer."""
-        if self.settle:
-            clock.wait(self.settle / 1000)
+        if self.delay:
+            clock.wait(self.delay / 1000)
         return self.bus
 
     @staticmethod
     def _is_left(deadline: float) -> bool:
-        """Whether a further try begins within the patience, after the wait before it."""
+        """Whether a further try begins before the deadline, after the wait before it."""
         now = clock.until()
         return now + STEP < deadline and clock.until(now + STEP) < deadline
 
-    def _written(self, frame: bytes, deadline: float) -> bool:
-        """Sends a packet until somebody acknowledged the address, or the patience is spent."""
+    def _write(self, frame: bytes, deadline: float) -> bool:
+        """Sends a packet until somebody acknowledged the address, or the time is over."""
         while True:
             try:
                 return self._settled().write(frame)
@@ -94,9 +94,9 @@ class PatientBus:
                 if fault.errno != UNHEARD or is_command(frame, STORE_USER_ALL) or not self._is_left(deadline):
                     raise
 
-    def _wait_for_part(self, address_byte: int, patience: int, deadline: float) -> None:
-        """Asks for CAPABILITY until an answer came that isn't of ones, or the patience is spent; with none nothing is asked."""
-        while patience and not self._is_ready(address_byte):
+    def _wait_for_part(self, address_byte: int, busy_timeout: int, deadline: float) -> None:
+        """Asks for CAPABILITY until an answer came that isn't of ones, or the time is over; with none nothing is asked."""
+        while busy_timeout and not self._is_ready(address_byte):
             if not self._is_left(deadline):
                 return
 

@@ -33,7 +33,7 @@ ABOUT = """Supply voltages over PMBus, by a proved host.
 
     pmhost -b 1 -a 58 probe
     pmhost -b 1 -a 58 --outputs 2 --limit 0:3.135V:3.465V set 0 3.3V
-    pmhost -b desk read 0 + known
+    pmhost -b model read 0 + known
 
 Several commands stand in one call with a + between them, and share one host. Options of a bus stand before or behind a
 command's words, those of one command behind its name. After a command that doesn't end well none is begun, and only known
@@ -120,7 +120,7 @@ def completion() -> int:
     return 0
 
 
-def carried_out(call: Call) -> int:
+def run_commands(call: Call) -> int:
     """The status of a call's commands."""
     status = 0
     for arguments in call.commands:
@@ -173,10 +173,10 @@ def main(words: list[str] | None = None, kernel: Calls | None = None) -> int:
             return completion()
         call = judged(given, kernel)
         if not call.has_bus:
-            return carried_out(call)
+            return run_commands(call)
         with interruptible():
             try:
-                return carried_out(call)
+                return run_commands(call)
             finally:
                 call.close()
     except BadCall as fault:

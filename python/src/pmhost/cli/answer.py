@@ -56,7 +56,7 @@ class Answer:
             "selected": found.selected, "on": found.is_on,
             "commands": None if found.least is None else [number(found.least), number(found.greatest)],
             "limits": None if found.limits is None else [number(each) for each in found.limits],
-            "within": found.within, "missing": sorted(found.missing), "restart_seen": self.restart_seen, "rows": self.rows})
+            "within": found.is_within, "missing": sorted(found.missing), "restart_seen": self.restart_seen, "rows": self.rows})
 
 
 def number(microvolts: int | None) -> float | None:

@@ -9,19 +9,19 @@ from typing import Any, Iterator
 
 from ..bus import PatientBus, Trace
 from ..bus.linux import ENDING, BusTrace, Calls
-from ..part import PartBus
-from ..parts import DESK, BoardPart
-from ..pmbus import Pmbus
+from ..part import ModelPartBus
+from ..parts import MODEL_BUS, BoardPart
+from ..device import Device
 from ..rails import ONLY, Rails
 from . import streams
 from .answer import Answer, coloured
 from .parser import BEHIND, OPTIONS, BadCall
 from .place import Options, Place
 
-DESK_ADDRESS, DESK_OUTPUTS, PASSES = 0x58, 2, 3
+MODEL_ADDRESS, MODEL_OUTPUTS, PASSES = 0x58, 2, 3
 NOTHING = "nothing was written"
 # The options that say where the one part is, and what it has: a board file has them for each part.
-OF_ONE_PART = ("bus", "address", "outputs", "limit", "no_limit", "without")
+OF_ONE_PART = ("bus", "address", "outputs", "limit", "no_limit", "lacks")
 
 
 class Interrupted(BaseException):
@@ -84,10 +84,10 @@ class Call:
         self.address: int | None = self._one("address")
         self.outputs: int | None = self._one("outputs")
         self.passes: int = self._one("passes") or PASSES
-        self.without: tuple[str, ...] = self._one("without") or ()
+        self.lacks: tuple[str, ...] = self._one("lacks") or ()
         self.trace_path: str | None = self._one("trace")
-        self.settle: int = self._one("settle") or 0
-        self.patience: int | None = self._one("patience")
+        self.delay: int = self._one("delay") or 0
+        self.busy_timeout: int | None = self._one("busy_timeout")
         self.is_unlimited, self.is_json, self.is_forced, self.is_shared = (
             bool(self._all(name)) for name in ("no_limit", "json", "force", "share_bus"))
         self.limits: dict[int, tuple[int, int]] = {}
@@ -123,8 +123,8 @@ class Call:
         if not self.has_bus or self._rails is not None and self._rails.is_board:
             return
         if self.bus is None:
-            raise BadCall("give a bus, as -b 1 for /dev/i2c-1, or -b desk for a model part")
-        if self.bus != DESK and self.address is None:
+            raise BadCall("give a bus, as -b 1 for /dev/i2c-1, or -b model for a model part")
+        if self.bus != MODEL_BUS and self.address is None:
             raise BadCall("give the part's address, as -a 58")
         for output in self.limits:
             if self.outputs is not None and output >= self.outputs:
@@ -140,7 +140,7 @@ class Call:
         too. BadCall."""
         for name in OF_ONE_PART if found.is_board else OF_ONE_PART[2:]:
             if self._all(name):
-                what = {"without": "it stands", "bus": "buses and addresses stand", "address": "buses and addresses stand"}.get(
+                what = {"lacks": "it stands", "bus": "buses and addresses stand", "address": "buses and addresses stand"}.get(
                     name, "outputs and limits stand")
                 raise BadCall(f"{OPTIONS[name][0][-1]}: {what} in the file of {arguments.command}")
         if self._rails is not None and found.made_for() != self._rails.made_for():
@@ -151,7 +151,7 @@ class Call:
                     raise BadCall(f"{said(each)}: it is for one part, and {arguments.command} has a file of a board: give it in a "
                                   "call of its own")
         else:
-            self.outputs, self.limits, self.without = found.parts[ONLY].outputs, found.limits(ONLY), found.parts[ONLY].without
+            self.outputs, self.limits, self.lacks = found.parts[ONLY].outputs, found.limits(ONLY), found.parts[ONLY].lacks
         self._rails = found
 
     def judge_write(self, arguments: argparse.Namespace, more: str = "") -> None:
@@ -177,27 +177,27 @@ class Call:
     def places(self) -> dict[str, Place]:
         """The parts of the call by their names, none of which was opened before its first use."""
         if not self._places:
-            options = Options(self.passes, self.settle, self.patience, self.is_forced, self.is_shared, self.kernel)
+            options = Options(self.passes, self.delay, self.busy_timeout, self.is_forced, self.is_shared, self.kernel)
             self._trace = Trace(self.trace_path)
             if self._rails is not None and self._rails.is_board:
                 self._places = {part.name: Place(part, limits, options, BusTrace(self._trace, part.bus))
                                 for part, limits in self._rails.made_for()}
             else:
-                only = BoardPart(ONLY, self.bus or "", self.address or DESK_ADDRESS, self.counted(), "", self.without)
-                self._places = {ONLY: Place(only, self.limits, options, self._trace, self.outputs or max(DESK_OUTPUTS, self.counted()))}
+                only = BoardPart(ONLY, self.bus or "", self.address or MODEL_ADDRESS, self.counted(), "", self.lacks)
+                self._places = {ONLY: Place(only, self.limits, options, self._trace, self.outputs or max(MODEL_OUTPUTS, self.counted()))}
         return self._places
 
     def only(self) -> Place:
         """The one part of a call that has no board file."""
         return self.places()[ONLY]
 
-    def part(self) -> Pmbus:
+    def part(self) -> Device:
         """The same, through the one host of the call."""
         return self.only().pmbus()
 
-    def patient(self, patience: int | None = None) -> PartBus | PatientBus:
+    def patient(self, busy_timeout: int | None = None) -> ModelPartBus | PatientBus:
         """The bus of the one part, which waits for it where it is busy."""
-        return self.only().patient(patience)
+        return self.only().patient(busy_timeout)
 
     def no_part(self, arguments: argparse.Namespace) -> int:
         """Before the first command that orders something the part has to answer. 0, or the status where it doesn't: nothing was
@@ -205,7 +205,7 @@ class Call:
         is_board = self._rails is not None and self._rails.is_board
         if is_board or self._has_answered or not getattr(arguments, "is_order", False) or getattr(arguments, "dry_run", False):
             return 0
-        why = self.only().unanswered()
+        why = self.only().ask_operation()
         if why:
             return self.say(Answer(said(arguments), "no part", "no part answers, nothing was ordered", 1, why,
                                    getattr(arguments, "output", None)))

@@ -12,12 +12,12 @@ from typing import Any
 from .. import faults, rails
 from ..bus import Trace
 from ..faults import bus as faulty_bus
-from ..part import PartBus
-from ..parts import DESK, BadRails, BoardPart
+from ..part import ModelPartBus
+from ..parts import MODEL_BUS, BadRails, BoardPart
 from ..rails import ONLY
 from . import streams
 from .answer import in_digits
-from .call import DESK_OUTPUTS, PASSES, Call, complain, said
+from .call import MODEL_OUTPUTS, PASSES, Call, complain, said
 from .completion import FILES, completed_by
 from .outcome import DEVICE
 from .parser import BEHIND, OPTIONS, BadCall, file_of, shown, whole
@@ -37,7 +37,7 @@ A job is a command of pmhost with its options, which orders outputs without limi
 or part and a frame, as part B0 00 01 ED, of which a / behind it says that a repeated start ends it. Each job is carried out,
 whatever became of those before. The status is 0 where each ended well, 1 where not."""
 # The options of a bus that the bus with faults doesn't have.
-OF_A_BUS = ("bus", "address", "trace", "json", "settle", "patience", "share_bus", "force")
+OF_A_BUS = ("bus", "address", "trace", "json", "delay", "busy_timeout", "share_bus", "force")
 # How many of a hundred transfers a random fault strikes, where no rate is given.
 RATE = 25
 FRAME = re.compile(r"((?:[0-9A-Fa-f]{2} ?)+?)( ?/)?")
@@ -105,9 +105,9 @@ class JobsCall(Call):
         for name, given in (("outputs", asked.count), ("passes", asked.tries)):
             if given is not None and self._all(name):
                 raise BadCall(f"faults: {OPTIONS[name][0][-1]}: it is given twice")
-        self.bus, self.is_unlimited = DESK, True
+        self.bus, self.is_unlimited = MODEL_BUS, True
         self.passes = self._one("passes") or asked.tries or PASSES
-        self.outputs = self.outputs or asked.count or DESK_OUTPUTS
+        self.outputs = self.outputs or asked.count or MODEL_OUTPUTS
         self.is_counted = asked.count is not None
 
     @functools.cached_property
@@ -124,7 +124,7 @@ class JobsCall(Call):
 
     def places(self) -> dict[str, Place]:
         if not self._places:
-            part = BoardPart(ONLY, DESK, faults.ADDRESS, self.counted(), "", self.without)
+            part = BoardPart(ONLY, MODEL_BUS, faults.ADDRESS, self.counted(), "", self.lacks)
             options = Options(self.passes, 0, None, False, False, None)
             self._places = {ONLY: FaultyPlace(part, self.limits, options, self.bench.bus)}
         return self._places
@@ -133,11 +133,11 @@ class JobsCall(Call):
 class FaultyPlace(Place):
     """The model part, on the bus with faults."""
 
-    def __init__(self, part: BoardPart, limits: dict[int, tuple[int, int]], options: Options, faulty: PartBus) -> None:
+    def __init__(self, part: BoardPart, limits: dict[int, tuple[int, int]], options: Options, faulty: ModelPartBus) -> None:
         super().__init__(part, limits, options, Trace(None))
         self._faulty = faulty
 
-    def _made(self) -> PartBus:
+    def _made(self) -> ModelPartBus:
         return self._faulty
 
 
@@ -209,7 +209,7 @@ def judge(arguments: argparse.Namespace) -> None:
 def run(arguments: argparse.Namespace) -> int:
     """Carries the jobs out, or counts over many runs."""
     try:
-        return counted(arguments) if arguments.runs else carried_out(arguments)
+        return count_runs(arguments) if arguments.runs else run_jobs(arguments)
     except KeyboardInterrupt:
         complain("faults: interrupted")
         return streams.INTERRUPTED
@@ -229,7 +229,7 @@ def rate_of(arguments: argparse.Namespace) -> int:
     return RATE if arguments.rate is None else int(arguments.rate)
 
 
-def counted(arguments: argparse.Namespace) -> int:
+def count_runs(arguments: argparse.Namespace) -> int:
     bench: faults.Bench = arguments.jobs_call.bench
     bench.bus.tell = silent
     for line in faults.figures(bench, arguments.runs, arguments.seed or 0, rate_of(arguments)):
@@ -237,7 +237,7 @@ def counted(arguments: argparse.Namespace) -> int:
     return 0
 
 
-def carried_out(arguments: argparse.Namespace) -> int:
+def run_jobs(arguments: argparse.Namespace) -> int:
     """The status: whether each job went well."""
     bench: faults.Bench = arguments.jobs_call.bench
     random_ones = [] if arguments.seed is None else faults.draw_faults(random.Random(arguments.seed), rate_of(arguments))

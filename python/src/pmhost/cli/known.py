@@ -6,7 +6,7 @@ from typing import Any
 
 from .. import voltages
 from ..host import Known
-from ..pmbus import Pmbus
+from ..device import Device
 from ..survey import commanded
 from .answer import Answer, between, in_digits, number
 from .call import Call, said
@@ -32,7 +32,7 @@ def known(arguments: argparse.Namespace) -> int:
     """What is known, register by register."""
     call: Call = arguments.call
     part = call.part()
-    cells = [it for it in part.known() if arguments.output is None or it.output in (None, arguments.output)]
+    cells = [it for it in part.known_cells() if arguments.output is None or it.output in (None, arguments.output)]
     if call.is_json:
         return call.say(Answer(said(arguments), "told", output=arguments.output, restart_seen=part.host.restart_seen,
                                rows=[row_of(part, it) for it in cells]))
@@ -41,14 +41,14 @@ def known(arguments: argparse.Namespace) -> int:
     return 0
 
 
-def volts_of(part: Pmbus, it: Known) -> int | None:
+def volts_of(part: Device, it: Known) -> int | None:
     form = None if it.output is None else part.host.format(it.output)
     if form is None or it.confirmed is None or it.register not in VOLTAGES:
         return None
     return form.told(it.confirmed)
 
 
-def words_of(part: Pmbus, it: Known) -> str:
+def words_of(part: Device, it: Known) -> str:
     """A word that is confirmed, the words that are possible, or any."""
     if it.confirmed is not None:
         micro = volts_of(part, it)
@@ -58,7 +58,7 @@ def words_of(part: Pmbus, it: Known) -> str:
     return "possible " + " ".join(str(in_digits(it.register, word)) for word in it.possible)
 
 
-def row_of(part: Pmbus, it: Known) -> dict[str, object]:
+def row_of(part: Device, it: Known) -> dict[str, object]:
     return {"output": it.output, "register": it.register, "word": in_digits(it.register, it.confirmed),
             "volts": number(volts_of(part, it)),
             "possible": None if it.possible is None else [in_digits(it.register, word) for word in it.possible]}

@@ -9,16 +9,16 @@ from typing import Any, Callable
 from .. import probe, voltages
 from ..errors import Refused
 from ..host import Step
-from ..pmbus import Pmbus
+from ..device import Device
 from ..readings import KINDS
 from ..rounded import is_near
 from ..survey import holds_zeros, read as read_register, survey
-from ..zeros import NotBelieved, guarded
+from ..zeros import NotBelieved, guard
 from . import readings
 from .answer import Answer, in_digits
 from .call import Call, said
 from .completion import completed_by
-from .outcome import DEVICE, REGISTERS, VOLTAGES, answer_of, cell_words, ended_badly, noted_of, rail_words, refused, surveyed, why_not
+from .outcome import DEVICE, REGISTERS, VOLTAGES, answer_of, cell_words, ended_badly, noted_of, rail_words, refused, survey_order, why_not
 from .parser import BadCall, bus_options, shown, whole
 
 MARGIN_HIGH, MARGIN_LOW = 0xA8, 0x94
@@ -122,11 +122,11 @@ def add(commands: Any) -> None:
     found.add_argument("output", **output)
     completed_by(found.add_argument("digits", metavar="high|low", type=margin_of), ("high", "low"))
     bus_options(found)
-    found = command("clear", acknowledged, "clears the latched faults of an output", judge_write)
+    found = command("clear", send_command, "clears the latched faults of an output", judge_write)
     found.add_argument("output", **output)
     bus_options(found)
     for name, help in (("store", "has the part store its settings"), ("restore", "has the part bring its stored settings back")):
-        found = command(name, acknowledged, help, judge_restore if name == "restore" else judge_write)
+        found = command(name, send_command, help, judge_restore if name == "restore" else judge_write)
         found.set_defaults(output=None)
         if name == "restore":
             found.add_argument(GO_OFF, action="store_true", help=f"{MAY_GO_OFF}, which is well")
@@ -181,11 +181,11 @@ def judge_word(arguments: argparse.Namespace) -> None:
 
 # ---- The commands ----
 
-def learned(part: Pmbus, output: int) -> bool:
+def learn_once(part: Device, output: int) -> bool:
     """Whether the format of an output is known, after it was learned where it wasn't."""
     if part.host.format(output) is None:
         part.host.learn(output)
-        part.carried_out()
+        part.run()
     return part.host.format(output) is not None
 
 
@@ -194,7 +194,7 @@ def learn(arguments: argparse.Namespace) -> int:
     call: Call = arguments.call
     part = call.part()
     part.host.learn(arguments.output)
-    step = part.carried_out()
+    step = part.run()
     found = answer_of(arguments, part, None, step.kind)
     form = part.host.format(arguments.output)
     if step.kind == "learned" and form is not None:
@@ -212,14 +212,14 @@ def read(arguments: argparse.Namespace) -> int:
     call: Call = arguments.call
     part, register = call.part(), arguments.register
     if register in VOLTAGES:
-        learned(part, arguments.output)
+        learn_once(part, arguments.output)
 
-    def checked() -> Step:
+    def check() -> Step:
         part.host.check(arguments.output or 0, register)
-        return part.carried_out()
+        return part.run()
 
     try:
-        step = guarded(part.host.address, register, call.only().unanswered, checked, lambda _: holds_zeros(part))
+        step = guard(part.host.address, register, call.only().ask_operation, check, lambda _: holds_zeros(part))
     except Refused as fault:
         return call.say(refused(arguments, part, register, fault))
     except NotBelieved as doubt:
@@ -243,13 +243,13 @@ def survey_output(arguments: argparse.Namespace) -> int:
     return call.say(found)
 
 
-def not_told(arguments: argparse.Namespace, part: Pmbus, doubt: NotBelieved) -> Answer:
+def not_told(arguments: argparse.Namespace, part: Device, doubt: NotBelieved) -> Answer:
     """No state of WRITE_PROTECT is given, and nothing is known any more."""
     part.restart()
     return answer_of(arguments, part, DEVICE, "unknown", status=1, text=f"{DEVICE} unknown, any word is possible", why=str(doubt))
 
 
-def carried_out(arguments: argparse.Namespace, register: str, begin: Callable[[], object], wanted: int | None = None) -> int:
+def carry_out(arguments: argparse.Namespace, register: str, begin: Callable[[], object], wanted: int | None = None) -> int:
     """An order: what became of it, and what the output then commands. `wanted` has the microvolts of an order whose word may
     be another one that is near: the register is read before it."""
     call: Call = arguments.call
@@ -260,81 +260,81 @@ def carried_out(arguments: argparse.Namespace, register: str, begin: Callable[[]
             part.host.check(output, register)
         except Refused as fault:
             return call.say(refused(arguments, part, register, fault))
-        step = part.carried_out()
+        step = part.run()
         if step.kind != "done":
             found = ended_badly(arguments, part, register, step)
             found.text += "; nothing was ordered"
             return call.say(found)
-        held = part.host.possible(output, register)
+        held = part.host.possible_words(output, register)
 
-    def ordered() -> Step:
+    def order() -> Step:
         begin()
         call.maybe = f"{register if output is None else f'output {output} {register}'} may hold the old or the ordered word"
-        return part.carried_out()
+        return part.run()
 
     try:
-        step = guarded(part.host.address, register, call.only().unanswered, ordered, lambda _: holds_zeros(part))
+        step = guard(part.host.address, register, call.only().ask_operation, order, lambda _: holds_zeros(part))
     except Refused as fault:
         return call.say(refused(arguments, part, register, fault))
     except NotBelieved as doubt:
         return call.say(not_told(arguments, part, doubt))
     if (step.kind == "differs" and wanted is not None
             and is_near(part, output, register, wanted, int(arguments.accept), held, step.word)):
-        return call.say(surveyed(arguments, part, register, is_accepted=True))
+        return call.say(survey_order(arguments, part, register, is_accepted=True))
     if step.kind != "done":
         return call.say(ended_badly(arguments, part, register, step))
-    return call.say(surveyed(arguments, part, register))
+    return call.say(survey_order(arguments, part, register))
 
 
 def set_voltage(arguments: argparse.Namespace) -> int:
     """Orders a voltage of a register."""
-    part: Pmbus = arguments.call.part()
+    part: Device = arguments.call.part()
     output, register = arguments.output, arguments.register
-    if not learned(part, output):
+    if not learn_once(part, output):
         found = answer_of(arguments, part, register, "unknown", status=1, text="its format isn't known, nothing was ordered",
                           why=probe.why_not_learned(part, output) + readings.noted(part, output))
         return int(arguments.call.say(found))
-    return carried_out(arguments, register, lambda: part.host.order_micro(output, register, arguments.microvolts),
+    return carry_out(arguments, register, lambda: part.host.order_micro(output, register, arguments.microvolts),
                        None if arguments.accept is None else arguments.microvolts)
 
 
 def word(arguments: argparse.Namespace) -> int:
     """Orders a word of a register."""
-    part: Pmbus = arguments.call.part()
+    part: Device = arguments.call.part()
     register = arguments.register
     if register != DEVICE and part.host.limits(arguments.output) is not None:
-        prepared(part, arguments.output, register)
+        prepare(part, arguments.output, register)
     wanted, word = None, int(arguments.digits, 16)
-    if arguments.accept is not None and learned(part, arguments.output):
+    if arguments.accept is not None and learn_once(part, arguments.output):
         form = part.host.format(arguments.output)
         wanted = None if form is None else form.told(word)
-    return carried_out(arguments, register, lambda: part.host.order(arguments.output or 0, register, word), wanted)
+    return carry_out(arguments, register, lambda: part.host.order(arguments.output or 0, register, word), wanted)
 
 
-def prepared(part: Pmbus, output: int, register: str) -> None:
+def prepare(part: Device, output: int, register: str) -> None:
     """Limits judge an order of OPERATION by the registers that it may select, and each word by the output's format."""
-    if learned(part, output) and register == "OPERATION":
+    if learn_once(part, output) and register == "OPERATION":
         for each in VOLTAGES:
             read_register(part, output, each)
 
 
 def operate(arguments: argparse.Namespace) -> int:
     """Orders OPERATION."""
-    part: Pmbus = arguments.call.part()
+    part: Device = arguments.call.part()
     output = arguments.output
     if arguments.command != "off":
-        prepared(part, output, "OPERATION")
-    return carried_out(arguments, "OPERATION", lambda: part.host.order(output, "OPERATION", int(arguments.digits, 16)))
+        prepare(part, output, "OPERATION")
+    return carry_out(arguments, "OPERATION", lambda: part.host.order(output, "OPERATION", int(arguments.digits, 16)))
 
 
-def acknowledged(arguments: argparse.Namespace) -> int:
+def send_command(arguments: argparse.Namespace) -> int:
     """A command that nothing reads back: clear, store, restore. It is acknowledged where the part answers behind it, too."""
     call: Call = arguments.call
     part, output = call.part(), arguments.output
     {"clear": lambda: part.host.clear(output), "store": part.host.store, "restore": part.host.restore}[arguments.command]()
     call.maybe = {"clear": f"the faults of output {output} may be cleared or not", "store": STORES,
                   "restore": RESTORES}[arguments.command]
-    step = part.carried_out()
+    step = part.run()
     found = answer_of(arguments, part, None, step.kind)
     if step.kind != "done":
         found.status, found.text = 1, "unknown"

@@ -7,7 +7,7 @@ from typing import Any
 from .. import voltages
 from ..errors import SAYINGS, Refused
 from ..host import Step
-from ..pmbus import Pmbus
+from ..device import Device
 from ..survey import FORMAT, Commanded, commanded, selection, survey
 from ..values import CODES
 from .answer import Answer, between, in_digits
@@ -19,7 +19,7 @@ REGISTERS = tuple(name for name in CODES if name != DEVICE)
 VOLTAGES = tuple(name for name in REGISTERS if name.startswith("VOUT_"))
 
 
-def cell_words(arguments: argparse.Namespace, part: Pmbus, register: str, word: int) -> str:
+def cell_words(arguments: argparse.Namespace, part: Device, register: str, word: int) -> str:
     """A register with its word, and its volts or meaning."""
     output = arguments.output
     words = f"{register} {in_digits(register, word)}"
@@ -35,7 +35,7 @@ def cell_words(arguments: argparse.Namespace, part: Pmbus, register: str, word: 
     return words
 
 
-def answer_of(arguments: argparse.Namespace, part: Pmbus, register: str | None, end: str, **named: Any) -> Answer:
+def answer_of(arguments: argparse.Namespace, part: Device, register: str | None, end: str, **named: Any) -> Answer:
     """An answer with what is known of a register."""
     found = Answer(said(arguments), end, output=arguments.output, register=register,
                    restart_seen=part.host.restart_seen, **named)
@@ -43,14 +43,14 @@ def answer_of(arguments: argparse.Namespace, part: Pmbus, register: str | None, 
         found.commanded = commanded(part, arguments.output)
     if register is not None:
         cell = (arguments.output or 0, register)
-        found.word, found.possible = part.host.standing(*cell), part.host.possible(*cell)
+        found.word, found.possible = part.host.confirmed_word(*cell), part.host.possible_words(*cell)
         form = None if arguments.output is None else part.host.format(arguments.output)
         if found.word is not None and form is not None and register in VOLTAGES:
             found.microvolts = form.told(found.word)
     return found
 
 
-def refused(arguments: argparse.Namespace, part: Pmbus, register: str | None, fault: Refused) -> Answer:
+def refused(arguments: argparse.Namespace, part: Device, register: str | None, fault: Refused) -> Answer:
     """The host refused a job: nothing was sent."""
     refusal = f"{fault.letter} {fault.name}"
     return answer_of(arguments, part, register, "refused", status=1, text=f"refused {refusal}", refusal=refusal,
@@ -65,7 +65,7 @@ def possible_words(answer: Answer) -> str:
     return f"{answer.register} unknown, possible {words}"
 
 
-def ended_badly(arguments: argparse.Namespace, part: Pmbus, register: str, step: Step) -> Answer:
+def ended_badly(arguments: argparse.Namespace, part: Device, register: str, step: Step) -> Answer:
     """An order that differs, or a job without a good answer."""
     found = answer_of(arguments, part, register, step.kind, status=1)
     if step.kind == "differs" and step.word is not None:
@@ -78,7 +78,7 @@ def ended_badly(arguments: argparse.Namespace, part: Pmbus, register: str, step:
     return found
 
 
-def with_why(part: Pmbus) -> str:
+def with_why(part: Device) -> str:
     why = part.transfers.why()
     return f"; {why}" if why else ""
 
@@ -123,7 +123,8 @@ def limit_words(found: Commanded) -> str:
     if found.limits is None:
         return ", without limits"
     pair = f"{voltages.shown(found.limits[0])} to {voltages.shown(found.limits[1])}"
-    return {True: f", within {pair}", False: f", OUTSIDE {pair}", None: f", not known to be within {pair}"}[found.within]
+    state = {"within": "within", "outside": "OUTSIDE"}.get(found.limits_state or "", "not known to be within")
+    return f", {state} {pair}"
 
 
 def is_well(found: Commanded, register: str, microvolts: int | None) -> bool:
@@ -134,7 +135,7 @@ def is_well(found: Commanded, register: str, microvolts: int | None) -> bool:
                               wanted is not None and found.is_value(wanted))
 
 
-def surveyed(arguments: argparse.Namespace, part: Pmbus, register: str, is_accepted: bool = False) -> Answer:
+def survey_order(arguments: argparse.Namespace, part: Device, register: str, is_accepted: bool = False) -> Answer:
     """The answer to an order that is confirmed, or whose word is taken because it is near enough: a survey says what the output then
     commands."""
     output, end = arguments.output, "accepted" if is_accepted else "done"
@@ -169,7 +170,7 @@ def surveyed(arguments: argparse.Namespace, part: Pmbus, register: str, is_accep
     return found
 
 
-def noted_of(part: Pmbus, output: int, found: Commanded) -> str:
+def noted_of(part: Device, output: int, found: Commanded) -> str:
     """What the part noted behind a survey of which a job ended badly; nothing where none did."""
     return noted(part, output) if found.missing else ""
 
@@ -182,7 +183,7 @@ def why_not(found: Commanded) -> str:
         return "OPERATION holds a word that selects no register"
     if found.unended:
         return found.unended
-    if found.limits is not None and found.within is not True:
-        return "the output isn't known to command a voltage within its limits" if found.within is None else \
+    if found.limits is not None and found.limits_state != "within":
+        return "the output isn't known to command a voltage within its limits" if found.limits_state != "outside" else \
             "the output commands a voltage outside its limits"
     return "the output doesn't command what was ordered: VOUT_MAX or VOUT_MIN cuts it"

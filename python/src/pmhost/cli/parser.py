@@ -8,11 +8,13 @@ import re
 from typing import Any, Callable, NoReturn
 
 from .. import parts, voltages
-from ..parts import DESK, MISSABLE
+from ..parts import MISSABLE, MODEL_BUS
 from . import streams
 from .completion import FILES, completed_by
 
 BUS = re.compile(r"(?:/dev/i2c-|i2c-)?([0-9]{1,9})\Z")
+TIME = re.compile("([0-9]{1,9}) ?(ms|s)")
+MILLISECONDS = {"ms": 1, "s": 1000}
 LIMIT_EXAMPLE = "0:3.135V:3.465V"
 
 
@@ -95,11 +97,24 @@ def whole(least: int, most: int, what: str) -> Callable[[str], int]:
     return judge
 
 
+def time_of(most: int, what: str) -> Callable[[str], int]:
+    """The judge of a time with its unit, of at most so many seconds: its milliseconds."""
+    def judge(word: str) -> int:
+        found = TIME.fullmatch(word.strip())
+        if not found:
+            raise argparse.ArgumentTypeError(f"{what} {shown(word.strip())}: give a time with its unit, as 12ms or 5s")
+        milliseconds = int(found[1]) * MILLISECONDS[found[2]]
+        if milliseconds > most * 1000:
+            raise argparse.ArgumentTypeError(f"{what} {word.strip()}: give at most {most}s")
+        return milliseconds
+    return judge
+
+
 def bus_of(word: str) -> str:
-    """`desk`, or the number of a bus of Linux."""
+    """`model`, or the number of a bus of Linux."""
     found = BUS.match(word)
-    if word != DESK and not found:
-        raise argparse.ArgumentTypeError(f"bus {shown(word)}: give the number of /dev/i2c-N, as 1, or {DESK}")
+    if word != MODEL_BUS and not found:
+        raise argparse.ArgumentTypeError(f"bus {shown(word)}: give the number of /dev/i2c-N, as 1, or {MODEL_BUS}")
     return word if found is None else str(int(found[1]))
 
 
@@ -136,32 +151,31 @@ def file_of(word: str) -> str:
     return word
 
 
-def without_of(word: str) -> tuple[str, ...]:
+def lacks_of(word: str) -> tuple[str, ...]:
     """The registers that a part doesn't have."""
     found = tuple(word.split(","))
     for each in found:
         if each not in MISSABLE:
-            raise argparse.ArgumentTypeError(f"without {shown(each)}: give registers of {', '.join(MISSABLE)}")
+            raise argparse.ArgumentTypeError(f"lacks {shown(each)}: give registers of {', '.join(MISSABLE)}")
     return found
 
 
 # The options of a bus: what argparse adds them with. Each stands in a list, so that one that stands twice is seen.
 OPTIONS: dict[str, tuple[tuple[str, ...], dict[str, Any]]] = {
-    "bus": (("-b", "--bus"), {"type": bus_of, "metavar": "BUS", "help": "the number of /dev/i2c-BUS, or desk for a model part"}),
+    "bus": (("-b", "--bus"), {"type": bus_of, "metavar": "BUS", "help": "the number of /dev/i2c-BUS, or model for a model part"}),
     "address": (("-a", "--address"), {"type": address_of, "metavar": "ADDRESS", "help": "the part's address, as 58"}),
     "outputs": (("--outputs",), {"type": whole(1, 8, "outputs"), "metavar": "N", "help": "how many outputs the part has"}),
-    "without": (("--without",), {"type": without_of, "metavar": "REG,..", "help": "registers that the part doesn't have, as VOUT_MIN"}),
+    "lacks": (("--lacks",), {"type": lacks_of, "metavar": "REG,..", "help": "registers that the part doesn't have, as VOUT_MIN"}),
     "limit": (("--limit",), {"type": limit_of, "metavar": "O:LEAST:MOST",
                              "help": f"the limits of an output, as {LIMIT_EXAMPLE}: no order beyond them is sent"}),
     "no_limit": (("--no-limit",), {"const": True, "help": "orders outputs without limits that no --limit names"}),
     "passes": (("--passes",), {"type": whole(1, 15, "passes"), "metavar": "N", "help": "how often a job is tried, 3 if left out"}),
     "trace": (("--trace",), {"type": file_of, "metavar": "FILE", "help": "appends what went over the wire, for pmb decode"}),
     "json": (("--json",), {"const": True, "help": "one object a command"}),
-    "settle": (("--settle",), {"type": whole(0, 10_000, "settle"), "metavar": "MS",
-                               "help": "milliseconds to wait before each transfer"}),
-    "patience": (("--patience",), {"type": whole(0, 60_000, "patience"), "metavar": "MS",
-                                   "help": "milliseconds to wait for a busy part behind each write; if left out 200, and 1000 "
-                                           "behind store and restore"}),
+    "delay": (("--delay",), {"type": time_of(10, "delay"), "metavar": "TIME", "help": "how long to wait before each transfer, as 5ms"}),
+    "busy_timeout": (("--busy-timeout",), {"type": time_of(60, "busy-timeout"), "metavar": "TIME",
+                                           "help": "how long to wait for a busy part behind each write; if left out 200ms, and 1s "
+                                                   "behind store and restore"}),
     "share_bus": (("--share-bus",), {"const": True, "help": "drives an address that another program drives"}),
     "force": (("--force",), {"const": True, "help": "drives a part that a driver of the kernel holds"}),
 }
@@ -174,4 +188,4 @@ def bus_options(parser: argparse.ArgumentParser, suffix: str = BEHIND) -> None:
     for name, (flags, words) in OPTIONS.items():
         action = "append_const" if "const" in words else "append"
         added = group.add_argument(*flags, dest=name + suffix, action=action, default=[], **words)
-        completed_by(added, {"bus": (DESK,), "trace": FILES}.get(name))
+        completed_by(added, {"bus": (MODEL_BUS,), "trace": FILES}.get(name))

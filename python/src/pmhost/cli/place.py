@@ -4,12 +4,12 @@ from __future__ import annotations
 import contextlib
 
 from .. import clock
-from ..bus import DeskBus, LinuxBus, NoBus, PatientBus, Trace
+from ..bus import LinuxBus, ModelBus, NoBus, PatientBus, Trace
 from ..bus.linux import Calls
-from ..bus.patient import STEP, patience_of
-from ..part import PartBus
-from ..parts import DESK, BoardPart
-from ..pmbus import Pmbus
+from ..bus.patient import STEP, timeout_of
+from ..part import ModelPartBus
+from ..parts import MODEL_BUS, BoardPart
+from ..device import Device
 from ..transfers import Transfers
 
 HELD_LOW = ("a line is held low: address 02, which no part may have, acknowledges: clock SCL nine times and send a stop, "
@@ -19,24 +19,24 @@ HELD_LOW = ("a line is held low: address 02, which no part may have, acknowledge
 class Options:
     """How the parts of a call are driven: its options but for where the parts are."""
 
-    def __init__(self, passes: int, settle: int, patience: int | None, is_forced: bool, is_shared: bool, kernel: Calls | None) -> None:
-        self.passes, self.settle, self.patience = passes, settle, patience
+    def __init__(self, passes: int, delay: int, busy_timeout: int | None, is_forced: bool, is_shared: bool, kernel: Calls | None) -> None:
+        self.passes, self.delay, self.busy_timeout = passes, delay, busy_timeout
         self.is_forced, self.is_shared, self.kernel = is_forced, is_shared, kernel
 
 
 class Place:
-    """The part, with limits of its outputs. `outputs` is how many a model part on a desk has."""
+    """The part, with limits of its outputs. `outputs` is how many a model part has."""
 
     def __init__(self, part: BoardPart, limits: dict[int, tuple[int, int]], options: Options, trace: Trace,
                  outputs: int | None = None) -> None:
         self.part, self.limits, self._options, self._trace = part, limits, options, trace
         self._outputs = outputs or part.outputs
-        self._bus: PartBus | LinuxBus | None = None
-        self._pmbus: Pmbus | None = None
+        self._bus: ModelPartBus | LinuxBus | None = None
+        self._pmbus: Device | None = None
 
     # ---- The bus ----
 
-    def opened(self) -> PartBus | LinuxBus:
+    def opened(self) -> ModelPartBus | LinuxBus:
         """The bus, opened at its first use. NoBus, too, where a line is held low."""
         if self._bus is None:
             try:
@@ -48,22 +48,22 @@ class Place:
                 raise NoBus(HELD_LOW)
         return self._bus
 
-    def _made(self) -> PartBus | LinuxBus:
+    def _made(self) -> ModelPartBus | LinuxBus:
         part, options = self.part, self._options
-        if part.bus == DESK:
-            return DeskBus(part.address, self._outputs, self._trace)
+        if part.bus == MODEL_BUS:
+            return ModelBus(part.address, self._outputs, self._trace)
         return LinuxBus(part.bus, part.address, options.is_forced, self._trace, options.kernel, options.is_shared)
 
     def is_held_low(self) -> bool:
         """Whether the open bus acknowledges an address that no part may have."""
         return isinstance(self._bus, LinuxBus) and self._bus.is_held_low()
 
-    def patient(self, patience: int | None = None) -> PartBus | PatientBus:
-        """The bus that waits for a busy part, which one on a desk never is; without a patience that of the call."""
+    def patient(self, busy_timeout: int | None = None) -> ModelPartBus | PatientBus:
+        """The bus that waits for a busy part, which a model part never is; without a time that of the call."""
         bus, options = self.opened(), self._options
         if not isinstance(bus, LinuxBus):
             return bus
-        return PatientBus(bus, options.settle, options.patience if patience is None else patience)
+        return PatientBus(bus, options.delay, options.busy_timeout if busy_timeout is None else busy_timeout)
 
     def close(self) -> None:
         """Closes the bus, where it was opened."""
@@ -73,13 +73,13 @@ class Place:
 
     # ---- The part ----
 
-    def pmbus(self) -> Pmbus:
+    def pmbus(self) -> Device:
         """The part on the bus, through a host of its own."""
         if self._pmbus is None:
             bus, part = self.patient(), self.part
-            self._pmbus = Pmbus(bus, part.address, part.outputs, self._options.passes, without=part.without)
+            self._pmbus = Device(bus, part.address, part.outputs, self._options.passes, lacks=part.lacks)
             for output, (least, most) in self.limits.items():
-                self._pmbus.host.narrow(output, least, most)
+                self._pmbus.host.set_limits(output, least, most)
         return self._pmbus
 
     @property
@@ -87,10 +87,10 @@ class Place:
         """Whether a frame of the last job was a write."""
         return self._pmbus is not None and self._pmbus.transfers.has_written
 
-    def unanswered(self, is_long: bool = False) -> str:
-        """A check of OPERATION of output 0, again and again within the patience, which is long behind a store and a restore.
+    def ask_operation(self, is_long: bool = False) -> str:
+        """A check of OPERATION of output 0, again and again within the time for a busy part, which is long behind a store and a restore.
         Nothing where a good answer came, otherwise why none did. The transfers of the job before stay those of the part."""
-        part, deadline = self.pmbus(), clock.until() + patience_of(self._options.patience, is_long) / 1000
+        part, deadline = self.pmbus(), clock.until() + timeout_of(self._options.busy_timeout, is_long) / 1000
         while True:
             transfers = Transfers()
             part.host.check(0, "OPERATION")
@@ -106,5 +106,5 @@ class Place:
         all is well, and why not."""
         if self.is_held_low():
             return 2, HELD_LOW
-        why = self.unanswered(is_long)
+        why = self.ask_operation(is_long)
         return (1, f"OPERATION of output 0 behind it: {why}") if why else (0, "")

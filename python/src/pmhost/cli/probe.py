@@ -4,11 +4,11 @@ from __future__ import annotations
 import argparse
 from typing import Any
 
-from ..parts import DESK, MISSABLE
+from ..parts import MISSABLE, MODEL_BUS
 from ..probe import REGISTERS, UNFIT, Found, FoundOutput, Probe, block_words, spaced, text_of
 from ..reads import Read
 from .answer import Answer, in_digits
-from .call import DESK_ADDRESS, Call, complain, said
+from .call import MODEL_ADDRESS, Call, complain, said
 from .parser import bus_options
 
 MAY_NOTE = "the part may note in STATUS_CML that it was asked for what it lacks, and pull SMBALERT#"
@@ -32,7 +32,7 @@ def run(arguments: argparse.Namespace) -> int:
     # Its own tries wait for a busy part. A question behind a write could change STATUS_CML, which it reads.
     bus = call.patient(0)
     complain(f"{said(arguments)}: {MAY_NOTE}{f'; {CLEARS}' if arguments.writes else ''}")
-    probe = Probe(bus, call.address or DESK_ADDRESS, call.outputs, call.without)
+    probe = Probe(bus, call.address or MODEL_ADDRESS, call.outputs, call.lacks)
     found = probe.run()
     if arguments.writes and found.outputs:
         call.settled = MAY_BE_CLEARED
@@ -46,13 +46,13 @@ def run(arguments: argparse.Namespace) -> int:
 
 def give_of(call: Call, found: Found) -> str:
     """The command line for this part, but for its commands and the limits of its outputs."""
-    place = [DESK] if call.bus == DESK else [str(call.bus), "-a", f"{call.address:02X}"]
+    place = [MODEL_BUS] if call.bus == MODEL_BUS else [str(call.bus), "-a", f"{call.address:02X}"]
     limits = (f"--limit {each.number}:LEAST:MOST" for each in found.outputs)
-    lacked = ",".join(name for name in MISSABLE if name in call.without or all(name in each.missing for each in found.outputs))
+    lacked = ",".join(name for name in MISSABLE if name in call.lacks or all(name in each.missing for each in found.outputs))
     reached = [*(["--force"] if call.is_forced else []), *(["--share-bus"] if call.is_shared else []),
-               *(["--settle", str(call.settle)] if call.settle else []),
-               *([] if call.patience is None else ["--patience", str(call.patience)])]
-    return " ".join(["pmhost", "-b", *place, *reached, "--outputs", str(len(found.outputs)), *(["--without", lacked] if lacked else []),
+               *(["--delay", f"{call.delay}ms"] if call.delay else []),
+               *([] if call.busy_timeout is None else ["--busy-timeout", f"{call.busy_timeout}ms"])]
+    return " ".join(["pmhost", "-b", *place, *reached, "--outputs", str(len(found.outputs)), *(["--lacks", lacked] if lacked else []),
                      *limits])
 
 

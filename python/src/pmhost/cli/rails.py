@@ -49,20 +49,20 @@ def apply(arguments: argparse.Namespace) -> int:
     """Applies a file, or says what would be ordered."""
     board = board_of(arguments)
     board.accept, board.wants_store = arguments.accept, arguments.wants_store
-    return told(arguments, board, board.prepare if arguments.dry_run else board.apply)
+    return run_board(arguments, board, board.prepare if arguments.dry_run else board.apply)
 
 
 def verify(arguments: argparse.Namespace) -> int:
     """Verifies a file."""
     board = board_of(arguments)
-    return told(arguments, board, board.verify)
+    return run_board(arguments, board, board.verify)
 
 
 def board_of(arguments: argparse.Namespace) -> Board:
     call: Call = arguments.call
     places, file = call.places(), arguments.rails
     parts = {name: place.pmbus() for name, place in places.items()}
-    board = Board(parts, file.rails, file.parts if file.is_board else {}, lambda name: places[name].unanswered())
+    board = Board(parts, file.rails, file.parts if file.is_board else {}, lambda name: places[name].ask_operation())
 
     def before(it: Setting) -> None:
         call.maybe = f"{output_of(it.rail)} {it.register} may hold the old or the ordered word{written(it)}"
@@ -79,7 +79,7 @@ def board_of(arguments: argparse.Namespace) -> Board:
     return board
 
 
-def told(arguments: argparse.Namespace, board: Board, run: Any) -> int:
+def run_board(arguments: argparse.Namespace, board: Board, run: Any) -> int:
     """Carries it out, and says what became of it; the picture that is wanted comes behind that."""
     call: Call = arguments.call
     is_dry: bool = arguments.dry_run
@@ -98,10 +98,10 @@ def told(arguments: argparse.Namespace, board: Board, run: Any) -> int:
     found = Answer(said(arguments), "stopped" if why else "would order" if is_dry else "done", status=1 if why else 0, why=why,
                    rows=rows(board, is_dry and not why, are_wanted))
     with file.written(found.end, why):
-        return answered(call, board, found, is_dry, are_wanted)
+        return answer(call, board, found, is_dry, are_wanted)
 
 
-def answered(call: Call, board: Board, found: Answer, is_dry: bool, are_wanted: bool) -> int:
+def answer(call: Call, board: Board, found: Answer, is_dry: bool, are_wanted: bool) -> int:
     """Says it, and has the parts store where that is wanted."""
     if not call.is_json and board.settings:
         call.say_lines([*table(board, is_dry and not found.status),
@@ -208,7 +208,7 @@ def rows(board: Board, is_dry: bool, are_wanted: bool) -> list[dict[str, object]
             "rail": rail.name, "part": rail.part or None, "output": rail.output, "limits": [number(each) for each in rail.limits],
             "selected": known and known.selected, "on": None if known is None else known.is_on,
             "commands": None if known is None or known.least is None else [number(known.least), number(known.greatest)],
-            "within": None if known is None else known.within,
+            "within": None if known is None else known.is_within,
             "cut": [{"register": it.register, "word": in_digits(it.register, it.word), "volts": number(it.value), "to": number(it.to)}
                     for it in (board.cuts(rail, are_wanted) if known else [])],
             "settings": [{

@@ -4,7 +4,7 @@ from __future__ import annotations
 import argparse
 
 from .. import readings
-from ..pmbus import Pmbus
+from ..device import Device
 from ..readings import KINDS
 from ..status import BITS
 from .answer import Answer
@@ -21,7 +21,7 @@ def tell(arguments: argparse.Namespace) -> int:
         form = part.host.format(output or 0)
         if form is None:
             part.host.learn(output or 0)
-            part.carried_out()
+            part.run()
             form = part.host.format(output or 0)
     found = readings.read(part.bus, part.host.address, output, name, form)
     row = {"register": name, "word": digits_of(found), "value": None if found.value is None else float(found.value),
@@ -36,7 +36,7 @@ def digits_of(found: readings.Reading) -> str | None:
     return None if found.word is None else f"{found.word:0{2 * KINDS[found.name].size}X}"
 
 
-def noted(part: Pmbus, output: int | None) -> str:
+def noted(part: Device, output: int | None) -> str:
     """What the part noted behind a job that ended badly, for the end of a line; nothing where it gives no good answer."""
     words = readings.noted(part.bus, part.host.address, output)
     return f"; {words}" if words else ""

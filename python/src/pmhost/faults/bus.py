@@ -22,7 +22,7 @@ from collections.abc import Callable, Iterable
 from dataclasses import dataclass
 
 from ..errors import PartRefused
-from ..part import Part, PartBus
+from ..part import ModelPart, ModelPartBus
 from ..texts import in_hexadecimal
 
 FAULT = re.compile(r"(ok|lost|twice|mute|false|restart)|(cut|short):(\d{1,3})|(damaged|garbled):(\d{1,3}):([0-7])")
@@ -78,7 +78,7 @@ class Struck:
         return f"{in_hexadecimal(self.frame)}{asked}  {self.fault}: part {self.heard}, {self.came}"
 
 
-def heard_by(part: Part, frame: bytes, is_request: bool = False) -> tuple[str, bytes]:
+def heard_by(part: ModelPart, frame: bytes, is_request: bool = False) -> tuple[str, bytes]:
     """What a part makes of a frame, in words, and its answer. No bytes at all are no frame."""
     if not frame:
         return UNHEARD, b""
@@ -91,13 +91,13 @@ def heard_by(part: Part, frame: bytes, is_request: bool = False) -> tuple[str, b
     return "taken" if frame[:1] == bytes([part.address << 1]) else "silent", b""
 
 
-def refused_words(fault: PartRefused, part: Part, frame: bytes, is_request: bool) -> str:
+def refused_words(fault: PartRefused, part: ModelPart, frame: bytes, is_request: bool) -> str:
     """The letter and the name of a refusal; behind K1 those of the frame's fault, and its place."""
     words = f"{fault.letter} {fault.name}"
     return f"{words} {fault.of_frame} {place_of(fault.of_frame, part, frame, is_request)}" if fault.of_frame else words
 
 
-def place_of(fault: str, part: Part, frame: bytes, is_request: bool) -> int:
+def place_of(fault: str, part: ModelPart, frame: bytes, is_request: bool) -> int:
     """Where a frame has its fault: behind its last byte where it is short, at its count, at its last byte, which is the packet error
     code, or, where it is long, behind the first bytes that are enough."""
     if fault.startswith("F3"):
@@ -105,7 +105,7 @@ def place_of(fault: str, part: Part, frame: bytes, is_request: bool) -> int:
     return {"F4": COUNT_AT, "F5": len(frame) - 1}.get(fault[:2], len(frame))
 
 
-def is_short(part: Part, frame: bytes, is_request: bool) -> bool:
+def is_short(part: ModelPart, frame: bytes, is_request: bool) -> bool:
     """Whether a part finds a frame short."""
     try:
         part.hear(frame, is_request)
@@ -114,10 +114,10 @@ def is_short(part: Part, frame: bytes, is_request: bool) -> bool:
     return False
 
 
-class FaultyBus(PartBus):
+class FaultyBus(ModelPartBus):
     """Over a part, with a list of faults. `tell` is called with each transfer that is over."""
 
-    def __init__(self, part: Part, faults: Iterable[str], tell: Callable[[Struck], None]) -> None:
+    def __init__(self, part: ModelPart, faults: Iterable[str], tell: Callable[[Struck], None]) -> None:
         super().__init__(part)
         self.faults, self.tell = list(faults), tell
 

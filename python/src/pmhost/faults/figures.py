@@ -4,7 +4,7 @@ from __future__ import annotations
 import random
 from collections.abc import Callable, Iterator
 
-from ..part import Output, Part
+from ..part import ModelPart, Output
 from .bus import FaultyBus, Struck, draw_faults
 from .hosts import Orderer, PageHost, ProvedHost
 
@@ -17,7 +17,7 @@ class Bench:
 
     def __init__(self, outputs: int, passes: int, tell: Callable[[Struck], None]) -> None:
         self.outputs = range(outputs)
-        self.part = Part(ADDRESS, [Output()] * outputs)
+        self.part = ModelPart(ADDRESS, [Output()] * outputs)
         self.bus = FaultyBus(self.part, [], tell)
         self.proved = ProvedHost(ADDRESS, outputs, passes, self.bus)
         self.plain = PageHost(ADDRESS, passes, self.bus)

@@ -1,21 +1,21 @@
-"""The model part on a desk as a bus: nothing outside changes."""
+"""A model part as a bus: nothing outside changes."""
 from __future__ import annotations
 
 import errno
 
-from ..part import Output, Part, PartBus
+from ..part import ModelPart, ModelPartBus, Output
 from .linux import NoTransfer, Trace
 
 
-class DeskBus(PartBus):
+class ModelBus(ModelPartBus):
     """A bus with one model part, which tells its transfers to a trace as LinuxBus does."""
 
     def __init__(self, address: int, outputs: int = 2, trace: str | Trace | None = None) -> None:
-        super().__init__(Part(address, [Output()] * outputs))
+        super().__init__(ModelPart(address, [Output()] * outputs))
         self.trace = trace if isinstance(trace, Trace) else Trace(trace)
 
     def __repr__(self) -> str:
-        return f"DeskBus(0x{self.part.address:02X})"
+        return f"ModelBus(0x{self.part.address:02X})"
 
     def write(self, frame: bytes) -> bool:
         if not super().write(frame):

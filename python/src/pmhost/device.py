@@ -11,46 +11,46 @@ from .transfers import Transfers
 from .values import Volts, code_of, microvolts_of, volts_of, whole, NAMES
 
 
-class Pmbus:
+class Device:
     """A part on a bus, through a host of its own.
 
     `limits` gives outputs a least and a most, as {0: ("3.2", "3.465")}: no order beyond them leaves this host, and
-    they can be narrowed by `limit`. `without` names registers that the part doesn't have, as ("VOUT_MIN",). Volts are text, as
+    they can be narrowed by `set_limits`. `lacks` names registers that the part doesn't have, as ("VOUT_MIN",). Volts are text, as
     "3.3", or a decimal.Decimal; never a float.
     """
 
     def __init__(self, bus: Bus, address: int, outputs: int = 1, passes: int = 3,
-                 limits: Mapping[int, tuple[Volts, Volts]] | None = None, without: Iterable[str | int] = ()) -> None:
+                 limits: Mapping[int, tuple[Volts, Volts]] | None = None, lacks: Iterable[str | int] = ()) -> None:
         for name in ("write", "read"):
             if not callable(getattr(bus, name, None)):
                 raise TypeError(f"bus: {bus!r} has no call {name}: see pmhost.Bus")
-        without = tuple(without)
-        self.bus, self.host = bus, Host(address, outputs, passes, without)
+        lacks = tuple(lacks)
+        self.bus, self.host = bus, Host(address, outputs, passes, lacks)
         self.transfers = Transfers()
-        self.without = frozenset(NAMES[code_of(register)] for register in without)
+        self.lacks = frozenset(NAMES[code_of(register)] for register in lacks)
         for output, pair in dict(limits or {}).items():
             if not isinstance(pair, (tuple, list)) or len(pair) != 2:
                 raise TypeError(f"limits of output {output}: give a least and a most, and not {pair!r}")
-            self.limit(output, *pair)
+            self.set_limits(output, *pair)
 
     def __repr__(self) -> str:
-        return f"Pmbus({self.bus!r}, {self.host!r})"
+        return f"Device({self.bus!r}, {self.host!r})"
 
     # ---- Limits and what is known ----
 
-    def limit(self, output: int, least: Volts, most: Volts) -> None:
+    def set_limits(self, output: int, least: Volts, most: Volts) -> None:
         """Gives an output limits, or narrower ones. N5, L1, L6."""
-        self.host.narrow(output, microvolts_of(least, "least"), microvolts_of(most, "most"))
+        self.host.set_limits(output, microvolts_of(least, "least"), microvolts_of(most, "most"))
 
     def limits(self, output: int) -> tuple[Decimal, Decimal] | None:
         """The limits of an output in volts, None where it has none."""
         found = self.host.limits(output)
         return None if found is None else (volts_of(found.least), volts_of(found.most))
 
-    def within(self, output: int) -> bool | None:
-        """Whether the output lies within its limits, by what is known: True where it has none, None where that
-        doesn't tell."""
-        return self.host.within(output)
+    def limits_state(self, output: int) -> str:
+        """How the output lies to its limits, by what is known: `within`, which it is where it has none, `outside`, or `not known`
+        where that doesn't tell."""
+        return self.host.limits_state(output)
 
     def band(self, output: int) -> tuple[Decimal, Decimal] | None:
         """Which volts the output may be commanded to, by what is known; None where its format isn't known, or where OPERATION
@@ -72,25 +72,25 @@ class Pmbus:
         register that is no voltage."""
         if NAMES[code_of(register)] in ("OPERATION", "WRITE_PROTECT"):
             raise ValueError(f"register: {NAMES[code_of(register)]} is no voltage")
-        word, form = self.host.standing(output, register), self.host.format(output)
+        word, form = self.host.confirmed_word(output, register), self.host.format(output)
         return None if word is None or form is None else form.value(word)
 
-    def known(self) -> list[Known]:
+    def known_cells(self) -> list[Known]:
         """What is known of every register."""
-        return self.host.known()
+        return self.host.known_cells()
 
     # ---- Jobs ----
 
-    def carried_out(self) -> Step:
+    def run(self) -> Step:
         """Carries the job out that `host` has open, and says how it ended. `transfers` tells what became of its frames."""
         self.transfers = Transfers()
         return self.host.run(self.bus, self.transfers)
 
-    def _done(self, begin: Callable[[], None]) -> Step:
+    def _do(self, begin: Callable[[], None]) -> Step:
         """Begins a job and carries it out. Whatever interrupts that, the job has ended then."""
         try:
             begin()
-            return self.carried_out()
+            return self.run()
         except (Refused, TypeError, ValueError):
             raise
         except BaseException:
@@ -99,7 +99,7 @@ class Pmbus:
 
     def learn(self, output: int) -> str:
         """Learns the format of an output's voltages, and says it: ULINEAR16 or DIRECT."""
-        self._ended(self._done(lambda: self.host.learn(output)), f"learn {output}", None)
+        self._ended(self._do(lambda: self.host.learn(output)), f"learn {output}", None)
         form = self.host.format(output)
         assert form is not None
         return form.kind
@@ -114,7 +114,7 @@ class Pmbus:
 
         The output's format has to be learned first (H7). Raises a Refused before anything is sent, and Differs or
         Unknown where the word wasn't confirmed."""
-        step = self._done(lambda: self.host.order_micro(output, register, microvolts_of(volts)))
+        step = self._do(lambda: self.host.order_micro(output, register, microvolts_of(volts)))
         self._ended(step, f"order {output} {volts} V", (output, register))
         found = self.volts(output, register)
         assert found is not None
@@ -122,14 +122,14 @@ class Pmbus:
 
     def order(self, output: int, register: str | int, word: int) -> None:
         """Orders a word and reads it back."""
-        step = self._done(lambda: self.host.order(output, register, word))
+        step = self._do(lambda: self.host.order(output, register, word))
         self._ended(step, f"order {output} {NAMES[code_of(register)]}", (output, register))
 
     def check(self, output: int, register: str | int = "VOUT_COMMAND") -> int:
         """Reads a register back, and answers its word."""
-        step = self._done(lambda: self.host.check(output, register))
+        step = self._do(lambda: self.host.check(output, register))
         self._ended(step, f"check {output} {NAMES[code_of(register)]}", (output, register))
-        word = self.host.standing(output, register)
+        word = self.host.confirmed_word(output, register)
         assert word is not None
         return word
 
@@ -137,7 +137,7 @@ class Pmbus:
         """Reads every register that these outputs have back, or those of all."""
         for output in range(self.host.outputs) if outputs is None else outputs:
             for register in NAMES.values():
-                if register != "WRITE_PROTECT" and register not in self.without:
+                if register != "WRITE_PROTECT" and register not in self.lacks:
                     self.check(output, register)
 
     def turn_on(self, output: int) -> None:
@@ -179,22 +179,22 @@ class Pmbus:
         if end.kind == "spent":
             why = self.transfers.why()
             raise Unknown(f"set {output} {volts} V: {cell}: none of {tries} tries is left{': ' * bool(why)}{why}", "unknown", None,
-                          self.host.possible(output, cell)) from self.transfers.error
+                          self.host.possible_words(output, cell)) from self.transfers.error
         if end.kind == "differs":
             self._ended(Step("differs", end.word), f"set {output} {volts} V: {cell}", (output, cell))
         return self.rail(output)
 
     def clear(self, output: int) -> None:
         """Clears the latched faults of an output: acknowledged, and no more than that."""
-        self._ended(self._done(lambda: self.host.clear(output)), f"clear {output}", None)
+        self._ended(self._do(lambda: self.host.clear(output)), f"clear {output}", None)
 
     def store(self) -> None:
         """Has the part store its settings: acknowledged, and no more than that."""
-        self._ended(self._done(self.host.store), "store", None)
+        self._ended(self._do(self.host.store), "store", None)
 
     def restore(self) -> None:
         """Has the part bring its stored settings back: acknowledged, and no more than that."""
-        self._ended(self._done(self.host.restore), "restore", None)
+        self._ended(self._do(self.host.restore), "restore", None)
 
     @property
     def restart_seen(self) -> bool:
@@ -206,7 +206,7 @@ class Pmbus:
         self.host.restart()
 
     def _ended(self, step: Step, job: str, cell: tuple[int, str | int] | None) -> None:
-        possible = None if cell is None else self.host.possible(*cell)
+        possible = None if cell is None else self.host.possible_words(*cell)
         if step.kind == "differs":
             raise Differs(f"{job}: the part holds {step.word:04X}h: the write was lost, refused, limited or rounded",
                           step.kind, step.word, possible)
