@@ -137,7 +137,7 @@ class Traces(unittest.TestCase):
         told = decoded(capture("sharpest.trace"), "--all", "--values", "--pages", "--vout=ulinear16:-12")
         self.assertIn("20 58 page 0? VOUT_COMMAND write 1CCD 1.800048 V", told)
         self.assertEqual([line for line in told if "VOUT_COMMAND write 3000" in line],
-                         ["46 58 VOUT_COMMAND write 3000 3 V WRONG PAGE? lines 39 and 46"])
+                         ["46 58 page 1? VOUT_COMMAND write 3000 3 V WRONG PAGE? lines 39 and 46"])
         marked = [line for line in told if "WRONG PAGE?" in line]
         self.assertEqual([line.split()[0] for line in marked], ["43", "44", "45", "46"])
         example = stored(EXAMPLES, "captures", "ltc2972.trace").splitlines(keepends=True)

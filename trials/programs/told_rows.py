@@ -833,9 +833,9 @@ B0 79 / B1 00 00 *                        58 page 1? STATUS_WORD read 0000 none
 B0 7A / B1 00 *                           58 page 1? STATUS_VOUT read 00 none
 B0 8B / B1 CD 34 *                        58 page 1? READ_VOUT read 34CD 3.300048 V
 B0 8C / B1 00 D3 *                        58 page 1? READ_IOUT read D300 12 A
-B0 88 / B1 00 D3 *                        58 READ_VIN read D300 12 V
-B0 8D / B1 00 D3 *                        58 READ_TEMPERATURE_1 read D300 12 C
-B0 7E / B1 00 *                           58 STATUS_CML read 00 none
+B0 88 / B1 00 D3 *                        58 page 1? READ_VIN read D300 12 V
+B0 8D / B1 00 D3 *                        58 page 1? READ_TEMPERATURE_1 read D300 12 C
+B0 7E / B1 00 *                           58 page 1? STATUS_CML read 00 none
 B0 10 / B1 00 *                           58 WRITE_PROTECT read 00 all writes
 B0 15 *                                   58 STORE_USER_ALL send
 B0 19 / B1 B0 *                           58 CAPABILITY read B0 PEC, 400 kHz, SMBALERT#
@@ -904,7 +904,7 @@ B0 00 03 *                                58 PAGE write 03
 # another devic
 B0 21 CD 34 *                             58 VOUT_COMMAND write 34CD
 """),
-    # What ends every page, in every address: a bad line of either kind, and a comment but for one.
+    # What ends every page, in every address: a bad line of either kind, and a comment but for three.
     ("--pages", """
 B0 00 03 *                                58 PAGE write 03
 B2 00 04 *                                59 PAGE write 04
@@ -919,7 +919,7 @@ B0 00 03 *                                58 PAGE write 03
 B0 21 CD 34 *                             58 VOUT_COMMAND write 34CD
 B0 00 03 *                                58 PAGE write 03
 # no device acknowledged the address: B2
-B0 00 / B1 00 *                           58 PAGE read 00
+B0 00 / B1 00 *                           58 PAGE read 00 WRONG PAGE? lines 12 and 14
 B0 21 CD 34 *                             58 page 0? VOUT_COMMAND write 34CD
 """),
     # What ends none: packets of the device, those that name their page, those of no device and of another; RESTORE isn't followed.
@@ -976,6 +976,58 @@ B0 21 CD 34 *                             58 page 1? VOUT_COMMAND write 34CD
 # a loss
 B0 21 CD 34 *                             58 VOUT_COMMAND write 34CD 3.300048 V
 """),
+    # A mode that was written over, or restored, isn't known until it is read again: of one output, or of all.
+    ("--values", """
+B0 06 02 00 20 / B1 01 14 *               58 page 0 VOUT_MODE read 14 ULINEAR16 -12
+B0 06 02 01 20 / B1 01 13 *               58 page 1 VOUT_MODE read 13 ULINEAR16 -13
+B2 06 02 00 20 / B3 01 14 *               59 page 0 VOUT_MODE read 14 ULINEAR16 -12
+B0 05 03 00 20 17 *                       58 write F7 WrongDirection 4 bytes B0 05 03 00 20 17 *
+B0 05 04 00 21 CD 34 *                    58 page 0 VOUT_COMMAND write 34CD
+B0 05 04 01 21 CD 34 *                    58 page 1 VOUT_COMMAND write 34CD 1.650024 V
+B0 06 02 00 20 / B1 01 17 *               58 page 0 VOUT_MODE read 17 ULINEAR16 -9
+B0 05 04 00 21 00 10 *                    58 page 0 VOUT_COMMAND write 1000 8 V
+B0 16 *                                   58 RESTORE_USER_ALL send
+B0 05 04 00 21 CD 34 *                    58 page 0 VOUT_COMMAND write 34CD
+B0 05 04 01 21 CD 34 *                    58 page 1 VOUT_COMMAND write 34CD
+B2 05 04 00 21 CD 34 *                    59 page 0 VOUT_COMMAND write 34CD 3.300048 V
+B0 06 02 01 20 / B1 01 13 *               58 page 1 VOUT_MODE read 13 ULINEAR16 -13
+B0 05 04 01 21 CD 34 *                    58 page 1 VOUT_COMMAND write 34CD 1.650024 V
+B0 05 04 00 21 CD 34 *                    58 page 0 VOUT_COMMAND write 34CD
+B0 20 17 !                                58 write F5 WrongPec 3 bytes B0 20 17 !
+B0 05 04 01 21 CD 34 *                    58 page 1 VOUT_COMMAND write 34CD
+B0 06 02 01 20 / B1 01 13 *               58 page 1 VOUT_MODE read 13 ULINEAR16 -13
+B0 15 *                                   58 STORE_USER_ALL send
+B0 20 / B1 14 *                           58 VOUT_MODE read 14 ULINEAR16 -12
+B0 06 02 00 20 / B1 01 14 !               58 read F5 WrongPec 3 bytes B0 06 02 00 20 / B1 01 14 !
+B0 05 04 01 21 CD 34 *                    58 page 1 VOUT_COMMAND write 34CD 1.650024 V
+B0 05 03 FF 20 17 *                       58 write F7 WrongDirection 4 bytes B0 05 03 FF 20 17 *
+B0 05 04 01 21 CD 34 *                    58 page 1 VOUT_COMMAND write 34CD
+"""),
+    # The same of the output that PAGE selects, where that is sure; `--vout` gives no value in its place. A restart ends all.
+    ("--pages --all --values --vout=ulinear16:-10", """
+B0 00 00                                  58 PAGE write 00, no PEC
+B0 20 / B1 14                             58 page 0? VOUT_MODE read 14 ULINEAR16 -12, no PEC
+B0 21 00 10                               58 page 0? VOUT_COMMAND write 1000 1 V, no PEC
+B0 20 17 *                                58 page 0? code 20 VOUT_MODE write 17, PEC right
+B0 21 00 10                               58 page 0? VOUT_COMMAND write 1000, no PEC
+B0 00 01                                  58 PAGE write 01, no PEC
+B0 21 00 10                               58 page 1? VOUT_COMMAND write 1000 4 V, no PEC
+B0 20 / B1 13                             58 page 1? VOUT_MODE read 13 ULINEAR16 -13, no PEC
+B0 20 17                                  58 page 1? code 20 VOUT_MODE write 17, no PEC
+B0 21 00 10                               58 page 1? VOUT_COMMAND write 1000, no PEC
+B0 20 / B1 17                             58 page 1? VOUT_MODE read 17 ULINEAR16 -9, no PEC
+B0 21 00 10                               58 page 1? VOUT_COMMAND write 1000 8 V, no PEC
+B0 00 / B1 00                             58 PAGE read 00, no PEC WRONG PAGE? lines 6 and 13
+B0 00 01                                  58 PAGE write 01, no PEC
+B0 21 00 10                               58 page 1? VOUT_COMMAND write 1000, no PEC
+B0 05 04 02 21 00 10 *                    58 page 2 VOUT_COMMAND write 1000 4 V
+B0 20 / B1 17                             58 page 1? VOUT_MODE read 17 ULINEAR16 -9, no PEC
+B0 00 / B1                                58 code 00 PAGE read, no PEC
+B0 06 02 00 20 / B1 01 14 *               58 page 0 VOUT_MODE read 14 ULINEAR16 -12
+B0 20 17                                  58 page 1? code 20 VOUT_MODE write 17, no PEC WRONG PAGE? lines 18 and 20
+B0 05 04 00 21 00 10 *                    58 page 0 VOUT_COMMAND write 1000
+B0 05 04 01 21 00 10 *                    58 page 1 VOUT_COMMAND write 1000
+"""),
     # What contradicts itself.
     ("--pages", """
 B0 00 01 *                                58 PAGE write 01
@@ -1005,6 +1057,79 @@ B0 00 / B1 01 *                           58 PAGE read 01 WRONG PAGE? lines 5 an
 B0 00 02 *                                58 PAGE write 02
 B0 00 / B1 02 *                           58 PAGE read 02
 """),
+    # A read of PAGE that isn't good changes no page; an answer of count 00 is one. What ends a page ends the mark too.
+    ("--pages --all", """
+B0 00 01 *                                58 PAGE write 01
+# byte 0 of the answer wasn't acknowledged
+B0 00 / B1                                58 code 00 PAGE read, no PEC
+# no device acknowledged the address: B1
+B0 21 CD 34 *                             58 page 1? VOUT_COMMAND write 34CD WRONG PAGE? lines 3 and 5
+B0 00 / B1 00 !                           58 read F5 WrongPec 2
+B0 21 CD 34 *                             58 page 1? VOUT_COMMAND write 34CD WRONG PAGE? lines 6 and 7
+B0 00 02 / B1 00                          58 code 00 PAGE write 02 read 00, no PEC
+B0 21 CD 34 *                             58 VOUT_COMMAND write 34CD WRONG PAGE? lines 8 and 9
+# the kernel dropped events
+B0 21 CD 34 *                             58 VOUT_COMMAND write 34CD
+B0 00                                     58 code 00 PAGE send, no PEC
+B0 9                                      X2 BadHex
+B0 21 CD 34 *                             58 VOUT_COMMAND write 34CD
+10 00 02 *                                08 PAGE write 02
+10 06 02 07 15 / 11 00                    08 page 7 code 15 STORE_USER_ALL read, no PEC
+10 21 CD 34 *                             08 page 2? VOUT_COMMAND write 34CD
+10 96 / 11                                08 code 96 READ_POUT read, no PEC
+10 21 CD 34 *                             08 VOUT_COMMAND write 34CD
+"""),
+    # PAGE selects an output for all codes but some, also for those that are told by their code and bytes.
+    ("--pages --all --values", """
+B0 00 01                                  58 PAGE write 01, no PEC
+B0 22 00 02                               58 page 1? code 22 VOUT_TRIM write 00 02, no PEC
+B0 40 00 02 *                             58 page 1? code 40 VOUT_OV_FAULT_LIMIT write 00 02, PEC right
+B0 46 00 02                               58 page 1? code 46 IOUT_OC_FAULT_LIMIT write 00 02, no PEC
+B0 7B / B1 80                             58 page 1? code 7B STATUS_IOUT read 80 IOUT_OC_FAULT, no PEC
+B0 7E / B1 00 *                           58 page 1? STATUS_CML read 00 none
+B0 88 / B1 00 D3 *                        58 page 1? READ_VIN read D300
+B0 8D / B1 00 D3 *                        58 page 1? READ_TEMPERATURE_1 read D300
+B0 1B 00 02                               58 page 1? code 1B SMBALERT_MASK write 00 02, no PEC
+B0 0F                                     58 page 1? code 0F send, no PEC
+B0 97 / B1 00 02                          58 page 1? code 97 READ_PIN read 00 02, no PEC
+B0 9F / B1 02                             58 page 1? code 9F APP_PROFILE_SUPPORT read 02, no PEC
+B0 AC / B1 02                             58 page 1? code AC MFR_PIN_ACCURACY read 02, no PEC
+B0 AF / B1 02                             58 page 1? code AF read 02, no PEC
+B0 D0 02                                  58 page 1? code D0 write 02, no PEC
+B0 FF 02                                  58 page 1? code FF PMBUS_COMMAND_EXT write 02, no PEC
+B0 10 80 34                               58 WRITE_PROTECT write 80 writes of WRITE_PROTECT
+B0 11                                     58 code 11 STORE_DEFAULT_ALL send, no PEC
+B0 12                                     58 code 12 RESTORE_DEFAULT_ALL send, no PEC
+B0 13 21                                  58 code 13 STORE_DEFAULT_CODE write 21, no PEC
+B0 14 21                                  58 code 14 RESTORE_DEFAULT_CODE write 21, no PEC
+B0 15 *                                   58 STORE_USER_ALL send
+B0 16 *                                   58 RESTORE_USER_ALL send
+B0 17 21                                  58 code 17 STORE_USER_CODE write 21, no PEC
+B0 18 21                                  58 code 18 RESTORE_USER_CODE write 21, no PEC
+B0 19 / B1 B0 *                           58 CAPABILITY read B0 PEC, 400 kHz, SMBALERT#
+B0 1A 01 21 / B1 01 00                    58 code 1A QUERY write 01 21 read 01 00, no PEC
+B0 30 02 21 00 / B1 05 01 00 00 00 03 *   58 COEFFICIENTS of 21 side 0 read m 1 b 0 r 3
+B0 98 / B1 33 *                           58 PMBUS_REVISION read 33
+B0 99 / B1 03 4C 54 43                    58 code 99 MFR_ID read 03 4C 54 43 "LTC", no PEC
+B0 9E / B1 01 31                          58 code 9E MFR_SERIAL read 01 31 "1", no PEC
+B0 AD / B1 01 31                          58 code AD IC_DEVICE_ID read 01 31 "1", no PEC
+B0 AE / B1 01 31                          58 code AE IC_DEVICE_REV read 01 31 "1", no PEC
+B0 05 03 02 D0 07 *                       58 page 2 code D0 write 07, PEC right
+B0 00 02 03 04                            58 code 00 PAGE write 02 03 04, no PEC
+B0 40 00 02                               58 code 40 VOUT_OV_FAULT_LIMIT write 00 02, no PEC WRONG PAGE? lines 35 and 36
+B0 22 00 02                               58 code 22 VOUT_TRIM write 00 02, no PEC WRONG PAGE? lines 35 and 37
+B0 D0 02                                  58 code D0 write 02, no PEC WRONG PAGE? lines 35 and 38
+B0 AE / B1 01 31                          58 code AE IC_DEVICE_REV read 01 31 "1", no PEC
+B0 00 00                                  58 PAGE write 00, no PEC
+B0 96 / B1 FF FF                          58 code 96 READ_POUT read FF FF, all ones: nobody answered
+"""),
+    ("--pages --all --json", """
+B0 00 01                   {"line":1,"address":"58","code":"00","name":"PAGE","direction":"write","payload":"01","pec":false}
+B0 40 00 02                {"line":2,"address":"58","page":1,"followed":true,"code":"40","name":"VOUT_OV_FAULT_LIMIT","direction":"write","payload":"00 02","pec":false}
+B0 00 / B1                 {"line":3,"address":"58","code":"00","name":"PAGE","direction":"read","pec":false}
+B0 D4 02                   {"line":4,"address":"58","page":1,"followed":true,"code":"D4","direction":"write","payload":"02","pec":false,"wrong":[3,4]}
+B0 05 03 02 D0 07 *        {"line":5,"address":"58","page":2,"code":"D0","direction":"write","payload":"07","pec":true}
+"""),
     # Two addresses side by side.
     ("--pages", """
 B0 00 01 *                                58 PAGE write 01
@@ -1018,7 +1143,7 @@ B0 03 *                                   58 page 2? CLEAR_FAULTS send
 B2 03 *                                   59 CLEAR_FAULTS send WRONG PAGE? lines 7 and 9
 B0 00 / B1 00 !                           58 read F5 WrongPec 2
 B2 00 / B3 00 *                           59 PAGE read 00
-B0 03 *                                   58 CLEAR_FAULTS send WRONG PAGE? lines 10 and 12
+B0 03 *                                   58 page 2? CLEAR_FAULTS send WRONG PAGE? lines 10 and 12
 B2 03 *                                   59 page 0? CLEAR_FAULTS send
 """),
     ("--pages", """
@@ -1028,7 +1153,7 @@ B0 21 CD 34 *                             58 VOUT_COMMAND write 34CD WRONG PAGE?
 B2 21 CD 34 *                             59 VOUT_COMMAND write 34CD
 # a loss
 B0 88 / B1 00 D3 *                        58 READ_VIN read D300
-B0 8B / B1 00 D3 *                        58 READ_VOUT read D300 WRONG PAGE? lines 2 and 7
+B0 8B / B1 00 D3 *                        58 READ_VOUT read D300
 B0 05 04 00 21 CD 34 *                    58 page 0 VOUT_COMMAND write 34CD
 B0 00                                     58 write F2 Short 2
 B0 03 *                                   58 CLEAR_FAULTS send WRONG PAGE? lines 9 and 10
@@ -1037,7 +1162,7 @@ B0 03 *                                   58 CLEAR_FAULTS send WRONG PAGE? lines
 B0 00 / B1 00 *                           58 PAGE read 00
 B0 03 *                                   58 page 0? CLEAR_FAULTS send
 B0 00 / B3 00 *                           58 read F1 NotOurs
-B0 03 *                                   58 CLEAR_FAULTS send WRONG PAGE? lines 15 and 16
+B0 03 *                                   58 page 0? CLEAR_FAULTS send WRONG PAGE? lines 15 and 16
 B0 00 02 *                                58 PAGE write 02
 B0 03 *                                   58 page 2? CLEAR_FAULTS send
 """),
@@ -1048,7 +1173,7 @@ B0 00 02 *                                58 PAGE write 02
 B0 21 CD 34 *                             58 VOUT_COMMAND write 34CD WRONG PAGE? lines 3 and 4
 B0 00 02 *                                58 PAGE write 02
 # byte 2 wasn't acknowledged
-B0 21 CD 34 *                             58 VOUT_COMMAND write 34CD
+B0 21 CD 34 *                             58 page 2? VOUT_COMMAND write 34CD
 B0 00 02 *                                58 PAGE write 02
 B0 21 CD 34 *                             58 page 2? VOUT_COMMAND write 34CD
 """),
@@ -1068,8 +1193,8 @@ B0 00 01 *                                58 PAGE write 01
 B0 03 *                                   58 page 1? CLEAR_FAULTS send
 # byte 0 of the answer wasn't acknowledged
 B0 00 / B1 01 *                           58 PAGE read 01
-B0 03 *                                   58 CLEAR_FAULTS send WRONG PAGE? lines 14 and 15
-B0 00 / B1 00 *                           58 PAGE read 00
+B0 03 *                                   58 page 1? CLEAR_FAULTS send WRONG PAGE? lines 14 and 15
+B0 00 / B1 00 *                           58 PAGE read 00 WRONG PAGE? lines 11 and 16
 B0 03 *                                   58 page 0? CLEAR_FAULTS send
 # byte 2 wasn't acknowledged
 # no stop: B0 00 01
@@ -1086,15 +1211,15 @@ B0 00 / B1 01 *                           58 PAGE read 01
 B0 03 *                                   58 page 1? CLEAR_FAULTS send
 # byte 2 wasn't acknowledged
 B0 05 04 00 21 CD 34 *                    58 page 0 VOUT_COMMAND write 34CD
-B0 03 *                                   58 CLEAR_FAULTS send
+B0 03 *                                   58 page 1? CLEAR_FAULTS send
 """),
     # With `--all`: what stays a fault, what nobody answered, what PAGE_PLUS carries, and a packet of PAGE of another length.
     ("--pages --all", """
 B0 00 01                                  58 PAGE write 01, no PEC
 B0 05 03 00 00 02 *                       58 page 0 code 00 PAGE write 02, PEC right
 B0 06 02 00 EF / B1 01 60                 58 page 0 code EF read 60, no PEC
-B0 D4 07                                  58 code D4 write 07, no PEC
-B0 20 14                                  58 code 20 VOUT_MODE write 14, no PEC
+B0 D4 07                                  58 page 1? code D4 write 07, no PEC
+B0 20 14                                  58 page 1? code 20 VOUT_MODE write 14, no PEC
 B0 21 00 02                               58 page 1? VOUT_COMMAND write 0200, no PEC
 B0 78 / B1 FF *                           58 page 1? STATUS_BYTE read FF
 B2 96 / B3 FF                             59 code 96 READ_POUT read FF, all ones: nobody answered
@@ -1105,9 +1230,9 @@ B0 00 01 !                                58 write F5 WrongPec 3
 B0 21 00 02                               58 VOUT_COMMAND write 0200, no PEC WRONG PAGE? lines 12 and 13
 B0 00 01 *                                58 PAGE write 01
 B0 00 02 03 04                            58 code 00 PAGE write 02 03 04, no PEC
-B0 00 / B1 00                             58 PAGE read 00, no PEC WRONG PAGE? lines 14 and 16
+B0 00 / B1 00                             58 PAGE read 00, no PEC
 B0 8B / B1 00 02                          58 page 0? READ_VOUT read 0200, no PEC
-B0 00 / B1 FF *                           58 PAGE read FF WRONG PAGE? lines 14 and 18
+B0 00 / B1 FF *                           58 PAGE read FF
 B0 8B / B1 00 02 *                        58 page 255? READ_VOUT read 0200
 B0 06 02 00 21 / B1 FF FF FF FF           58 code 06 PAGE_PLUS_READ write 02 00 21 read FF FF FF FF, all ones: nobody answered
 B0 8B / B1 00 02 *                        58 READ_VOUT read 0200
@@ -1118,13 +1243,13 @@ B0 00 / B1 00 *                           58 PAGE read 00
 B0 00 01                                  58 PAGE write 01, no PEC
 B0 20 / B1 17                             58 page 1? VOUT_MODE read 17 ULINEAR16 -9, no PEC
 B0 21 00 02                               58 page 1? VOUT_COMMAND write 0200 1 V, no PEC
-B0 40 00 02                               58 code 40 VOUT_OV_FAULT_LIMIT write 00 02, no PEC
-B0 21 00                                  58 code 21 VOUT_COMMAND write 00, no PEC
+B0 40 00 02                               58 page 1? code 40 VOUT_OV_FAULT_LIMIT write 00 02, no PEC
+B0 21 00                                  58 page 1? code 21 VOUT_COMMAND write 00, no PEC
 B0 21 00 02                               58 page 1? VOUT_COMMAND write 0200 1 V, no PEC
 B0 00 / B1 00                             58 PAGE read 00, no PEC WRONG PAGE? lines 1 and 7
 B0 21 00 10                               58 page 0? VOUT_COMMAND write 1000 1 V, no PEC
-B0 96 / B1 *                              58 code 96 READ_POUT read, PEC right
-B0 96 / B1 34 12                          58 code 96 READ_POUT read 34 12, no PEC
+B0 96 / B1 *                              58 page 0? code 96 READ_POUT read, PEC right
+B0 96 / B1 34 12                          58 page 0? code 96 READ_POUT read 34 12, no PEC
 B0 21 00 10                               58 page 0? VOUT_COMMAND write 1000 1 V, no PEC
 B0 96 / B1                                58 code 96 READ_POUT read, no PEC
 B0 21 00 10                               58 VOUT_COMMAND write 1000 1 V, no PEC
@@ -1133,15 +1258,15 @@ B0 8B / B1 FF FF                          58 code 8B READ_VOUT read FF FF, all o
 B0 21 00 02                               58 VOUT_COMMAND write 0200 0.125 V, no PEC
 B0 00 01                                  58 PAGE write 01, no PEC
 B0 00 / B1 FF                             58 code 00 PAGE read FF, all ones: nobody answered
-B0 21 00 02                               58 VOUT_COMMAND write 0200 0.125 V, no PEC WRONG PAGE? lines 18 and 19
+B0 21 00 02                               58 page 1? VOUT_COMMAND write 0200, no PEC WRONG PAGE? lines 18 and 19
 B0 00 01                                  58 PAGE write 01, no PEC
 B0 00 / B1                                58 code 00 PAGE read, no PEC
-B0 21 00 02                               58 VOUT_COMMAND write 0200 0.125 V, no PEC WRONG PAGE? lines 21 and 22
+B0 21 00 02                               58 page 1? VOUT_COMMAND write 0200, no PEC WRONG PAGE? lines 21 and 22
 B0 00 01                                  58 PAGE write 01, no PEC
 B0 00 02 03 04                            58 code 00 PAGE write 02 03 04, no PEC
-B0 21 00 02                               58 page 1? VOUT_COMMAND write 0200 1 V, no PEC WRONG PAGE? lines 24 and 25
+B0 21 00 02                               58 VOUT_COMMAND write 0200 0.125 V, no PEC WRONG PAGE? lines 24 and 25
 B0 00                                     58 code 00 PAGE send, no PEC
-B0 8B / B1 00 02                          58 page 1? READ_VOUT read 0200 1 V, no PEC WRONG PAGE? lines 26 and 27
+B0 8B / B1 00 02                          58 READ_VOUT read 0200 0.125 V, no PEC WRONG PAGE? lines 26 and 27
 """),
     ("--json --pages --all", """
 B0 00 01                   {"line":1,"address":"58","code":"00","name":"PAGE","direction":"write","payload":"01","pec":false}
@@ -1149,7 +1274,7 @@ B0 21 00 02 *              {"line":2,"address":"58","page":1,"followed":true,"co
 B0 21 00 02                {"line":3,"address":"58","page":1,"followed":true,"code":"21","name":"VOUT_COMMAND","direction":"write","payload":"00 02","pec":false}
 B0 00 / B1 00 *            {"line":4,"address":"58","code":"00","name":"PAGE","direction":"read","payload":"00","wrong":[1,4]}
 B0 00 / B1 FF              {"line":5,"address":"58","code":"00","name":"PAGE","direction":"read","payload":"FF","pec":false,"answered":false}
-B0 03                      {"line":6,"address":"58","code":"03","name":"CLEAR_FAULTS","direction":"send","pec":false,"wrong":[5,6]}
+B0 03                      {"line":6,"address":"58","page":0,"followed":true,"code":"03","name":"CLEAR_FAULTS","direction":"send","pec":false,"wrong":[5,6]}
 B0 05 02 00 03 *           {"line":7,"address":"58","page":0,"code":"03","name":"CLEAR_FAULTS","direction":"send"}
 """),
     ("--json --pages --values", """
@@ -1162,8 +1287,8 @@ B0 00 / B1 00 *            {"line":6,"address":"58","code":"00","name":"PAGE","d
 B0 00 02 !                 {"line":7,"address":"58","direction":"write","packet":"B0 00 02 !","fault":"F5 WrongPec","place":3}
 B0 21 CD 34 *              {"line":8,"address":"58","code":"21","name":"VOUT_COMMAND","direction":"write","payload":"CD 34","wrong":[7,8]}
 B0 7A / B1 10 *            {"line":9,"address":"58","code":"7A","name":"STATUS_VOUT","direction":"read","payload":"10","flags":["VOUT_UV_FAULT"],"wrong":[7,9]}
-B0 88 / B1 00 D3 *         {"line":10,"address":"58","code":"88","name":"READ_VIN","direction":"read","payload":"00 D3","numerator":768,"denominator":64,"volts":12}
-B0 05 04 01 21 CD 34 *     {"line":11,"address":"58","page":1,"code":"21","name":"VOUT_COMMAND","direction":"write","payload":"CD 34","numerator":13517,"denominator":4096,"volts":3.300048}
+B0 88 / B1 00 D3 *         {"line":10,"address":"58","code":"88","name":"READ_VIN","direction":"read","payload":"00 D3","numerator":768,"denominator":64,"volts":12,"wrong":[7,10]}
+B0 05 04 01 21 CD 34 *     {"line":11,"address":"58","page":1,"code":"21","name":"VOUT_COMMAND","direction":"write","payload":"CD 34"}
 B0 9                       {"line":12,"fault":"X2 BadHex"}
 B0 00 FF *                 {"line":13,"address":"58","code":"00","name":"PAGE","direction":"write","payload":"FF"}
 B0 01 80 *                 {"line":14,"address":"58","page":255,"followed":true,"code":"01","name":"OPERATION","direction":"write","payload":"80","value":"on"}
@@ -1180,8 +1305,8 @@ B0 01 80 *                 {"line":14,"address":"58","page":255,"followed":true,
     ("--json --pages --all --times --gap=1", """
 0 B0 00 01                 {"line":1,"time":0,"address":"58","code":"00","name":"PAGE","direction":"write","payload":"01","pec":false}
 1000 B0 00 02 03 04        {"line":2,"time":1000,"address":"58","code":"00","name":"PAGE","direction":"write","payload":"02 03 04","pec":false}
-2000 B0 8B / B1 00 02      {"line":3,"time":2000,"address":"58","page":1,"followed":true,"code":"8B","name":"READ_VOUT","direction":"read","payload":"00 02","pec":false,"wrong":[2,3]}
-3001 B0 03                 {"line":4,"time":3001,"address":"58","code":"03","name":"CLEAR_FAULTS","direction":"send","pec":false,"wrong":[2,4]}
+2000 B0 8B / B1 00 02      {"line":3,"time":2000,"address":"58","code":"8B","name":"READ_VOUT","direction":"read","payload":"00 02","pec":false,"wrong":[2,3]}
+3001 B0 03                 {"line":4,"time":3001,"address":"58","code":"03","name":"CLEAR_FAULTS","direction":"send","pec":false}
 3001 B0 00 / B1 05 *       {"line":5,"time":3001,"address":"58","code":"00","name":"PAGE","direction":"read","payload":"05"}
 3002 B0 01 / B1 80 *       {"line":6,"time":3002,"address":"58","page":5,"followed":true,"code":"01","name":"OPERATION","direction":"read","payload":"80"}
 B0 03                      {"line":7,"fault":"X1 Syntax"}
@@ -1194,7 +1319,7 @@ B0 03                      {"line":7,"fault":"X1 Syntax"}
 2500000 B2 03 *                           2500000 us 59 CLEAR_FAULTS send
 3000001 B0 03 46                          3000001 us 58 CLEAR_FAULTS send
 3000002 B0 00 01 *                        3000002 us 58 PAGE write 01
-3500000 B0 88 / B1 00 D3 *                3500000 us 58 READ_VIN read D300
+3500000 B0 88 / B1 00 D3 *                3500000 us 58 page 1? READ_VIN read D300
 4500000 B0 03 46                          4500000 us 58 page 1? CLEAR_FAULTS send
 4499999 B0 03 46                          4499999 us 58 CLEAR_FAULTS send
 4500000 B0 00 02 *                        4500000 us 58 PAGE write 02
@@ -1217,7 +1342,7 @@ B0 03                      {"line":7,"fault":"X1 Syntax"}
 5000 B0 00 01 *                           5000 us 58 PAGE write 01
 7000 B0 03 46                             7000 us 58 page 1? CLEAR_FAULTS send
 """),
-    # A pause is one of an address, between its packets of all kinds; what is marked stays marked behind it.
+    # A pause is one of an address, between its packets of all kinds; behind it nothing is marked.
     ("--pages --times --gap=10", """
 0 B0 00 01 *                              0 us 58 PAGE write 01
 10000 B0 03 46                            10000 us 58 page 1? CLEAR_FAULTS send
@@ -1226,7 +1351,7 @@ B0 03                      {"line":7,"fault":"X1 Syntax"}
 40000 B0 00 / B1 00 *                     40000 us 58 PAGE read 00 WRONG PAGE? lines 1 and 5
 50001 B0 00 / B1 01 *                     50001 us 58 PAGE read 01
 50001 B0 00 02 !                          50001 us 58 write F5 WrongPec 3
-70000 B0 03 46                            70000 us 58 CLEAR_FAULTS send WRONG PAGE? lines 7 and 8
+70000 B0 03 46                            70000 us 58 CLEAR_FAULTS send
 70000 B2 00 05 *                          70000 us 59 PAGE write 05
 80000                                     80000 us -- write F1 NotOurs
 80000 B2 03 *                             80000 us 59 page 5? CLEAR_FAULTS send

@@ -1,5 +1,5 @@
 -- What is known, and what is written, behind one line more.
-use Rattle.std.proofs.Common.{◌≡◌, ℕ, ◌+◌, true, cond, List, [], ◌∷◌, ◌++◌, Option, Some, None}
+use Rattle.std.proofs.Common.{◌≡◌, ℕ, ◌+◌, true, cond, List, [], ◌∷◌, ◌++◌, Option, Some, None, Result, Ok, Err, OnOk}
 use Rattle.std.proofs.Common.{refl, sym, ap, ◌∙◌, arith, append_assoc, append-nil}
 use Rattle.std.specs.List.{filter_map}
 use Rattle.std.proofs.lemmas.List.Elements.{filter_map-append}
@@ -8,10 +8,16 @@ use Rattle.pm_trace.specs.Counts.{counted, counts_of, counts_with, lines_in, one
 use Rattle.pm_trace.specs.Trace.{Judged, ToldLine, Accepted, Faulty, BadSyntax, BadHex}
 use Rattle.pm_trace.specs.Lemmas.Counts.{total_one_more}
 use Rattle.pm_trace.specs.Lemmas.Said.{counts_of-snoc}
+use Rattle.pm_trace.specs.Pages.{pages_by}
+use Rattle.pm_trace.specs.declared.trace_line.TraceLine.{TraceLine}
+use Rattle.pm_decode.specs.Hints.{beyond_by}
+use Rattle.pm_decode.specs.PageSteps.{marks_by, step_by}
+use Rattle.pm_decode.specs.declared.page_step.Marks.{Marks}
+use Rattle.pm_decode.specs.declared.page_step.PageStep.{PageStep}
 use Rattle.pm_decode.specs.CaptureText.{line_text, lines_text}
-use Rattle.pm_decode.specs.Hearing.{HeardLines, Known, heard_lines, heard_of, heard_with, known_by, known_from, more_if, other_code}
-use Rattle.pm_decode.specs.Hearing.{other_code_in, told_in, told_unless, unknown}
-use Rattle.pm_decode.specs.Readings.{Entry, Reading, Told, Noted, judged_as, remark_of}
+use Rattle.pm_decode.specs.Hearing.{HeardLines, Known, heard_lines, heard_of, heard_with, known_by, known_from, known_read, more_if, other_code}
+use Rattle.pm_decode.specs.Hearing.{other_code_in, taught_read, told_in, told_unless, unknown}
+use Rattle.pm_decode.specs.Readings.{Entry, Reading, Told, Noted, is_without_pec, judged_as, judged_by, other_address, remark_of}
 use Rattle.pm_decode.specs.TimedLines.{passes_timed, timed_said}
 use Rattle.pm_decode.specs.declared.options.TellOptions.{TellOptions}
 use Rattle.pm_decode.specs.declared.timed_line.TimedLine.{TimedLine}
@@ -85,3 +91,20 @@ lines_text-append options known (x ∷ xs) ys =
     ap (λ l. line_text options known x ++ l) (lines_text-append options (known_by options known x) xs ys)
     ∙ sym (append_assoc (line_text options known x) (lines_text options (known_by options known x) xs)
     (lines_text options (known_from options (known_by options known x) xs) ys))
+
+-- what is known behind a packet where PAGE is followed, by its place and its marks
+module _ (options : TellOptions) (number : ℕ) (time : Option ℕ) (parts : TraceLine) (known : Known) where
+  pub known_on_page : (step : PageStep) (marks : Marks) → options.pages ≡ true
+      → step ≡ step_by options.gap time known.pages parts (judged_by options.all parts) (other_address options.all parts)
+      → marks ≡ marks_by (is_without_pec options.all parts) (Some step)
+      → record {
+        taught = taught_read options number marks (Ok parts) known.taught;
+        pages = pages_by number step.addr step.place step.used known.pages;
+        beyond = beyond_by options known.taught marks.reached number (judged_by options.all parts) known.beyond;
+      } ≡ known_read options number time (Ok parts) known
+  known_on_page step marks pages step_is marks_is = rw (marks_is, step_is, pages) refl
+
+-- what follows from a good end, of that end
+pub on_good : {T E P Q : Type 0} (result : Result T E) → (P → Q) → OnOk result P → OnOk result Q
+on_good (Ok value) follows good = follows good
+on_good (Err fault) follows good = tt

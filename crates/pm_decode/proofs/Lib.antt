@@ -1,11 +1,14 @@
 pub mod BoundLemmas
 pub mod CapturingLemmas
+pub mod CarriedLemmas
 pub mod CountsLemmas
 pub mod EmptyLemmas
 pub mod EndLemmas
 pub mod GatheredLemmas
 pub mod HearingLemmas
+pub mod NumberLemmas
 pub mod PecLemmas
 pub mod PlainLemmas
 pub mod PutLemmas
 pub mod TimedLemmas
+pub mod UsualLemmas

@@ -69,7 +69,7 @@ module _ (formats : GivenFormats) (long : Bool) (gap : ℕ) where
   plain = plain_options formats long gap
 
   -- a line by what it reads as
-  line_by : (known : Known) (number : ℕ) (parts : Result TraceLine LineFault)
+  pub line_by : (known : Known) (number : ℕ) (parts : Result TraceLine LineFault)
       → line_text plain known (number, Told (record { time = None; parts = parts })) ≡ trace_line (number, reading_judged parts)
   unfolding told_line plain_line told_text
   line_by known number (Ok parts) =

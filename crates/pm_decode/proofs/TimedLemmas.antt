@@ -153,27 +153,27 @@ mark-snoc [] b = and-true (eqb 35 b) ∙ turned 35 b
 mark-snoc (x ∷ xs) b = refl
 
 -- the first bytes take a byte where there is room for it
-take-snoc : (xs : List ℕ) (b : ℕ) → take 16 (xs ++ b ∷ []) ≡ head_takes (take 16 xs) b
+take-snoc : (xs : List ℕ) (b : ℕ) → take 64 (xs ++ b ∷ []) ≡ head_takes (take 64 xs) b
 take-snoc xs b =
-    elim (cases_lt (length xs) 16) [
+    elim (cases_lt (length xs) 64) [
       | inl room ↦
-          let whole : take 16 xs ≡ xs = take_all 16 xs (omega arith) in
-          let more : take 16 (xs ++ b ∷ []) ≡ xs ++ b ∷ [] = take_all 16 (xs ++ b ∷ []) (omega (arith, length-append xs (b ∷ []))) in
-          let fits : nat_lt (length xs) 16 ≡ true = grind (arith, nat_tests) in
+          let whole : take 64 xs ≡ xs = take_all 64 xs (omega arith) in
+          let more : take 64 (xs ++ b ∷ []) ≡ xs ++ b ∷ [] = take_all 64 (xs ++ b ∷ []) (omega (arith, length-append xs (b ∷ []))) in
+          let fits : nat_lt (length xs) 64 ≡ true = grind (arith, nat_tests) in
           rw (more, whole, fits) refl
       | inr full ↦
-          let same : take 16 (xs ++ b ∷ []) ≡ take 16 xs = take-append-le 16 xs (b ∷ []) full in
-          let size : length (take 16 xs) ≡ 16 = length-take-le 16 xs full in
-          let fits : nat_lt (length (take 16 xs)) 16 ≡ false = grind (arith, nat_tests) in
+          let same : take 64 (xs ++ b ∷ []) ≡ take 64 xs = take-append-le 64 xs (b ∷ []) full in
+          let size : length (take 64 xs) ≡ 64 = length-take-le 64 xs full in
+          let fits : nat_lt (length (take 64 xs)) 64 ≡ false = grind (arith, nat_tests) in
           rw (same, fits) refl
     ]
 
 -- the beginning of a comment takes a byte where that makes or leaves the line one
-head-snoc : (xs : List ℕ) (b : ℕ) → cond (is_comment (xs ++ b ∷ [])) (take 16 (xs ++ b ∷ [])) []
-    ≡ cond (cond (has_bytes xs) (is_comment xs) (eqb b 35)) (head_takes (cond (is_comment xs) (take 16 xs) []) b)
-    (cond (is_comment xs) (take 16 xs) [])
+head-snoc : (xs : List ℕ) (b : ℕ) → cond (is_comment (xs ++ b ∷ [])) (take 64 (xs ++ b ∷ [])) []
+    ≡ cond (cond (has_bytes xs) (is_comment xs) (eqb b 35)) (head_takes (cond (is_comment xs) (take 64 xs) []) b)
+    (cond (is_comment xs) (take 64 xs) [])
 head-snoc [] b = ap (λ c. cond c (b ∷ []) []) (mark-snoc [] b)
-head-snoc (x ∷ xs) b = by (is_comment (x ∷ xs)) (take 16 ((x ∷ xs) ++ b ∷ [])) (take 16 (x ∷ xs)) (take-snoc (x ∷ xs) b)
+head-snoc (x ∷ xs) b = by (is_comment (x ∷ xs)) (take 64 ((x ∷ xs) ++ b ∷ [])) (take 64 (x ∷ xs)) (take-snoc (x ∷ xs) b)
   where
     by : (c : Bool) (more kept : List ℕ) → more ≡ head_takes kept b
         → cond c more [] ≡ cond c (head_takes (cond c kept []) b) (cond c kept [])
@@ -225,7 +225,7 @@ whole_of times line = record {
   has_mark = is_comment line;
   is_begun = has_bytes line;
   is_over = cond times (has_bytes (behind_word line)) true;
-  head = cond (is_comment line) (take 16 line) [];
+  head = cond (is_comment line) (take 64 line) [];
   word = part_of (cond times (first_word line) []);
   packet = line_of (cond times (behind_word line) line);
 }
@@ -281,7 +281,7 @@ timed_by mark times line = record {
   has_mark = mark;
   is_begun = has_bytes line;
   is_over = cond times (has_bytes (behind_word (cond mark (take 1 line) line))) true;
-  head = cond mark (take 16 line) [];
+  head = cond mark (take 64 line) [];
   word = part_of (cond times (first_word (cond mark (take 1 line) line)) []);
   packet = line_of (cond times (behind_word (cond mark (take 1 line) line)) (cond mark (take 1 line) line));
 }
@@ -293,7 +293,7 @@ plain_of times line is = λ i. record {
   has_mark = is i;
   is_begun = has_bytes line;
   is_over = cond times (has_bytes (behind_word line)) true;
-  head = cond (is i) (take 16 line) [];
+  head = cond (is i) (take 64 line) [];
   word = part_of (cond times (first_word line) []);
   packet = line_of (cond times (behind_word line) line);
 }
@@ -311,7 +311,7 @@ single_of times b = by (is_comment (b ∷ []))
       has_mark = c;
       is_begun = true;
       is_over = cond times (has_bytes (behind_word (b ∷ []))) true;
-      head = cond c (take 16 (b ∷ [])) [];
+      head = cond c (take 64 (b ∷ [])) [];
       word = part_of (cond times (first_word (b ∷ [])) []);
       packet = line_of (cond times (behind_word (b ∷ [])) (b ∷ []));
     } ≡ timed_by c times (b ∷ [])
@@ -320,7 +320,7 @@ single_of times b = by (is_comment (b ∷ []))
       has_mark = c;
       is_begun = true;
       is_over = cond times (has_bytes (behind_word (own c i))) true;
-      head = cond c (take 16 (b ∷ [])) [];
+      head = cond c (take 64 (b ∷ [])) [];
       word = part_of (cond times (first_word (own c i)) []);
       packet = line_of (cond times (behind_word (own c i)) (own c i));
     }
@@ -398,9 +398,9 @@ packet_begun line x front over plain =
 -- a comment whose first bytes are kept stays as it is
 told_takes : (line : TimedLine) (b : ℕ) → is_told line ≡ true → line ≡ timed_takes line b
 unfolding timed_takes
-told_takes line b told = by line.is_begun line.has_mark (nat_lt (length line.head) 16) refl refl refl told
+told_takes line b told = by line.is_begun line.has_mark (nat_lt (length line.head) 64) refl refl refl told
   where
-    by : (begun mark more : Bool) → line.is_begun ≡ begun → line.has_mark ≡ mark → nat_lt (length line.head) 16 ≡ more
+    by : (begun mark more : Bool) → line.is_begun ≡ begun → line.has_mark ≡ mark → nat_lt (length line.head) 64 ≡ more
         → (begun && (mark && not more)) ≡ true
         → line ≡ cond (line.is_begun && line.has_mark) (record line { head = head_takes line.head b }) (plain_takes line b)
     by true true false begun mark full is = rw (begun, mark, full) refl
@@ -723,14 +723,15 @@ start_returned (x ∷ xs) start plain =
         by false is = refl
 
 -- the first bytes of a comment say what the line does
-remark_kept : (line : List ℕ) → remark_of (take 16 line) ≡ remark_of (without_return line)
+remark_kept : (line : List ℕ) → remark_of (take 64 line) ≡ remark_of (without_return line)
 remark_kept line = λ i. cond (start (codes "# another device") (omega arith) refl i) Elsewhere
-    (cond (start (codes "# byte ") (omega arith) refl i) Unacknowledged Loss)
+    (cond (start (codes "# no device acknowledged the address") (omega arith) refl i) Elsewhere
+    (cond (start (codes "# byte ") (omega arith) refl i) Unacknowledged Loss))
   where
-    start : (begin : List ℕ) → length begin ≤ 16 → list_any (λ c. eqb c 13) begin ≡ false
-        → starts_with nat_eq (take 16 line) begin ≡ starts_with nat_eq (without_return line) begin
+    start : (begin : List ℕ) → length begin ≤ 64 → list_any (λ c. eqb c 13) begin ≡ false
+        → starts_with nat_eq (take 64 line) begin ≡ starts_with nat_eq (without_return line) begin
     start begin few plain =
-        ap (pointwise nat_eq begin) (take-take (length begin) 16 line few) ∙ sym (start_returned line begin plain)
+        ap (pointwise nat_eq begin) (take-take (length begin) 64 line few) ∙ sym (start_returned line begin plain)
 
 -- a line of which something is said is by what is kept of it what it is
 pub timed_says : (options : TellOptions) (line : List ℕ) → is_passed options.pages (without_return line) ≡ false
@@ -743,7 +744,7 @@ timed_says options line heard =
   where
     by : (pages c : Bool) → is_comment line ≡ c
         → (not (pages && c) && skips_timed (timed_by c options.times line)) ≡ false
-        → cond (pages && c) (Noted (remark_of (cond c (take 16 line) []))) (Told (timed_read (timed_by c options.times line)))
+        → cond (pages && c) (Noted (remark_of (cond c (take 64 line) []))) (Told (timed_read (timed_by c options.times line)))
         ≡ cond (pages && c) (Noted (remark_of (without_return line))) (Told (reading_of options.times (without_return line)))
     by true true is heard = ap Noted (remark_kept line)
     by true false is heard = ap Told (timed_reads options.times line)

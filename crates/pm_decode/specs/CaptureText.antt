@@ -71,13 +71,13 @@ reached_text (Some page) number (Faulty addr is_read fault) = judged_text number
 reached_text (Some page) number BadSyntax = judged_text number BadSyntax
 reached_text (Some page) number BadHex = judged_text number BadHex
 
--- A packet as the command table has it, in the line of this number, or by its code and bytes. One that is told by these
--- contradicts no line.
+-- a packet as the command table has it, in the line of this number, or by its code and bytes
 abbrev pub packet_text_by : TellOptions → Taught → Marks → ℕ → TraceLine → Option ℕ → List ℕ
 packet_text_by options taught marks number parts None = reached_text marks.reached number (judged_by options.all parts)
     ++ (extra_text options taught marks.reached parts (judged_by options.all parts)
     ++ (lack_text marks.lacks ++ wrong_text number marks.wrong))
-packet_text_by options taught marks number parts (Some addr) = other_text options.values addr parts.write parts.read
+packet_text_by options taught marks number parts (Some addr) =
+    other_text options.values addr marks.reached parts.write parts.read ++ wrong_text number marks.wrong
 
 abbrev pub packet_text : TellOptions → Taught → Marks → ℕ → TraceLine → List ℕ
 packet_text options taught marks number parts =
@@ -102,7 +102,8 @@ plain_line options taught marks number time parts = decimal number
 abbrev pub packet_fields_by : TellOptions → Taught → Marks → ℕ → TraceLine → Option ℕ → List ℕ
 packet_fields_by options taught marks number parts None = judged_fields options.formats options.values taught marks.reached
     parts.write parts.read (judged_by options.all parts) ++ (lack_field marks.lacks ++ wrong_field number marks.wrong)
-packet_fields_by options taught marks number parts (Some addr) = other_fields options.values addr parts.write parts.read
+packet_fields_by options taught marks number parts (Some addr) =
+    other_fields options.values addr marks.reached parts.write parts.read ++ wrong_field number marks.wrong
 
 abbrev pub reading_fields : TellOptions → Taught → Marks → ℕ → Option ℕ → Result TraceLine LineFault → List ℕ
 reading_fields options taught marks number time (Ok parts) = number_field_if (codes "time") time

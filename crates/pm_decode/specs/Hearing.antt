@@ -9,12 +9,13 @@ use Rattle.pm_trace.specs.TraceText.{end_of}
 use Rattle.pm_trace.specs.declared.line_fault.LineFault.{LineFault}
 use Rattle.pm_trace.specs.declared.trace_line.TraceLine.{TraceLine}
 use Rattle.pm_values.specs.Otherwise.{content_of}
-use Rattle.pm_values.specs.Taught.{Taught, taught_by, untaught}
+use Rattle.pm_values.specs.Taught.{Taught, changed_by, taught_by, untaught}
 use Rattle.pm_decode.specs.Hints.{beyond_by}
-use Rattle.pm_decode.specs.PageSteps.{marks_in, pages_noted, pages_read}
-use Rattle.pm_decode.specs.Readings.{Entry, Said, Told, Noted, judged_as, other_address}
+use Rattle.pm_decode.specs.PageSteps.{change_by, judged_address, marks_in, pages_noted, pages_read}
+use Rattle.pm_decode.specs.Readings.{Entry, Said, Told, Noted, judged_as, judged_by, other_address}
 use Rattle.pm_decode.specs.declared.hints.Hint.{Hint}
 use Rattle.pm_decode.specs.declared.hints.Hint.TheVariants.{Beyond, NoTimes, NoGoodPacket}
+use Rattle.pm_decode.specs.declared.page_step.Marks.{Marks}
 use Rattle.pm_decode.specs.declared.telling.TellEnd.{TellEnd}
 use Rattle.pm_decode.specs.declared.options.TellOptions.{TellOptions}
 
@@ -30,10 +31,20 @@ pub record Known : Type 0 where
 abbrev pub unknown : Known
 unknown = record { taught = untaught; pages = no_pages; beyond = None }
 
+-- what a packet teaches; where values are told, a mode that it may have changed isn't known any more
+abbrev pub taught_over : TellOptions → ℕ → Marks → TraceLine → Taught → Taught
+taught_over options number marks parts taught = if options.values
+    then changed_by number (judged_address (judged_by options.all parts)) (change_by marks parts) taught else taught
+
+abbrev pub taught_read : TellOptions → ℕ → Marks → Result TraceLine LineFault → Taught → Taught
+taught_read options number marks (Ok parts) taught =
+    taught_by number marks.reached (taught_over options number marks parts taught) (judged_by options.all parts)
+taught_read options number marks (Err fault) taught = taught
+
 -- behind a line that isn't skipped
 abbrev pub known_read : TellOptions → ℕ → Option ℕ → Result TraceLine LineFault → Known → Known
 known_read options number time parts known = record {
-  taught = taught_by (marks_in options known.pages time parts).reached known.taught (judged_as options.all parts);
+  taught = taught_read options number (marks_in options known.pages time parts) parts known.taught;
   pages = pages_read options number time parts known.pages;
   beyond = beyond_by options known.taught (marks_in options known.pages time parts).reached number (judged_as options.all parts)
       known.beyond;

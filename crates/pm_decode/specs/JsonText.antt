@@ -147,7 +147,7 @@ message_fields given values taught reached addr (ReadCommand code) answer =
 message_fields given values taught reached addr (PagePlusRead page code) answer =
     plain_fields given values taught reached addr (PagePlusRead page code) answer
 
--- ---- a packet with a fault
+-- ---- a packet with a fault, but for its address
 
 -- all bytes of a packet, with `/` before those that were read
 abbrev pub read_words : Option (List ℕ) → List ℕ
@@ -173,10 +173,9 @@ abbrev pub kind_fields : FrameFault → List ℕ
 kind_fields fault =
     text_field (codes "fault") (frame_fault_words fault) ++ number_field_if (codes "place") (frame_fault_place fault)
 
-abbrev pub fault_fields : Bool → List ℕ → Option (List ℕ) → Option ℕ → Bool → FrameFault → List ℕ
-fault_fields values write read addr is_read fault = address_field addr
-    ++ (text_field (codes "direction") (if is_read then codes "read" else codes "write")
-    ++ (whole_field values write read ++ kind_fields fault))
+abbrev pub fault_fields : Bool → List ℕ → Option (List ℕ) → Bool → FrameFault → List ℕ
+fault_fields values write read is_read fault = text_field (codes "direction") (if is_read then codes "read" else codes "write")
+    ++ (whole_field values write read ++ kind_fields fault)
 
 -- ---- a packet that is told by its code and bytes
 
@@ -198,8 +197,8 @@ meaning_fields_by (Some letters) content = text_field (codes "text") letters
 abbrev pub meaning_fields : Bool → ContentBytes → List ℕ
 meaning_fields values content = if values then meaning_fields_by (content_letters content) content else []
 
-unfoldable pub content_fields : Bool → ContentBytes → List ℕ
-content_fields values content = number_field_if (codes "page") content.page
+unfoldable pub content_fields : Bool → Option ℕ → ContentBytes → List ℕ
+content_fields values reached content = page_fields reached content.page
     ++ (text_field (codes "code") (hex_byte content.code) ++ (name_field (standard_name content.code)
     ++ (other_payload_by content.written content.answer ++ meaning_fields values content)))
 
@@ -208,8 +207,8 @@ abbrev pub pec_fields : Bool → Bool → List ℕ
 pec_fields is_right is_ones = if is_right then codes ",\"pec\":true"
     else (if is_ones then codes ",\"pec\":false,\"answered\":false" else codes ",\"pec\":false")
 
-unfoldable pub other_fields : Bool → ℕ → List ℕ → Option (List ℕ) → List ℕ
-other_fields values addr write read = address_field (Some addr) ++ (content_fields values (content_of write read)
+unfoldable pub other_fields : Bool → ℕ → Option ℕ → List ℕ → Option (List ℕ) → List ℕ
+other_fields values addr reached write read = address_field (Some addr) ++ (content_fields values reached (content_of write read)
     ++ pec_fields (has_pec write read) (is_all_ones write read))
 
 -- behind a packet of the table that lacks its PEC
@@ -230,7 +229,7 @@ abbrev pub judged_fields : GivenFormats → Bool → Taught → Option ℕ → L
 judged_fields given values taught reached write read (Accepted addr message answer) =
     address_field (Some addr) ++ message_fields given values taught reached addr message answer
 judged_fields given values taught reached write read (Faulty addr is_read fault) =
-    fault_fields values write read addr is_read fault
+    address_field addr ++ fault_fields values write read is_read fault
 judged_fields given values taught reached write read BadSyntax = []
 judged_fields given values taught reached write read BadHex = []
 

@@ -1,5 +1,5 @@
 -- The law of captures, of texts of any length.
-use Rattle.std.specs.Prelude.{◌≡◌, ℕ, Bool, false, List}
+use Rattle.std.specs.Prelude.{◌≡◌, ℕ, Bool, false, List, None, replicate}
 use Rattle.pm_trace.specs.TraceText.{trace_text}
 use Rattle.pm_values.specs.declared.formats.GivenFormats.{GivenFormats}
 use Rattle.pm_decode.specs.CaptureText.{capture_text}
@@ -19,7 +19,15 @@ plain_options formats long gap = record {
   gap = gap;
 }
 
--- what is told then is what `pm_trace` tells of the same text
+-- no format is given
+abbrev pub no_formats : GivenFormats
+no_formats = record { vout = None; readings = replicate 8 None }
+
+-- no option is given
+abbrev pub no_options : TellOptions
+no_options = plain_options no_formats false 0
+
+-- what is told without an option that changes it is what `pm_trace` tells of the same text
 abbrev pub PlainCapturesAreTraces : Type 0
 PlainCapturesAreTraces = (formats : GivenFormats) (long : Bool) (gap : ℕ) (text : List ℕ) →
     capture_text (plain_options formats long gap) text ≡ trace_text text

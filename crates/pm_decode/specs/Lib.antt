@@ -13,4 +13,5 @@ pub mod Captures
 pub mod Capturing
 pub mod ShownReadings
 pub mod TimedLines
+pub mod UsualLines
 pub mod WrittenCaptures

@@ -1,12 +1,18 @@
 -- PAGE followed through a capture: what is known of the address of a packet as it comes, and what the packet is marked with.
 -- What ends a page is this project's own choice.
-use Rattle.std.specs.Prelude.{ℕ, Bool, true, false, not, ◌&&◌, ◌||◌, if◌then◌else◌, List, [], ◌∷◌, Option, Some, None, Result, Ok, Err}
+use Rattle.std.specs.Prelude.{ℕ, Bool, true, false, ◌||◌, if◌then◌else◌, is_some, List, [], ◌∷◌, Option, Some, None, Result, Ok, Err}
 use Rattle.pm_trace.specs.Pages.{Pages, contradicted, doubting, lost_in, nowhere, output_of, pages_by, place_in, use_of}
 use Rattle.pm_trace.specs.Trace.{Judged, Accepted, Faulty, BadSyntax, BadHex}
 use Rattle.pm_trace.specs.declared.line_fault.LineFault.{LineFault}
+use Rattle.pm_trace.specs.declared.pages.PageLine.{PageLine}
+use Rattle.pm_trace.specs.declared.pages.PageUse.{PageUse}
+use Rattle.pm_trace.specs.declared.pages.PageUse.TheVariants.{Written, ReadBack, Failed, Lost, OfOutput, Beside}
 use Rattle.pm_trace.specs.declared.pages.Place.{Place}
 use Rattle.pm_trace.specs.declared.trace_line.TraceLine.{TraceLine}
-use Rattle.pm_values.specs.Otherwise.{content_of, has_pec, is_all_ones}
+use Rattle.pm_values.specs.Otherwise.{is_all_ones}
+use Rattle.pm_values.specs.Taught.{change_of}
+use Rattle.pm_values.specs.declared.lessons.ModeChange.{ModeChange}
+use Rattle.pm_values.specs.declared.lessons.ModeChange.TheVariants.{OfAll}
 use Rattle.pm_decode.specs.Readings.{is_without_pec, judged_by, other_address}
 use Rattle.pm_decode.specs.declared.comment.Remark.{Remark}
 use Rattle.pm_decode.specs.declared.comment.Remark.TheVariants.{Elsewhere, Unacknowledged, Loss}
@@ -23,16 +29,16 @@ judged_address (Faulty addr is_read fault) = addr
 judged_address BadSyntax = None
 judged_address BadHex = None
 
--- there is an answer, of no bytes
+-- a read part has nothing behind its address
 abbrev pub is_empty_answer : Option (List ℕ) → Bool
 is_empty_answer None = false
 is_empty_answer (Some []) = true
-is_empty_answer (Some (byte ∷ bytes)) = false
+is_empty_answer (Some (byte ∷ [])) = true
+is_empty_answer (Some (byte ∷ next ∷ bytes)) = false
 
--- nobody answered: what was read is nothing but ones, or no byte and no PEC
+-- nobody answered: what was read is nothing but ones, or no byte
 abbrev pub is_unanswered : TraceLine → Bool
-is_unanswered parts = is_all_ones parts.write parts.read
-    || (is_empty_answer (content_of parts.write parts.read).answer && not (has_pec parts.write parts.read))
+is_unanswered parts = is_all_ones parts.write parts.read || is_empty_answer parts.read
 
 -- nobody can say what a packet did that isn't good: it has a fault, or is told otherwise, where it has an address for that,
 -- and nobody answered
@@ -51,7 +57,7 @@ abbrev pub step_by : ℕ → Option ℕ → Pages → TraceLine → Judged → O
 step_by gap time pages parts judged other = record {
   addr = judged_address judged;
   place = place_by gap time pages (judged_address judged);
-  used = use_of parts.write (is_lost parts other) judged;
+  used = use_of parts.write (is_some parts.read) (is_lost parts other) judged;
 }
 
 -- where PAGE is followed
@@ -62,14 +68,38 @@ step_of options pages time parts = if options.pages
 
 -- ---- what it is marked with
 
+-- the page of an address, where that is known, and each packet of PAGE since then was good
+abbrev pub sure_page_by : Option PageLine → Option ℕ → Option ℕ
+sure_page_by None failed = None
+sure_page_by (Some said) None = Some said.page
+sure_page_by (Some said) (Some line) = None
+
+abbrev pub sure_page : Place → Option ℕ
+sure_page place = sure_page_by place.page place.failed
+
+-- a packet reads another page than the one that was written last: `wrong` is the line that it contradicts
+abbrev pub is_turned : PageUse → Option ℕ → Bool
+is_turned (ReadBack page) wrong = is_some wrong
+is_turned (Written page) wrong = false
+is_turned (Failed writes) wrong = false
+is_turned Lost wrong = false
+is_turned OfOutput wrong = false
+is_turned Beside wrong = false
+
 -- a packet that lacks its PEC or doesn't, with the output that it reaches where it names none, and the line that it contradicts
 abbrev pub marks_by : Bool → Option PageStep → Marks
-marks_by lacks None = record { lacks = lacks; reached = None; wrong = None }
+marks_by lacks None = record { lacks = lacks; reached = None; wrong = None; page = None; is_turned = false }
 marks_by lacks (Some step) = record {
   lacks = lacks;
   reached = output_of step.place step.used;
   wrong = contradicted step.place step.used;
+  page = sure_page step.place;
+  is_turned = is_turned step.used (contradicted step.place step.used);
 }
+
+-- the modes that a packet with these marks may change: all of its address where that restarted
+abbrev pub change_by : Marks → TraceLine → ModeChange
+change_by marks parts = if marks.is_turned then OfAll else change_of parts.write (is_some parts.read) marks.page
 
 abbrev pub marks_of : TellOptions → Pages → Option ℕ → TraceLine → Marks
 marks_of options pages time parts = marks_by (is_without_pec options.all parts) (step_of options pages time parts)
@@ -91,8 +121,9 @@ abbrev pub pages_read : TellOptions → ℕ → Option ℕ → Result TraceLine 
 pages_read options number time (Ok parts) pages = pages_at number (step_of options pages time parts) pages
 pages_read options number time (Err fault) pages = if options.pages then lost_in number pages else pages
 
--- behind a comment, which tells a loss but where it speaks of a device whose packets are no lines
+-- behind a comment, which tells a loss but where it speaks of a device whose packets are no lines, of a packet that no
+-- device heard, or of the next packet
 abbrev pub pages_noted : ℕ → Remark → Pages → Pages
 pages_noted number Elsewhere pages = pages
-pages_noted number Unacknowledged pages = doubting (lost_in number pages)
+pages_noted number Unacknowledged pages = doubting pages
 pages_noted number Loss pages = lost_in number pages

@@ -69,7 +69,8 @@ is_comment line = starts_with nat_eq line (codes "#")
 -- what a comment says, as `pmhost capture` writes them
 abbrev pub remark_of : List ℕ → Remark
 remark_of line = if starts_with nat_eq line (codes "# another device") then Elsewhere
-    else (if starts_with nat_eq line (codes "# byte ") then Unacknowledged else Loss)
+    else (if starts_with nat_eq line (codes "# no device acknowledged the address") then Elsewhere
+    else (if starts_with nat_eq line (codes "# byte ") then Unacknowledged else Loss))
 
 -- comments are noted where PAGE is followed
 abbrev pub is_noted : Bool → List ℕ → Bool

@@ -12,7 +12,7 @@ use Rattle.pm_decode.specs.declared.timed_line.TimedLine.{TimedLine}
 abbrev pub own_bytes : List ℕ → List ℕ
 own_bytes line = if is_comment line then take 1 line else line
 
--- these bytes of a line; the packet's own are all of them where lines have no time, and the first 16 of a comment tell what it
+-- these bytes of a line; the packet's own are all of them where lines have no time, and the first 64 of a comment tell what it
 -- says
 unfoldable pub timed_of : Bool → List ℕ → TimedLine
 timed_of times line = record {
@@ -20,7 +20,7 @@ timed_of times line = record {
   has_mark = is_comment line;
   is_begun = has_bytes line;
   is_over = if times then has_bytes (behind_word (own_bytes line)) else true;
-  head = if is_comment line then take 16 line else [];
+  head = if is_comment line then take 64 line else [];
   word = part_of (if times then first_word (own_bytes line) else []);
   packet = line_of (if times then behind_word (own_bytes line) else own_bytes line);
 }
@@ -38,7 +38,7 @@ begun_with line byte = record line {
 
 -- the first bytes of a comment, and one more
 abbrev pub head_takes : List ℕ → ℕ → List ℕ
-head_takes head byte = if nat_lt (length head) 16 then head ++ byte ∷ [] else head
+head_takes head byte = if nat_lt (length head) 64 then head ++ byte ∷ [] else head
 
 -- a comment goes on
 abbrev pub goes_on : TimedLine → Bool
@@ -46,7 +46,7 @@ goes_on line = line.is_begun && line.has_mark
 
 -- and its first bytes are kept: further ones say nothing more
 abbrev pub is_told : TimedLine → Bool
-is_told line = line.is_begun && (line.has_mark && not (nat_lt (length line.head) 16))
+is_told line = line.is_begun && (line.has_mark && not (nat_lt (length line.head) 64))
 
 -- one byte more, of a line that isn't a comment yet
 abbrev pub plain_takes : TimedLine → ℕ → TimedLine

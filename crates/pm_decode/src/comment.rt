@@ -7,7 +7,8 @@ use std::marker::Model;
 /// What a comment says, as `pmhost capture` writes them.
 #[derive(Clone, Copy, Debug, PartialEq, Eq)]
 pub(crate) enum Remark {
-    /// `# another device` speaks of a device whose packets are no lines.
+    /// `# another device` speaks of a device whose packets are no lines, and `# no device acknowledged the address` of a
+    /// packet that no device heard.
     Elsewhere,
     /// `# byte 3 wasn't acknowledged` stands above a packet of which nobody knows what it did.
     Unacknowledged,
@@ -18,7 +19,7 @@ pub(crate) enum Remark {
 /// The first bytes of a comment, as many as tell what it says.
 #[derive(Debug, Drop)]
 pub(crate) struct CommentHead {
-    bytes: ArrayVec<u8, 16>,
+    bytes: ArrayVec<u8, 64>,
 }
 
 impl Model for CommentHead {
@@ -54,23 +55,27 @@ impl CommentHead {
     pub(crate) fn take(&mut self, byte: u8)
         ensures { self.new ≡ head_takes self.old byte }
     {
-        if self.bytes.len() < 16 {
+        if self.bytes.len() < 64 {
             self.bytes.push(byte);
         }
     }
 
     /// Whether there are as many bytes as are kept.
     pub(crate) fn is_full(&self) -> bool
-        ensures { result ≡ not (nat_lt (length self.now) 16) }
+        ensures { result ≡ not (nat_lt (length self.now) 64) }
     {
-        self.bytes.len() >= 16
+        self.bytes.len() >= 64
     }
 
     /// What the comment says.
     pub(crate) fn remark(&self) -> Remark
         ensures { result ≡ remark_of self.now }
     {
-        if self.bytes.starts_with(b"# another device") {
+        if self.bytes.starts_with(b"# another device")
+            || self
+                .bytes
+                .starts_with(b"# no device acknowledged the address")
+        {
             Remark::Elsewhere
         } else if self.bytes.starts_with(b"# byte ") {
             Remark::Unacknowledged

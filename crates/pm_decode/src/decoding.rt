@@ -8,11 +8,10 @@ use crate::options::TellOptions;
 use crate::telling::tell;
 use pm_lines::{Sink, Source, TextFault};
 use pm_trace::DecodeEnd;
-use pm_values::GivenFormats;
 use std::alloc::Global;
 use std::io::{Read, Write};
 
-/// Reads a trace and writes what it says, as [`tell`] does without an option: a line for each of its lines that isn't
+/// Reads a trace and writes what it says, as [`tell`] does with [`TellOptions::none`]: a line for each of its lines that isn't
 /// skipped; at the end `count NAME k` for each code that accepted lines carry, in the order of first appearance, and
 /// `lines L accepted A faults F bad B`. Neither stream may have failed before.
 ///
@@ -38,20 +37,7 @@ pub fn decode<R: Read, W: Write>(
         (over R.remaining reader.old reader.new W.contents writer.old writer.new) result }
     ensures faults { IfErr result IsOfDecode }
 {
-    let options = TellOptions {
-        values: false,
-        formats: GivenFormats {
-            vout: None,
-            readings: [None; 8],
-        },
-        all: false,
-        long: false,
-        times: false,
-        json: false,
-        pages: false,
-        gap: 0,
-    };
-    match tell(alloc, reader, writer, &options) {
+    match tell(alloc, reader, writer, &TellOptions::none()) {
         Ok(told) => Ok(told.end),
         Err(fault) => Err(fault),
     }

@@ -1,21 +1,24 @@
 //! What is known behind the lines of a capture.
-ghost use Rattle.std.specs.Prelude.{◌≡◌, ◌||◌, Err, IfSome, is_some, not, option_map, true};
+ghost use Rattle.std.specs.Prelude.{◌≡◌, ◌||◌, Err, IfSome, None, is_some, not, option_map, true};
 ghost use Rattle.pm_trace.specs.ShownLines.{judged_in};
 ghost use Rattle.pm_trace.specs.Trace.{parts_judged, reading_judged};
 ghost use Rattle.pm_values.specs.Otherwise.{IsCompleted, content_of, is_accepted};
+ghost use Rattle.pm_decode.specs.PageSteps.{change_by};
 ghost use Rattle.pm_decode.specs.Readings.{is_without_pec};
 ghost use Rattle.pm_decode.specs.ShownReadings.{packet_in};
 
 use crate::comment::Remark;
 use crate::hints::first_beyond;
-use crate::line_text::{push_bad_line, push_packet_line};
+use crate::line_text::{PacketLine, push_bad_line, push_packet_line};
 use crate::options::TellOptions;
 use crate::others::Others;
-use crate::page_step::{Marks, page_step};
+use crate::page_step::{Marks, address_in, page_step};
 use crate::timed_line::LineReading;
 use arrayvec::ArrayVec;
 use pm_trace::{LineFault, Pages, Shown, Tally, packet_shown};
-use pm_values::{Lessons, Packet, address_otherwise, completed_part, shown_with};
+use pm_values::{
+    Lessons, ModeChange, Packet, address_otherwise, completed_part, mode_change, shown_with,
+};
 use std::alloc::{AllocError, Global};
 use std::marker::Model;
 
@@ -43,10 +46,10 @@ impl HeardLines {
     ghost use Rattle.pm_trace.specs.Counts.{lines_in};
     ghost use Rattle.pm_decode.specs.CaptureText.{line_text};
     ghost use Rattle.pm_decode.specs.CaptureText.{told_line};
-    ghost use Rattle.pm_decode.specs.Hearing.{heard_lines, heard_with, known_read, unheard};
+    ghost use Rattle.pm_decode.specs.Hearing.{heard_lines, heard_with, known_read, taught_read, unheard};
     ghost use Rattle.pm_decode.specs.Hints.{beyond_by};
+    ghost use Rattle.pm_decode.specs.UsualLines.{code_counted};
     ghost use Rattle.pm_decode.specs.Readings.{other_address};
-    ghost use Rattle.pm_values.specs.Taught.{taught_by};
     ghost use Rattle.pm_decode.specs.declared.page_step.Marks.{Marks};
     ghost use Rattle.pm_decode.specs.Readings.{Noted, Told, judged_by};
     ghost use Rattle.pm_decode.specs.ShownReadings.{reading_in};
@@ -82,7 +85,17 @@ impl HeardLines {
         ensures few { heard_lines self.new ≤ heard_lines self.old + 1 }
     {
         match &line.packet {
-            Ok(packet) => self.hear_packet(options, number, line.time, packet, text),
+            Ok(packet) => {
+                let shown = packet_shown(packet.write, packet.read);
+                let line = PacketLine {
+                    number,
+                    time: line.time,
+                    packet: *packet,
+                    shown: &shown,
+                    other: None,
+                };
+                self.hear_packet(options, &line, text)
+            }
             Err(fault) => {
                 push_bad_line(text, options, number, *fault)?;
                 if options.pages {
@@ -98,26 +111,26 @@ impl HeardLines {
     fn hear_packet(
         &mut self,
         options: &TellOptions,
-        number: u64,
-        time: Option<u64>,
-        packet: &Packet<'_>,
+        line: &PacketLine<'_>,
         text: &mut String,
     ) -> Result<(), AllocError>
-        requires { heard_lines self.old + 1 < 2 ^ 64 }
+        requires few { heard_lines self.old + 1 < 2 ^ 64 }
+        requires shown { judged_in line.now.shown.now
+            ≡ parts_judged line.now.packet.write.now (option_map (λ bytes. bytes.now) line.now.packet.read) }
+        requires plain { line.now.other ≡ None }
         ensures text { OnOk result (string_bytes text.new ++ codes "\n" ≡ string_bytes text.old
             ++ line_text options.now self.old.known
-            (number, Told (record { time = time; parts = Ok (packet_in packet.now) }))) }
+            (line.now.number, Told (record { time = line.now.time; parts = Ok (packet_in line.now.packet) }))) }
         ensures heard { OnOk result (self.new
-            ≡ heard_with options.now self.old (number, Told (record { time = time; parts = Ok (packet_in packet.now) }))) }
+            ≡ heard_with options.now self.old (line.now.number, Told (record { time = line.now.time; parts = Ok (packet_in line.now.packet) }))) }
         ensures few { heard_lines self.new ≤ heard_lines self.old + 1 }
     {
-        let shown = packet_shown(packet.write, packet.read);
-        if options.pages || !is_plain(options.all, &shown) {
-            return self.hear_closely(options, number, time, packet, &shown, text);
+        if options.pages || !is_plain(options.all, line.shown) {
+            return self.hear_closely(options, line, text);
         }
         let marks = Marks::without_page(false);
-        self.tell_packet(options, &marks, number, time, packet, &shown, None, text)?;
-        self.tally.count(&shown)
+        self.tell_packet(options, &marks, line, text)?;
+        self.tally.count(line.shown)
     }
 
     // The same where packets without PEC are told, or PAGE is followed.
@@ -125,27 +138,32 @@ impl HeardLines {
     fn hear_closely(
         &mut self,
         options: &TellOptions,
-        number: u64,
-        time: Option<u64>,
-        packet: &Packet<'_>,
-        shown: &Shown<'_>,
+        line: &PacketLine<'_>,
         text: &mut String,
     ) -> Result<(), AllocError>
         requires few { heard_lines self.old + 1 < 2 ^ 64 }
-        requires shown { judged_in shown.now ≡ parts_judged packet.now.write.now (option_map (λ bytes. bytes.now) packet.now.read) }
+        requires shown { judged_in line.now.shown.now
+            ≡ parts_judged line.now.packet.write.now (option_map (λ bytes. bytes.now) line.now.packet.read) }
         ensures text { OnOk result (string_bytes text.new ++ codes "\n" ≡ string_bytes text.old
             ++ line_text options.now self.old.known
-            (number, Told (record { time = time; parts = Ok (packet_in packet.now) }))) }
+            (line.now.number, Told (record { time = line.now.time; parts = Ok (packet_in line.now.packet) }))) }
         ensures heard { OnOk result (self.new
-            ≡ heard_with options.now self.old (number, Told (record { time = time; parts = Ok (packet_in packet.now) }))) }
+            ≡ heard_with options.now self.old (line.now.number, Told (record { time = line.now.time; parts = Ok (packet_in line.now.packet) }))) }
         ensures few { heard_lines self.new ≤ heard_lines self.old + 1 }
     {
-        match completed_if(options.all, packet, shown) {
+        match completed_if(options.all, &line.packet, line.shown) {
             Some(part) => {
-                let whole = shown_with(packet.write, packet.is_read(), &part);
-                self.hear_shown(options, number, time, packet, &whole, true, text)
+                let whole = shown_with(line.packet.write, line.packet.is_read(), &part);
+                let line = PacketLine {
+                    number: line.number,
+                    time: line.time,
+                    packet: line.packet,
+                    shown: &whole,
+                    other: None,
+                };
+                self.hear_shown(options, &line, true, text)
             }
-            None => self.hear_shown(options, number, time, packet, shown, false, text),
+            None => self.hear_shown(options, line, false, text),
         }
     }
 
@@ -154,37 +172,40 @@ impl HeardLines {
     fn hear_shown(
         &mut self,
         options: &TellOptions,
-        number: u64,
-        time: Option<u64>,
-        packet: &Packet<'_>,
-        shown: &Shown<'_>,
+        line: &PacketLine<'_>,
         lacks: bool,
         text: &mut String,
     ) -> Result<(), AllocError>
         requires few { heard_lines self.old + 1 < 2 ^ 64 }
-        requires shown { judged_in shown.now ≡ judged_by options.now.all (packet_in packet.now) }
-        requires lacks { lacks ≡ is_without_pec options.now.all (packet_in packet.now) }
+        requires shown { judged_in line.now.shown.now ≡ judged_by options.now.all (packet_in line.now.packet) }
+        requires lacks { lacks ≡ is_without_pec options.now.all (packet_in line.now.packet) }
         ensures text { OnOk result (string_bytes text.new ++ codes "\n" ≡ string_bytes text.old
             ++ line_text options.now self.old.known
-            (number, Told (record { time = time; parts = Ok (packet_in packet.now) }))) }
+            (line.now.number, Told (record { time = line.now.time; parts = Ok (packet_in line.now.packet) }))) }
         ensures heard { OnOk result (self.new
-            ≡ heard_with options.now self.old (number, Told (record { time = time; parts = Ok (packet_in packet.now) }))) }
+            ≡ heard_with options.now self.old (line.now.number, Told (record { time = line.now.time; parts = Ok (packet_in line.now.packet) }))) }
         ensures few { heard_lines self.new ≤ heard_lines self.old + 1 }
     {
-        let other = if options.all {
-            address_otherwise(packet, shown)
-        } else {
-            None
+        let line = PacketLine {
+            number: line.number,
+            time: line.time,
+            packet: line.packet,
+            shown: line.shown,
+            other: if options.all {
+                address_otherwise(&line.packet, line.shown)
+            } else {
+                None
+            },
         };
         if options.pages {
-            self.tell_on_page(options, lacks, number, time, packet, shown, other, text)?;
+            self.tell_on_page(options, lacks, &line, text)?;
         } else {
             let marks = Marks::without_page(lacks);
-            self.tell_packet(options, &marks, number, time, packet, shown, other, text)?;
+            self.tell_packet(options, &marks, &line, text)?;
         }
-        match other {
-            None => self.tally.count(shown),
-            Some(_) => self.others.count(told_code(packet)),
+        match line.other {
+            None => self.tally.count(line.shown),
+            Some(_) => self.others.count(told_code(&line.packet)),
         }
     }
 
@@ -193,29 +214,26 @@ impl HeardLines {
         &mut self,
         options: &TellOptions,
         lacks: bool,
-        number: u64,
-        time: Option<u64>,
-        packet: &Packet<'_>,
-        shown: &Shown<'_>,
-        other: Option<u8>,
+        line: &PacketLine<'_>,
         text: &mut String,
     ) -> Result<(), AllocError>
         requires pages { options.now.pages ≡ true }
-        requires shown { judged_in shown.now ≡ judged_by options.now.all (packet_in packet.now) }
-        requires lacks { lacks ≡ is_without_pec options.now.all (packet_in packet.now) }
-        requires other { other ≡ other_address options.now.all (packet_in packet.now) }
+        requires shown { judged_in line.now.shown.now ≡ judged_by options.now.all (packet_in line.now.packet) }
+        requires lacks { lacks ≡ is_without_pec options.now.all (packet_in line.now.packet) }
+        requires other { line.now.other ≡ other_address options.now.all (packet_in line.now.packet) }
         ensures text { OnOk result (string_bytes text.new ++ codes "\n" ≡ string_bytes text.old
             ++ line_text options.now self.old.known
-            (number, Told (record { time = time; parts = Ok (packet_in packet.now) }))) }
+            (line.now.number, Told (record { time = line.now.time; parts = Ok (packet_in line.now.packet) }))) }
         ensures known { OnOk result (self.new ≡ record self.old {
-          known = known_read options.now number time (Ok (packet_in packet.now)) self.old.known;
+          known = known_read options.now line.now.number line.now.time (Ok (packet_in line.now.packet)) self.old.known;
         }) }
         ensures few { heard_lines self.new ≡ heard_lines self.old }
     {
-        let step = page_step(&self.pages, options.gap, time, packet, shown, other);
+        let step = page_step(&self.pages, options.gap, line);
         let marks = Marks::of(lacks, &step);
-        self.tell_packet(options, &marks, number, time, packet, shown, other, text)?;
-        self.pages.learn(number, step.addr, step.place, step.used)
+        self.tell_packet(options, &marks, line, text)?;
+        self.pages
+            .learn(line.number, step.addr, step.place, step.used)
     }
 
     // Appends a packet's line to a text, and learns what the packet teaches and orders.
@@ -223,45 +241,39 @@ impl HeardLines {
         &mut self,
         options: &TellOptions,
         marks: &Marks,
-        number: u64,
-        time: Option<u64>,
-        packet: &Packet<'_>,
-        shown: &Shown<'_>,
-        other: Option<u8>,
+        line: &PacketLine<'_>,
         text: &mut String,
     ) -> Result<(), AllocError>
-        requires shown { judged_in shown.now ≡ judged_by options.now.all (packet_in packet.now) }
-        requires other { other ≡ other_address options.now.all (packet_in packet.now) }
+        requires shown { judged_in line.now.shown.now ≡ judged_by options.now.all (packet_in line.now.packet) }
+        requires other { line.now.other ≡ other_address options.now.all (packet_in line.now.packet) }
         ensures text { OnOk result (string_bytes text.new ++ codes "\n" ≡ string_bytes text.old
-            ++ told_line options.now self.old.known.taught marks.now number time (Ok (packet_in packet.now))) }
+            ++ told_line options.now self.old.known.taught marks.now line.now.number line.now.time (Ok (packet_in line.now.packet))) }
         ensures known { OnOk result (self.new ≡ record self.old {
           known = record self.old.known {
-            taught = taught_by marks.now.reached self.old.known.taught (judged_in shown.now);
-            beyond = beyond_by options.now self.old.known.taught marks.now.reached number (judged_in shown.now) self.old.known.beyond;
+            taught = taught_read options.now line.now.number marks.now (Ok (packet_in line.now.packet)) self.old.known.taught;
+            beyond = beyond_by options.now self.old.known.taught marks.now.reached line.now.number (judged_in line.now.shown.now) self.old.known.beyond;
           };
         }) }
         ensures few { heard_lines self.new ≡ heard_lines self.old }
     {
-        push_packet_line(
-            text,
-            options,
-            &self.lessons,
-            marks,
-            number,
-            time,
-            packet,
-            shown,
-            other,
-        )?;
-        self.beyond = first_beyond(
-            options,
-            &self.lessons,
-            marks.reached,
-            number,
-            shown,
-            self.beyond,
-        );
-        self.lessons.learn(marks.reached, shown)
+        push_packet_line(text, options, &self.lessons, marks, line)?;
+        self.beyond = first_beyond(options, &self.lessons, marks.reached, line, self.beyond);
+        if options.values {
+            let change = change_in(marks, &line.packet);
+            self.lessons
+                .forget(line.number, address_in(line.shown), change)?;
+        }
+        self.lessons.learn(line.number, marks.reached, line.shown)
+    }
+
+    /// Counts a good packet of this code that teaches nothing, where PAGE isn't followed. Takes memory for a code that is
+    /// new.
+    pub(crate) fn count_usual(&mut self, code: u8) -> Result<(), AllocError>
+        requires { heard_lines self.old + 1 < 2 ^ 64 }
+        ensures heard { OnOk result (self.new ≡ record self.old { counts = code_counted self.old.counts code }) }
+        ensures few { heard_lines self.new ≤ heard_lines self.old + 1 }
+    {
+        self.tally.count_accepted(code)
     }
 
     /// Hears a comment, with its number.
@@ -271,10 +283,7 @@ impl HeardLines {
     {
         match remark {
             Remark::Elsewhere => {}
-            Remark::Unacknowledged => {
-                self.pages.lose(number);
-                self.pages.doubt();
-            }
+            Remark::Unacknowledged => self.pages.doubt(),
             Remark::Loss => self.pages.lose(number),
         }
     }
@@ -307,6 +316,17 @@ impl HeardLines {
         ensures { result.now ≡ self.now.others }
     {
         &self.others
+    }
+}
+
+// The modes that a packet with these marks may change: all of its address where that restarted.
+fn change_in(marks: &Marks, packet: &Packet<'_>) -> ModeChange
+    ensures { result ≡ change_by marks.now (packet_in packet.now) }
+{
+    if marks.is_turned {
+        ModeChange::OfAll
+    } else {
+        mode_change(packet.write, packet.is_read(), marks.page)
     }
 }
 

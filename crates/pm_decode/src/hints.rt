@@ -5,10 +5,11 @@ ghost use Rattle.pm_decode.specs.Hearing.{heard_lines, hint_by};
 ghost use Rattle.pm_decode.specs.Hints.{beyond_by, first_if, is_beyond as spec_is_beyond, is_huge as spec_is_huge, is_huge_value as spec_is_huge_value};
 
 use crate::heard_lines::HeardLines;
+use crate::line_text::PacketLine;
 use crate::options::TellOptions;
 use pm_num::Frac;
 use pm_trace::Shown;
-use pm_values::{GivenFormats, Lessons, Unit, Value, millionths, packet_value};
+use pm_values::{GivenFormats, GoodPacket, Lessons, Unit, Value, millionths, packet_value};
 
 /// What may be wrong where a capture was told whole.
 #[derive(Clone, Copy, Debug, PartialEq, Eq)]
@@ -42,20 +43,19 @@ pub(crate) fn hint_of(options: &TellOptions, heard: &HeardLines) -> Option<Hint>
     }
 }
 
-/// The first line that orders a voltage beyond 1000 V by the format that was given, behind the one of this number; before it
-/// was this one, if there was one. `reached` is the output that its packet reaches if it names none, where that is known.
+/// The first line that orders a voltage beyond 1000 V by the format that was given, behind this one; before it was that
+/// one, if there was one. `reached` is the output that its packet reaches if it names none, where that is known.
 pub(crate) fn first_beyond(
     options: &TellOptions,
     lessons: &Lessons,
     reached: Option<u8>,
-    number: u64,
-    shown: &Shown<'_>,
+    line: &PacketLine<'_>,
     before: Option<u64>,
 ) -> Option<u64>
-    ensures { result ≡ beyond_by options.now lessons.now reached number (judged_in shown.now) before }
+    ensures { result ≡ beyond_by options.now lessons.now reached line.now.number (judged_in line.now.shown.now) before }
 {
     if options.values && options.formats.vout.is_some() {
-        first_of(&options.formats, lessons, reached, number, shown, before)
+        first_of(&options.formats, lessons, reached, line, before)
     } else {
         before
     }
@@ -66,15 +66,14 @@ fn first_of(
     given: &GivenFormats,
     lessons: &Lessons,
     reached: Option<u8>,
-    number: u64,
-    shown: &Shown<'_>,
+    line: &PacketLine<'_>,
     before: Option<u64>,
 ) -> Option<u64>
-    ensures { result ≡ first_if before (spec_is_beyond given.now lessons.now reached (judged_in shown.now)) number }
+    ensures { result ≡ first_if before (spec_is_beyond given.now lessons.now reached (judged_in line.now.shown.now)) line.now.number }
 {
     match before {
-        Some(line) => Some(line),
-        None if is_beyond(given, lessons, reached, shown) => Some(number),
+        Some(first) => Some(first),
+        None if is_beyond(given, lessons, reached, line.shown) => Some(line.number),
         None => None,
     }
 }
@@ -98,8 +97,14 @@ fn is_beyond(
                 vout: None,
                 readings: given.readings,
             };
-            is_huge(packet_value(given, lessons, *addr, reached, view, None))
-                && packet_value(&taught, lessons, *addr, reached, view, None).is_none()
+            let packet = GoodPacket {
+                addr: *addr,
+                reached,
+                view,
+                answer: None,
+            };
+            is_huge(packet_value(given, lessons, &packet))
+                && packet_value(&taught, lessons, &packet).is_none()
         }
         _ => false,
     }

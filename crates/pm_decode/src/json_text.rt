@@ -11,12 +11,15 @@ use crate::json_fields::{
     push_number_field_if, push_signed_field, push_text_field, push_text_key,
 };
 use crate::json_value::push_value_fields;
+use crate::line_text::PacketLine;
 use crate::options::TellOptions;
-use pm_frame::{FrameFault, FrameView, Message};
+use pm_frame::{FrameFault, Message};
 use pm_lines::{push_decimal, push_hex};
 use pm_table::{Code, Coefficients};
 use pm_trace::{Shown, answered, coefficients_in};
-use pm_values::{Content, Lessons, Packet, other_value, packet_value, push_spaced, standard_name};
+use pm_values::{
+    Content, GoodPacket, Lessons, Packet, other_value, packet_value, push_spaced, standard_name,
+};
 use std::alloc::AllocError;
 
 /// Appends the fields of a packet as the command table has it.
@@ -26,20 +29,26 @@ pub(crate) fn push_judged_fields(
     options: &TellOptions,
     lessons: &Lessons,
     reached: Option<u8>,
-    packet: &Packet<'_>,
-    shown: &Shown<'_>,
+    line: &PacketLine<'_>,
 ) -> Result<(), AllocError>
     ensures { OnOk result (string_bytes text.new ≡ string_bytes text.old
-        ++ judged_fields options.now.formats options.now.values lessons.now reached packet.now.write.now
-        (option_map (λ bytes. bytes.now) packet.now.read) (judged_in shown.now)) }
+        ++ judged_fields options.now.formats options.now.values lessons.now reached line.now.packet.write.now
+        (option_map (λ bytes. bytes.now) line.now.packet.read) (judged_in line.now.shown.now)) }
 {
-    match shown {
+    match line.shown {
         Shown::Accepted { addr, view, answer } => {
+            let packet = GoodPacket {
+                addr: *addr,
+                reached,
+                view,
+                answer: *answer,
+            };
             push_address_field(text, Some(*addr))?;
-            push_message_fields(text, options, lessons, reached, *addr, view, *answer)
+            push_message_fields(text, options, lessons, &packet)
         }
         Shown::Faulty { addr, read, fault } => {
-            push_fault_fields(text, options.values, packet, *addr, *read, *fault)
+            push_address_field(text, *addr)?;
+            push_fault_fields(text, options.values, &line.packet, *read, *fault)
         }
         Shown::BadSyntax | Shown::BadHex => Ok(()),
     }
@@ -51,20 +60,17 @@ fn push_message_fields(
     text: &mut String,
     options: &TellOptions,
     lessons: &Lessons,
-    reached: Option<u8>,
-    addr: u8,
-    view: &FrameView<'_>,
-    answer: Option<&[u8]>,
+    packet: &GoodPacket<'_>,
 ) -> Result<(), AllocError>
     ensures { OnOk result (string_bytes text.new ≡ string_bytes text.old
-        ++ message_fields options.now.formats options.now.values lessons.now reached addr view.now
-        (option_map (λ bytes. bytes.now) answer.entry)) }
+        ++ message_fields options.now.formats options.now.values lessons.now packet.now.reached packet.now.addr packet.now.view.now
+        (option_map (λ bytes. bytes.now) packet.now.answer)) }
 {
-    match view.message() {
+    match packet.view.message() {
         Message::ReadCoefficients { code, side } => {
-            push_coefficients_fields(text, code, side, answered(answer))
+            push_coefficients_fields(text, code, side, answered(packet.answer))
         }
-        _ => push_plain_fields(text, options, lessons, reached, addr, view, answer),
+        _ => push_plain_fields(text, options, lessons, packet),
     }
 }
 
@@ -74,23 +80,17 @@ fn push_plain_fields(
     text: &mut String,
     options: &TellOptions,
     lessons: &Lessons,
-    reached: Option<u8>,
-    addr: u8,
-    view: &FrameView<'_>,
-    answer: Option<&[u8]>,
+    packet: &GoodPacket<'_>,
 ) -> Result<(), AllocError>
     ensures { OnOk result (string_bytes text.new ≡ string_bytes text.old
-        ++ plain_fields options.now.formats options.now.values lessons.now reached addr view.now
-        (option_map (λ bytes. bytes.now) answer.entry)) }
+        ++ plain_fields options.now.formats options.now.values lessons.now packet.now.reached packet.now.addr packet.now.view.now
+        (option_map (λ bytes. bytes.now) packet.now.answer)) }
 {
-    push_page_fields(text, reached, view.page())?;
-    push_code_fields(text, view.code())?;
-    push_payload_fields(text, view.payload(), answer)?;
+    push_page_fields(text, packet.reached, packet.view.page())?;
+    push_code_fields(text, packet.view.code())?;
+    push_payload_fields(text, packet.view.payload(), packet.answer)?;
     if options.values {
-        push_value_fields(
-            text,
-            packet_value(&options.formats, lessons, addr, reached, view, answer),
-        )?;
+        push_value_fields(text, packet_value(&options.formats, lessons, packet))?;
     }
     Ok(())
 }
@@ -182,20 +182,18 @@ fn push_numbers(text: &mut String, coefficients: Coefficients) -> Result<(), All
     push_signed_field(text, "r", i128::from(coefficients.r))
 }
 
-// A packet with a fault.
+// A packet with a fault, but for its address.
 #[tactic(auto, using(pm_lines::specs::Lemmas::Joins::joins))]
 fn push_fault_fields(
     text: &mut String,
     values: bool,
     packet: &Packet<'_>,
-    addr: Option<u8>,
     is_read: bool,
     fault: FrameFault,
 ) -> Result<(), AllocError>
     ensures { OnOk result (string_bytes text.new ≡ string_bytes text.old
-        ++ fault_fields values packet.now.write.now (option_map (λ bytes. bytes.now) packet.now.read) addr is_read fault) }
+        ++ fault_fields values packet.now.write.now (option_map (λ bytes. bytes.now) packet.now.read) is_read fault) }
 {
-    push_address_field(text, addr)?;
     push_text_field(text, "direction", direction(is_read))?;
     push_whole_field(text, values, packet)?;
     push_kind_fields(text, fault)
@@ -294,19 +292,21 @@ fn push_lines_field(text: &mut String, line: u64, number: u64) -> Result<(), All
 }
 
 /// Appends the fields of a packet that is told by its code and bytes, with what the bytes say where `values` asks for that.
+/// `reached` is the output that PAGE selects, where that is followed.
 #[tactic(auto, using(pm_lines::specs::Lemmas::Joins::joins), unfolding(crate::specs::JsonText::other_fields))]
 pub(crate) fn push_other_fields(
     text: &mut String,
     values: bool,
     addr: u8,
+    reached: Option<u8>,
     packet: &Packet<'_>,
 ) -> Result<(), AllocError>
     ensures { OnOk result (string_bytes text.new ≡ string_bytes text.old
-        ++ other_fields values addr packet.now.write.now (option_map (λ bytes. bytes.now) packet.now.read)) }
+        ++ other_fields values addr reached packet.now.write.now (option_map (λ bytes. bytes.now) packet.now.read)) }
 {
     let has_pec = packet.has_pec();
     push_address_field(text, Some(addr))?;
-    push_content_fields(text, values, &packet.content(has_pec))?;
+    push_content_fields(text, values, reached, &packet.content(has_pec))?;
     text.push_str(pec_fields(has_pec, packet.is_all_ones()))
 }
 
@@ -328,11 +328,12 @@ fn pec_fields(is_right: bool, is_ones: bool) -> &'static str
 fn push_content_fields(
     text: &mut String,
     values: bool,
+    reached: Option<u8>,
     content: &Content<'_>,
 ) -> Result<(), AllocError>
-    ensures { OnOk result (string_bytes text.new ≡ string_bytes text.old ++ content_fields values (content_in content.now)) }
+    ensures { OnOk result (string_bytes text.new ≡ string_bytes text.old ++ content_fields values reached (content_in content.now)) }
 {
-    push_number_field_if(text, "page", content.page.map(u64::from))?;
+    push_page_fields(text, reached, content.page)?;
     push_hex_field(text, "code", content.code)?;
     push_name_field(text, standard_name(content.code))?;
     push_other_payload(text, content.written, content.answer)?;

@@ -7,8 +7,8 @@ use crate::json_fields::{push_key, push_signed_field, push_text_field, push_text
 use pm_num::Frac;
 use pm_table::VoutMode;
 use pm_values::{
-    Status, Unit, Value, operation_words, protection_words, push_capability, push_millionths,
-    push_mode, push_names, push_on_off,
+    NameMarks, Status, Unit, Value, operation_words, protection_words, push_capability,
+    push_millionths, push_mode, push_names, push_on_off,
 };
 use std::alloc::AllocError;
 
@@ -109,6 +109,12 @@ fn push_on_off_field(text: &mut String, byte: u8) -> Result<(), AllocError>
     text.push_str("\"")
 }
 
+/// As names stand in a list of JSON.
+const QUOTED: NameMarks<'static> = NameMarks {
+    around: "\"",
+    between: ",",
+};
+
 // The names of the bits that are set.
 #[tactic(auto, using(pm_lines::specs::Lemmas::Joins::joins))]
 fn push_flags_field(text: &mut String, status: Status, bits: u16) -> Result<(), AllocError>
@@ -116,6 +122,6 @@ fn push_flags_field(text: &mut String, status: Status, bits: u16) -> Result<(), 
 {
     push_key(text, "flags")?;
     text.push_str("[")?;
-    push_names(text, ",", "\"", status.rows(), bits, true)?;
+    push_names(text, &QUOTED, status.rows(), bits, true)?;
     text.push_str("]")
 }

@@ -4,7 +4,7 @@
 //!
 //! It reads the same lines as `pm_trace` and judges packets by it. What a packet means, and what the
 //! capture itself teaches of the formats of voltages, is as `pm_values` has it. [`decode`] is [`tell`]
-//! without an option: the text of a trace. With what payloads mean:
+//! with [`TellOptions::none`]: the text of a trace. With what payloads mean:
 //!
 //! ```
 //! fn told<R: Read + Drop, W: Write + Drop>(
@@ -14,16 +14,7 @@
 //! ) -> Result<W, TextFault> {
 //!     let options = TellOptions {
 //!         values: true, // a voltage in volts, a status register bit by bit
-//!         formats: GivenFormats {
-//!             vout: None, // the format that the trace itself teaches
-//!             readings: [None; 8],
-//!         },
-//!         all: false,
-//!         long: false,
-//!         times: false,
-//!         json: false,
-//!         pages: false,
-//!         gap: 0,
+//!         ..TellOptions::none()
 //!     };
 //!     let mut sink = Sink::new(paper);
 //!     tell(alloc, &mut Source::new(trace), &mut sink, &options)?;
@@ -43,6 +34,7 @@ mod json_fields;
 mod json_text;
 mod json_value;
 mod laws;
+mod line_number;
 mod line_text;
 mod options;
 mod others;
@@ -50,6 +42,8 @@ mod page_step;
 mod telling;
 mod timed_line;
 mod told_text;
+mod usual_line;
+mod usual_packet;
 
 pub use decoding::decode;
 pub use hints::Hint;

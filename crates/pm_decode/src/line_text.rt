@@ -16,7 +16,9 @@ use crate::options::TellOptions;
 use crate::page_step::Marks;
 use pm_lines::{TextFault, push_decimal, push_hex};
 use pm_trace::{LineFault, Shown, push_packet, push_shown};
-use pm_values::{Lessons, Packet, packet_value, push_known, push_otherwise, push_spaced};
+use pm_values::{
+    GoodPacket, Lessons, Packet, packet_value, push_known, push_otherwise, push_spaced,
+};
 use std::alloc::AllocError;
 
 /// Appends a line that can't be read to a text, with its number and without a line feed.
@@ -80,33 +82,40 @@ fn fault_words(number: u64, fault: LineFault) -> &'static str
     }
 }
 
+/// A packet of a line.
+#[derive(Clone, Copy)]
+pub(crate) struct PacketLine<'a> {
+    /// The line's number.
+    pub(crate) number: u64,
+    /// The time of the packet, where lines have one.
+    pub(crate) time: Option<u64>,
+    /// Its bytes.
+    pub(crate) packet: Packet<'a>,
+    /// What it says.
+    pub(crate) shown: &'a Shown<'a>,
+    /// Its address, where it is told by its code and bytes.
+    pub(crate) other: Option<u8>,
+}
+
 /// Appends a packet's line to a text, with its number and without a line feed: as the command table has the packet, or by
-/// its address, code and bytes where `other` is its address.
+/// its address, code and bytes.
 #[tactic(auto, unfolding(crate::specs::CaptureText::told_line))]
 pub(crate) fn push_packet_line(
     text: &mut String,
     options: &TellOptions,
     lessons: &Lessons,
     marks: &Marks,
-    number: u64,
-    time: Option<u64>,
-    packet: &Packet<'_>,
-    shown: &Shown<'_>,
-    other: Option<u8>,
+    line: &PacketLine<'_>,
 ) -> Result<(), AllocError>
-    requires shown { judged_in shown.now ≡ judged_by options.now.all (packet_in packet.now) }
-    requires other { other ≡ other_address options.now.all (packet_in packet.now) }
+    requires shown { judged_in line.now.shown.now ≡ judged_by options.now.all (packet_in line.now.packet) }
+    requires other { line.now.other ≡ other_address options.now.all (packet_in line.now.packet) }
     ensures { OnOk result (string_bytes text.new ++ codes "\n" ≡ string_bytes text.old
-        ++ told_line options.now lessons.now marks.now number time (Ok (packet_in packet.now))) }
+        ++ told_line options.now lessons.now marks.now line.now.number line.now.time (Ok (packet_in line.now.packet))) }
 {
     if options.json {
-        push_packet_json(
-            text, options, lessons, marks, number, time, packet, shown, other,
-        )
+        push_packet_json(text, options, lessons, marks, line)
     } else {
-        push_packet_plain(
-            text, options, lessons, marks, number, time, packet, shown, other,
-        )
+        push_packet_plain(text, options, lessons, marks, line)
     }
 }
 
@@ -117,21 +126,17 @@ fn push_packet_json(
     options: &TellOptions,
     lessons: &Lessons,
     marks: &Marks,
-    number: u64,
-    time: Option<u64>,
-    packet: &Packet<'_>,
-    shown: &Shown<'_>,
-    other: Option<u8>,
+    line: &PacketLine<'_>,
 ) -> Result<(), AllocError>
-    requires shown { judged_in shown.now ≡ judged_by options.now.all (packet_in packet.now) }
-    requires other { other ≡ other_address options.now.all (packet_in packet.now) }
+    requires shown { judged_in line.now.shown.now ≡ judged_by options.now.all (packet_in line.now.packet) }
+    requires other { line.now.other ≡ other_address options.now.all (packet_in line.now.packet) }
     ensures { OnOk result (string_bytes text.new ++ codes "\n" ≡ string_bytes text.old
-        ++ json_line options.now lessons.now marks.now number time (Ok (packet_in packet.now))) }
+        ++ json_line options.now lessons.now marks.now line.now.number line.now.time (Ok (packet_in line.now.packet))) }
 {
     text.push_str("{\"line\":")?;
-    push_decimal(text, number)?;
-    push_number_field_if(text, "time", time)?;
-    push_packet_fields(text, options, lessons, marks, number, packet, shown, other)?;
+    push_decimal(text, line.number)?;
+    push_number_field_if(text, "time", line.time)?;
+    push_packet_fields(text, options, lessons, marks, line)?;
     text.push_str("}")
 }
 
@@ -142,22 +147,22 @@ fn push_packet_fields(
     options: &TellOptions,
     lessons: &Lessons,
     marks: &Marks,
-    number: u64,
-    packet: &Packet<'_>,
-    shown: &Shown<'_>,
-    other: Option<u8>,
+    line: &PacketLine<'_>,
 ) -> Result<(), AllocError>
-    requires shown { judged_in shown.now ≡ judged_by options.now.all (packet_in packet.now) }
+    requires shown { judged_in line.now.shown.now ≡ judged_by options.now.all (packet_in line.now.packet) }
     ensures { OnOk result (string_bytes text.new ≡ string_bytes text.old
-        ++ packet_fields_by options.now lessons.now marks.now number (packet_in packet.now) other) }
+        ++ packet_fields_by options.now lessons.now marks.now line.now.number (packet_in line.now.packet) line.now.other) }
 {
-    match other {
+    match line.other {
         None => {
-            push_judged_fields(text, options, lessons, marks.reached, packet, shown)?;
+            push_judged_fields(text, options, lessons, marks.reached, line)?;
             push_lack_field(text, marks.lacks)?;
-            push_wrong_field(text, number, marks.wrong)
+            push_wrong_field(text, line.number, marks.wrong)
         }
-        Some(addr) => push_other_fields(text, options.values, addr, packet),
+        Some(addr) => {
+            push_other_fields(text, options.values, addr, marks.reached, &line.packet)?;
+            push_wrong_field(text, line.number, marks.wrong)
+        }
     }
 }
 
@@ -168,21 +173,17 @@ fn push_packet_plain(
     options: &TellOptions,
     lessons: &Lessons,
     marks: &Marks,
-    number: u64,
-    time: Option<u64>,
-    packet: &Packet<'_>,
-    shown: &Shown<'_>,
-    other: Option<u8>,
+    line: &PacketLine<'_>,
 ) -> Result<(), AllocError>
-    requires shown { judged_in shown.now ≡ judged_by options.now.all (packet_in packet.now) }
-    requires other { other ≡ other_address options.now.all (packet_in packet.now) }
+    requires shown { judged_in line.now.shown.now ≡ judged_by options.now.all (packet_in line.now.packet) }
+    requires other { line.now.other ≡ other_address options.now.all (packet_in line.now.packet) }
     ensures { OnOk result (string_bytes text.new ++ codes "\n" ≡ string_bytes text.old
-        ++ plain_line options.now lessons.now marks.now number time (Ok (packet_in packet.now))) }
+        ++ plain_line options.now lessons.now marks.now line.now.number line.now.time (Ok (packet_in line.now.packet))) }
 {
-    push_decimal(text, number)?;
-    push_time(text, time)?;
+    push_decimal(text, line.number)?;
+    push_time(text, line.time)?;
     text.push_str(" ")?;
-    push_packet_text(text, options, lessons, marks, number, packet, shown, other)
+    push_packet_text(text, options, lessons, marks, line)
 }
 
 // The text of a packet.
@@ -192,22 +193,22 @@ fn push_packet_text(
     options: &TellOptions,
     lessons: &Lessons,
     marks: &Marks,
-    number: u64,
-    packet: &Packet<'_>,
-    shown: &Shown<'_>,
-    other: Option<u8>,
+    line: &PacketLine<'_>,
 ) -> Result<(), AllocError>
-    requires shown { judged_in shown.now ≡ judged_by options.now.all (packet_in packet.now) }
+    requires shown { judged_in line.now.shown.now ≡ judged_by options.now.all (packet_in line.now.packet) }
     ensures { OnOk result (string_bytes text.new ≡ string_bytes text.old
-        ++ packet_text_by options.now lessons.now marks.now number (packet_in packet.now) other) }
+        ++ packet_text_by options.now lessons.now marks.now line.now.number (packet_in line.now.packet) line.now.other) }
 {
-    match other {
+    match line.other {
         None => {
-            push_reached(text, marks.reached, number, shown)?;
-            push_extra(text, options, lessons, marks.reached, packet, shown)?;
-            push_marks(text, number, marks)
+            push_reached(text, marks.reached, line.number, line.shown)?;
+            push_extra(text, options, lessons, marks.reached, line)?;
+            push_marks(text, line.number, marks)
         }
-        Some(addr) => push_otherwise(text, options.values, addr, packet),
+        Some(addr) => {
+            push_otherwise(text, options.values, addr, marks.reached, &line.packet)?;
+            push_wrong_if(text, line.number, marks.wrong)
+        }
     }
 }
 
@@ -243,7 +244,14 @@ fn push_marks(text: &mut String, number: u64, marks: &Marks) -> Result<(), Alloc
     if marks.lacks {
         text.push_str(", no PEC")?;
     }
-    match marks.wrong {
+    push_wrong_if(text, number, marks.wrong)
+}
+
+// What stands behind a packet in this line for the earlier one that it contradicts, if there is one.
+fn push_wrong_if(text: &mut String, number: u64, wrong: Option<u64>) -> Result<(), AllocError>
+    ensures { OnOk result (string_bytes text.new ≡ string_bytes text.old ++ wrong_text number wrong) }
+{
+    match wrong {
         None => Ok(()),
         Some(line) => push_wrong(text, number, line),
     }
@@ -299,14 +307,13 @@ fn push_extra(
     options: &TellOptions,
     lessons: &Lessons,
     reached: Option<u8>,
-    packet: &Packet<'_>,
-    shown: &Shown<'_>,
+    line: &PacketLine<'_>,
 ) -> Result<(), AllocError>
     ensures { OnOk result (string_bytes text.new ≡ string_bytes text.old
-        ++ extra_text options.now lessons.now reached (packet_in packet.now) (judged_in shown.now)) }
+        ++ extra_text options.now lessons.now reached (packet_in line.now.packet) (judged_in line.now.shown.now)) }
 {
     if options.values {
-        push_meaning(text, options, lessons, reached, packet, shown)
+        push_meaning(text, options, lessons, reached, line)
     } else {
         Ok(())
     }
@@ -319,20 +326,22 @@ fn push_meaning(
     options: &TellOptions,
     lessons: &Lessons,
     reached: Option<u8>,
-    packet: &Packet<'_>,
-    shown: &Shown<'_>,
+    line: &PacketLine<'_>,
 ) -> Result<(), AllocError>
     ensures { OnOk result (string_bytes text.new ≡ string_bytes text.old
-        ++ meaning_text options.now lessons.now reached (packet_in packet.now) (judged_in shown.now)) }
+        ++ meaning_text options.now lessons.now reached (packet_in line.now.packet) (judged_in line.now.shown.now)) }
 {
-    match shown {
+    match line.shown {
         Shown::Accepted { addr, view, answer } => {
-            push_known(
-                text,
-                packet_value(&options.formats, lessons, *addr, reached, view, *answer),
-            )
+            let packet = GoodPacket {
+                addr: *addr,
+                reached,
+                view,
+                answer: *answer,
+            };
+            push_known(text, packet_value(&options.formats, lessons, &packet))
         }
-        Shown::Faulty { .. } => push_bytes(text, packet),
+        Shown::Faulty { .. } => push_bytes(text, &line.packet),
         Shown::BadSyntax | Shown::BadHex => Ok(()),
     }
 }

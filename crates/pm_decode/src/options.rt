@@ -1,3 +1,5 @@
+ghost use Rattle.std.specs.Prelude.{◌≡◌};
+
 use pm_values::GivenFormats;
 
 /// How a capture is told.
@@ -19,4 +21,35 @@ pub struct TellOptions {
     pub pages: bool,
     /// With times and pages: behind a pause of an address of more than so many microseconds its page isn't known any more.
     pub gap: u64,
+}
+
+impl TellOptions {
+    ghost use Rattle.pm_decode.specs.Laws.{no_options};
+    ghost use Rattle.pm_decode.specs.UsualLines.{is_plain};
+
+    /// No option: a capture is told as [`decode`](crate::decode) tells it.
+    pub fn none() -> TellOptions
+        ensures { result ≡ no_options }
+    {
+        TellOptions {
+            values: false,
+            formats: GivenFormats {
+                vout: None,
+                readings: [None; 8],
+            },
+            all: false,
+            long: false,
+            times: false,
+            json: false,
+            pages: false,
+            gap: 0,
+        }
+    }
+
+    /// Whether no option changes what is told.
+    pub(crate) fn is_plain(&self) -> bool
+        ensures { result ≡ is_plain self.now }
+    {
+        !(self.values | self.all | self.times | self.json | self.pages)
+    }
 }

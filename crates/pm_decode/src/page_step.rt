@@ -1,9 +1,11 @@
 //! What PAGE, as a capture shows it, says of a packet.
 ghost use Rattle.std.specs.Prelude.{◌≡◌, None, Some};
 ghost use Rattle.pm_trace.specs.ShownLines.{judged_in};
-ghost use Rattle.pm_decode.specs.PageSteps.{is_lost as spec_is_lost, is_unanswered as spec_is_unanswered, judged_address, marks_by, place_by, step_by};
+ghost use Rattle.pm_trace.specs.Pages.{contradicted};
+ghost use Rattle.pm_decode.specs.PageSteps.{is_lost as spec_is_lost, is_turned as spec_is_turned, is_unanswered as spec_is_unanswered, judged_address, marks_by, place_by, step_by, sure_page as spec_sure_page};
 ghost use Rattle.pm_decode.specs.ShownReadings.{packet_in};
 
+use crate::line_text::PacketLine;
 use pm_trace::{PageUse, Pages, Place, Shown, page_use};
 use pm_values::Packet;
 
@@ -24,29 +26,31 @@ pub(crate) struct Marks {
     pub(crate) reached: Option<u8>,
     /// The line that it contradicts.
     pub(crate) wrong: Option<u64>,
+    /// The page of its address, where that is known, and each packet of PAGE since then was good.
+    pub(crate) page: Option<u8>,
+    /// It reads another page than the one that was written last: the device restarted, or another host was there.
+    pub(crate) is_turned: bool,
 }
 
-/// A packet that comes at a time, where lines have one; `other` is its address if it is told by its code and bytes.
-pub(crate) fn page_step(
-    pages: &Pages,
-    gap: u64,
-    time: Option<u64>,
-    packet: &Packet<'_>,
-    shown: &Shown<'_>,
-    other: Option<u8>,
-) -> PageStep
-    ensures { result ≡ step_by gap time pages.now (packet_in packet.now) (judged_in shown.now) other }
+/// The packet of a line as it comes.
+pub(crate) fn page_step(pages: &Pages, gap: u64, line: &PacketLine<'_>) -> PageStep
+    ensures { result ≡ step_by gap line.now.time pages.now (packet_in line.now.packet) (judged_in line.now.shown.now) line.now.other }
 {
-    let addr = address_in(shown);
+    let addr = address_in(line.shown);
     PageStep {
         addr,
-        place: place_at(pages, gap, time, addr),
-        used: page_use(packet.write, is_lost(packet, other), shown),
+        place: place_at(pages, gap, line.time, addr),
+        used: page_use(
+            line.packet.write,
+            line.packet.is_read(),
+            is_lost(&line.packet, line.other),
+            line.shown,
+        ),
     }
 }
 
-// The address of a packet, where it has one.
-fn address_in(shown: &Shown<'_>) -> Option<u8>
+/// The address of a packet, where it has one.
+pub(crate) fn address_in(shown: &Shown<'_>) -> Option<u8>
     ensures { result ≡ judged_address (judged_in shown.now) }
 {
     match shown {
@@ -78,12 +82,28 @@ fn is_lost(packet: &Packet<'_>, other: Option<u8>) -> bool
     other.is_none() || is_unanswered(packet)
 }
 
-// Whether nobody answered: what was read is nothing but ones, or no byte and no PEC.
+// Whether nobody answered: there is nothing behind the address that was read from, or nothing but ones.
 fn is_unanswered(packet: &Packet<'_>) -> bool
     ensures { result ≡ spec_is_unanswered (packet_in packet.now) }
 {
-    let has_pec = packet.has_pec();
-    packet.is_all_ones() || !has_pec && matches!(packet.content(has_pec).answer, Some([]))
+    packet.is_all_ones() || matches!(packet.read, Some([] | [_]))
+}
+
+// The page of an address, where that is known, and each packet of PAGE since then was good.
+fn sure_page(place: &Place) -> Option<u8>
+    ensures { result ≡ spec_sure_page place.now }
+{
+    match (place.page, place.failed) {
+        (Some(said), None) => Some(said.page),
+        _ => None,
+    }
+}
+
+// Whether a packet reads another page than the one that was written last.
+fn is_turned(step: &PageStep) -> bool
+    ensures { result ≡ spec_is_turned step.now.used (contradicted step.now.place step.now.used) }
+{
+    matches!(step.used, PageUse::ReadBack(_)) && step.place.contradicted(step.used).is_some()
 }
 
 impl Marks {
@@ -95,6 +115,8 @@ impl Marks {
             lacks,
             reached: None,
             wrong: None,
+            page: None,
+            is_turned: false,
         }
     }
 
@@ -106,6 +128,8 @@ impl Marks {
             lacks,
             reached: step.place.output(step.used),
             wrong: step.place.contradicted(step.used),
+            page: sure_page(&step.place),
+            is_turned: is_turned(step),
         }
     }
 }

@@ -45,10 +45,12 @@ pub struct TellEnd {
 /// it are there.
 ///
 /// A bad line is written by its letters, and ends nothing: `BadLines` says that there is one. What may be wrong stands in the
-/// end, and isn't written. Takes memory for what is
-/// gathered, which is less than 16 KiB and what the lines of one piece of 512 bytes say, for the text of one line and of
-/// the counts, for the counts of codes, and for the format of each output and address that the capture teaches: none of
-/// it grows with the capture, but by a code, an output or an address that is new.
+/// end, and isn't written.
+///
+/// Takes memory for what is gathered, which is less than 16 KiB and what the lines of one piece of 512 bytes say; for the
+/// text of one line and of the counts, and the digits of a line's number; for the counts of codes, and for the format of each
+/// output and address that the capture teaches. None of it grows with the capture, but by a code, an output or an address
+/// that is new.
 ///
 /// # Errors
 ///

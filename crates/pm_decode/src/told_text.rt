@@ -2,8 +2,10 @@ ghost use Rattle.std.specs.Prelude.{◌≡◌};
 
 use crate::capture::Capture;
 use crate::heard_lines::HeardLines;
+use crate::line_number::LineNumber;
 use crate::options::TellOptions;
 use crate::timed_line::LineReading;
+use crate::usual_line::{Usual, push_usual, usual_of};
 use std::alloc::{AllocError, Global};
 use std::marker::Model;
 
@@ -13,6 +15,8 @@ pub(crate) struct ToldText {
     text: Vec<u8>,
     // Where the text of a line is made.
     line: String,
+    // The digits of the last usual line's number.
+    number: LineNumber,
 }
 
 impl Model for ToldText {
@@ -24,7 +28,8 @@ impl Model for ToldText {
 }
 
 impl ToldText {
-    ghost use Rattle.std.specs.Prelude.{[], ◌+◌, ◌<◌, ◌≤◌, ◌++◌, ◌^◌, OnErr, OnOk, length};
+    ghost use Rattle.std.specs.Prelude.{[], ◌+◌, ◌<◌, ◌≤◌, ◌++◌, ◌^◌, OnErr, OnOk, codes, decimal, length};
+    ghost use Rattle.pm_decode.specs.UsualLines.{code_counted, usual_text};
     ghost use Rattle.pm_decode.specs.CaptureText.{counts_text, line_text};
     ghost use Rattle.pm_decode.specs.Hearing.{heard_lines, heard_with};
     ghost use Rattle.pm_decode.specs.Readings.{Told};
@@ -37,6 +42,7 @@ impl ToldText {
         ToldText {
             text: Vec::new(alloc),
             line: String::new(alloc),
+            number: LineNumber::new(alloc),
         }
     }
 
@@ -62,7 +68,62 @@ impl ToldText {
     }
 
     /// Gathers what a line says, with its number, and has it heard.
+    #[tactic(auto, using(crate::proofs::UsualLemmas::usual_told, crate::proofs::UsualLemmas::usual_heard))]
     pub(crate) fn hear(
+        &mut self,
+        heard: &mut HeardLines,
+        options: &TellOptions,
+        number: u64,
+        line: &LineReading<'_>,
+    ) -> Result<(), AllocError>
+        requires { heard_lines heard.old + 1 < 2 ^ 64 }
+        ensures told { OnOk result (self.new
+            ≡ self.old ++ line_text options.now heard.old.known (number, Told (reading_in line.now))) }
+        ensures heard { OnOk result (heard.new ≡ heard_with options.now heard.old (number, Told (reading_in line.now))) }
+        ensures unchanged { OnErr result (self.new ≡ self.old) }
+        ensures few { heard_lines heard.new ≤ heard_lines heard.old + 1 }
+    {
+        if options.is_plain()
+            && line.time.is_none()
+            && let Ok(packet) = &line.packet
+            && let Some(usual) = usual_of(packet)
+        {
+            return self.hear_usual(heard, number, &usual);
+        }
+        self.hear_any(heard, options, number, line)
+    }
+
+    // Hears a usual packet, where no option changes what is told.
+    #[tactic(auto, using(crate::proofs::UsualLemmas::fronts))]
+    fn hear_usual(
+        &mut self,
+        heard: &mut HeardLines,
+        number: u64,
+        usual: &Usual,
+    ) -> Result<(), AllocError>
+        requires { heard_lines heard.old + 1 < 2 ^ 64 }
+        ensures told { OnOk result (self.new
+            ≡ self.old ++ (decimal number ++ (codes " " ++ (usual_text usual.now ++ codes "\n")))) }
+        ensures heard { OnOk result (heard.new ≡ record heard.old { counts = code_counted heard.old.counts usual.now.code }) }
+        ensures unchanged { OnErr result (self.new ≡ self.old) }
+        ensures few { heard_lines heard.new ≤ heard_lines heard.old + 1 }
+    {
+        let length = self.text.len();
+        let pushed = push_usual(&mut self.text, self.number.digits(number)?, usual);
+        if pushed.is_err() {
+            self.text.truncate(length);
+            return pushed;
+        }
+        let counted = heard.count_usual(usual.code);
+        if counted.is_err() {
+            self.text.truncate(length);
+        }
+        counted
+    }
+
+    // Hears any line, whatever the options are.
+    #[inline(never)]
+    fn hear_any(
         &mut self,
         heard: &mut HeardLines,
         options: &TellOptions,

@@ -210,7 +210,7 @@ static PAUSES: [(&str, &str); 1] = [(
 {\"line\":5,\"time\":4000,\"address\":\"58\",\"code\":\"03\",\"name\":\"CLEAR_FAULTS\",\"direction\":\"send\",\"pec\":false}\n\
 {\"line\":6,\"time\":4000,\"address\":\"58\",\"code\":\"00\",\"name\":\"PAGE\",\"direction\":\"read\",\"payload\":\"01\"}\n\
 {\"line\":7,\"time\":4000,\"address\":\"58\",\"code\":\"00\",\"name\":\"PAGE\",\"direction\":\"read\",\"payload\":\"FF\",\"pec\":false,\"answered\":false}\n\
-{\"line\":8,\"time\":4000,\"address\":\"58\",\"code\":\"03\",\"name\":\"CLEAR_FAULTS\",\"direction\":\"send\",\"wrong\":[7,8]}\n\
+{\"line\":8,\"time\":4000,\"address\":\"58\",\"page\":1,\"followed\":true,\"code\":\"03\",\"name\":\"CLEAR_FAULTS\",\"direction\":\"send\",\"wrong\":[7,8]}\n\
 {\"count\":\"PAGE\",\"lines\":3}\n{\"count\":\"CLEAR_FAULTS\",\"lines\":4}\n{\"code\":\"00\",\"lines\":1}\n\
 {\"lines\":8,\"accepted\":7,\"other\":1,\"faults\":0,\"bad\":0}\n",
 )];

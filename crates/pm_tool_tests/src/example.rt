@@ -4,14 +4,14 @@ use crate::checks::equal;
 use pm_decode::{TellOptions, tell};
 use pm_test_streams::{blank_paper, in_pieces};
 use pm_tool::{Sink, Source, TextFault, run};
-use pm_values::{GivenFormats, Packet, push_otherwise};
+use pm_values::{Packet, push_otherwise};
 use std::alloc::{AllocError, Global};
 use std::io::{Read, Write};
 use std::test::Fail;
 
 fn told_by_bytes(alloc: Global, write: &[u8]) -> Result<String, AllocError> {
     let mut text = String::new(alloc);
-    push_otherwise(&mut text, false, 0x58, &Packet { write, read: None })?;
+    push_otherwise(&mut text, false, 0x58, None, &Packet { write, read: None })?;
     Ok(text)
 }
 
@@ -22,16 +22,7 @@ fn told<R: Read + Drop, W: Write + Drop>(
 ) -> Result<W, TextFault> {
     let options = TellOptions {
         values: true, // a voltage in volts, a status register bit by bit
-        formats: GivenFormats {
-            vout: None, // the format that the trace itself teaches
-            readings: [None; 8],
-        },
-        all: false,
-        long: false,
-        times: false,
-        json: false,
-        pages: false,
-        gap: 0,
+        ..TellOptions::none()
     };
     let mut sink = Sink::new(paper);
     tell(alloc, &mut Source::new(trace), &mut sink, &options)?;

@@ -1,13 +1,12 @@
 -- PAGE as a trace shows it, address by address: the output that plain packets reach, and which lines contradict each other
 -- (PMBus 1.3 Part II, PAGE). A trace doesn't show a restart, so a page is what the trace says of it. What ends a page and
 -- what counts as a contradiction are this project's own choice.
-use Rattle.std.specs.Prelude.{ℕ, ◌-◌, Bool, true, false, ◌&&◌, ◌||◌, ◌==◌, nat_eq, nat_lt, nat_le, if◌then◌else◌, List, [], length, slice_index, unwrap_or, option_map, Option, Some, None}
+use Rattle.std.specs.Prelude.{ℕ, ◌-◌, Bool, true, false, not, ◌&&◌, ◌||◌, ◌==◌, nat_eq, nat_lt, nat_le, if◌then◌else◌, List, [], length, slice_index, unwrap_or, option_map, Option, Some, None}
 use Rattle.std.specs.Map.{lookup}
 use Rattle.indexmap.specs.IndexMap.{insert_entry}
 use Rattle.pm_frame.specs.declared.message.Message.{Message}
 use Rattle.pm_frame.specs.declared.message.Message.TheVariants.{SendByte, WriteByte, WriteWord, PagePlusWrite, ReadCommand, PagePlusRead, ReadCoefficients}
 use Rattle.pm_table.specs.Codes as command
-use Rattle.pm_table.specs.Commands.{Known, known_of}
 use Rattle.pm_trace.specs.Trace.{Judged, Accepted, Faulty, BadSyntax, BadHex}
 use Rattle.pm_trace.specs.declared.pages.PageLine.{PageLine}
 use Rattle.pm_trace.specs.declared.pages.PageUse.{PageUse}
@@ -16,13 +15,16 @@ use Rattle.pm_trace.specs.declared.pages.Place.{Place}
 
 -- ---- what a packet says of the page
 
--- the command table says that the code acts on one output
-abbrev pub acts_by : Option Known → Bool
-acts_by None = false
-acts_by (Some known) = known.paged
+-- The codes that PAGE doesn't select an output for: PAGE and PAGE_PLUS_WRITE to PAGE_PLUS_READ; WRITE_PROTECT, STORE and RESTORE,
+-- CAPABILITY and QUERY; COEFFICIENTS; PMBUS_REVISION and MFR_ID to MFR_SERIAL; IC_DEVICE_ID and IC_DEVICE_REV.
+abbrev pub is_of_device : ℕ → Bool
+is_of_device code = code == command.page || (code == command.page_plus_write || (code == command.page_plus_read
+    || ((nat_le 0x10 code && nat_le code 0x1A) || (code == command.coefficients
+    || ((nat_le command.pmbus_revision code && nat_le code 0x9E) || (code == 0xAD || code == 0xAE))))))
 
+-- a packet of a code that isn't PAGE and that names no page
 abbrev pub plain_use : ℕ → PageUse
-plain_use code = if acts_by (known_of code) then OfOutput else Beside
+plain_use code = if is_of_device code then Beside else OfOutput
 
 -- a good packet: one that carries its own page says nothing of PAGE
 abbrev pub accepted_use : Message → List ℕ → PageUse
@@ -38,15 +40,20 @@ accepted_use (ReadCoefficients code side) answer = Beside
 abbrev pub is_of_page : List ℕ → Bool
 is_of_page write = nat_le 2 (length write) && slice_index write 1 == command.page
 
--- any other packet; `lost` is whether nobody can say what it did
-abbrev pub other_use : List ℕ → Bool → PageUse
-other_use write lost = if is_of_page write then Failed lost else (if lost then Lost else Beside)
+-- a packet of PAGE may have written it: a stop ended its write part, or that has a byte behind the code
+abbrev pub may_write : List ℕ → Bool → Bool
+may_write write is_read = not is_read || nat_lt 2 (length write)
 
-abbrev pub use_of : List ℕ → Bool → Judged → PageUse
-use_of write lost (Accepted addr message answer) = accepted_use message (unwrap_or answer [])
-use_of write lost (Faulty addr read fault) = other_use write lost
-use_of write lost BadSyntax = Beside
-use_of write lost BadHex = Beside
+-- any other packet, with or without a read part; `lost` is whether nobody can say what it did
+abbrev pub other_use : List ℕ → Bool → Bool → PageUse
+other_use write is_read lost = if is_of_page write then Failed (may_write write is_read)
+    else (if lost then Lost else plain_use (slice_index write 1))
+
+abbrev pub use_of : List ℕ → Bool → Bool → Judged → PageUse
+use_of write is_read lost (Accepted addr message answer) = accepted_use message (unwrap_or answer [])
+use_of write is_read lost (Faulty addr read fault) = other_use write is_read lost
+use_of write is_read lost BadSyntax = Beside
+use_of write is_read lost BadHex = Beside
 
 -- ---- an address
 
@@ -64,6 +71,11 @@ is_apart gap None time = false
 is_apart gap (Some last) None = false
 is_apart gap (Some last) (Some time) = nat_lt time last || nat_lt gap (time - last)
 
+-- a line, where nothing was lost behind it
+abbrev pub line_since : ℕ → Option ℕ → Option ℕ
+line_since lost None = None
+line_since lost (Some line) = if nat_lt lost line then Some line else None
+
 -- the page isn't known any more
 abbrev pub ended : Place → Place
 ended place = record place { page = None; written = None }
@@ -73,18 +85,18 @@ abbrev pub come : ℕ → ℕ → Option ℕ → Place → Place
 come lost gap time place = record {
   page = if is_apart gap place.time time then None else kept_since lost place.page;
   written = if is_apart gap place.time time then None else kept_since lost place.written;
-  failed = place.failed;
+  failed = if is_apart gap place.time time then None else line_since lost place.failed;
   time = time;
 }
 
 -- ---- what the place says of a packet
 
--- the output that the packet reaches, where it names none
+-- the output that the packet reaches, where it names none and PAGE selects one for its code
 abbrev pub output_by : Option PageLine → PageUse → Option ℕ
 output_by page OfOutput = option_map (λ said. said.page) page
 output_by page (Written number) = None
 output_by page (ReadBack number) = None
-output_by page (Failed lost) = None
+output_by page (Failed writes) = None
 output_by page Lost = None
 output_by page Beside = None
 
@@ -97,12 +109,12 @@ written_else number None = None
 written_else number (Some said) = if said.page == number then None else Some said.line
 
 -- The line that the packet contradicts: a page is read that isn't the one written last, or a packet acts on an output and
--- names none where the last packet of PAGE wasn't good.
+-- names none where a packet of PAGE wasn't good, and no good one came since then.
 abbrev pub contradicted : Place → PageUse → Option ℕ
 contradicted place (ReadBack number) = written_else number place.written
 contradicted place OfOutput = place.failed
 contradicted place (Written number) = None
-contradicted place (Failed lost) = None
+contradicted place (Failed writes) = None
 contradicted place Lost = None
 contradicted place Beside = None
 
@@ -112,18 +124,23 @@ contradicted place Beside = None
 abbrev pub said_in : ℕ → ℕ → PageLine
 said_in line number = record { page = number; line = line }
 
+-- A packet of PAGE that isn't good: behind a read the page is what it was, behind one that may have written it nobody knows
+-- which it is.
+abbrev pub unsure : ℕ → Bool → Place → Place
+unsure line writes place = record (if writes then ended place else place) { failed = Some line }
+
 -- behind the packet in this line; `doubted` is whether a byte of it wasn't acknowledged
 abbrev pub behind : ℕ → Bool → Place → PageUse → Place
-behind line doubted place (Written number) = if doubted then record place { failed = Some line } else record place {
+behind line doubted place (Written number) = if doubted then unsure line true place else record place {
   page = Some (said_in line number);
   written = Some (said_in line number);
   failed = None;
 }
-behind line doubted place (ReadBack number) = if doubted then record place { failed = Some line } else record place {
+behind line doubted place (ReadBack number) = if doubted then unsure line false place else record place {
   page = Some (said_in line number);
   failed = None;
 }
-behind line doubted place (Failed lost) = record (if lost then ended place else place) { failed = Some line }
+behind line doubted place (Failed writes) = unsure line writes place
 behind line doubted place Lost = ended place
 behind line doubted place OfOutput = place
 behind line doubted place Beside = place

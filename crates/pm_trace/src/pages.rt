@@ -1,15 +1,15 @@
 //! PAGE as a trace shows it, address by address.
 ghost use Rattle.std.specs.Prelude.{◌≡◌};
 ghost use Rattle.pm_trace.specs.Pages.{behind, contradicted, output_of, use_of};
-ghost use Rattle.pm_trace.specs.Pages.{accepted_use as spec_accepted_use, is_of_page as spec_is_of_page, other_use as spec_other_use, plain_use as spec_plain_use};
-ghost use Rattle.pm_trace.specs.Pages.{is_apart as spec_is_apart, kept_since as spec_kept_since, written_else as spec_written_else};
+ghost use Rattle.pm_trace.specs.Pages.{accepted_use as spec_accepted_use, is_of_device as spec_is_of_device, is_of_page as spec_is_of_page, other_use as spec_other_use, plain_use as spec_plain_use};
+ghost use Rattle.pm_trace.specs.Pages.{is_apart as spec_is_apart, kept_since as spec_kept_since, line_since as spec_line_since, written_else as spec_written_else};
 ghost use Rattle.pm_trace.specs.ShownLines.{judged_in};
 
 use crate::shown::Shown;
 use crate::shown_text::answered;
 use indexmap::IndexMap;
 use pm_frame::Message;
-use pm_table::{Code, known};
+use pm_table::Code;
 use std::alloc::{AllocError, Global};
 use std::marker::Model;
 
@@ -20,11 +20,11 @@ pub enum PageUse {
     Written(u8),
     /// A good read of PAGE: the page.
     ReadBack(u8),
-    /// A packet of PAGE that isn't good, and whether nobody can say what it did.
+    /// A packet of PAGE that isn't good, and whether it may have written PAGE.
     Failed(bool),
     /// Another packet of which nobody can say what it did.
     Lost,
-    /// A good packet that acts on an output and names none.
+    /// A packet that acts on an output and names none.
     OfOutput,
     /// Any other packet.
     Beside,
@@ -46,7 +46,7 @@ pub struct Place {
     pub page: Option<PageLine>,
     /// The last good write of PAGE.
     pub written: Option<PageLine>,
-    /// The line of a packet of PAGE that wasn't good, until a good one comes.
+    /// The line of a packet of PAGE that wasn't good, until a good one comes, or something is lost.
     pub failed: Option<u64>,
     /// The time of the last packet, in microseconds, where lines have one.
     pub time: Option<u64>,
@@ -64,7 +64,7 @@ impl Place {
     }
 
     /// The line that a packet contradicts: a page is read that isn't the one written last, or a packet acts on an output
-    /// and names none where the last packet of PAGE wasn't good.
+    /// and names none where a packet of PAGE wasn't good, and no good one came since then.
     pub fn contradicted(&self, used: PageUse) -> Option<u64>
         ensures { result ≡ contradicted self.now used }
     {
@@ -92,11 +92,11 @@ impl Place {
                 failed: None,
                 time: self.time,
             },
-            PageUse::Written(_) | PageUse::ReadBack(_) | PageUse::Failed(false) => Place {
+            PageUse::ReadBack(_) | PageUse::Failed(false) => Place {
                 failed: Some(line),
                 ..self
             },
-            PageUse::Failed(true) => Place {
+            PageUse::Written(_) | PageUse::Failed(true) => Place {
                 page: None,
                 written: None,
                 failed: Some(line),
@@ -146,7 +146,8 @@ impl Pages {
         }
     }
 
-    /// Something was lost in this line, of nobody knows which address: no page is known any more.
+    /// Something was lost in this line, of nobody knows which address: no page is known any more, nor whether a packet of
+    /// PAGE was good.
     pub fn lose(&mut self, line: u64)
         ensures { self.new ≡ lost_in line self.old }
     {
@@ -161,7 +162,7 @@ impl Pages {
     }
 
     /// What is known of an address when a packet comes at a time, where lines have one: behind a pause of more than `gap`
-    /// microseconds, or a time before the last one, a page isn't known any more.
+    /// microseconds, or a time before the last one, nothing is known any more.
     pub fn place(&self, gap: u64, time: Option<u64>, addr: u8) -> Place
         ensures { result ≡ place_in gap time self.now addr }
     {
@@ -170,17 +171,12 @@ impl Pages {
             None => NOWHERE,
         };
         if is_apart(gap, place.time, time) {
-            return Place {
-                page: None,
-                written: None,
-                failed: place.failed,
-                time,
-            };
+            return Place { time, ..NOWHERE };
         }
         Place {
             page: kept_since(self.lost, place.page),
             written: kept_since(self.lost, place.written),
-            failed: place.failed,
+            failed: line_since(self.lost, place.failed),
             time,
         }
     }
@@ -234,6 +230,16 @@ fn kept_since(lost: u64, said: Option<PageLine>) -> Option<PageLine>
     }
 }
 
+// A line, where nothing was lost behind it.
+fn line_since(lost: u64, line: Option<u64>) -> Option<u64>
+    ensures { result ≡ spec_line_since lost line }
+{
+    match line {
+        Some(line) if lost < line => Some(line),
+        _ => None,
+    }
+}
+
 // The line that wrote another page than this one.
 fn written_else(page: u8, written: Option<PageLine>) -> Option<u64>
     ensures { result ≡ spec_written_else page written }
@@ -244,14 +250,14 @@ fn written_else(page: u8, written: Option<PageLine>) -> Option<u64>
     }
 }
 
-/// What a packet says of the PAGE of its address, by its write part and what it is shown as; of one that isn't good `lost`
-/// is whether nobody can say what it did.
-pub fn page_use(write: &[u8], lost: bool, shown: &Shown<'_>) -> PageUse
-    ensures { result ≡ use_of write.now lost (judged_in shown.now) }
+/// What a packet says of the PAGE of its address, by its write part, by whether it has a read part, and by what it is shown
+/// as; of one that isn't good `lost` is whether nobody can say what it did.
+pub fn page_use(write: &[u8], is_read: bool, lost: bool, shown: &Shown<'_>) -> PageUse
+    ensures { result ≡ use_of write.now is_read lost (judged_in shown.now) }
 {
     match shown {
         Shown::Accepted { view, answer, .. } => accepted_use(&view.message(), answered(*answer)),
-        Shown::Faulty { .. } => other_use(write, lost),
+        Shown::Faulty { .. } => other_use(write, is_read, lost),
         Shown::BadSyntax | Shown::BadHex => PageUse::Beside,
     }
 }
@@ -275,26 +281,42 @@ fn accepted_use(message: &Message, answer: &[u8]) -> PageUse
     }
 }
 
-// What a good packet of a code says that isn't PAGE and that names no page.
+// What a packet of a code says that isn't PAGE and that names no page.
 fn plain_use(code: u8) -> PageUse
     ensures { result ≡ spec_plain_use code }
 {
-    match known(Code(code)) {
-        Some(info) if info.paged => PageUse::OfOutput,
-        _ => PageUse::Beside,
+    if is_of_device(code) {
+        PageUse::Beside
+    } else {
+        PageUse::OfOutput
     }
 }
 
+// Whether PAGE selects no output for a code: PAGE and those of PAGE_PLUS; WRITE_PROTECT, STORE and RESTORE, CAPABILITY and
+// QUERY; COEFFICIENTS; PMBUS_REVISION and MFR_ID to MFR_SERIAL; IC_DEVICE_ID and IC_DEVICE_REV.
+fn is_of_device(code: u8) -> bool
+    ensures { result ≡ spec_is_of_device code }
+{
+    Code(code) == Code::PAGE
+        || Code(code) == Code::PAGE_PLUS_WRITE
+        || Code(code) == Code::PAGE_PLUS_READ
+        || (0x10 <= code && code <= 0x1A)
+        || Code(code) == Code::COEFFICIENTS
+        || (Code::PMBUS_REVISION.0 <= code && code <= 0x9E)
+        || code == 0xAD
+        || code == 0xAE
+}
+
 // What a packet says that isn't good.
-fn other_use(write: &[u8], lost: bool) -> PageUse
-    ensures { result ≡ spec_other_use write.now lost }
+fn other_use(write: &[u8], is_read: bool, lost: bool) -> PageUse
+    ensures { result ≡ spec_other_use write.now is_read lost }
 {
     if is_of_page(write) {
-        PageUse::Failed(lost)
+        PageUse::Failed(!is_read || write.len() > 2)
     } else if lost {
         PageUse::Lost
     } else {
-        PageUse::Beside
+        plain_use(write.get(1).copied().unwrap_or(0))
     }
 }
 

@@ -76,9 +76,9 @@ impl Tally {
         Ok(())
     }
 
-    // Counts a line that was accepted, of this code.
+    /// Counts a line that was accepted, of this code, as `count` does.
     #[tactic(auto, using(crate::specs::Lemmas::Counts::total_one_more))]
-    fn count_accepted(&mut self, code: u8) -> Result<(), AllocError>
+    pub fn count_accepted(&mut self, code: u8) -> Result<(), AllocError>
         requires { lines_in self.old + 1 < 2 ^ 64 }
         ensures ok { OnOk result (self.new ≡ record self.old {
           accepted = self.old.accepted + 1;

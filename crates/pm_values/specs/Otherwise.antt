@@ -244,14 +244,17 @@ abbrev pub verdict_text : Bool → Bool → List ℕ
 verdict_text is_right is_ones = if is_right then codes ", PEC right"
     else (if is_ones then codes ", all ones: nobody answered" else codes ", no PEC")
 
-abbrev pub content_page : Option ℕ → List ℕ
-content_page None = []
-content_page (Some page) = codes " page " ++ decimal page
+-- the page of a carried code, or with a question mark the output that PAGE selects
+abbrev pub content_page : Option ℕ → Option ℕ → List ℕ
+content_page (Some page) named = codes " page " ++ (decimal page ++ codes "?")
+content_page None None = []
+content_page None (Some page) = codes " page " ++ decimal page
 
-unfoldable pub content_text : Bool → ContentBytes → List ℕ
-content_text values content = content_page content.page ++ (codes " code " ++ (hex_byte content.code
+-- `reached` is the output that PAGE selects, where that is followed
+unfoldable pub content_text : Bool → Option ℕ → ContentBytes → List ℕ
+content_text values reached content = content_page reached content.page ++ (codes " code " ++ (hex_byte content.code
     ++ (named content.code ++ (carried_by content.written content.answer ++ content_meaning values content))))
 
-unfoldable pub other_text : Bool → ℕ → List ℕ → Option (List ℕ) → List ℕ
-other_text values addr write read = hex_byte addr ++ (content_text values (content_of write read)
+unfoldable pub other_text : Bool → ℕ → Option ℕ → List ℕ → Option (List ℕ) → List ℕ
+other_text values addr reached write read = hex_byte addr ++ (content_text values reached (content_of write read)
     ++ verdict_text (has_pec write read) (is_all_ones write read))

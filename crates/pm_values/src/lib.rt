@@ -9,7 +9,7 @@
 //! ```
 //! fn told_by_bytes(alloc: Global, write: &[u8]) -> Result<String, AllocError> {
 //!     let mut text = String::new(alloc);
-//!     push_otherwise(&mut text, false, 0x58, &Packet { write, read: None })?;
+//!     push_otherwise(&mut text, false, 0x58, None, &Packet { write, read: None })?;
 //!     Ok(text)
 //! }
 //! ```
@@ -31,13 +31,13 @@ pub use code_names::standard_name;
 pub use content::Content;
 pub use formats::{GivenFormats, ReadingFormat};
 pub use laws::microvolts_are_the_floor;
-pub use lessons::Lessons;
-pub use meaning::{other_value, packet_value};
+pub use lessons::{Lessons, ModeChange, mode_change};
+pub use meaning::{GoodPacket, other_value, packet_value};
 pub use otherwise::{address_otherwise, completed_part, push_otherwise, push_spaced, shown_with};
 pub use packet::Packet;
 pub use status::{Row, Status};
 pub use value::{Unit, Value};
 pub use value_text::{
-    millionths, operation_words, protection_words, push_capability, push_known, push_millionths,
-    push_mode, push_names, push_on_off,
+    NameMarks, millionths, operation_words, protection_words, push_capability, push_known,
+    push_millionths, push_mode, push_names, push_on_off,
 };

@@ -11,27 +11,38 @@ use pm_frame::FrameView;
 use pm_num::{AnyFormat, NumFormat};
 use pm_table::{Code, Operation, VoutMode};
 
-/// What a packet at an address means, by its payload, or by what was answered; `None` where its code is told without a
-/// value, or where no format of its number is known. `reached` is the output that a packet reaches which names none, where
-/// that is known.
+/// A good packet.
+#[derive(Clone, Copy, Debug)]
+pub struct GoodPacket<'a> {
+    /// The device's address.
+    pub addr: u8,
+    /// The output that it reaches if it names none, where that is known.
+    pub reached: Option<u8>,
+    /// What was written, or what was asked for.
+    pub view: &'a FrameView<'a>,
+    /// The payload of the answer to a request.
+    pub answer: Option<&'a [u8]>,
+}
+
+/// What a good packet means, by its payload, or by what was answered; `None` where its code is told without a value, or
+/// where no format of its number is known.
 pub fn packet_value(
     given: &GivenFormats,
     lessons: &Lessons,
-    addr: u8,
-    reached: Option<u8>,
-    view: &FrameView<'_>,
-    answer: Option<&[u8]>,
+    packet: &GoodPacket<'_>,
 ) -> Option<Value>
-    ensures { result ≡ spec_packet_value given.now lessons.now addr reached view.now (option_map (λ bytes. bytes.now) answer.entry) }
+    ensures { result ≡ spec_packet_value given.now lessons.now packet.now.addr packet.now.reached packet.now.view.now
+        (option_map (λ bytes. bytes.now) packet.now.answer) }
 {
-    let output = match view.page() {
+    let code = packet.view.code();
+    let output = match packet.view.page() {
         Some(page) => Some(page),
-        None => reached,
+        None => packet.reached,
     };
-    let format = lessons.format(given, addr, output, view.code());
-    match answer {
-        Some(answer) => code_value(format, view.code(), answer),
-        None => code_value(format, view.code(), view.payload()),
+    let format = lessons.format(given, packet.addr, output, code);
+    match packet.answer {
+        Some(answer) => code_value(format, code, answer),
+        None => code_value(format, code, packet.view.payload()),
     }
 }
 

@@ -142,20 +142,22 @@ pub fn push_spaced(text: &mut String, bytes: &[u8]) -> Result<(), AllocError>
     push_spaced(text, rest)
 }
 
-/// Appends a packet by its code and bytes to a text, with what the bytes say where `values` asks for that.
+/// Appends a packet by its code and bytes to a text, with what the bytes say where `values` asks for that. `reached` is the
+/// output that PAGE selects, where that is followed.
 #[tactic(auto, using(pm_lines::specs::Lemmas::Joins::joins), unfolding(crate::specs::Otherwise::other_text))]
 pub fn push_otherwise(
     text: &mut String,
     values: bool,
     addr: u8,
+    reached: Option<u8>,
     packet: &Packet<'_>,
 ) -> Result<(), AllocError>
     ensures { OnOk result (string_bytes text.new ≡ string_bytes text.old
-        ++ other_text values addr packet.now.write.now (option_map (λ bytes. bytes.now) packet.now.read)) }
+        ++ other_text values addr reached packet.now.write.now (option_map (λ bytes. bytes.now) packet.now.read)) }
 {
     let has_pec = packet.has_pec();
     push_hex(text, addr)?;
-    push_content(text, values, &packet.content(has_pec))?;
+    push_content(text, values, reached, &packet.content(has_pec))?;
     text.push_str(verdict(has_pec, packet.is_all_ones()))
 }
 
@@ -174,10 +176,15 @@ fn verdict(is_right: bool, is_ones: bool) -> &'static str
 
 // The page, the code and the bytes of a packet, and what they say.
 #[tactic(auto, using(pm_lines::specs::Lemmas::Joins::joins), unfolding(crate::specs::Otherwise::content_text))]
-fn push_content(text: &mut String, values: bool, content: &Content<'_>) -> Result<(), AllocError>
-    ensures { OnOk result (string_bytes text.new ≡ string_bytes text.old ++ content_text values (content_in content.now)) }
+fn push_content(
+    text: &mut String,
+    values: bool,
+    reached: Option<u8>,
+    content: &Content<'_>,
+) -> Result<(), AllocError>
+    ensures { OnOk result (string_bytes text.new ≡ string_bytes text.old ++ content_text values reached (content_in content.now)) }
 {
-    push_page(text, content.page)?;
+    push_page(text, reached, content.page)?;
     text.push_str(" code ")?;
     push_hex(text, content.code)?;
     push_named(text, standard_name(content.code))?;
@@ -185,16 +192,23 @@ fn push_content(text: &mut String, values: bool, content: &Content<'_>) -> Resul
     push_meaning(text, values, content)
 }
 
-// The page of a carried code.
+// The page of a carried code, or with a question mark the output that PAGE selects.
 #[tactic(auto, using(pm_lines::specs::Lemmas::Joins::joins))]
-fn push_page(text: &mut String, page: Option<u8>) -> Result<(), AllocError>
-    ensures { OnOk result (string_bytes text.new ≡ string_bytes text.old ++ content_page page) }
+fn push_page(text: &mut String, reached: Option<u8>, named: Option<u8>) -> Result<(), AllocError>
+    ensures { OnOk result (string_bytes text.new ≡ string_bytes text.old ++ content_page reached named) }
 {
-    let Some(page) = page else {
-        return Ok(());
-    };
-    text.push_str(" page ")?;
-    push_decimal(text, u64::from(page))
+    match (reached, named) {
+        (Some(page), _) => {
+            text.push_str(" page ")?;
+            push_decimal(text, u64::from(page))?;
+            text.push_str("?")
+        }
+        (None, None) => Ok(()),
+        (None, Some(page)) => {
+            text.push_str(" page ")?;
+            push_decimal(text, u64::from(page))
+        }
+    }
 }
 
 // The name of a code, where it has one.

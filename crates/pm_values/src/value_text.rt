@@ -220,7 +220,7 @@ fn push_flags(text: &mut String, status: Status, bits: u16) -> Result<(), AllocE
     if bits == 0 {
         return text.push_str("none");
     }
-    push_names(text, ", ", "", status.rows(), bits, true)
+    push_names(text, &PLAIN, status.rows(), bits, true)
 }
 
 /// Appends a byte of CAPABILITY to a text, as `PEC, 400 kHz, SMBALERT#`.
@@ -230,7 +230,7 @@ pub fn push_capability(text: &mut String, byte: u8) -> Result<(), AllocError>
 {
     text.push_str(pec_words(byte))?;
     text.push_str(speed_words(byte))?;
-    push_names(text, ", ", "", capability_rows(), u16::from(byte), false)
+    push_names(text, &PLAIN, capability_rows(), u16::from(byte), false)
 }
 
 // Whether CAPABILITY has PEC.
@@ -263,7 +263,7 @@ pub fn push_on_off(text: &mut String, byte: u8) -> Result<(), AllocError>
 {
     text.push_str(switch_words(byte))?;
     push_control(text, byte)?;
-    push_names(text, ", ", "", on_off_rows(), u16::from(byte), false)
+    push_names(text, &PLAIN, on_off_rows(), u16::from(byte), false)
 }
 
 // What turns an output on and off.
@@ -319,27 +319,46 @@ fn delay_words(byte: u8) -> &'static str
     }
 }
 
-/// Appends the names of the bits that are set to a text, with a text around each name, and one between two of them.
+/// What stands around each of several names, and between two of them.
+#[derive(Clone, Copy, Debug)]
+pub struct NameMarks<'a> {
+    /// Before and behind each name.
+    pub around: &'a str,
+    /// Between two names.
+    pub between: &'a str,
+}
+
+/// As names are told to a person.
+const PLAIN: NameMarks<'static> = NameMarks {
+    around: "",
+    between: ", ",
+};
+
+/// Appends the names of the bits that are set to a text; `is_first` is whether none stands before them.
 #[tactic(auto, using(pm_lines::specs::Lemmas::Joins::joins))]
 pub fn push_names(
     text: &mut String,
-    between: &str,
-    around: &str,
+    marks: &NameMarks<'_>,
     rows: &[Row],
     bits: u16,
     is_first: bool,
 ) -> Result<(), AllocError>
     ensures { OnOk result (string_bytes text.new ≡ string_bytes text.old
-        ++ names_from between.now around.now is_first (map (λ row. (row.0, row.1.now)) rows.now) bits) }
+        ++ names_from marks.now.between.now marks.now.around.now is_first (map (λ row. (row.0, row.1.now)) rows.now) bits) }
 {
     let [(bit, name), rest @ ..] = rows else {
         return Ok(());
     };
     if bits & *bit == 0 {
-        return push_names(text, between, around, rest, bits, is_first);
+        return push_names(text, marks, rest, bits, is_first);
     }
-    push_name(text, if is_first { "" } else { between }, around, name)?;
-    push_names(text, between, around, rest, bits, false)
+    push_name(
+        text,
+        if is_first { "" } else { marks.between },
+        marks.around,
+        name,
+    )?;
+    push_names(text, marks, rest, bits, false)
 }
 
 // Appends a name with a text around it, and another text before both.

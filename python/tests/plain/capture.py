@@ -2,7 +2,7 @@
 import re
 
 from . import trace
-from .following import Pages
+from .following import Pages, is_good_page
 from .lines import MOST_BYTES, TextFault, decimal, is_skipped, lines_of
 from .numbers import coefficients_fault
 from .packets import VOUT_CODES, name_of
@@ -127,9 +127,11 @@ class Telling:
         self.say(number, time, packet, (frame, read), wrong)
         if self.beyond is None and self.is_beyond(packet):
             self.beyond = number
+        is_turned = wrong is not None and is_good_page(packet)
+        self.formats.forget(packet, frame, read, self.pages.sure_page(packet) if self.pages else None, is_turned)
         self.formats.learn(packet)
         if self.pages:
-            self.pages.learn(number, packet, frame)
+            self.pages.learn(number, packet, frame, read)
 
     def say(self, number, time, packet, parts, wrong):
         value, has_values = self.value(packet), "--values" in self.options

@@ -26,6 +26,7 @@ GAPS = ["0", "1", "5", "1000", "1000000", "0000999"]
 NO_GAPS = ["", "x", "-1", "+1", "1000001", "00000001", "1.5"]
 SWITCHES = ["--all", "--long", "--times", "--json", "--pages"]
 COMMENTS = [b"#", b"# no stop: B0 05 04", b"# another device: A0 00 01", b"# another device", b"# another devic", b"#another device",
+            b"# no device acknowledged the address: B1", b"# no device acknowledged the addres",
             b"# byte 2 wasn't acknowledged", b"# byte", b"#  byte 0", b"# byte 0 of the answer wasn't acknowledged",
             b"# failed (-5): B0 00 / B1", b" # x"]
 

@@ -1,21 +1,29 @@
 """PAGE as a trace shows it, address by address: which page plain packets reach, and where the trace contradicts itself."""
-from .packets import CODES, TABLE
+from .packets import CODES
 
 PAGE = CODES["PAGE"]
-# Comments of `pmhost capture`: one that says nothing of the devices whose packets are lines, and one above a packet of which
+# Codes that PAGE selects no output for: PAGE and those of PAGE_PLUS, WRITE_PROTECT to QUERY, COEFFICIENTS, PMBUS_REVISION to
+# MFR_SERIAL, IC_DEVICE_ID and IC_DEVICE_REV.
+OF_DEVICE = {0x00, 0x05, 0x06, *range(0x10, 0x1B), 0x30, *range(0x98, 0x9F), 0xAD, 0xAE}
+# Comments of `pmhost capture`: those that say nothing of the devices whose packets are lines, and one above a packet of which
 # a byte wasn't acknowledged.
-ELSEWHERE, UNACKNOWLEDGED = b"# another device", b"# byte "
+ELSEWHERE, UNACKNOWLEDGED = (b"# another device", b"# no device acknowledged the address"), b"# byte "
 
 
 class Place:
-    """An address: its page, or None; the line and the page of its last good write of PAGE, until something ends it; the line of
-    a packet of PAGE that wasn't good, until a good one comes; and the time of its last line."""
+    """An address: its page, or None; the line and the page of its last good write of PAGE; the line of a packet of PAGE that
+    wasn't good, until a good one comes; each until something ends it; and the time of its last line."""
 
     def __init__(self):
         self.page = self.written = self.broken = self.time = None
 
     def end(self):
+        """No page is known any more."""
         self.page = self.written = None
+
+    def lose(self):
+        """Nothing is known any more, nor whether the last packet of PAGE was good."""
+        self.page = self.written = self.broken = None
 
 
 class Pages:
@@ -30,13 +38,13 @@ class Pages:
     def lose(self):
         """Something was lost, nobody knows of which address."""
         for place in self.places.values():
-            place.end()
+            place.lose()
 
     def comment(self, line):
-        if not line.startswith(ELSEWHERE):
-            self.lose()
         if line.startswith(UNACKNOWLEDGED):
             self.is_unacknowledged = True
+        elif not line.startswith(ELSEWHERE):
+            self.lose()
 
     def come(self, packet, time):
         """A packet comes at a time, or at None."""
@@ -44,7 +52,7 @@ class Pages:
             return
         place = self.place(packet["address"])
         if None not in (time, place.time) and not 0 <= time - place.time <= self.gap:
-            place.end()
+            place.lose()
         place.time = time
 
     def followed(self, packet):
@@ -62,30 +70,35 @@ class Pages:
             return [place.written[0], number]
         return [place.broken, number] if is_of_output(packet) and place.broken is not None else None
 
-    def learn(self, number, packet, frame):
+    def sure_page(self, packet):
+        """The page of a packet's address, where it is known and each packet of PAGE since then was good."""
+        place = Place() if packet["address"] is None else self.place(packet["address"])
+        return place.page if place.broken is None else None
+
+    def learn(self, number, packet, frame, read):
         """What the packet, which was told, says of its address's page."""
         was_unacknowledged, self.is_unacknowledged = self.is_unacknowledged, False
         if packet["address"] is None:
             return
         place = self.place(packet["address"])
-        if packet["kind"] == "fault" or packet["kind"] == "other" and (packet["is_ones"] or is_unanswered(packet)):
-            place.end()
         if is_good_page(packet) and not was_unacknowledged:
             place.page, place.broken = packet["payload"][0], None
             if packet["kind"] == "write":
                 place.written = number, place.page
         elif frame[1:2] == [PAGE]:
+            # A read changes no page: its write part is the address and the code.
+            if read is None or len(frame) > 2:
+                place.end()
             place.broken = number
+        elif packet["kind"] == "fault" or packet["kind"] == "other" and packet["is_lost"]:
+            place.end()
 
 
 def is_of_output(packet):
-    """Whether a packet of the table acts on an output and doesn't name it."""
-    return packet["kind"] in ("read", "write") and packet["page"] is None and TABLE[packet["code"]][4] == "output"
+    """Whether a packet that isn't a fault acts on an output and doesn't name it."""
+    is_told = packet["kind"] in ("read", "write") or packet["kind"] == "other" and not packet["is_lost"]
+    return is_told and packet["page"] is None and packet["code"] not in OF_DEVICE
 
 
 def is_good_page(packet):
     return packet["kind"] in ("read", "write") and packet["code"] == PAGE
-
-
-def is_unanswered(packet):
-    return packet["got"] == [] and not packet["pec"]

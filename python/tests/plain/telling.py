@@ -27,7 +27,7 @@ def of_all(packet, frame, read):
     is_answer = read is None or read[:1] == [frame[0] + 1]
     is_right = is_closed(frame, read)
     if read is not None and is_answer and {*read[1:]} == {0xFF} and not is_right:
-        return carried({**otherwise(packet["address"], frame, read), "is_ones": True}, frame, read)
+        return carried({**otherwise(packet["address"], frame, read), "is_ones": True, "is_lost": True}, frame, read)
     if packet["fault"][0] == "F2 Short":
         message = [*frame, *(read or [])]
         whole = judged([*frame, pec(message)], None) if read is None else judged(frame, [*read, pec(message)])
@@ -47,12 +47,12 @@ def is_closed(frame, read):
 
 
 def otherwise(address, frame, read):
-    """A packet by its code and bytes, and whether its last byte is its PEC."""
+    """A packet by its code and bytes, whether its last byte is its PEC, and whether nobody answered."""
     last, before = (frame, 2) if read is None else (read, 1)
     shown = last[before:-1] if is_closed(frame, read) else last[before:]
     written, got = (shown, None) if read is None else (frame[2:], shown)
     return {"kind": "other", "address": address, "page": None, "code": frame[1], "written": written, "got": got,
-            "pec": is_closed(frame, read), "is_ones": False}
+            "pec": is_closed(frame, read), "is_ones": False, "is_lost": read is not None and len(read) < 2}
 
 
 def carried(packet, frame, read):
@@ -98,7 +98,7 @@ def other_text(packet, value):
     written, got = packet["written"], packet["got"]
     words = [f"{packet['address']:02X}"]
     if packet["page"] is not None:
-        words.append(f"page {packet['page']}")
+        words.append(f"page {packet['page']}" + "?" * packet.get("followed", False))
     words.append(f"code {packet['code']:02X}")
     if packet["code"] in NAMES:
         words.append(NAMES[packet["code"]])
@@ -117,7 +117,8 @@ def other_fields(packet, value):
     direction, shown, before = "read", got, spaced(written) or None
     if got is None:
         direction, shown, before = ("write" if written else "send"), written, None
-    return {"page": packet["page"], "code": f"{packet['code']:02X}", "name": NAMES.get(packet["code"]), "direction": direction,
+    return {"page": packet["page"], "followed": packet.get("followed"), "code": f"{packet['code']:02X}",
+            "name": NAMES.get(packet["code"]), "direction": direction,
             "written": before, "payload": spaced(shown) or None, **value, "pec": packet["pec"],
             "answered": False if packet["is_ones"] else None}
 

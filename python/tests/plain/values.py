@@ -23,6 +23,10 @@ UNITS = {"READ_VIN": "volts", "READ_IOUT": "amperes", "READ_TEMPERATURE_1": "cel
 LETTERS = {"volts": "V", "amperes": "A", "celsius": "C"}
 MODE, READINGS = CODES["VOUT_MODE"], tuple(map(CODES.get, UNITS))
 DIRECT = 0x40
+# RESTORE_DEFAULT_ALL, RESTORE_DEFAULT_CODE, RESTORE_USER_ALL, RESTORE_USER_CODE.
+RESTORES = (0x12, 0x14, 0x16, 0x18)
+# A mode that isn't known any more.
+OVER = "over"
 
 
 class Rounded(int):
@@ -93,9 +97,19 @@ def words_of_value(fields):
     return f" {fields['value']}" if "value" in fields else ""
 
 
+def pages_changed(frame, page):
+    """The pages whose mode a write may have changed, None for all, by its bytes alone."""
+    code, data = frame[1:2], frame[2:]
+    if code == [CODES["PAGE_PLUS_WRITE"]]:
+        page, code, data = (data + [0, 0])[1], data[2:3], data[3:]
+    if code and code[0] in RESTORES:
+        return [None]
+    return [page] if code == [MODE] and data else []
+
+
 class Formats:
-    """What a trace taught of formats: the last mode of each address and page, the addresses that showed ULINEAR16, the last
-    coefficients of each address and code. `vout` is the format of other voltages, or None; `readings` are those of readings:
+    """What a trace taught of formats: the last mode of each address and page, or OVER where it may have changed since then, the
+    addresses that showed ULINEAR16, the last coefficients of each address and code. `vout` is the format of other voltages, or None; `readings` are those of readings:
     for an address or None and a code or None a format, the first that fits."""
 
     def __init__(self, vout, readings):
@@ -112,6 +126,18 @@ class Formats:
             if packet["payload"][0] < 0x20:
                 self.linear.add(packet["address"])
 
+    def forget(self, packet, frame, read, page, is_turned):
+        """What a packet may have changed: `page` is that of plain packets, where it is sure; `is_turned` is whether the packet
+        reads another page than the one that was written last."""
+        if packet["address"] is None:
+            return
+        changed = [None] if is_turned else pages_changed(frame, page) if read is None else []
+        for each in changed:
+            if each in (None, 0xFF):
+                self.modes.update({of: OVER for of in self.modes if of[0] == packet["address"]})
+            else:
+                self.modes[packet["address"], each] = OVER
+
     def of_the_trace(self, packet):
         """The same as `of` where no format of voltages is given."""
         plain = Formats(None, self.readings)
@@ -126,6 +152,8 @@ class Formats:
         mode = self.modes.get((address, packet["page"]))
         if mode is None:
             return self.vout
+        if mode == OVER:
+            return None
         if mode_fault(mode) or mode != DIRECT:
             return None if mode_fault(mode) else format_of(mode, ())
         taught = self.coefficients.get((address, code))

@@ -236,7 +236,7 @@ lines 2 accepted 1 other 0 faults 0 bad 1
         "
 B0 00 01 ED -> 58 PAGE write 01
 B0 21 CD 34 38 -> 58 page 1? VOUT_COMMAND write 34CD
-B0 D4 / B1 05 -> 58 code D4 read 05, no PEC
+B0 D4 / B1 05 -> 58 page 1? code D4 read 05, no PEC
 B0 21 CD 34 38 -> 58 page 1? VOUT_COMMAND write 34CD
 B0 D4 / B1 -> 58 code D4 read, no PEC
 B0 21 CD 34 38 -> 58 VOUT_COMMAND write 34CD
