@@ -144,6 +144,13 @@ class Traces(unittest.TestCase):
         self.assertEqual("".join(example[2:]), capture("sharpest.trace"))
 
     @needs("pmb")
+    def test_the_kernel_s_capture_of_that_run_has_the_mark_too(self):
+        text = "".join(line + "\n" for line in traced("linux", capture("sharpest.linux"), 0x58))
+        told = decoded(text, "--all", "--values", "--pages", "--vout=ulinear16:-12")
+        self.assertEqual([line for line in told if "VOUT_COMMAND write 3000" in line],
+                         ["7 58 page 1? VOUT_COMMAND write 3000 3 V WRONG PAGE? lines 3 and 7"])
+
+    @needs("pmb")
     def test_captures_among_the_examples_are_told_as_stored(self):
         for name in ("ltc2972", "ltc2977", "ltc3880", "raa228", "tps546d24a"):
             with self.subTest(name):

@@ -891,7 +891,7 @@ B0 00 03 *                                58 PAGE write 03
 B2 00 04 *                                59 PAGE write 04
 # no stop: B0 05 04
 B0 21 CD 34 *                             58 VOUT_COMMAND write 34CD
-B2 21 CD 34 *                             59 VOUT_COMMAND write 34CD
+B2 21 CD 34 *                             59 page 4? VOUT_COMMAND write 34CD
 B0 00 03 *                                58 PAGE write 03
 B2 00 04 *                                59 PAGE write 04
 B0 9                                      X2 BadHex
@@ -1130,6 +1130,37 @@ B0 00 / B1                 {"line":3,"address":"58","code":"00","name":"PAGE","d
 B0 D4 02                   {"line":4,"address":"58","page":1,"followed":true,"code":"D4","direction":"write","payload":"02","pec":false,"wrong":[3,4]}
 B0 05 03 02 D0 07 *        {"line":5,"address":"58","page":2,"code":"D0","direction":"write","payload":"07","pec":true}
 """),
+    # Packets that failed, as the kernel's captures show them; and comments of one address.
+    ("--pages", """
+B0 00 01 *                                58 PAGE write 01
+# failed (-6): B0 00 / B1
+B0 21 00 30 *                             58 page 1? VOUT_COMMAND write 3000 WRONG PAGE? lines 2 and 3
+# failed (-121): B0 00 02 E4
+B0 21 00 30 *                             58 VOUT_COMMAND write 3000 WRONG PAGE? lines 4 and 5
+B0 00 02 *                                58 PAGE write 02
+# failed (-121): B0 21 00 30 20
+B0 21 00 30 *                             58 page 2? VOUT_COMMAND write 3000
+# failed (1 of 2): B2 00 / B3
+B0 21 00 30 *                             58 page 2? VOUT_COMMAND write 3000
+B2 21 00 30 *                             59 VOUT_COMMAND write 3000 WRONG PAGE? lines 9 and 11
+# a read alone: 19 B0
+B0 21 00 30 *                             58 page 2? VOUT_COMMAND write 3000
+B2 21 00 30 *                             59 VOUT_COMMAND write 3000 WRONG PAGE? lines 9 and 14
+# a read alone: B3 00
+B2 21 00 30 *                             59 VOUT_COMMAND write 3000
+# no stop: b2 05
+B0 21 00 30 *                             58 page 2? VOUT_COMMAND write 3000
+# no stop: B0 05 04
+B0 21 00 30 *                             58 VOUT_COMMAND write 3000
+B0 00 02 *                                58 PAGE write 02
+# failed (-6): B0
+B0 21 00 30 *                             58 page 2? VOUT_COMMAND write 3000
+# failed (-6)
+B0 21 00 30 *                             58 VOUT_COMMAND write 3000
+B0 00 02 *                                58 PAGE write 02
+# 3 parts: B2 00 / B3 / B3
+B0 21 00 30 *                             58 VOUT_COMMAND write 3000
+"""),
     # Two addresses side by side.
     ("--pages", """
 B0 00 01 *                                58 PAGE write 01
@@ -1360,7 +1391,7 @@ B0 03                      {"line":7,"fault":"X1 Syntax"}
 # another device: A0 00 01
 80000 B2 03 *                             80000 us 59 page 4? CLEAR_FAULTS send
 # no stop: A0
-80000 B2 03 *                             80000 us 59 CLEAR_FAULTS send
+80000 B2 03 *                             80000 us 59 page 4? CLEAR_FAULTS send
 80000 B2 00 05 *                          80000 us 59 PAGE write 05
 B2 03                                     X1 Syntax
 80000 B2 03 *                             80000 us 59 CLEAR_FAULTS send

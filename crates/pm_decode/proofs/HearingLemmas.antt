@@ -17,8 +17,8 @@ use Rattle.pm_decode.specs.declared.page_step.PageStep.{PageStep}
 use Rattle.pm_decode.specs.CaptureText.{line_text, lines_text}
 use Rattle.pm_decode.specs.Hearing.{HeardLines, Known, heard_lines, heard_of, heard_with, known_by, known_from, known_read, more_if, other_code}
 use Rattle.pm_decode.specs.Hearing.{other_code_in, taught_read, told_in, told_unless, unknown}
-use Rattle.pm_decode.specs.Readings.{Entry, Reading, Told, Noted, is_without_pec, judged_as, judged_by, other_address, remark_of}
-use Rattle.pm_decode.specs.TimedLines.{passes_timed, timed_said}
+use Rattle.pm_decode.specs.Readings.{Entry, Reading, Told, Noted, is_without_pec, judged_as, judged_by, other_address}
+use Rattle.pm_decode.specs.TimedLines.{head_remark, passes_timed, timed_said}
 use Rattle.pm_decode.specs.declared.options.TellOptions.{TellOptions}
 use Rattle.pm_decode.specs.declared.timed_line.TimedLine.{TimedLine}
 
@@ -79,7 +79,7 @@ heard_one options heard number reading = by (other_code_in options.all reading.p
 
 -- where PAGE is followed a comment is heard by what it says
 pub comment_heard : (options : TellOptions) (heard : HeardLines) (number : ℕ) (line : TimedLine) → options.pages ≡ true
-    → line.has_mark ≡ true → heard_with options heard (number, Noted (remark_of line.head))
+    → line.has_mark ≡ true → heard_with options heard (number, Noted (head_remark line.head))
     ≡ cond (passes_timed options.pages line) heard (heard_with options heard (number, timed_said options.pages line))
 comment_heard options heard number line pages mark = rw (pages, mark) refl
 

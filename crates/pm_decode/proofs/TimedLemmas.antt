@@ -21,10 +21,9 @@ use Rattle.pm_trace.specs.Lemmas.OpenLines.{has_last, line_of-snoc, turned, with
 use Rattle.pm_trace.specs.Lemmas.PlainLines.{part_of-snoc}
 use Rattle.pm_trace.specs.Lemmas.Said.{open_reads, skipped_kind}
 use Rattle.pm_decode.specs.Readings.{Told, Noted, behind_word, first_word, from_first, is_comment, is_noted, is_passed, past_spaces, reading_of}
-use Rattle.pm_decode.specs.Readings.{remark_of, said_of, time_in, timed}
-use Rattle.pm_decode.specs.TimedLines.{PassesTimed, begun_with, head_takes, is_told, passes_timed, plain_takes, skips_timed, timed_of, timed_read}
+use Rattle.pm_decode.specs.Readings.{remark_in, remark_of, said_of, time_in, timed}
+use Rattle.pm_decode.specs.TimedLines.{PassesTimed, begun_with, head_remark, head_takes, is_told, passes_timed, plain_takes, skips_timed, timed_of, timed_read}
 use Rattle.pm_decode.specs.TimedLines.{timed_said, timed_takes, word_ended}
-use Rattle.pm_decode.specs.declared.comment.Remark.TheVariants.{Elsewhere, Unacknowledged, Loss}
 use Rattle.pm_decode.specs.declared.options.TellOptions.{TellOptions}
 use Rattle.pm_decode.specs.declared.timed_line.TimedLine.{TimedLine}
 
@@ -722,16 +721,34 @@ start_returned (x ∷ xs) start plain =
         by true is = front_alone front start b is plain
         by false is = refl
 
--- the first bytes of a comment say what the line does
-remark_kept : (line : List ℕ) → remark_of (take 64 line) ≡ remark_of (without_return line)
-remark_kept line = λ i. cond (start (codes "# another device") (omega arith) refl i) Elsewhere
-    (cond (start (codes "# no device acknowledged the address") (omega arith) refl i) Elsewhere
-    (cond (start (codes "# byte ") (omega arith) refl i) Unacknowledged Loss))
+-- the first bytes of a long line are there without the carriage return at its end
+cut_return : (xs : List ℕ) → 64 ≤ length xs → take 63 (without_return xs) ≡ take 63 xs
+cut_return [] long = absurd (omega (arith, long))
+cut_return (x ∷ xs) long =
+    let last = has_last x xs in
+    let P : List ℕ → Type 0 = λ l. 64 ≤ length l → take 63 (without_return l) ≡ take 63 l in
+    subst P (sym last.is) (at_end last.front last.last) long
   where
-    start : (begin : List ℕ) → length begin ≤ 64 → list_any (λ c. eqb c 13) begin ≡ false
-        → starts_with nat_eq (take 64 line) begin ≡ starts_with nat_eq (without_return line) begin
-    start begin few plain =
-        ap (pointwise nat_eq begin) (take-take (length begin) 64 line few) ∙ sym (start_returned line begin plain)
+    at_end : (front : List ℕ) (b : ℕ) → 64 ≤ length (front ++ b ∷ [])
+        → take 63 (without_return (front ++ b ∷ [])) ≡ take 63 (front ++ b ∷ [])
+    at_end front b enough = ap (take 63) (without_return-snoc front b) ∙ by (eqb b 13)
+      where
+        few : 63 ≤ length front
+        few = omega (arith, length-append front (b ∷ []), enough)
+
+        by : (c : Bool) → take 63 (cond c front (front ++ b ∷ [])) ≡ take 63 (front ++ b ∷ [])
+        by true = sym (take-append-le 63 front (b ∷ []) few)
+        by false = refl
+
+-- the first bytes of a comment say what the line does
+remark_kept : (line : List ℕ) → head_remark (take 64 line) ≡ remark_of (without_return line)
+remark_kept line = ap remark_in (
+    elim (cases_lt (length line) 65) [
+      | inl short ↦ ap (λ l. take 63 (without_return l)) (take_all 64 line (omega (arith, short)))
+      | inr long ↦
+          cut_return (take 64 line) (omega (arith, length-take-le 64 line (omega (arith, long))))
+          ∙ take-take 63 64 line (omega arith) ∙ sym (cut_return line (omega (arith, long)))
+    ])
 
 -- a line of which something is said is by what is kept of it what it is
 pub timed_says : (options : TellOptions) (line : List ℕ) → is_passed options.pages (without_return line) ≡ false
@@ -744,7 +761,7 @@ timed_says options line heard =
   where
     by : (pages c : Bool) → is_comment line ≡ c
         → (not (pages && c) && skips_timed (timed_by c options.times line)) ≡ false
-        → cond (pages && c) (Noted (remark_of (cond c (take 64 line) []))) (Told (timed_read (timed_by c options.times line)))
+        → cond (pages && c) (Noted (head_remark (cond c (take 64 line) []))) (Told (timed_read (timed_by c options.times line)))
         ≡ cond (pages && c) (Noted (remark_of (without_return line))) (Told (reading_of options.times (without_return line)))
     by true true is heard = ap Noted (remark_kept line)
     by true false is heard = ap Told (timed_reads options.times line)

@@ -1,7 +1,7 @@
 -- PAGE followed through a capture: what is known of the address of a packet as it comes, and what the packet is marked with.
 -- What ends a page is this project's own choice.
 use Rattle.std.specs.Prelude.{ℕ, Bool, true, false, ◌||◌, if◌then◌else◌, is_some, List, [], ◌∷◌, Option, Some, None, Result, Ok, Err}
-use Rattle.pm_trace.specs.Pages.{Pages, contradicted, doubting, lost_in, nowhere, output_of, pages_by, place_in, use_of}
+use Rattle.pm_trace.specs.Pages.{Pages, contradicted, doubting, failed_at, lost_at, lost_in, nowhere, output_of, pages_by, place_in, use_of}
 use Rattle.pm_trace.specs.Trace.{Judged, Accepted, Faulty, BadSyntax, BadHex}
 use Rattle.pm_trace.specs.declared.line_fault.LineFault.{LineFault}
 use Rattle.pm_trace.specs.declared.pages.PageLine.{PageLine}
@@ -15,7 +15,8 @@ use Rattle.pm_values.specs.declared.lessons.ModeChange.{ModeChange}
 use Rattle.pm_values.specs.declared.lessons.ModeChange.TheVariants.{OfAll}
 use Rattle.pm_decode.specs.Readings.{is_without_pec, judged_by, other_address}
 use Rattle.pm_decode.specs.declared.comment.Remark.{Remark}
-use Rattle.pm_decode.specs.declared.comment.Remark.TheVariants.{Elsewhere, Unacknowledged, Loss}
+use Rattle.pm_decode.specs.declared.comment.Remark.TheVariants.{Elsewhere, Unacknowledged, LossAt, Loss}
+use Rattle.pm_decode.specs.declared.comment.Remark.TheVariants.{Failed as FailedPage}
 use Rattle.pm_decode.specs.declared.options.TellOptions.{TellOptions}
 use Rattle.pm_decode.specs.declared.page_step.Marks.{Marks}
 use Rattle.pm_decode.specs.declared.page_step.PageStep.{PageStep}
@@ -122,8 +123,10 @@ pages_read options number time (Ok parts) pages = pages_at number (step_of optio
 pages_read options number time (Err fault) pages = if options.pages then lost_in number pages else pages
 
 -- behind a comment, which tells a loss but where it speaks of a device whose packets are no lines, of a packet that no
--- device heard, or of the next packet
+-- device heard or that failed, or of the next packet
 abbrev pub pages_noted : ℕ → Remark → Pages → Pages
 pages_noted number Elsewhere pages = pages
 pages_noted number Unacknowledged pages = doubting pages
+pages_noted number (FailedPage addr writes) pages = failed_at number addr writes pages
+pages_noted number (LossAt addr) pages = lost_at addr pages
 pages_noted number Loss pages = lost_in number pages

@@ -1,8 +1,9 @@
 -- What a line of a capture reads as: the packet's bytes, as `pm_trace` reads them, and with times the number that
 -- stands before them. The forms are this project's own choice.
-use Rattle.std.specs.Prelude.{ℕ, ℤ, pos, negsuc, Bool, true, false, not, ◌&&◌, ◌||◌, ◌==◌, nat_eq, nat_lt, if◌then◌else◌, List, [], ◌∷◌, codes, length, map, filter, slice_index, Option, Some, None, Result, Ok, Err}
+use Rattle.std.specs.Prelude.{ℕ, ℤ, pos, negsuc, Bool, true, false, not, ◌&&◌, ◌||◌, ◌==◌, nat_eq, nat_lt, if◌then◌else◌, List, [], ◌∷◌, codes, drop, length, map, filter, option_map, slice_index, take, ◌/◌, Option, Some, None, Result, Ok, Err}
 use Rattle.std.specs.List.{enumerate_from, starts_with}
 use Rattle.pm_lines.specs.Digits.{signed_of}
+use Rattle.pm_lines.specs.Pairs.{pair_of}
 use Rattle.pm_lines.specs.Lines.{Numbered, is_skipped, is_space, lines_of}
 use Rattle.pm_trace.specs.Marks.{before}
 use Rattle.pm_trace.specs.Trace.{Judged, line_read, parts_judged, reading_judged}
@@ -11,7 +12,7 @@ use Rattle.pm_trace.specs.declared.line_fault.LineFault.TheVariants as fault
 use Rattle.pm_trace.specs.declared.trace_line.TraceLine.{TraceLine}
 use Rattle.pm_values.specs.Otherwise.{address_otherwise, judged_anyway, lacks_pec}
 use Rattle.pm_decode.specs.declared.comment.Remark.{Remark}
-use Rattle.pm_decode.specs.declared.comment.Remark.TheVariants.{Elsewhere, Unacknowledged, Loss}
+use Rattle.pm_decode.specs.declared.comment.Remark.TheVariants.{Elsewhere, Unacknowledged, Failed, LossAt, Loss}
 use Rattle.pm_decode.specs.declared.options.TellOptions.{TellOptions}
 
 -- ---- the word before a packet
@@ -66,11 +67,52 @@ reading_of false line = record { time = None; parts = line_read line }
 abbrev pub is_comment : List ℕ → Bool
 is_comment line = starts_with nat_eq line (codes "#")
 
--- what a comment says, as `pmhost capture` writes them
+-- what follows the first colon and space. 58 is `:`.
+abbrev pub behind_colon : List ℕ → List ℕ
+behind_colon [] = []
+behind_colon (byte ∷ []) = []
+behind_colon (byte ∷ next ∷ rest) = if byte == 58 && next == 32 then rest else behind_colon (next ∷ rest)
+
+-- the byte that a text begins with
+abbrev pub first_byte : List ℕ → Option ℕ
+first_byte [] = None
+first_byte (high ∷ []) = None
+first_byte (high ∷ low ∷ rest) = pair_of high low
+
+-- the bytes of a packet behind their colon: its address, its code, and whether a read part follows at once
+abbrev pub address_shown : List ℕ → Option ℕ
+address_shown bytes = option_map (λ byte. byte / 2) (first_byte bytes)
+
+abbrev pub is_page_shown : List ℕ → Bool
+is_page_shown bytes = starts_with nat_eq (drop 2 bytes) (codes " 00")
+
+abbrev pub is_read_shown : List ℕ → Bool
+is_read_shown bytes = starts_with nat_eq (drop 5 bytes) (codes " /")
+
+-- a packet that failed: one of PAGE counts, and no other can change it
+abbrev pub failed_by : Option ℕ → Bool → Bool → Remark
+failed_by None is_page is_read = Loss
+failed_by (Some addr) is_page is_read = if is_page then Failed addr (not is_read) else Elsewhere
+
+abbrev pub failed_in : List ℕ → Remark
+failed_in bytes = failed_by (address_shown bytes) (is_page_shown bytes) (is_read_shown bytes)
+
+-- a packet of which nobody knows what it did
+abbrev pub loss_by : Option ℕ → Remark
+loss_by None = Loss
+loss_by (Some addr) = LossAt addr
+
+-- what a comment says, as `pmhost capture` writes them, by its first bytes
+abbrev pub remark_in : List ℕ → Remark
+remark_in text = if starts_with nat_eq text (codes "# another device") then Elsewhere
+    else (if starts_with nat_eq text (codes "# no device acknowledged the address") then Elsewhere
+    else (if starts_with nat_eq text (codes "# byte ") then Unacknowledged
+    else (if starts_with nat_eq text (codes "# failed (") then failed_in (behind_colon text)
+    else (if starts_with nat_eq text (codes "# no stop: ") || starts_with nat_eq text (codes "# a read alone: ")
+    then loss_by (address_shown (behind_colon text)) else Loss))))
+
 abbrev pub remark_of : List ℕ → Remark
-remark_of line = if starts_with nat_eq line (codes "# another device") then Elsewhere
-    else (if starts_with nat_eq line (codes "# no device acknowledged the address") then Elsewhere
-    else (if starts_with nat_eq line (codes "# byte ") then Unacknowledged else Loss))
+remark_of line = remark_in (take 63 line)
 
 -- comments are noted where PAGE is followed
 abbrev pub is_noted : Bool → List ℕ → Bool

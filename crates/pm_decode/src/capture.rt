@@ -206,8 +206,7 @@ fn hear_line(
     ensures few { heard_lines heard.new ≤ heard_lines heard.old + 1 }
 {
     if options.pages && line.is_comment() {
-        heard.note(number, line.remark());
-        return Ok(());
+        return heard.note(number, line.remark());
     }
     if line.is_skipped() {
         return Ok(());

@@ -276,15 +276,23 @@ impl HeardLines {
         self.tally.count_accepted(code)
     }
 
-    /// Hears a comment, with its number.
-    pub(crate) fn note(&mut self, number: u64, remark: Remark)
-        ensures heard { (options : TellOptions) → self.new ≡ heard_with options self.old (number, Noted remark) }
+    /// Hears a comment, with its number. Takes memory for an address that is new.
+    pub(crate) fn note(&mut self, number: u64, remark: Remark) -> Result<(), AllocError>
+        ensures heard { OnOk result ((options : TellOptions) → self.new ≡ heard_with options self.old (number, Noted remark)) }
         ensures few { heard_lines self.new ≡ heard_lines self.old }
     {
         match remark {
-            Remark::Elsewhere => {}
-            Remark::Unacknowledged => self.pages.doubt(),
-            Remark::Loss => self.pages.lose(number),
+            Remark::Elsewhere => Ok(()),
+            Remark::Unacknowledged => {
+                self.pages.doubt();
+                Ok(())
+            }
+            Remark::Failed(addr, writes) => self.pages.fail(number, addr, writes),
+            Remark::LossAt(addr) => self.pages.lose_at(addr),
+            Remark::Loss => {
+                self.pages.lose(number);
+                Ok(())
+            }
         }
     }
 

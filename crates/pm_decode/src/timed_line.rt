@@ -38,9 +38,8 @@ impl TimedLine {
     ghost use Rattle.std.specs.Prelude.{[], ◌==◌, None, if◌then◌else◌, true};
     ghost use Rattle.pm_trace.specs.OpenLines.{open_read};
     ghost use Rattle.pm_trace.specs.OpenLines.{IsAtLineFeed};
-    ghost use Rattle.pm_decode.specs.Readings.{remark_of};
     ghost use Rattle.pm_decode.specs.ShownReadings.{parts_in, reading_in};
-    ghost use Rattle.pm_decode.specs.TimedLines.{PassesTimed, begun_with, is_told, skips_timed, timed_of, timed_read, timed_takes, word_ended};
+    ghost use Rattle.pm_decode.specs.TimedLines.{PassesTimed, begun_with, head_remark, is_told, skips_timed, timed_of, timed_read, timed_takes, word_ended};
 
     /// A line without bytes.
     #[tactic(auto, unfolding(crate::specs::TimedLines::timed_of))]
@@ -201,7 +200,7 @@ impl TimedLine {
 
     /// What a comment says.
     pub(crate) fn remark(&self) -> Remark
-        ensures { result ≡ remark_of self.now.head }
+        ensures { result ≡ head_remark self.now.head }
     {
         self.head.remark()
     }

@@ -161,13 +161,29 @@ no_pages = record { places = []; lost = 0; doubted = false }
 abbrev pub lost_in : ℕ → Pages → Pages
 lost_in line pages = record pages { lost = line }
 
+-- what is kept of an address
+abbrev pub place_of : Pages → ℕ → Place
+place_of pages addr = unwrap_or (lookup (nat_eq addr) pages.places) nowhere
+
+-- something was lost at an address
+abbrev pub lost_at : ℕ → Pages → Pages
+lost_at addr pages = record pages {
+  places = insert_entry nat_eq pages.places addr (record nowhere { time = (place_of pages addr).time });
+}
+
+-- a packet of PAGE at an address failed in this line, and may have written it, or not
+abbrev pub failed_at : ℕ → ℕ → Bool → Pages → Pages
+failed_at line addr writes pages = record pages {
+  places = insert_entry nat_eq pages.places addr (unsure line writes (place_of pages addr));
+}
+
 -- a byte of the next packet wasn't acknowledged
 abbrev pub doubting : Pages → Pages
 doubting pages = record pages { doubted = true }
 
 -- an address when a packet comes at a time
 abbrev pub place_in : ℕ → Option ℕ → Pages → ℕ → Place
-place_in gap time pages addr = come pages.lost gap time (unwrap_or (lookup (nat_eq addr) pages.places) nowhere)
+place_in gap time pages addr = come pages.lost gap time (place_of pages addr)
 
 -- behind the packet of this line, at an address if it has one, where that was such a place
 abbrev pub pages_by : ℕ → Option ℕ → Place → PageUse → Pages → Pages

@@ -133,7 +133,7 @@ impl Model for Pages {
 
 impl Pages {
     ghost use Rattle.std.specs.Prelude.{OnOk};
-    ghost use Rattle.pm_trace.specs.Pages.{doubting, lost_in, no_pages, pages_by, place_in};
+    ghost use Rattle.pm_trace.specs.Pages.{doubting, failed_at, lost_at, lost_in, no_pages, pages_by, place_in, place_of};
 
     /// Nothing is known yet. Takes no memory.
     pub fn new(alloc: Global) -> Pages
@@ -154,6 +154,40 @@ impl Pages {
         self.lost = line;
     }
 
+    /// Something was lost at an address: nothing is known of it any more. Takes memory for an address that is new.
+    pub fn lose_at(&mut self, addr: u8) -> Result<(), AllocError>
+        ensures { OnOk result (self.new ≡ lost_at addr self.old) }
+    {
+        let doubted = self.doubted;
+        let time = self.kept(addr).time;
+        let learned = self.learn(0, Some(addr), Place { time, ..NOWHERE }, PageUse::Beside);
+        self.doubted = doubted;
+        learned
+    }
+
+    /// A packet of PAGE at an address failed in this line; `writes` is whether it may have written PAGE. Takes memory for an
+    /// address that is new.
+    pub fn fail(&mut self, line: u64, addr: u8, writes: bool) -> Result<(), AllocError>
+        ensures { OnOk result (self.new ≡ failed_at line addr writes self.old) }
+    {
+        let doubted = self.doubted;
+        let place = self.kept(addr);
+        let learned = self.learn(line, Some(addr), place, PageUse::Failed(writes));
+        self.doubted = doubted;
+        learned
+    }
+
+    // What is kept of an address.
+    #[inline(always)]
+    fn kept(&self, addr: u8) -> Place
+        ensures { result ≡ place_of self.now addr }
+    {
+        match self.places.get(&addr).copied() {
+            Some(place) => place,
+            None => NOWHERE,
+        }
+    }
+
     /// A byte of the next packet wasn't acknowledged.
     pub fn doubt(&mut self)
         ensures { self.new ≡ doubting self.old }
@@ -166,10 +200,7 @@ impl Pages {
     pub fn place(&self, gap: u64, time: Option<u64>, addr: u8) -> Place
         ensures { result ≡ place_in gap time self.now addr }
     {
-        let place = match self.places.get(&addr).copied() {
-            Some(place) => place,
-            None => NOWHERE,
-        };
+        let place = self.kept(addr);
         if is_apart(gap, place.time, time) {
             return Place { time, ..NOWHERE };
         }

@@ -100,7 +100,7 @@ class Telling:
     def line(self, number, line):
         if is_skipped(line):
             if self.pages and line.startswith(b"#"):
-                self.pages.comment(line)
+                self.pages.comment(number, line)
             return
         time = None
         if "--times" in self.options:

@@ -28,7 +28,10 @@ SWITCHES = ["--all", "--long", "--times", "--json", "--pages"]
 COMMENTS = [b"#", b"# no stop: B0 05 04", b"# another device: A0 00 01", b"# another device", b"# another devic", b"#another device",
             b"# no device acknowledged the address: B1", b"# no device acknowledged the addres",
             b"# byte 2 wasn't acknowledged", b"# byte", b"#  byte 0", b"# byte 0 of the answer wasn't acknowledged",
-            b"# failed (-5): B0 00 / B1", b" # x"]
+            b"# failed (-5): B0 00 / B1", b" # x", b"# failed (-121): B0 00 01 ED", b"# failed (1 of 2): B1 00", b"# failed (-6): B0",
+            b"# failed (-6): B0 21 00 30 20", b"# failed (-6): B", b"# failed (-6)", b"# failed", b"# a read alone: 19 B0",
+            b"# a read alone: b1 00", b"# no stop: 10 05 04", b"# no stop: EE", b"# no stop", b"# 3 parts: B0 00 / B1 / B1",
+            b"# failed (-5" + b" " * 45 + b"): B0 00", b"# failed (-5" + b" " * 44 + b"): B0 00", b"# failed (-5)" + b" " * 60 + b": B0 00"]
 
 
 def readings(dice):

@@ -1,4 +1,6 @@
 """PAGE as a trace shows it, address by address: which page plain packets reach, and where the trace contradicts itself."""
+import re
+
 from .packets import CODES
 
 PAGE = CODES["PAGE"]
@@ -8,6 +10,9 @@ OF_DEVICE = {0x00, 0x05, 0x06, *range(0x10, 0x1B), 0x30, *range(0x98, 0x9F), 0xA
 # Comments of `pmhost capture`: those that say nothing of the devices whose packets are lines, and one above a packet of which
 # a byte wasn't acknowledged.
 ELSEWHERE, UNACKNOWLEDGED = (b"# another device", b"# no device acknowledged the address"), b"# byte "
+# Those that show a packet behind a colon: one that failed, and one of which nobody knows what it did.
+FAILED, CUT = b"# failed (", (b"# no stop: ", b"# a read alone: ")
+SHOWN = re.compile(rb"([0-9A-Fa-f]{2})(.*)", re.DOTALL)
 
 
 class Place:
@@ -20,6 +25,12 @@ class Place:
     def end(self):
         """No page is known any more."""
         self.page = self.written = None
+
+    def fail(self, number, writes):
+        """A packet of PAGE wasn't good, and may have written it, or not."""
+        if writes:
+            self.end()
+        self.broken = number
 
     def lose(self):
         """Nothing is known any more, nor whether the last packet of PAGE was good."""
@@ -40,10 +51,21 @@ class Pages:
         for place in self.places.values():
             place.lose()
 
-    def comment(self, line):
+    def comment(self, number, line):
+        """A comment, of which the first 63 bytes count."""
+        line = line[:63]
+        shown = SHOWN.fullmatch(line.partition(b": ")[2])
+        address = int(shown[1], 16) >> 1 if shown else None
         if line.startswith(UNACKNOWLEDGED):
             self.is_unacknowledged = True
-        elif not line.startswith(ELSEWHERE):
+        elif line.startswith(ELSEWHERE):
+            pass
+        elif line.startswith(FAILED) and shown:
+            if shown[2].startswith(b" 00"):
+                self.place(address).fail(number, not shown[2][3:].startswith(b" /"))
+        elif line.startswith(CUT) and shown:
+            self.place(address).lose()
+        else:
             self.lose()
 
     def come(self, packet, time):
@@ -87,9 +109,7 @@ class Pages:
                 place.written = number, place.page
         elif frame[1:2] == [PAGE]:
             # A read changes no page: its write part is the address and the code.
-            if read is None or len(frame) > 2:
-                place.end()
-            place.broken = number
+            place.fail(number, read is None or len(frame) > 2)
         elif packet["kind"] == "fault" or packet["kind"] == "other" and packet["is_lost"]:
             place.end()
 
