@@ -17,6 +17,7 @@
 //! - `damage`: damage that the packet error code betrays is legal, and stops no run.
 //! - `exact`: what the host calls possible is exact, and the words that show it can be had in a world.
 //! - `bands`: a band is exact where the possible words are.
+//! - `logs`: what an accepted log is worth, and that nothing less would do.
 //! - `limits`: limits that allow the start words of a usual part, by computing with them.
 //! - `orders`: an order that nothing disturbs goes through, and a run says which one it was.
 //! - `good`: what frames that come whole make of an open job, and how it ends once all of them do.
@@ -42,6 +43,7 @@ pub mod hearings;
 pub mod knowledge;
 mod laws;
 pub mod limits;
+pub mod logs;
 pub mod moves;
 pub mod numbers;
 pub mod orders;

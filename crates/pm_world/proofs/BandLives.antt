@@ -47,7 +47,7 @@ use Rattle.pm_world.specs.Uncertainty.{AreOpen, ArePossible, Choice, Leaves, may
 use Rattle.pm_world.proofs.Exact.{witness-leaves}
 use Rattle.pm_world.proofs.LearnedLives.{formats-agree}
 use Rattle.pm_world.proofs.LeftWords.{chosen-accepted}
-use Rattle.pm_world.proofs.LimitedLives.{sound-dens}
+use Rattle.pm_world.specs.Lemmas.Formats.{sound-dens}
 use Rattle.pm_world.proofs.Lives.{IsLived}
 use Rattle.pm_world.proofs.Seen.{possible-held}
 use Rattle.pm_world.proofs.Standings.{same-cells}

@@ -46,7 +46,7 @@ use Rattle.pm_world.proofs.Seen.{got_bytes, since-started}
 use Rattle.pm_world.proofs.Unread.{restart-told, unread-none}
 use Rattle.pm_world.proofs.Sending.{eight}
 use Rattle.pm_world.proofs.Shares.{IsShare, exchanges, share-is}
-use Rattle.pm_world.proofs.SinceRestart.{since-same}
+use Rattle.pm_world.specs.Lemmas.SinceRestart.{since-same}
 use Rattle.pm_world.proofs.Starts.{IsKin}
 use Rattle.pm_world.proofs.TrueHost.{good-same}
 use Rattle.pm_world.proofs.Undisturbed.{now-sound}
@@ -241,7 +241,7 @@ told-came laws {config = config} {passes = passes} {before = before} {event = ev
     let entries = (life config passes before).entries in
     let meets = life-meets laws config passes before (earlier lived) fresh in (
       subst (λ (h : Summary). Came config h bytes)
-          (meets.same ∙ (since-same laws setup entries lived.made (life-told config passes before (earlier lived).legal)).same)
+          (meets.same ∙ (since-same laws.transcripts_are_followed setup entries lived.made (life-told config passes before (earlier lived).legal)).same)
           (subst (λ (k : Config). Came k (now config passes before).host bytes) (now-config config passes before)
           (got-came laws event bytes meets (newest lived) is)),
       older,

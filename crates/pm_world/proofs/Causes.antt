@@ -13,6 +13,7 @@ use Rattle.pm_host.specs.declared.fault.HostFault.{HostFault}
 use Rattle.pm_host.specs.declared.job.Job.{Job}
 use Rattle.pm_host.specs.declared.job.Job.TheVariants as job
 use Rattle.pm_host.specs.Jobs.{accepted_job, begin_fault}
+use Rattle.pm_host.specs.Lemmas.{accepted-free}
 use Rattle.pm_host.specs.Refusals.{job_fault, order_fault, micro_fault, micro_word, voltage_fault, range_fault}
 use Rattle.pm_host.specs.Summary.{Summary, format_at}
 use Rattle.pm_host.specs.Transcript as host
@@ -36,29 +37,6 @@ refused-none (Some fault) h = cc
 pub taken-free : (s : State) (event : Event) → IsTaken s event → event_cause s event ≡ None
 unfolding cause_of
 taken-free s event taken = (or-none (rule (nat_le event_limit s.taken) Full) (event_cause s event) taken.free).1
-
--- the job of an order has no fault if the host refuses its word for none
-word-free : (s : Summary) (cell : Cell) (word : Option ℕ) (job : host.Job) →
-    option_map (λ w. host.Order cell w) word ≡ Some job →
-    option_and_then (λ w. order_fault s cell w) word ≡ None → job_fault s job ≡ None
-word-free s cell None job is h = cc
-word-free s cell (Some word) job is h = subst (λ j. job_fault s j ≡ None) (same_Some (host.Order cell word) job is) h
-
--- the job of an order in microvolts has no fault if the order has none
-micro-free : (s : Summary) (cell : Cell) (x : ℤ) (job : host.Job) →
-    option_map (λ w. host.Order cell w) (micro_word s cell x) ≡ Some job → micro_fault s cell x ≡ None →
-    job_fault s job ≡ None
-micro-free s cell x job is h =
-    let past_voltage = (or-none (voltage_fault s cell) _ h).1 in
-    let past_range = (or-none (option_and_then (λ shape. range_fault shape x) (format_at s (output_of cell))) _ past_voltage).1 in
-    word-free s cell (micro_word s cell x) job is
-    (or-none (option_and_then (λ w. order_fault s cell w) (micro_word s cell x)) None past_range).0
-
--- a job that the host doesn't refuse is accepted as one that has no fault
-accepted-free : (s : Summary) (asked : Job) (accepted : host.Job) → accepted_job s asked ≡ Some accepted →
-    begin_fault s asked ≡ None → job_fault s accepted ≡ None
-accepted-free s (job.OrderMicro cell x) accepted is h = micro-free s cell x accepted is h
-accepted-free s asked accepted is h = subst (λ o. option_and_then (job_fault s) o ≡ None) is h
 
 -- the job that an event asks for has no fault if the host doesn't refuse it
 fault-none : (s : Summary) (asked : Option Job) (accepted : host.Job) → option_and_then (accepted_job s) asked ≡ Some accepted →

@@ -25,7 +25,7 @@ use Rattle.pm_world.proofs.FirstWords.{can-be-made}
 use Rattle.pm_world.proofs.LeftWords.{now-possible}
 use Rattle.pm_world.proofs.Lives.{IsLived, life-told}
 use Rattle.pm_world.proofs.Retold.{IsMade}
-use Rattle.pm_world.proofs.SinceRestart.{since-same}
+use Rattle.pm_world.specs.Lemmas.SinceRestart.{since-same}
 use Rattle.pm_world.proofs.Standings.{ArePuts, no_put, one_put, one_restore, are-puts, AreGoods, no_good, one_good, are-goods}
 use Rattle.pm_world.proofs.Starts.{witness-like, witness-sound}
 use Rattle.pm_world.proofs.Witness.{retold, since-unbroken}
@@ -105,7 +105,7 @@ witness-leaves laws {config = config} {passes = passes} {events = events} chosen
     let is : IsMade config passes (due_before chosen (marks (setup_of config passes) (since_restart (life config passes events).entries))) =
     record { sound = sound; made = lived.made } in
     let r = retold laws lived.sound is chosen entries (record {
-      told = (since-same laws setup (life config passes events).entries lived.made (life-told config passes events lived.legal)).told;
+      told = (since-same laws.transcripts_are_followed setup (life config passes events).entries lived.made (life-told config passes events lived.legal)).told;
       come = come;
       open' = open';
       unbroken = since-unbroken (life config passes events).entries;

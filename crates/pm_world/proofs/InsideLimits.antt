@@ -28,6 +28,7 @@ use Rattle.pm_limits.specs.Lemmas.Bands.{all-dens}
 use Rattle.pm_num.specs.Lemmas.Order.{above-at-most, at-most, not-above}
 use Rattle.pm_num.specs.Lemmas.Over.{at_most-trans}
 use Rattle.pm_world.proofs.LimitedLives.{cut-lower, cut-upper, selected-voltage}
+use Rattle.pm_world.specs.Lemmas.Limits.{yes-parts}
 
 -- Each word that a register may hold has a value of at least the least limit.
 abbrev pub Ge : Shape → Bounds → Possible → Type 0
@@ -98,20 +99,6 @@ upper-back c z (inl g) = at_most-trans (limited c.selected c.least c.greatest) c
 upper-back c z (inr (s, l)) = cut-upper c z s l
 
 -- ---- A band, and its pieces ----
-
--- a band lies within limits where neither end lies outside
-yes-parts : (bounds : Bounds) (band : Band) → is_yes (band_within bounds band) ≡ true →
-    (is_above (micros bounds.least) band.least ≡ false) × (is_above band.greatest (micros bounds.most) ≡ false)
-yes-parts bounds band said = go (is_above (micros bounds.least) band.least) (is_above band.greatest (micros bounds.most))
-    (is_above (micros bounds.least) band.greatest || is_above band.least (micros bounds.most)) said
-  where
-    go : (low high out : Bool) → is_yes (cond (not (low || high)) within.Yes (cond out within.No within.NotKnown)) ≡ true →
-        (low ≡ false) × (high ≡ false)
-    go true high true h = cc
-    go true high false h = cc
-    go false true true h = cc
-    go false true false h = cc
-    go false false out h = (refl, refl)
 
 parts-yes : (bounds : Bounds) (band : Band) → is_above (micros bounds.least) band.least ≡ false →
     is_above band.greatest (micros bounds.most) ≡ false → is_yes (band_within bounds band) ≡ true

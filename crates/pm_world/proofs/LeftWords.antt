@@ -24,7 +24,8 @@ use Rattle.pm_world.specs.Uncertainty.{AreLegal, ArePossible, AreSteady, Choice,
 use Rattle.pm_world.proofs.HeldWords.{knows, life-known}
 use Rattle.pm_world.proofs.Lives.{IsLived, life-told}
 use Rattle.pm_world.proofs.Sending.{eight}
-use Rattle.pm_world.proofs.SinceRestart.{since-same}
+use Rattle.pm_world.specs.Lemmas.Hosts.{like-setup}
+use Rattle.pm_world.specs.Lemmas.SinceRestart.{since-same}
 use Rattle.pm_world.proofs.TakenWhole.{free, now-taken}
 use Rattle.pm_world.specs.Lemmas.{now-config}
 
@@ -59,13 +60,8 @@ now-possible laws config passes events cell lived there =
     let setup = setup_of config passes in
     let entries = (life config passes events).entries in
     ap (λ (s : Summary). possible_at s cell)
-    (since-same laws setup entries lived.made (life-told config passes events lived.legal)).same
+    (since-same laws.transcripts_are_followed setup entries lived.made (life-told config passes events lived.legal)).same
     ∙ laws.transcripts_are_followed.possible setup (since_restart entries) cell (eight config.count cell lived.sound.few there)
-
--- the hosts of like configurations are made alike
-like-setup : (config other : Config) (passes : ℕ) → other.addr ≡ config.addr → other.count ≡ config.count →
-    setup_of other passes ≡ setup_of config passes
-like-setup config other passes addr count = ap₂ (λ a n. record { addr = a; outputs = n; passes = passes }) addr count
 
 -- the words that are left are possible
 pub left-possible : Below → {config : Config} {passes : ℕ} {events retold : List Event} {chosen : Choice} {other : Config} →

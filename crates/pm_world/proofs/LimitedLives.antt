@@ -57,33 +57,7 @@ use Rattle.pm_world.proofs.LearnedLives.{formats-agree}
 use Rattle.pm_world.proofs.Lives.{IsLived, lived-before}
 use Rattle.pm_world.proofs.OwnWords.{life-commands}
 use Rattle.pm_world.specs.Lemmas.{now-config, in-format}
-
--- the values of a format that is made have positive denominators
-slope : (m : ℤ) → int_eq m (pos 0) ≡ false → m ≢ pos 0
-slope m h e = let bad : int_eq (pos 0) (pos 0) ≡ false = subst (λ (z : ℤ). int_eq z (pos 0) ≡ false) e h in cc
-
--- each word has a value with a positive denominator in a format that is made of a mode and coefficients
-shape-dens : (mode : VoutMode) (c : Coefficients) (shape : Shape) → result_ok (shape_in mode c) ≡ Some shape → HasDens shape
-shape-dens (Linear n) c shape is =
-    let same : InUlinear16 n ≡ shape = cc in
-    subst (λ (s : Shape). HasDens s) same (λ word. lower-positive n)
-shape-dens Direct c shape is = go (int_eq c.m (pos 0)) (is_decimal c) refl is where
-  go : (flat decimal : Bool) → int_eq c.m (pos 0) ≡ flat →
-      result_ok (cond flat (Err ZeroSlope) (cond decimal (Ok (InDirect c.m c.b c.r)) (Err ExponentRange))) ≡ Some shape → HasDens shape
-  go true decimal e is' = cc
-  go false false e is' = cc
-  go false true e is' =
-      let same : InDirect c.m c.b c.r ≡ shape = cc in
-      subst (λ (s : Shape). HasDens s) same (λ word. direct-has_den c.m c.b c.r word (slope c.m e))
-
--- each word has a value with a positive denominator in the format of each output of a sound configuration
-pub sound-dens : (config : Config) (output : ℕ) → IsSound config → output < config.count → HasDens (shape_for config output)
-sound-dens config output sound here = go (result_ok (mode_of (mode_for config output))) (sound.formats output here) where
-  go : (mode : Option VoutMode) →
-      option_and_then (λ m. result_ok (shape_in m config.coefficients)) mode ≡ Some (shape_for config output) →
-      HasDens (shape_for config output)
-  go None is = cc
-  go (Some mode) is = shape-dens mode config.coefficients (shape_for config output) is
+use Rattle.pm_world.specs.Lemmas.Formats.{sound-dens}
 
 -- a word that was a cell's own stays so
 own-later : {config : Config} {passes : ℕ} {before : List Event} {cell : Cell} {word : ℕ} (later : List Event) →

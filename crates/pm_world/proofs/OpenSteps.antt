@@ -35,7 +35,7 @@ use Rattle.pm_world.proofs.JobSpans.{TellsFrame, beside-frame, by-acceptance, by
 use Rattle.pm_world.proofs.LeftWords.{now-possible}
 use Rattle.pm_world.proofs.Lives.{IsLived, earlier, newest, life-told}
 use Rattle.pm_world.proofs.OpenMarks.{open-append, open-lists, other-lists}
-use Rattle.pm_world.proofs.SinceRestart.{since-same}
+use Rattle.pm_world.specs.Lemmas.SinceRestart.{since-same}
 use Rattle.pm_world.proofs.Standings.{AreGoods, no_good, one_good, are-goods, are-puts}
 use Rattle.pm_world.specs.Lemmas.{entries-more}
 
@@ -101,7 +101,7 @@ frame-opens old new entry (Some end) tells h = ap opens_by tells.0
 since-job : Below → (setup : host.Setup) (entries : List host.Entry) → IsSetup setup → AreTold setup entries →
     host.open_job setup (since_restart entries) ≡ job_in (host_now setup entries)
 since-job laws setup entries made told =
-    sym (laws.ends_are_told.job setup (since_restart entries)) ∙ ap job_in (sym (since-same laws setup entries made told).same)
+    sym (laws.ends_are_told.job setup (since_restart entries)) ∙ ap job_in (sym (since-same laws.transcripts_are_followed setup entries made told).same)
 
 -- in a life
 life-job : Below → (config : Config) (passes : ℕ) (events : List Event) → IsLived config passes events →

@@ -37,7 +37,7 @@ use Rattle.pm_world.specs.Plans.{Follows, IsPlansOrder, IsReadSince, KeepsPlans,
 use Rattle.pm_world.specs.Possible.{has_read, restarts_host}
 use Rattle.pm_world.specs.Retelling.{open_pending}
 use Rattle.pm_world.specs.State.{asked}
-use Rattle.pm_world.proofs.LimitedLives.{sound-dens}
+use Rattle.pm_world.specs.Lemmas.Formats.{sound-dens}
 use Rattle.pm_world.proofs.Lives.{IsLived, earlier}
 use Rattle.pm_world.proofs.PlannedOrders.{come-true, has-none, is-lacking, needed-same, ready-order}
 pub use Rattle.pm_world.proofs.PlannedOrders.{Plans}

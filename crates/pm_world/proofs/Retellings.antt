@@ -32,6 +32,7 @@ use Rattle.pm_world.proofs.OpenOrders.{stage_pending, open_pending-is, finished-
 use Rattle.pm_world.proofs.OrderEvents.{Sending, Stays, TookJob, delivered-stage, delivered-takes, exchanged-stays, taken-open}
 use Rattle.pm_world.proofs.OrderEvents.{event-stays, exchanged-order, job-order, order-free}
 use Rattle.pm_world.proofs.Undisturbed.{now-sound}
+use Rattle.pm_world.specs.Lemmas.Hosts.{same-outputs}
 use Rattle.pm_world.specs.Lemmas.{now-config}
 
 -- the message whose frame is being sent fits its layout
@@ -50,11 +51,6 @@ same-addr : (config : Config) (passes : ℕ) (events : List Event) →
     (now config passes events).host.setup.addr ≡ (now config passes events).device.config.addr
 unfolding now state_of host_now device_now
 same-addr config passes events = refl
-
--- the outputs
-same-outputs : (config : Config) (passes : ℕ) (events : List Event) → (now config passes events).host.setup.outputs ≡ config.count
-unfolding now state_of host_now
-same-outputs config passes events = refl
 
 -- what is known of a world whose host sends
 pub sends : Below → (config : Config) (passes : ℕ) (events : List Event) → IsLived config passes events →

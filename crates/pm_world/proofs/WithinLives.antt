@@ -70,7 +70,8 @@ use Rattle.pm_world.proofs.InsideMarks.{Lets, Stays, good-stays, known_by, no-vo
 use Rattle.pm_world.proofs.JobSpans.{TellsFrame, beside-frame}
 use Rattle.pm_world.proofs.KeptFormats.{format-stays}
 use Rattle.pm_world.proofs.LearnedLives.{formats-agree}
-use Rattle.pm_world.proofs.LimitedLives.{ordered-within, sound-dens}
+use Rattle.pm_world.proofs.LimitedLives.{ordered-within}
+use Rattle.pm_world.specs.Lemmas.Formats.{sound-dens}
 use Rattle.pm_world.proofs.Lives.{IsLived, earlier, newest}
 use Rattle.pm_world.proofs.OpenOrders.{Goes}
 use Rattle.pm_world.proofs.OrderEvents.{order-free}

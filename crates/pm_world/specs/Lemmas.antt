@@ -1,5 +1,9 @@
 -- Facts on a life, on legal hearings and on limits that proofs above take by name. Each stands for a clause of its
 -- definition: what one more event adds, what no event changes, and that what is heard whole is legal.
+pub mod Formats
+pub mod Hosts
+pub mod Limits
+pub mod SinceRestart
 use Rattle.std.specs.Prelude.{◌≡◌, ◌++◌, ℕ, true, List, [], ◌∷◌, Option, Some, None, IsSomeAnd, option_to_list, refl}
 use Rattle.std.specs.List.{starts_with}
 use Rattle.std.proofs.Common.{◌⊎◌, ap, eqb, inl, inr, subst, sym}

@@ -1,0 +1,33 @@
+//! A log that proves itself: what a host was asked for and told, and what is claimed of it. [`check`] replays
+//! it through a new [`Host`](pm_host::Host), and accepts it only where that host knows each claim by these acts alone.
+//!
+//! What it accepts is true of every device that could have given these answers: `accepted_claims_are_held` says so over
+//! lives. Nothing is trusted but that the answers came; who wrote the log doesn't matter. It takes no memory.
+//!
+//! ```
+//! fn checked() -> Result<(), CheckFault> {
+//!     let cell = Cell::Out(0, Reg::VoutCommand);
+//!     let request = [0xB0, 0x06, 0x02, 0x00, 0x21];
+//!     let answer = [0xB1, 0x02, 0xCD, 0x34, 0xB9];
+//!     let acts = [
+//!         Act::Begun(Job::Check(cell)),
+//!         Act::Sent(&request, Told::Got(&answer)),
+//!     ];
+//!     check(0x58, 2, 2, &acts, &[Claim::Holds { cell, word: 0x34CD }])
+//! }
+//! ```
+//!
+//! Tests: crates/pm_check_tests
+#![tactic(auto)]
+
+mod act;
+mod claim;
+mod fault;
+mod laws;
+mod replay;
+
+pub use act::{Act, replay_act};
+pub use claim::{Claim, is_claimed};
+pub use fault::{ActFault, CheckFault};
+pub use laws::logs_are_transcripts;
+pub use replay::check;

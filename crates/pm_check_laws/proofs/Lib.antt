@@ -1,0 +1,5 @@
+mod ClaimedBands
+mod LastReads
+mod OpenBands
+mod Others
+mod Stays

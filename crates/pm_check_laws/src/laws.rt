@@ -1,0 +1,72 @@
+//! The laws, over the definitions alone.
+
+ghost use Rattle.pm_check_laws.specs.Checked.{AcceptedClaimsAreHeld, AcceptedClaimsStay, UnknownClaimsAreOpen, UnknownVoltagesAreOpen};
+
+use pm_check::logs_are_transcripts;
+use pm_host::{possible_words_are_followed, transcripts_are_followed};
+use pm_table::cells_are_told_apart;
+use pm_world::{
+    bands_are_exact, bands_are_held, events_are_lived, learned_formats_are_true,
+    lives_are_followed, possible_words_are_exact, possible_words_are_held,
+    settings_move_by_the_open_job,
+};
+
+/// Each claim of a log that is accepted is true of each life whose host was told the log: the converter held the word when
+/// the host had its last good answer for the cell (`read`), and holds it unless it restarted since (`held`). What an
+/// output commands lies between the claimed microvolts, unless the converter restarted since the answers that say so (`commands`).
+pub fn accepted_claims_are_held()
+    ensures { AcceptedClaimsAreHeld }
+{
+    transcripts_are_followed();
+    possible_words_are_followed();
+    logs_are_transcripts();
+    events_are_lived();
+    lives_are_followed();
+    possible_words_are_held();
+    learned_formats_are_true();
+    bands_are_held();
+}
+
+/// Nothing less would do. Let the converter of a life that tells a log not have restarted since the host did, and the log
+/// order and read no other word of WRITE_PROTECT than 00h, and no restore. Then a claim of an output's register that isn't
+/// known by the log is false of some life that tells the same log.
+pub fn unknown_claims_are_open()
+    ensures { UnknownClaimsAreOpen }
+{
+    cells_are_told_apart();
+    transcripts_are_followed();
+    possible_words_are_followed();
+    logs_are_transcripts();
+    events_are_lived();
+    lives_are_followed();
+    possible_words_are_held();
+    possible_words_are_exact();
+}
+
+/// Microvolts between which an output isn't known to lie by the log are left by some life that tells the same log, where the
+/// host has a band for the output after it.
+pub fn unknown_voltages_are_open()
+    ensures { UnknownVoltagesAreOpen }
+{
+    transcripts_are_followed();
+    possible_words_are_followed();
+    logs_are_transcripts();
+    events_are_lived();
+    lives_are_followed();
+    possible_words_are_held();
+    bands_are_exact();
+}
+
+/// After an accepted log the word that it claims stays, while the converter doesn't restart and neither an order of the cell
+/// nor a restore is open.
+pub fn accepted_claims_stay()
+    ensures { AcceptedClaimsStay }
+{
+    transcripts_are_followed();
+    possible_words_are_followed();
+    logs_are_transcripts();
+    events_are_lived();
+    lives_are_followed();
+    possible_words_are_held();
+    settings_move_by_the_open_job();
+}

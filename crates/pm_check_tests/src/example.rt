@@ -1,0 +1,23 @@
+//! The example of the root of `pm_check`.
+
+use crate::checks::equal;
+use pm_check::{Act, CheckFault, Claim, check};
+use pm_host::{Job, Told};
+use pm_table::{Cell, Reg};
+
+// The example of the root, word for word.
+fn checked() -> Result<(), CheckFault> {
+    let cell = Cell::Out(0, Reg::VoutCommand);
+    let request = [0xB0, 0x06, 0x02, 0x00, 0x21];
+    let answer = [0xB1, 0x02, 0xCD, 0x34, 0xB9];
+    let acts = [
+        Act::Begun(Job::Check(cell)),
+        Act::Sent(&request, Told::Got(&answer)),
+    ];
+    check(0x58, 2, 2, &acts, &[Claim::Holds { cell, word: 0x34CD }])
+}
+
+#[test]
+fn the_example_of_the_root_runs(rt: HostRuntime) {
+    equal(&rt, &checked(), &Ok(()), &1);
+}
