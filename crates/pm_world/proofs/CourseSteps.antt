@@ -28,7 +28,6 @@ use Rattle.pm_rail.specs.declared.next.Next.{Next as Said}
 use Rattle.pm_rail.specs.declared.next.Next.TheVariants as said
 use Rattle.pm_rail.specs.Course.{after_next, course_of, is_order, naming, next_of, renewed, says as says_of, told_of}
 use Rattle.pm_rail.specs.Lemmas.Says.{Names, asks-so, differing-same, ended-same, orders, reads, renewed-none, renewed-so, says-job}
-use Rattle.pm_world.specs.Below.{BelowCourses}
 use Rattle.pm_world.specs.declared.event.Event.{Event}
 use Rattle.pm_world.specs.Bands.{HoldsMissing}
 use Rattle.pm_world.specs.Confirmed.{restarts_converter}
@@ -42,9 +41,10 @@ use Rattle.pm_world.specs.State.{State, asked}
 use Rattle.pm_world.specs.Surveys.{MissingUnread}
 use Rattle.pm_world.proofs.JobSpans.{any-parts}
 use Rattle.pm_world.proofs.Lives.{IsLived, earlier, lived-before}
+use Rattle.pm_world.proofs.CourseEvents.{Laws}
 use Rattle.pm_world.proofs.CourseWays as ways
 
-module _ (laws : BelowCourses) (config : Config) (passes : ℕ) (part : PartRegisters) (output : ℕ) (wanted : Wanted) (before : List Event)
+module _ (laws : Laws) (config : Config) (passes : ℕ) (part : PartRegisters) (output : ℕ) (wanted : Wanted) (before : List Event)
     (spelled : IsSpelled config) (here : output < config.count)
     (missing : HoldsMissing part config (now config passes before).device.words output) where
   abbrev wants : Wants

@@ -21,7 +21,6 @@ use Rattle.pm_rail.specs.declared.wanted.Wanted.{Wanted}
 use Rattle.pm_rail.specs.Orders.{plan_of}
 use Rattle.pm_rail.specs.Registers.{Wants, wants_of}
 use Rattle.pm_rail.specs.declared.course.Course.{Course}
-use Rattle.pm_world.specs.Below.{BelowCourses}
 use Rattle.pm_world.specs.declared.event.Event.{Event}
 use Rattle.pm_world.specs.Bands.{HoldsMissing}
 use Rattle.pm_world.specs.Confirmed.{restarts_converter}
@@ -36,9 +35,9 @@ use Rattle.pm_world.specs.State.{State, asked}
 use Rattle.pm_world.specs.Surveys.{AreRead, MissingUnread}
 use Rattle.pm_world.proofs.Lives.{IsLived, earlier}
 use Rattle.pm_world.proofs.PlanSteps.{Stands, Took, goes}
-use Rattle.pm_world.proofs.CourseEvents.{no-order, no-restore, open-more, unread-more}
+use Rattle.pm_world.proofs.CourseEvents.{Laws, no-order, no-restore, open-more, unread-more}
 
-module _ (laws : BelowCourses) (config : Config) (passes : ℕ) (part : PartRegisters) (output : ℕ) (wanted : Wanted) (before : List Event)
+module _ (laws : Laws) (config : Config) (passes : ℕ) (part : PartRegisters) (output : ℕ) (wanted : Wanted) (before : List Event)
     (spelled : IsSpelled config) (here : output < config.count)
     (missing : HoldsMissing part config (now config passes before).device.words output) where
   abbrev wants : Wants

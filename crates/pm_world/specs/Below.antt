@@ -6,8 +6,6 @@ use Rattle.pm_model.specs.Laws.{OrdersStayInTheirCells, SettingsAreAMap}
 use Rattle.pm_device.specs.Laws.{PastsAreFollowed, ReadsAreAnswered, SoundConfigurationsHaveNoFault, WordsHaveAnOrigin, WritesReachOneCell}
 use Rattle.pm_host.specs.Laws.{EndsAreTold, FramesAreNamed, JobsAreBounded, OpenRestoresAreUncertain, PossibleWordsAreFollowed}
 use Rattle.pm_host.specs.Laws.{TranscriptsAreFollowed}
-use Rattle.pm_world.specs.Plans.{PlansHoldInLives}
-use Rattle.pm_world.specs.Surveys.{SurveysHoldInLives}
 
 pub record Below : Type 0 where
   -- laws of cells and registers
@@ -38,9 +36,3 @@ pub record Below : Type 0 where
   pub frames_are_named : FramesAreNamed
   pub open_restores_are_uncertain : OpenRestoresAreUncertain
   pub possible_words_are_followed : PossibleWordsAreFollowed
-
--- The laws that a course in a life rests on.
-pub record BelowCourses : Type 0 where
-  pub below : Below
-  pub plans : PlansHoldInLives
-  pub surveys : SurveysHoldInLives

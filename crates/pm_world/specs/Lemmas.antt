@@ -6,7 +6,7 @@ pub mod Limits
 pub mod SinceRestart
 use Rattle.std.specs.Prelude.{◌≡◌, ◌++◌, ℕ, true, List, [], ◌∷◌, Option, Some, None, IsSomeAnd, option_to_list, refl}
 use Rattle.std.specs.List.{starts_with}
-use Rattle.std.proofs.Common.{◌⊎◌, ap, eqb, inl, inr, subst, sym}
+use Rattle.std.proofs.Common.{eqb, subst, sym}
 use Rattle.std.proofs.lemmas.Bool.{or_left}
 use Rattle.std.proofs.lemmas.Bool.Decides.{Decides-eqb}
 use Rattle.std.proofs.lemmas.List.{append-nil}
@@ -15,17 +15,11 @@ use Rattle.pm_num.specs.AnyFormat.{Shape, shape_value}
 use Rattle.pm_frame.specs.Betrayal.{is_betrayed}
 use Rattle.pm_device.specs.declared.config.Config.{Config}
 use Rattle.pm_device.specs.declared.converter.Ending.TheVariants.{Restart, Stop}
-use Rattle.pm_device.specs.Held.{value_for}
 use Rattle.pm_device.specs.History.{now as device_now}
 use Rattle.pm_limits.specs.Bounds.{Bounds, IsWithin}
-use Rattle.pm_model.specs.Commanded.{commanded, selected}
-use Rattle.pm_rail.specs.Plan.{commands_by}
-use Rattle.pm_rail.specs.Registers.{Held}
 use Rattle.pm_world.specs.declared.event.Event.{Event}
 use Rattle.pm_world.specs.Legal.{is_legal_hearing}
 use Rattle.pm_world.specs.Life.{life, now, state_of}
-use Rattle.pm_world.specs.Limited.{commands}
-use Rattle.pm_world.specs.Plans.{held_at}
 use Rattle.pm_world.specs.State.{share_of}
 
 -- The converter of a life stays that of its configuration.
@@ -59,33 +53,3 @@ pub in-format : (known : Option Shape) (own : Shape) (word : ℕ) (bounds : Boun
 in-format None own word bounds agree within = absurd within
 in-format (Some shape) own word bounds agree within =
     subst (λ (s : Shape). IsWithin bounds (shape_value s word)) (agree shape refl) within
-
--- What a list ends with ends the later part of it, or goes beyond.
-pub record Beyond (middle newer later : List Event) : Type 0 where
-  pub piece : List Event
-  pub rest : List Event
-  pub newer_is : newer ≡ rest ++ piece
-  pub middle_is : middle ≡ piece ++ later
-
-pub split-at : (rest middle newer later : List Event) → rest ++ middle ≡ newer ++ later →
-    ((y : List Event) × (later ≡ y ++ middle)) ⊎ Beyond middle newer later
-split-at [] middle newer later e = inr (record { piece = newer; rest = []; newer_is = refl; middle_is = e })
-split-at (r ∷ rest) middle [] later e = inl (r ∷ rest, sym e)
-split-at (r ∷ rest) middle (n ∷ newer) later e =
-    let below : rest ++ middle ≡ newer ++ later = cc in
-    elim (split-at rest middle newer later below) [
-      | inl within ↦ inl within
-      | inr beyond ↦ inr (record {
-        piece = beyond.piece;
-        rest = n ∷ beyond.rest;
-        newer_is = ap (λ (es : List Event). n ∷ es) beyond.newer_is;
-        middle_is = beyond.middle_is;
-      })
-    ]
-
--- An output commands the same by the same words.
-pub same-commands : (config : Config) (passes output : ℕ) (one other : List Event) →
-    held_at config passes one output ≡ held_at config passes other output →
-    commands config passes one output ≡ commands config passes other output
-unfolding commanded selected
-same-commands config passes output one other same = ap (λ (h : Held). commands_by (value_for config output) h) same
