@@ -37,28 +37,3 @@ none-second (x ∷ a) b h = none-second a b (go (restarts_converter x) (list_any
   go : (one all : Bool) → (one || all) ≡ false → all ≡ false
   go true all h' = cc
   go false all h' = h'
-
--- ---- Moments ----
-
--- what a list ends with ends the later part of it, or goes beyond
-pub record Beyond (middle newer later : List Event) : Type 0 where
-  pub part : List Event
-  pub rest : List Event
-  pub newer_is : newer ≡ rest ++ part
-  pub middle_is : middle ≡ part ++ later
-
-pub split-at : (rest middle newer later : List Event) → rest ++ middle ≡ newer ++ later →
-    ((y : List Event) × (later ≡ y ++ middle)) ⊎ Beyond middle newer later
-split-at [] middle newer later e = inr (record { part = newer; rest = []; newer_is = refl; middle_is = e })
-split-at (r ∷ rest) middle [] later e = inl (r ∷ rest, sym e)
-split-at (r ∷ rest) middle (n ∷ newer) later e =
-    let below : rest ++ middle ≡ newer ++ later = cc in
-    elim (split-at rest middle newer later below) [
-      | inl within ↦ inl within
-      | inr beyond ↦ inr (record {
-        part = beyond.part;
-        rest = n ∷ beyond.rest;
-        newer_is = ap (λ (es : List Event). n ∷ es) beyond.newer_is;
-        middle_is = beyond.middle_is;
-      })
-    ]

@@ -39,7 +39,7 @@ use Rattle.pm_table.specs.Cell.{is_cell, same_cell}
 use Rattle.pm_table.specs.Laws.{CellsAreToldApart}
 use Rattle.pm_table.specs.Rules.{first, rule}
 use Rattle.pm_limits.specs.Guard.{missing_cell, of_host}
-use Rattle.pm_driver.proofs.Chains.{split-at}
+use Rattle.pm_world.specs.Moments.{Beyond, split-at}
 use Rattle.pm_driver.specs.Bus.{restarts_in}
 use Rattle.pm_driver.specs.Rails.{events_in, surveyed_by}
 use Rattle.pm_driver.specs.RailLaws.{LawsOfRails}
@@ -98,9 +98,9 @@ stays-on laws config passes output before es evs job end old new held here alone
     elim (split-at rest part evs es (sym is)) [
       | inl within ↦ was within.0 part register within.1
       | inr beyond ↦ ap (λ (x : List Event). held_at config passes x output register)
-          (ap (λ (x : List Event). x ++ before) beyond.middle_is ∙ append_assoc beyond.part es before)
+          (ap (λ (x : List Event). x ++ before) beyond.middle_is ∙ append_assoc beyond.piece es before)
           ∙ (stays-part config passes (es ++ before) old job went.is_host went.idle went.frames went.are laws.ends laws.moves
-          (Out output register) here (alone register) beyond.rest beyond.part []
+          (Out output register) here (alone register) beyond.rest beyond.piece []
           (ap (λ (x : List Event). told_in config passes (es ++ before) x) (sym beyond.newer_is) ∙ went.told)
           (ap (λ (x : List Event). list_any restarts_converter x) (sym beyond.newer_is) ∙ steady)
           (subst (λ (x : List Event). IsLived config passes (x ++ (es ++ before))) beyond.newer_is went.life.lived)
@@ -197,10 +197,3 @@ pub some-counted : {B : Type 0} (gives : B → Call → B → Type 0) (held : B 
     restarts_in (events_in gives held restarts end old new o leads) + restarts old.bus ≡ restarts new.bus
 some-counted gives held restarts end old new None leads = absurd leads
 some-counted gives held restarts end old new (Some begun) leads = leads.count
-
--- an output commands the same by the same words
-pub same-commands : (config : Config) (passes output : ℕ) (one other : List Event) →
-    held_at config passes one output ≡ held_at config passes other output →
-    commands config passes one output ≡ commands config passes other output
-unfolding commanded selected
-same-commands config passes output one other same = ap (λ (h : Held). commands_by (value_for config output) h) same

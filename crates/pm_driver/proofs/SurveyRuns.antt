@@ -52,7 +52,8 @@ use Rattle.pm_driver.specs.SurveyLaws.{IsOne, IsWorth, commanded_in, events_read
 use Rattle.pm_driver.proofs.Chains.{none-counted, none-first, none-second}
 use Rattle.pm_driver.proofs.Followed.{LeavesAlone, LeavesUnread, stays-unread}
 use Rattle.pm_driver.proofs.RanJobs.{Kind, Ran, Stays, checks, idle-check, idle-learn, learns, none-both, protects, ran, read-told}
-use Rattle.pm_driver.proofs.RanJobs.{same-commands, some-counted, stays-on, two-cells}
+use Rattle.pm_driver.proofs.RanJobs.{some-counted, stays-on, two-cells}
+use Rattle.pm_world.specs.Moments.{same-commands}
 use Rattle.pm_rail.specs.Lemmas.Says.{asks-so}
 use Rattle.pm_driver.proofs.Surveyed.{asked-output}
 

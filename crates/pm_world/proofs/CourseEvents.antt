@@ -1,5 +1,5 @@
 -- The events beside a course, and parts of lists of them.
-use Rattle.std.proofs.Common.{◌≡◌, ◌≢◌, ◌⊎◌, inl, inr, ℕ, Bool, true, false, cond, ◌||◌, List, [], ◌∷◌, ◌++◌, Option, Some, None}
+use Rattle.std.proofs.Common.{◌≡◌, ◌≢◌, ℕ, Bool, true, false, cond, ◌||◌, List, [], ◌∷◌, ◌++◌, Option, Some, None}
 use Rattle.std.proofs.Common.{refl, sym, ◌∙◌, ap, subst}
 use Rattle.std.specs.Prelude.{option_and_then, option_map, option_to_list, if◌then◌else◌}
 use Rattle.std.specs.List.{list_any}
@@ -39,20 +39,16 @@ use Rattle.pm_world.specs.Lemmas.{entries-more}
 use Rattle.pm_world.proofs.JobSpans.{TellsFrame, beside-frame, by-acceptance, by-frame, by-silence}
 use Rattle.pm_world.proofs.Lives.{IsLived}
 use Rattle.pm_world.proofs.PlanSteps.{pending-open, pending-order, pending-restore}
+use Rattle.pm_world.proofs.PlanSteps.{restarted-none}
 use Rattle.pm_world.proofs.Unread.{restart-told}
 
 -- the laws that a course is worth something by
-pub record Laws : Type 0 where
+pub record Given : Type 0 where
   pub below : Below
   pub plans : PlansHoldInLives
   pub surveys : SurveysHoldInLives
 
 -- ---- The open job ----
-
--- after a restart of the host none is open
-restarted-none : (setup : host.Setup) (entries : List host.Entry) → host.open_job setup (host.Restarted ∷ entries) ≡ None
-unfolding host.open_job host.end_of
-restarted-none setup entries = refl
 
 -- the open job, by what the host was told
 pub opened-is : Below → (config : Config) (passes : ℕ) (events : List Event) →
@@ -212,36 +208,6 @@ pub follows-drop : (config : Config) (passes : ℕ) (part : PartRegisters) (outp
 follows-drop config passes part output wants [] events before follows = follows
 follows-drop config passes part output wants (event ∷ rest) events before follows = follows-drop config passes part output wants rest
     events before follows.2
-
--- what a list ends with ends the later part of it, or goes beyond
-pub record Beyond (middle newer later : List Event) : Type 0 where
-  pub piece : List Event
-  pub rest : List Event
-  pub newer_is : newer ≡ rest ++ piece
-  pub middle_is : middle ≡ piece ++ later
-
-pub split-at : (rest middle newer later : List Event) → rest ++ middle ≡ newer ++ later →
-    ((y : List Event) × (later ≡ y ++ middle)) ⊎ Beyond middle newer later
-split-at [] middle newer later e = inr (record { piece = newer; rest = []; newer_is = refl; middle_is = e })
-split-at (r ∷ rest) middle [] later e = inl (r ∷ rest, sym e)
-split-at (r ∷ rest) middle (n ∷ newer) later e =
-    let below : rest ++ middle ≡ newer ++ later = cc in
-    elim (split-at rest middle newer later below) [
-      | inl within ↦ inl within
-      | inr beyond ↦ inr (record {
-        piece = beyond.piece;
-        rest = n ∷ beyond.rest;
-        newer_is = ap (λ (es : List Event). n ∷ es) beyond.newer_is;
-        middle_is = beyond.middle_is;
-      })
-    ]
-
--- an output commands the same by the same words
-pub same-commands : (config : Config) (passes output : ℕ) (one other : List Event) →
-    held_at config passes one output ≡ held_at config passes other output →
-    commands config passes one output ≡ commands config passes other output
-unfolding commanded selected
-same-commands config passes output one other same = ap (λ (h : Held). commands_by (value_for config output) h) same
 
 pub goal-commands : (config : Config) (passes output : ℕ) (wanted : Wanted) (events before : List Event) →
     held_at config passes events output ≡ goal_of (held_at config passes before output) (wants_of wanted) →

@@ -31,11 +31,12 @@ use Rattle.pm_world.specs.Life.{now}
 use Rattle.pm_world.specs.Limited.{commands}
 use Rattle.pm_world.specs.Plans.{Follows, IsReadSince, held_at}
 use Rattle.pm_world.proofs.Lives.{IsLived, lived-before}
-use Rattle.pm_world.proofs.CourseEvents.{Beyond, Laws, follows-drop, goal-commands, same-commands, split-at}
+use Rattle.pm_world.proofs.CourseEvents.{Given, follows-drop, goal-commands}
+use Rattle.pm_world.specs.Moments.{Beyond, same-commands, split-at}
 use Rattle.pm_world.proofs.CourseWays as ways
 use Rattle.pm_world.proofs.CourseSteps as asked-of
 
-module _ (laws : Laws) (config : Config) (passes : ℕ) (part : PartRegisters) (output : ℕ) (wanted : Wanted) (before : List Event)
+module _ (laws : Given) (config : Config) (passes : ℕ) (part : PartRegisters) (output : ℕ) (wanted : Wanted) (before : List Event)
     (spelled : IsSpelled config) (here : output < config.count)
     (missing : HoldsMissing part config (now config passes before).device.words output) where
   abbrev wants : Wants
@@ -203,7 +204,7 @@ module _ (laws : Laws) (config : Config) (passes : ℕ) (part : PartRegisters) (
             ∙ sym (ap (λ (o : Option ℕ). unwrap_or o (held_at config passes before output register)) is)
 
 -- what courses to wanted words are worth
-pub keeps-courses : Laws → (config : Config) (passes : ℕ) (events : List Event) → IsSpelled config → IsLived config passes events →
+pub keeps-courses : Given → (config : Config) (passes : ℕ) (events : List Event) → IsSpelled config → IsLived config passes events →
     KeepsCourses config passes events
 keeps-courses laws config passes events spelled lived = record {
   held = λ part output wanted tries course rest newer later before is b missing.

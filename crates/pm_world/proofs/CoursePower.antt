@@ -38,7 +38,7 @@ use Rattle.pm_world.specs.Life.{now}
 use Rattle.pm_world.specs.Limited.{commands}
 use Rattle.pm_world.specs.Plans.{held_at}
 use Rattle.pm_world.specs.Surveys.{MissingUnread}
-use Rattle.pm_world.proofs.CourseEvents.{Laws}
+use Rattle.pm_world.proofs.CourseEvents.{Given}
 use Rattle.pm_world.proofs.JobSpans.{any-parts}
 use Rattle.pm_world.proofs.Lives.{IsLived}
 use Rattle.pm_world.proofs.PlanSteps.{one-register, register-itself}
@@ -55,7 +55,7 @@ commands-by-words : (config : Config) (passes output : ℕ) (events : List Event
 unfolding commanded selected
 commands-by-words config passes output events held same = ap (λ (h : Held). commands_by (value_for config output) h) same
 
-module _ (laws : Laws) (possible : PossibleWordsAreHeld) (config : Config) (passes : ℕ) (part : PartRegisters) (output byte : ℕ)
+module _ (laws : Given) (possible : PossibleWordsAreHeld) (config : Config) (passes : ℕ) (part : PartRegisters) (output byte : ℕ)
     (before : List Event) (spelled : IsSpelled config) (here : output < config.count) where
   abbrev at : List Event → Summary
   at es = (now config passes (es ++ before)).host
@@ -170,7 +170,7 @@ module _ (laws : Laws) (possible : PossibleWordsAreHeld) (config : Config) (pass
           among = (possible.held config passes (es ++ before) lived).held (Out output Operation) here fresh
 
 -- what courses to a byte of OPERATION are worth
-pub keeps-power : Laws → PossibleWordsAreHeld → (config : Config) (passes : ℕ) (events : List Event) → IsSpelled config →
+pub keeps-power : Given → PossibleWordsAreHeld → (config : Config) (passes : ℕ) (events : List Event) → IsSpelled config →
     IsLived config passes events → KeepsPower config passes events
 keeps-power laws possible config passes events spelled lived = record {
   words = λ part output byte tries course register rest newer later before is b.

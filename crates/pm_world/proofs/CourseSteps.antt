@@ -41,10 +41,10 @@ use Rattle.pm_world.specs.State.{State, asked}
 use Rattle.pm_world.specs.Surveys.{MissingUnread}
 use Rattle.pm_world.proofs.JobSpans.{any-parts}
 use Rattle.pm_world.proofs.Lives.{IsLived, earlier, lived-before}
-use Rattle.pm_world.proofs.CourseEvents.{Laws}
+use Rattle.pm_world.proofs.CourseEvents.{Given}
 use Rattle.pm_world.proofs.CourseWays as ways
 
-module _ (laws : Laws) (config : Config) (passes : ℕ) (part : PartRegisters) (output : ℕ) (wanted : Wanted) (before : List Event)
+module _ (laws : Given) (config : Config) (passes : ℕ) (part : PartRegisters) (output : ℕ) (wanted : Wanted) (before : List Event)
     (spelled : IsSpelled config) (here : output < config.count)
     (missing : HoldsMissing part config (now config passes before).device.words output) where
   abbrev wants : Wants
@@ -156,7 +156,7 @@ module _ (laws : Laws) (config : Config) (passes : ℕ) (part : PartRegisters) (
       after_next part limits s course ≡ naming (renewed part limits s course) (said.Job asked')
   named-is limits course s asked' is = ap (λ (n : Said). naming (renewed part limits s course) n) is
 
-  -- a course that reads and names no order reads on
+  -- a course that names a job of its survey reads on
   reading-named : (course : Course) (es : List Event) (asked' : Asked) → Reading course es → is_order asked' ≡ false →
       Reading (naming course (said.Job asked')) es
   reading-named course es asked' was free = record {

@@ -35,9 +35,9 @@ use Rattle.pm_world.specs.State.{State, asked}
 use Rattle.pm_world.specs.Surveys.{AreRead, MissingUnread}
 use Rattle.pm_world.proofs.Lives.{IsLived, earlier}
 use Rattle.pm_world.proofs.PlanSteps.{Stands, Took, goes}
-use Rattle.pm_world.proofs.CourseEvents.{Laws, no-order, no-restore, open-more, unread-more}
+use Rattle.pm_world.proofs.CourseEvents.{Given, no-order, no-restore, open-more, unread-more}
 
-module _ (laws : Laws) (config : Config) (passes : ℕ) (part : PartRegisters) (output : ℕ) (wanted : Wanted) (before : List Event)
+module _ (laws : Given) (config : Config) (passes : ℕ) (part : PartRegisters) (output : ℕ) (wanted : Wanted) (before : List Event)
     (spelled : IsSpelled config) (here : output < config.count)
     (missing : HoldsMissing part config (now config passes before).device.words output) where
   abbrev wants : Wants

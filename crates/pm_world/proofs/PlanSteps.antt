@@ -51,7 +51,7 @@ pending-open laws config passes events = ap (λ (j : Option host.Job). option_an
     (sym (laws.ends_are_told.job (setup_of config passes) (life config passes events).entries))
 
 -- after a restart of the host none is open
-restarted-none : (setup : host.Setup) (entries : List host.Entry) → host.open_job setup (host.Restarted ∷ entries) ≡ None
+pub restarted-none : (setup : host.Setup) (entries : List host.Entry) → host.open_job setup (host.Restarted ∷ entries) ≡ None
 unfolding host.open_job host.end_of
 restarted-none setup entries = refl
 

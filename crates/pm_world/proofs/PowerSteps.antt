@@ -48,14 +48,14 @@ use Rattle.pm_world.specs.Plans.{held_at}
 use Rattle.pm_world.specs.Retelling.{open_pending, pending_of}
 use Rattle.pm_world.specs.State.{State, asked}
 use Rattle.pm_world.specs.Surveys.{AreRead, MissingUnread}
-use Rattle.pm_world.proofs.CourseEvents.{Laws, no-order, no-restore, open-kept, two-registers, unread, unread-kept}
+use Rattle.pm_world.proofs.CourseEvents.{Given, no-order, no-restore, open-kept, two-registers, unread, unread-kept}
 use Rattle.pm_world.proofs.DoneOrders.{order-done}
 use Rattle.pm_world.proofs.JobSpans.{any-parts}
 use Rattle.pm_world.proofs.Lives.{IsLived, earlier, lived-before}
 use Rattle.pm_world.proofs.Moves.{moves-so}
 use Rattle.pm_world.proofs.PlanSteps.{pending-open}
 
-module _ (laws : Laws) (possible : PossibleWordsAreHeld) (config : Config) (passes : ℕ) (part : PartRegisters) (output byte : ℕ)
+module _ (laws : Given) (possible : PossibleWordsAreHeld) (config : Config) (passes : ℕ) (part : PartRegisters) (output byte : ℕ)
     (before : List Event) (spelled : IsSpelled config) (here : output < config.count) where
   abbrev at : List Event → Summary
   at es = (now config passes (es ++ before)).host

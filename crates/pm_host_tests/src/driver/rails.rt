@@ -505,15 +505,22 @@ fn courses_to_a_byte_and_to_nothing_are_carried_out(rt: HostRuntime) {
             let end = completed(&rt, &mut driver, Course::survey(0, 5));
             equal(&rt, &end, &Some(ApplyEnd::Reached), &3);
             equal(&rt, &driver.bus().next, &9, &3);
-            // On: as many, the order, and all of these once more.
+        }
+        None => panic!(rt; "refused"),
+    }
+    match driver_over(BASE, 1, &plan) {
+        Some(mut driver) => {
+            // On, where the output is on: as many, and no order.
             let end = completed(&rt, &mut driver, Course::power(0, 0x80, 60));
             equal(&rt, &end, &Some(ApplyEnd::Reached), &4);
-            equal(&rt, &driver.bus().next, &21, &4);
-            equal(&rt, &held(&driver.bus().device, Reg::Operation), &0x80, &4);
-            // It is known then, and isn't ordered again.
-            let end = completed(&rt, &mut driver, Course::power(0, 0x80, 60));
+            equal(&rt, &driver.bus().next, &5, &4);
+            // On, where it was turned off: as many, the order, and all of these once more.
+            let end = completed(&rt, &mut driver, Course::power(0, 0x00, 4));
             equal(&rt, &end, &Some(ApplyEnd::Reached), &5);
-            equal(&rt, &driver.bus().next, &26, &5);
+            let end = completed(&rt, &mut driver, Course::power(0, 0x80, 60));
+            equal(&rt, &end, &Some(ApplyEnd::Reached), &6);
+            equal(&rt, &driver.bus().next, &19, &6);
+            equal(&rt, &held(&driver.bus().device, Reg::Operation), &0x80, &6);
         }
         None => panic!(rt; "refused"),
     }

@@ -16,16 +16,16 @@ some-wanted None b true e f = cc
 some-wanted None b false e f = cc
 some-wanted (Some w) b r e f = refl
 
-not-ended : (a b : Bool) → b ≡ false → (a && b) ≡ false
-not-ended true b e = e
-not-ended false b e = refl
+not-ended : (plan : Option Wanted) (b : Bool) → b ≡ false → (is_none plan && b) ≡ false
+not-ended None b e = e
+not-ended (Some w) b e = refl
 
 pub returns-in-None-2 : goal.returns-in-None-2
 returns-in-None-2 c =
     let s = held c.args.stage c.args.host.now in
     let v = c.args.self.now.survey in
     let none : (is_none v.plan && is_surveyed c.args.part v s) ≡ false = elim c.if-is_none.branch [
-      | then-is_none+else-is_done_in w ↦ not-ended (is_none v.plan) (is_surveyed c.args.part v s) (sym w.is_done_in.ensures ∙ w.if-is_done_in.false)
+      | then-is_none+else-is_done_in w ↦ not-ended v.plan (is_surveyed c.args.part v s) (sym w.is_done_in.ensures ∙ w.if-is_done_in.false)
       | else-is_none w ↦ some-wanted v.plan (is_surveyed c.args.part v s) c.is_none.result c.is_none.ensures w.if-is_none.false
     ] in
     c.next_order_in.ensures
