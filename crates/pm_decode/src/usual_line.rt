@@ -35,8 +35,10 @@ pub(crate) fn usual_of(packet: &Packet<'_>) -> Option<Usual>
         IsUsual usual (parts_judged packet.now.write.now (option_map (λ bytes. bytes.now) packet.now.read))) }
 {
     match (packet.write, packet.read) {
-        ([_, 0x05, 4, ..], None) => carried_write(packet.write),
-        ([_, 0x06, 2, ..], Some(read)) => carried_read(packet.write, read),
+        ([_, code, 4, ..], None) if *code == Code::PAGE_PLUS_WRITE.0 => carried_write(packet.write),
+        ([_, code, 2, ..], Some(read)) if *code == Code::PAGE_PLUS_READ.0 => {
+            carried_read(packet.write, read)
+        }
         _ => shown_usual(packet),
     }
 }

@@ -14,10 +14,13 @@ pub(crate) fn carried_write(write: &[u8]) -> Option<Usual>
     ensures { IfSome result (λ usual. IsUsual usual (parts_judged write.now None)) }
 {
     writes_are_exact(); // law: a write is good exactly where its bytes are those of its message
-    // 05h is PAGE_PLUS_WRITE, and four bytes are counted
-    let [first, 0x05, 4, page, code, low, high, last] = write else {
+    // four bytes are counted: the page, the code and the word
+    let [first, plus, 4, page, code, low, high, last] = write else {
         return None;
     };
+    if *plus != Code::PAGE_PLUS_WRITE.0 {
+        return None;
+    }
     let addr = address_in(*first)?;
     if !is_word_written(*code) || pec(&write[..7]) != *last {
         return None;
@@ -37,10 +40,13 @@ pub(crate) fn carried_read(write: &[u8], read: &[u8]) -> Option<Usual>
 {
     requests_are_exact(); // law: the same of a request
     answers_are_exact(); // law: the same of an answer
-    // 06h is PAGE_PLUS_READ, and two bytes are counted
-    let [first, 0x06, 2, page, code] = write else {
+    // two bytes are counted: the page and the code
+    let [first, plus, 2, page, code] = write else {
         return None;
     };
+    if *plus != Code::PAGE_PLUS_READ.0 {
+        return None;
+    }
     let [back, 2, low, high, last] = read else {
         return None;
     };
