@@ -1,7 +1,7 @@
 -- Parts of a list of events.
-use Rattle.std.specs.Prelude.{◌≡◌, ◌⊎◌, ℕ, Bool, true, false, cond, ◌||◌, ◌+◌, refl, List, [], ◌∷◌, ◌++◌}
+use Rattle.std.specs.Prelude.{◌≡◌, ℕ, Bool, true, false, cond, ◌||◌, ◌+◌, refl, List, [], ◌∷◌, ◌++◌}
 use Rattle.std.specs.List.{list_any}
-use Rattle.std.proofs.Common.{arith, inl, inr, sym, ap}
+use Rattle.std.proofs.Common.{arith}
 use Rattle.pm_world.specs.declared.event.Event.{Event}
 use Rattle.pm_world.specs.Confirmed.{restarts_converter}
 use Rattle.pm_driver.specs.Bus.{restarts_in}

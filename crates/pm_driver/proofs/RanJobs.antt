@@ -39,15 +39,10 @@ use Rattle.pm_table.specs.Cell.{is_cell, same_cell}
 use Rattle.pm_table.specs.Laws.{CellsAreToldApart}
 use Rattle.pm_table.specs.Rules.{first, rule}
 use Rattle.pm_limits.specs.Guard.{missing_cell, of_host}
-use Rattle.pm_world.specs.Moments.{Beyond, split-at}
+use Rattle.pm_world.specs.Moments.{split-at}
 use Rattle.pm_driver.specs.Bus.{restarts_in}
 use Rattle.pm_driver.specs.Rails.{events_in, surveyed_by}
 use Rattle.pm_driver.specs.RailLaws.{LawsOfRails}
-use Rattle.pm_model.specs.Commanded.{commanded, selected}
-use Rattle.pm_device.specs.Held.{value_for}
-use Rattle.pm_rail.specs.Plan.{commands_by}
-use Rattle.pm_rail.specs.Registers.{Held}
-use Rattle.pm_world.specs.Limited.{commands}
 use Rattle.pm_driver.proofs.Followed.{Frames, LeavesAlone, entries-are, found, host-there, one-asked}
 use Rattle.pm_driver.proofs.Followed.{one-begun, quiet, stays-part, told-drop, told-one, told_in}
 

@@ -1,5 +1,5 @@
 -- What a survey that a driver carries out is worth: this project's own choice. Lists of events are newest first.
-use Rattle.std.specs.Prelude.{◌≡◌, ◌≢◌, ◌<◌, ℕ, Bool, true, false, List, [], ◌++◌, IsSomeAnd, Some, Ok}
+use Rattle.std.specs.Prelude.{◌≡◌, ◌≢◌, ◌<◌, ℕ, true, false, List, [], ◌++◌, IsSomeAnd, Some}
 use Rattle.std.specs.List.{list_any}
 use Rattle.pm_num.specs.Ratio.{Ratio}
 use Rattle.pm_table.specs.declared.cell.Cell.TheVariants.{Out}
@@ -24,7 +24,7 @@ use Rattle.pm_world.specs.Surveys.{AreRead, MissingUnread}
 use Rattle.pm_driver.specs.Acts.{Call}
 use Rattle.pm_driver.specs.Driven.{Driving}
 use Rattle.pm_driver.specs.Lives.{IsLife}
-use Rattle.pm_driver.specs.Rails.{Surveys, SurveysTo, asks_in, events_in, is_surveyed_in, more, nothing}
+use Rattle.pm_driver.specs.Rails.{Surveys, events_in, is_surveyed_in, more, nothing}
 
 -- the events of the lives that the jobs of a survey lead through, newest first
 abbrev pub events_read : {B : Type 0} {gives : B → Call → B → Type 0} {held : B → Held} {restarts : B → ℕ} {begun : Survey} {first : Driving B} {v : Survey} {last : Driving B} →
