@@ -95,7 +95,7 @@ MightComeFrom s (act ∷ before) = (act_fault (all_after s before) act ≡ None)
     × IsSomeAnd (entry_of (all_after s before) act) (λ entry. may_come (all_after s before) entry ≡ true)
     × MightComeFrom s before
 
--- of a log, oldest first: what a new host holds after it, its transcript, newest first, and whether its acts might come
+-- a log, oldest first: what a new host holds after it, its transcript, newest first, and whether its acts might come
 abbrev pub replayed : Setup → List Act → Summary
 replayed setup acts = all_after (start setup) (reverse acts)
 

@@ -36,7 +36,7 @@ use Rattle.pm_check_laws.proofs.LastReads.{Below, same-host}
 
 -- ---- The words of a list ----
 
--- where two words are possible, the second isn't the first
+-- the second of two possible words isn't the first
 abbrev AreApart : Possible → Type 0
 AreApart Any = Unit {0}
 AreApart (Words words) = (first second : ℕ) (rest : List ℕ) → words.items ≡ first ∷ second ∷ rest → (second == first) ≡ false
@@ -120,7 +120,7 @@ any-other output register word = go (word == 0x00) refl where
         let worse : (word == 0x00) ≡ true = subst (λ (w : ℕ). (w == 0x00) ≡ true) bad refl in cc;
   }
 
--- of a list
+-- a list has another word than this one
 list-other : (word held : ℕ) (words : List ℕ) → is_word_only word words ≡ false → is_listed held words ≡ true →
     ((first second : ℕ) (rest : List ℕ) → words ≡ first ∷ second ∷ rest → (second == first) ≡ false) →
     (is_listed (other_in word words) words ≡ true) × (other_in word words ≢ word)
@@ -146,7 +146,7 @@ is-other output register word held (Words words) alone listed apart =
 
 -- ---- A life ----
 
--- where the converter didn't restart since the host did, it didn't since a good answer
+-- if the converter didn't restart since the host did, it didn't since a good answer
 no-restart : (config : Config) (passes : ℕ) (cell : Cell) (events : List Event) → restarted_since_host events ≡ false →
     has_read config passes cell events ≡ true → restarted_since config passes cell events ≡ false
 unfolding restarted_since_host has_read restarted_since

@@ -105,7 +105,7 @@ pub record CommandsOther (config : Config) (passes : ℕ) (log : List Act) (outp
   pub tells : TellsLog start passes events log
   pub outside : IsWithin bounds (commands start passes events output) → ⊥
 
--- Where the host has a band after the log, microvolts that the claim isn't known for are left by some life that tells the log.
+-- If the host has a band after the log, microvolts that the claim isn't known for are left by some life that tells the log.
 abbrev pub UnknownVoltagesAreOpen : Type 0
 UnknownVoltagesAreOpen = (config : Config) (passes : ℕ) (events : List Event) (log : List Act) (output : ℕ) (part : PartRegisters)
     (least most : ℤ) →

@@ -16,7 +16,7 @@ more_lines others code = rw add-one refl
 
 pub ruleset count_steps = (no_lines, more_lines, append_assoc, append-nil, IfOk-equal)
 
--- the same as objects of JSON
+-- the counts as objects of JSON
 pub no_objects : (others : List (ℕ × ℕ)) → other_jsons others 0 ≡ []
 unfolding other_jsons
 no_objects others = refl

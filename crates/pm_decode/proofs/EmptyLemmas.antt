@@ -9,7 +9,7 @@ use Rattle.pm_decode.specs.JsonText.{key, number_field, other_jsons, totals_json
 use Rattle.pm_decode.specs.Readings.{entries_of}
 use Rattle.pm_decode.specs.declared.options.TellOptions.{TellOptions}
 
--- where options choose JSON or not, and other codes or not, the text of a capture of no bytes is the one for that choice
+-- whether options choose JSON or not, and other codes or not, the text of a capture of no bytes is the one for that choice
 pub empty_is : (options : TellOptions) (json all : Bool) → options.json ≡ json → options.all ≡ all
     → empty_by json all ≡ capture_text options []
 unfolding capture_text entries_of lines_of heard_of counts_of plain_counts json_counts totals_line totals_json other_lines

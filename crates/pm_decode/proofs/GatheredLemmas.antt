@@ -120,7 +120,7 @@ module _ (options : TellOptions) (r0 r1 w0 w1 : Option (List ℕ)) (bytes text :
       cut_behind all later parts short =
           AppendsFront-behind w0 w1 w2 gathered.done text' later (said_text options all) gathered.got short parts
 
-      -- the same after each way that a piece is read
+      -- what is gathered after each way that a piece is read
       pub cut_off : (result : Result ℕ TextFault) (failed : Bool) → IfOk result (λ count. Hears r1 r2 text text' old new count)
           → IfErr result (λ fault. StopsHearing r1 r2 text text' old fault)
           → MatchResult result (λ _. IsFalse failed) (λ fault. IsTrue failed ↔ (fault ≡ Read)) → AppendsFront w1 w2 text'
@@ -283,7 +283,7 @@ module _ (options : TellOptions) (r0 r1 w0 w1 w2 : Option (List ℕ)) (input : L
       subst P (ap (λ l. l ++ text) nothing ∙ is ∙ ap (capture_text options) (sym (none_input none)))
       (Appends-trans w0 w1 w2 (said_text options input) text written.text appended)
 
-  -- where there was no byte, a prefix of the text of no bytes was written
+  -- if there was no byte, a prefix of the text of no bytes was written
   pub none_front : old.taken ≡ 0 → (text : List ℕ) → text ≡ capture_text options [] → AppendsFront w1 w2 text
       → AppendsFront w0 w2 (capture_text options input)
   none_front none text is short =
@@ -291,7 +291,7 @@ module _ (options : TellOptions) (r0 r1 w0 w1 w2 : Option (List ℕ)) (input : L
       AppendsFront-behind w0 w1 w2 (said_text options input) text [] (capture_text options input) written.text short
       (ap (capture_text options) (none_input none) ∙ sym is ∙ sym (append-nil text) ∙ ap (λ l. l ++ (text ++ [])) (sym nothing))
 
-  -- where there was no byte, the capture ends well
+  -- if there was no byte, the capture ends well
   pub none_end : old.taken ≡ 0 → record { end = Clean; hint = None } ≡ capture_end options input
   none_end none = nothing_end options ∙ ap (capture_end options) (sym (none_input none))
 

@@ -77,7 +77,7 @@ heard_one options heard number reading = by (other_code_in options.all reading.p
     by None judged = let more = one judged in omega (arith, more)
     by (Some code) judged = omega (arith, total_one_more heard.others code)
 
--- where PAGE is followed a comment is heard by what it says
+-- a comment is heard by what it says, if PAGE is followed
 pub comment_heard : (options : TellOptions) (heard : HeardLines) (number : ℕ) (line : TimedLine) → options.pages ≡ true
     → line.has_mark ≡ true → heard_with options heard (number, Noted (head_remark line.head))
     ≡ cond (passes_timed options.pages line) heard (heard_with options heard (number, timed_said options.pages line))

@@ -25,7 +25,7 @@ module _ (a b c : Option (List ℕ)) where
 pub puts_all : (w1 w2 : Option (List ℕ)) (text left : List ℕ) → left ≡ [] → Puts w1 w2 text left → Puts w1 w2 text []
 puts_all w1 w2 text left none puts = let P : List ℕ → Type 0 = λ l. Puts w1 w2 text l in subst P none puts
 
--- the same text in other words
+-- one text in two ways of writing it
 pub as_all : (a b : Option (List ℕ)) (one two : List ℕ) → one ≡ two → Appends a b one → Appends a b two
 as_all a b one two is all = let P : List ℕ → Type 0 = λ l. Appends a b l in subst P is all
 
@@ -36,7 +36,7 @@ read_at result count failed is why =
     let Q : Result ℕ TextFault → Type 0 = λ r. MatchResult r (λ _. IsFalse failed) (λ fault. IsTrue failed ↔ (fault ≡ Read)) in
     subst Q is why
 
--- where reading a piece gave a fault, the reader has failed exactly where that fault is Read
+-- if reading a piece gave a fault, the reader has failed exactly if that fault is Read
 pub why_at : (result : Result ℕ TextFault) (fault : TextFault) (failed : Bool) → result ≡ Err fault
     → MatchResult result (λ _. IsFalse failed) (λ fault. IsTrue failed ↔ (fault ≡ Read)) → IsTrue failed ↔ (fault ≡ Read)
 why_at result fault failed is why =

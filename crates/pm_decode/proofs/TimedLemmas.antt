@@ -285,7 +285,7 @@ timed_by mark times line = record {
   packet = line_of (cond times (behind_word (cond mark (take 1 line) line)) (cond mark (take 1 line) line));
 }
 
--- of one that is none each byte may be a packet's
+-- each byte of a line that is no comment may be a packet's
 plain_of : (times : Bool) (line : List ℕ) → is_comment line ≡ false → whole_of times line ≡ timed_by false times line
 plain_of times line is = λ i. record {
   times = times;
@@ -297,7 +297,7 @@ plain_of times line is = λ i. record {
   packet = line_of (cond times (behind_word line) line);
 }
 
--- the same of a line of one byte, which may be a comment's
+-- a line of one byte, which may be a comment's
 single_of : (times : Bool) (b : ℕ) → whole_of times (b ∷ []) ≡ timed_by (is_comment (b ∷ [])) times (b ∷ [])
 single_of times b = by (is_comment (b ∷ []))
   where

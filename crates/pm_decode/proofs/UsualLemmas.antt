@@ -137,7 +137,7 @@ usual_heard options heard number usual parts plain is =
       others = heard.others;
     }) ∙ ap (λ o. heard_with o heard (number, Told (record { time = None; parts = Ok parts }))) (plain_is options plain)
 
--- the same by what the line reads as
+-- a usual line by what it reads as
 pub usual_told_in : (options : TellOptions) (known : Known) (number : ℕ) (usual : Usual) (line : LineReading) (packet : Packet)
     → is_plain options ≡ true → line.time ≡ None → line.packet ≡ Ok packet
     → IsUsual usual (parts_judged (packet_in packet).write (packet_in packet).read)

@@ -147,7 +147,7 @@ other_line_by code (Some count) =
 abbrev pub other_line : List (ℕ × ℕ) → ℕ → List ℕ
 other_line others code = other_line_by code (lookup (nat_eq code) others)
 
--- the same of each code below a number, in ascending order
+-- the lines of counts of each code below a number, in ascending order
 unfoldable pub other_lines : List (ℕ × ℕ) → ℕ → List ℕ
 other_lines others zero = []
 other_lines others (suc code) = other_lines others code ++ other_line others code

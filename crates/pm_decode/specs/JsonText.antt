@@ -54,7 +54,7 @@ abbrev pub hex_words : List ℕ → List ℕ
 hex_words [] = []
 hex_words (byte ∷ bytes) = hex_byte byte ++ spaced bytes
 
--- where there are bytes
+-- a field of bytes, if there are any
 unfoldable pub bytes_field : List ℕ → List ℕ → List ℕ
 bytes_field name [] = []
 bytes_field name (byte ∷ bytes) = text_field name (hex_words (byte ∷ bytes))
@@ -95,7 +95,7 @@ value_fields_if (Some value) = value_fields value
 
 -- ---- a packet that was accepted
 
--- where its payload goes, and the payload
+-- a payload's place, and the payload
 abbrev pub sent_direction : List ℕ → List ℕ
 sent_direction [] = codes "send"
 sent_direction (byte ∷ bytes) = codes "write"
@@ -159,7 +159,7 @@ whole_words [] None = []
 whole_words [] (Some read) = codes "/" ++ spaced read
 whole_words (byte ∷ bytes) read = hex_byte byte ++ (spaced bytes ++ read_words read)
 
--- where the packet has a byte, or a read part
+-- a packet that has a byte, or a read part
 abbrev pub packet_field : List ℕ → Option (List ℕ) → List ℕ
 packet_field [] None = []
 packet_field [] (Some read) = text_field (codes "packet") (whole_words [] (Some read))

@@ -61,7 +61,7 @@ step_by gap time pages parts judged other = record {
   used = use_of parts.write (is_some parts.read) (is_lost parts other) judged;
 }
 
--- where PAGE is followed
+-- what is known of PAGE, if PAGE is followed
 abbrev pub step_of : TellOptions → Pages → Option ℕ → TraceLine → Option PageStep
 step_of options pages time parts = if options.pages
     then Some (step_by options.gap time pages parts (judged_by options.all parts) (other_address options.all parts))

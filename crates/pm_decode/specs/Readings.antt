@@ -128,7 +128,7 @@ pub data Said : Type 0 where
 abbrev pub said_of : TellOptions → List ℕ → Said
 said_of options line = if is_noted options.pages line then Noted (remark_of line) else Told (reading_of options.times line)
 
--- the same with the line's number
+-- a line's number, and what the line says
 abbrev pub Entry : Type 0
 Entry = ℕ × Said
 

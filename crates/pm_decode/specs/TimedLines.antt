@@ -13,7 +13,7 @@ use Rattle.pm_decode.specs.declared.timed_line.TimedLine.{TimedLine}
 abbrev pub own_bytes : List ℕ → List ℕ
 own_bytes line = if is_comment line then take 1 line else line
 
--- these bytes of a line; the packet's own are all of them where lines have no time, and the first 64 of a comment tell what it
+-- the bytes of a line; the packet's own are all of them if lines have no time, and the first 64 of a comment tell what it
 -- says
 unfoldable pub timed_of : Bool → List ℕ → TimedLine
 timed_of times line = record {
@@ -45,7 +45,7 @@ head_takes head byte = if nat_lt (length head) 64 then head ++ byte ∷ [] else 
 abbrev pub goes_on : TimedLine → Bool
 goes_on line = line.is_begun && line.has_mark
 
--- and its first bytes are kept: further ones say nothing more
+-- a comment's first bytes are kept: further ones say nothing more
 abbrev pub is_told : TimedLine → Bool
 is_told line = line.is_begun && (line.has_mark && not (nat_lt (length line.head) 64))
 

@@ -39,7 +39,7 @@ StopsHearing read new_read text new_text old Memory = (bytes : List ℕ) × (res
     × Consumes read new_read bytes × (text ++ told old bytes ≡ new_text ++ rest)
 StopsHearing read new_read text new_text old _ = ⊥
 
--- the same of bytes that were read, by their own
+-- a written capture of bytes that were read, by their own
 abbrev pub StopsBytes : (text new_text : List ℕ) (old : Kept) (bytes : List ℕ) → TextFault → Type 0
 StopsBytes text new_text old bytes TooLong = (front : List ℕ) × (more : List ℕ) × (bytes ≡ front ++ more) × (0 < length more)
     × (old.taken + length front ≡ most_bytes old.options.long) × (new_text ≡ text ++ told old front)

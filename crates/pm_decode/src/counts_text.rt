@@ -28,7 +28,7 @@ pub(crate) fn push_counts(
     }
 }
 
-// The same as it is told to a person.
+// The counts as they are shown to a person.
 #[tactic(auto, using(pm_lines::specs::Lemmas::Joins::joins), unfolding(crate::specs::CaptureText::plain_counts))]
 fn push_plain_counts(text: &mut String, all: bool, heard: &HeardLines) -> Result<(), AllocError>
     requires { heard_lines heard.now < 2 ^ 64 }

@@ -106,7 +106,7 @@ impl HeardLines {
         }
     }
 
-    // The same of a line that could be read.
+    // Hears a line that could be read.
     #[tactic(auto, using(crate::proofs::HearingLemmas::heard_one, crate::proofs::PecLemmas::good_said, crate::proofs::PecLemmas::good_whole, crate::proofs::PecLemmas::good_known))]
     fn hear_packet(
         &mut self,
@@ -133,7 +133,7 @@ impl HeardLines {
         self.tally.count(line.shown)
     }
 
-    // The same where packets without PEC are told, or PAGE is followed.
+    // Hears a line closely: packets without PEC are told, or PAGE is followed.
     #[tactic(auto, using(crate::proofs::PecLemmas::completed_said, crate::proofs::PecLemmas::usual_said))]
     fn hear_closely(
         &mut self,
@@ -167,7 +167,7 @@ impl HeardLines {
         }
     }
 
-    // The same of a packet by what it says; `lacks` is whether it lacks its PEC.
+    // Hears a packet by what it says; `lacks` is whether it lacks its PEC.
     #[tactic(auto, using(crate::proofs::HearingLemmas::heard_one))]
     fn hear_shown(
         &mut self,

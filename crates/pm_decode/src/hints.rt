@@ -61,7 +61,7 @@ pub(crate) fn first_beyond(
     }
 }
 
-// The same where values are told by a format that was given.
+// The hint of a packet whose values are told by a format that was given.
 fn first_of(
     given: &GivenFormats,
     lessons: &Lessons,

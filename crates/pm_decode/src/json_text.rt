@@ -120,7 +120,7 @@ fn push_code_fields(text: &mut String, code: u8) -> Result<(), AllocError>
     push_text_field(text, "name", Code(code).name())
 }
 
-// Where a payload goes, and the payload.
+// A payload's place, and the payload.
 #[tactic(auto, using(pm_lines::specs::Lemmas::Joins::joins))]
 fn push_payload_fields(
     text: &mut String,
@@ -278,7 +278,7 @@ pub(crate) fn push_wrong_field(
     }
 }
 
-// The same of two lines.
+// Appends the field of two lines.
 #[tactic(auto, using(pm_lines::specs::Lemmas::Joins::joins), unfolding(crate::specs::JsonText::lines_field))]
 fn push_lines_field(text: &mut String, line: u64, number: u64) -> Result<(), AllocError>
     ensures { OnOk result (string_bytes text.new ≡ string_bytes text.old ++ lines_field line number) }

@@ -39,7 +39,7 @@ pub(crate) fn push_bad_line(
     }
 }
 
-// The same as an object of JSON.
+// A bad line as an object of JSON.
 #[tactic(auto, using(pm_lines::specs::Lemmas::Joins::joins), unfolding(crate::specs::CaptureText::json_line))]
 fn push_bad_json(
     text: &mut String,
@@ -56,7 +56,7 @@ fn push_bad_json(
     text.push_str("}")
 }
 
-// The same as it is told to a person.
+// A bad line as it is shown to a person.
 #[tactic(auto, using(pm_lines::specs::Lemmas::Joins::joins), unfolding(crate::specs::CaptureText::plain_line))]
 fn push_bad_plain(
     text: &mut String,
@@ -119,7 +119,7 @@ pub(crate) fn push_packet_line(
     }
 }
 
-// The same as an object of JSON.
+// The packet as an object of JSON.
 #[tactic(auto, using(pm_lines::specs::Lemmas::Joins::joins), unfolding(crate::specs::CaptureText::json_line))]
 fn push_packet_json(
     text: &mut String,
@@ -166,7 +166,7 @@ fn push_packet_fields(
     }
 }
 
-// The same as it is told to a person.
+// The packet as it is shown to a person.
 #[tactic(auto, using(pm_lines::specs::Lemmas::Joins::joins), unfolding(crate::specs::CaptureText::plain_line))]
 fn push_packet_plain(
     text: &mut String,
@@ -319,7 +319,7 @@ fn push_extra(
     }
 }
 
-// The same where values are told.
+// Appends what the packet means, if values are told.
 #[tactic(auto, using(pm_lines::specs::Lemmas::Joins::joins))]
 fn push_meaning(
     text: &mut String,

@@ -69,7 +69,7 @@ pub fn tell<R: Read, W: Write>(
     // What is written is the capture's text. X1, X2 and X7 never come.
     ensures ends { LongEnds (most_bytes options.now.long) (capture_text options.now) (said_text options.now)
         (capture_end options.now) (over R.remaining reader.old reader.new W.contents writer.old writer.new) result }
-    // of at most 1 MiB it ends as every engine does
+    // An input of at most 1 MiB ends as every engine does
     ensures short { options.now.long ≡ false → EngineEnds (telling options.now)
         (over R.remaining reader.old reader.new W.contents writer.old writer.new) result }
     ensures faults { IfErr result IsOfDecode }
@@ -230,7 +230,7 @@ fn empty_text(options: &TellOptions) -> &'static str
     empty_by(options.json, options.all)
 }
 
-// The same by whether it is an object of JSON, and whether other codes are counted.
+// The counts by whether they are an object of JSON, and whether other codes are counted.
 fn empty_by(json: bool, all: bool) -> &'static str
     ensures { result.now ≡ spec_empty_by json all }
 {

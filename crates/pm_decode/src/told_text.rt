@@ -13,7 +13,7 @@ use std::marker::Model;
 #[derive(Debug, Drop)]
 pub(crate) struct ToldText {
     text: Vec<u8>,
-    // Where the text of a line is made.
+    // The text of the line that is being made.
     line: String,
     // The digits of the last usual line's number.
     number: LineNumber,

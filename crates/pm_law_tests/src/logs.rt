@@ -31,7 +31,7 @@ use pm_check_laws::{
 use pm_device::Config;
 use pm_world::{Event, SetupFault, World};
 
-/// Where a log that a run told its host is accepted, the converter held each claimed word at the host's last good answer for
+/// If a log that a run told its host is accepted, the converter held each claimed word at the host's last good answer for
 /// its cell, and holds it unless it restarted since.
 pub fn a_log_that_is_accepted(
     c: Config,

@@ -164,7 +164,7 @@ fn ends_at_write(
     );
 }
 
-// The same of each way in which a write fails; where each byte is written alone, of one kind of error at each place.
+// Each way in which a write fails; if each byte is written alone, one kind of error at each place.
 fn ends_at_each_write(
     rt: &(impl Abort + AllocGlobal),
     worked: (Engine, &str, &str),
@@ -242,7 +242,7 @@ fn a_text_may_be_cut_anywhere(rt: HostRuntime) {
     }
 }
 
-// So many lines are those of a CLEAR_FAULTS, numbered from 1.
+// As many lines of a CLEAR_FAULTS, numbered from 1.
 fn are_clears(rt: &(impl Abort + AllocGlobal), written: &[u8], count: usize) -> Result<(), Fail> {
     equal(rt, &feeds_in(written), &count, &1);
     let lines = written.split(|byte| *byte == b'\n').take(count);

@@ -7,7 +7,7 @@ use std::io::ErrorKind;
 use std::process::Abort;
 use std::test::Fail;
 
-// So many lines of a CLEAR_FAULTS, each of nine bytes.
+// As many lines of a CLEAR_FAULTS, each of nine bytes.
 fn clears(alloc: Global, lines: usize) -> Result<Vec<u8>, Fail> {
     let mut text = Vec::new(alloc);
     for _ in 0..lines {

@@ -205,7 +205,7 @@ fn a_number_is_written_whole_or_wants_memory(rt: HostRuntime) {
     );
 }
 
-// These words choose this, or are refused so, or memory was wanted.
+// The words choose this, or are refused so, or memory was wanted.
 fn expect_chosen<'a>(
     rt: &(impl Abort + AllocGlobal),
     words: &'a [&'a str],

@@ -17,7 +17,7 @@ use std::test::Fail;
 const ONE: &str =
     "scenario 1\naddress 58\npasses 2\nprotect 00\ncoefficients 1 0 0\noutput 14 80 1000 4000 1100 0F00\nbegin\n";
 
-/// The same, with an event.
+/// A scenario of that size with an event.
 const ONE_EVENT: &str =
     "scenario 1\naddress 58\npasses 2\nprotect 00\ncoefficients 1 0 0\noutput 14 80 1000 4000 1100 0F00\nbegin\nclear 0\n";
 
@@ -255,7 +255,7 @@ fn sizes_of(parts: &TraceLine) -> (usize, Option<usize>) {
     (parts.write.as_slice().len(), read)
 }
 
-// These, and what the line says with this number.
+// Texts, and what the line says with this number.
 fn rendered(
     alloc: Global,
     line: &[u8],
@@ -334,7 +334,7 @@ fn long_parts_are_rendered_with_great_numbers(rt: HostRuntime) -> Result<(), Fai
     Ok(())
 }
 
-// These words choose a `number` of this format and this word, with a micro of so many bytes.
+// The words choose a `number` of this format and this word, with a micro of so many bytes.
 fn is_number(
     rt: &(impl Abort + AllocGlobal),
     words: &[&str],

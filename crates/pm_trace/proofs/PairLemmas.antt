@@ -112,7 +112,7 @@ wrote write read bad bytes =
     taken (λ part. between part read slash.None bad) (λ part. space_takes part read slash.None bad)
     (λ part x y. pair_takes part read slash.None bad x y) write bytes
 
--- the same of the read part
+-- the pairs of the read part
 was_read : (write read : Collected) (slashes : Slashes) (bad : Bool) → has_slash slashes ≡ true → (bytes : List ℕ)
     → fold line_takes (between write read slashes bad) (pairs_front bytes)
     ≡ between write (fold part_takes read (paired_bytes bytes)) slashes bad

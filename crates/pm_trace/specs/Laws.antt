@@ -17,7 +17,7 @@ pub record PiecesDoNotMatter : Type 0 where
   pub counts : (old new : Holding) (pieces : List (List ℕ)) (lines : List ToldLine) → IsFresh old →
       Decodes old pieces lines new → new.kept.counts ≡ counts_of (trace_of (concat pieces))
   pub total : (lines : List ToldLine) → lines_in (counts_of lines) ≡ length lines
-  -- the same up to a call that is refused: the lines shown are the first that the pieces have
+  -- pieces up to a call that is refused: the lines shown are the first that the pieces have
   pub refused : (old new : Holding) (pieces : List (List ℕ)) (lines : List ToldLine) → IsFresh old →
       Stops old pieces lines new → (rest : List ToldLine) × (trace_of (concat pieces) ≡ lines ++ rest)
   -- any calls

@@ -125,7 +125,7 @@ open_read line = if line.is_bad || is_some line.digit then Err fault.BadHex
 abbrev pub open_judged : OpenLine → Judged
 open_judged line = reading_judged (open_read line)
 
--- the same, where it isn't skipped
+-- what an open line reads as, if it isn't skipped
 abbrev pub open_told : OpenLine → Option Judged
 open_told line = if is_skipped_kind line.kind then None else Some (open_judged line)
 

@@ -40,7 +40,7 @@ Decodes old (piece ∷ pieces) lines new = (calls : List Call) × (mid : Holding
     × Calls old calls front mid × TakesWhole piece calls × (lines ≡ front ++ rest)
     × Decodes mid pieces rest new
 
--- the same up to a call that is refused: one within a piece, or the end of the bytes
+-- pieces up to a call that is refused: one within a piece, or the end of the bytes
 abbrev pub Stops : Holding → List (List ℕ) → List ToldLine → Holding → Type 0
 Stops old [] lines new = (lines ≡ []) × (fault : TextFault) × Fails old fault new
 Stops old (piece ∷ pieces) lines new = (calls : List Call) × (left : List ℕ) × (mid : Holding)

@@ -80,7 +80,7 @@ judged_text line BadHex = fault_words (fault.BadHex line)
 unfoldable pub told_text : ToldLine → List ℕ
 told_text told = decimal told.0 ++ (codes " " ++ judged_text told.0 told.1)
 
--- the same with its line feed
+-- a line's text with its line feed
 abbrev pub told_line : ToldLine → List ℕ
 told_line told = told_text told ++ codes "\n"
 

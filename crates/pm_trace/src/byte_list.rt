@@ -18,7 +18,7 @@ impl Model for ByteList {
 }
 
 impl ByteList {
-    /// These bytes.
+    /// A list of these bytes.
     pub fn new(items: Vec<u8>) -> ByteList
         ensures { result ≡ items.items }
     {

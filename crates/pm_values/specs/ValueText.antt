@@ -49,7 +49,7 @@ size_text size = decimal (size / 1000000) ++ point_text (size % 1000000)
 unfoldable pub minus : List ℕ
 minus = codes "-"
 
--- so many millionths as a decimal number
+-- millionths as a decimal number
 abbrev pub decimal_of : ℤ → List ℕ
 decimal_of (pos size) = size_text size
 decimal_of (negsuc below) = minus ++ size_text (below + 1)
@@ -86,7 +86,7 @@ polarity_text byte = if bit_and byte 0x02 == 0 then codes ", CONTROL active low"
 abbrev pub delay_text : ℕ → List ℕ
 delay_text byte = if bit_and byte 0x01 == 0 then codes ", off with delay" else codes ", off at once"
 
--- the same, where CONTROL does
+-- the polarity and the delay, if CONTROL acts
 abbrev pub control_text : ℕ → List ℕ
 control_text byte = if bit_and byte 0x14 == 0x14 then polarity_text byte ++ delay_text byte else []
 

@@ -109,7 +109,7 @@ pub fn push_millionths(text: &mut String, ratio: Frac) -> Result<(), AllocError>
     push_decimal_number(text, millionths(ratio))
 }
 
-// So many millionths as a decimal number.
+// Appends millionths as a decimal number.
 #[tactic(auto, using(crate::proofs::ValueLemmas::negative_text, crate::proofs::ValueLemmas::positive_text))]
 fn push_decimal_number(text: &mut String, size: i128) -> Result<(), AllocError>
     requires least { neg_ℤ (pos (2 ^ 55 * 1000000)) ≤ℤ size }
@@ -123,7 +123,7 @@ fn push_decimal_number(text: &mut String, size: i128) -> Result<(), AllocError>
     }
 }
 
-// So many millionths below 0, with their sign.
+// Appends millionths below 0, with their sign.
 #[tactic(auto, using(pm_lines::specs::Lemmas::Joins::joins))]
 fn push_negative(text: &mut String, size: i128) -> Result<(), AllocError>
     requires least { neg_ℤ (pos (2 ^ 55 * 1000000)) ≤ℤ size }
@@ -156,7 +156,7 @@ fn minus() -> &'static str
     "-"
 }
 
-// So many millionths, without a sign.
+// Appends millionths without a sign.
 #[tactic(auto, using(pm_lines::specs::Lemmas::Joins::joins))]
 fn push_size(text: &mut String, size: i128) -> Result<(), AllocError>
     requires above { pos 0 ≤ℤ size }

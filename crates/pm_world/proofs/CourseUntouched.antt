@@ -99,7 +99,7 @@ module _ (laws : Below) (config : Config) (passes : ℕ) (part : PartRegisters) 
       stood-more (newer ++ es) event (stood-over newer es was (earlier lived) still.1 other.1) lived still.0
       (beside-none (at (newer ++ es)) event other.0)
 
-  -- where what a course names is asked for and is no order, it is one that others may ask for too
+  -- a job that a course names and asks for, and that is no order, is one that others may ask for too
   named-may : (limits : Option Bounds) (course : Course) (es : List Event) (event : Event) (j : Asked) →
       course.survey.output ≡ output → next_of part limits (at es).host course ≡ said.Job j → asked_by event ≡ Some j →
       IsNoOrder output (asked (at es) event) → IsBeside part output (asked (at es) event)

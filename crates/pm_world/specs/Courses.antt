@@ -149,7 +149,7 @@ AsksNoOrder config passes output [] before = Unit {0}
 AsksNoOrder config passes output (event ∷ later) before =
     IsNoOrder output (asked (now config passes (later ++ before)) event) × AsksNoOrder config passes output later before
 
--- Of these events, and any course: until an order of its output is asked for, each register keeps its word. So what is refused
+-- Any course, of these events: until an order of its output is asked for, each register keeps its word. So what is refused
 -- before the first order has written nothing.
 pub record IsUntouched (config : Config) (passes : ℕ) (events : List Event) : Type 0 where
   pub held : (part : PartRegisters) (begun course : Course) (register : Reg) (later before : List Event) → events ≡ later ++ before →

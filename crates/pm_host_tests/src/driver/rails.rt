@@ -447,7 +447,7 @@ static OFFS: [(&[(usize, Wrong)], u16, ApplyEnd, usize, u16); 6] = [
     // An order whose read-back doesn't come, or differs, is given once more.
     (&[(1, Cut)], 4, ApplyEnd::Reached, 4, 0x00),
     (&[(0, Lost)], 4, ApplyEnd::Reached, 4, 0x00),
-    // Where it differs again, that is the end.
+    // A second difference is the end.
     (
         &[(0, Lost), (2, Lost)],
         4,

@@ -33,7 +33,7 @@ placed_is es code place count at found =
     sym (insert_entry-first nat_eq code (count + 1) es place (Found-position (nat_eq code) es place at).first)
     ∙ ap (λ number. insert_entry nat_eq es code (unwrap_or number 0 + 1)) (sym found) ∙ one_more_is es code
 
--- the same where the code stands at the place that is looked at, since none stands at two
+-- the count of a code that stands at the place that is looked at, since none stands at two
 pub at_place : (es : List (ℕ × ℕ)) (code place count : ℕ) → IsDistinct nat_eq (keys_of es)
     → option_map (λ e. e.0) (slice_get es place) ≡ Some code → slice_get (values_of es) place ≡ Some count
     → set_value_at es place (count + 1) ≡ one_more es code

@@ -24,7 +24,7 @@ module _ {K A : Type 0} (mark : ℕ → Bool) (takes : K → ℕ → K) (tells :
       ∙ sym (append_assoc (cond (mark x) (tells kept) []) (told_at_marks mark takes tells (takes kept x) xs)
       (told_at_marks mark takes tells (fold takes (takes kept x) xs) ys))
 
--- where each byte that is no mark is taken as `with` says, all of them are
+-- if each byte that is no mark is taken as `with` says, all of them are
 pub taken-unmarked : {K : Type 0} (mark : ℕ → Bool) (takes : K → ℕ → K) (with : K → List ℕ → K) → ((kept : K) → kept ≡ with kept [])
     → ((kept : K) (x : ℕ) (xs : List ℕ) → mark x ≡ false → with (takes kept x) xs ≡ with kept (x ∷ xs))
     → (kept : K) (bytes : List ℕ) → list_any mark bytes ≡ false → fold takes kept bytes ≡ with kept bytes
