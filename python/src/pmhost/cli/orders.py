@@ -294,7 +294,7 @@ def set_voltage(arguments: argparse.Namespace) -> int:
         found = answer_of(arguments, part, register, "unknown", status=1, text="its format isn't known, nothing was ordered",
                           why=probe.why_not_learned(part, output) + readings.noted(part, output))
         return int(arguments.call.say(found))
-    return carry_out(arguments, register, lambda: part.host.order_micro(output, register, arguments.microvolts),
+    return carry_out(arguments, register, lambda: part.host.order_voltage(output, register, voltages.of_microvolts(arguments.microvolts)),
                        None if arguments.accept is None else arguments.microvolts)
 
 
