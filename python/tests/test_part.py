@@ -13,7 +13,7 @@ CARRIED = bytes.fromhex("B005040021CD345A")  # the same by PAGE_PLUS, for output
 STORE = bytes.fromhex("B01524")
 
 
-class Made(unittest.TestCase):
+class Numbers(unittest.TestCase):
     def test_coefficients_that_are_left_out_are_those_of_millivolts(self):
         self.assertEqual(ModelPart(ADDRESS, [Output(mode=0x40, command=3300)]).voltage(0), Decimal("3.3"))
 

@@ -23,8 +23,8 @@ from .voltages import Voltage
 
 __all__ = [
     "Band", "Bus", "CODES", "Device", "Differs", "Format", "FrameRefused", "Host", "HostRefused", "Known", "LINEAR11",
-    "LimitRefused", "Limits", "LinuxBus", "MemoryRefused", "ModelBus", "ModelPart", "ModelPartBus", "NoBus", "NoTransfer", "NotDone",
-    "NumberRefused", "Output", "Packet", "PartRefused", "PatientBus", "PlanOrder", "PlanRefused", "PmhostError", "RailEnd", "RailState", "Refused", "Sending", "SetupRefused", "Smbus2Bus", "Step", "Survey",
-    "Transfers", "Unknown", "Voltage", "Wanted", "__version__", "code_request", "pec", "read_answer", "read_block", "read_plain", "read_request",
-    "read_write",
+    "LimitRefused", "Limits", "LinuxBus", "MemoryRefused", "ModelBus", "ModelPart", "ModelPartBus", "NoBus", "NoTransfer",
+    "NotDone", "NumberRefused", "Output", "Packet", "PartRefused", "PatientBus", "PlanOrder", "PlanRefused", "PmhostError",
+    "RailEnd", "RailState", "Refused", "Sending", "SetupRefused", "Smbus2Bus", "Step", "Survey", "Transfers", "Unknown", "Voltage",
+    "Wanted", "__version__", "code_request", "pec", "read_answer", "read_block", "read_plain", "read_request", "read_write",
 ]

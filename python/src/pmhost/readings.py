@@ -99,7 +99,7 @@ def coefficients_of(answer: Read) -> Format | None:
         return None
 
 
-def noted(bus: Bus, address: int, output: int | None) -> str:
+def read_notes(bus: Bus, address: int, output: int | None) -> str:
     """What the part noted behind a job that ended badly: STATUS_CML and STATUS_VOUT of the output. Nothing where it gives no good
     answer."""
     found = [read(bus, address, None, "STATUS_CML", None)]

@@ -37,7 +37,7 @@ class Place:
 
     # ---- The bus ----
 
-    def opened(self) -> ModelPartBus | LinuxBus:
+    def open(self) -> ModelPartBus | LinuxBus:
         """The bus, opened at its first use. NoBus, too, where a line is held low."""
         if self._bus is None:
             try:
@@ -61,7 +61,7 @@ class Place:
 
     def patient(self, busy_timeout: int | None = None) -> ModelPartBus | PatientBus:
         """The bus that waits for a busy part, which a model part never is; without a time that of the call."""
-        bus, options = self.opened(), self._options
+        bus, options = self.open(), self._options
         if not isinstance(bus, LinuxBus):
             return bus
         return PatientBus(bus, options.delay, options.busy_timeout if busy_timeout is None else busy_timeout)
