@@ -53,20 +53,20 @@ step "no toolchain is there" '! command -v rt && ! command -v rattle'
 all > "$before"
 is_installed=yes
 step ".deb" 'dpkg -i *.deb'
-asked "its command" 'pmhost -b desk --outputs 2 --limit 0:3.135V:3.465V set 0 3.3V | grep "the output commands 3.300048V, within"'
-asked "a file of rails" 'printf "[rails.core]\noutput = 0\nvolts = \"0.9V\"\nlimits = [\"0.85V\", \"0.95V\"]\n" > rails.toml && pmhost -b desk apply rails.toml'
+asked "its command" 'pmhost -b model --outputs 2 --limit 0:3.135V:3.465V set 0 3.3V | grep "the output commands 3.300048V, within"'
+asked "a file of rails" 'printf "[rails.core]\noutput = 0\nvolts = \"0.9V\"\nlimits = [\"0.85V\", \"0.95V\"]\n" > rails.toml && pmhost -b model apply rails.toml'
 asked "one version" 'test "$(for each in pmb pmhost; do $each --version | cut -d" " -f2; done | sort -u)" = "$(pkg-config --modversion pmhost pmpart | sort -u)"'
 asked "an order over a bus with faults" 'pmhost faults --strike=lost word 1 VOUT_COMMAND 34CD | grep "confirmed"'
 asked "C over the shared object" "gcc -Wall -Werror $doc/examples/c/order.c \$(pkg-config --cflags --libs pmhost) -o order && ./order | cmp - $doc/examples/c/order.expected"
 asked "C over the part's shared object" "gcc -Wall -Werror $doc/examples/c/part.c \$(pkg-config --cflags --libs pmpart) -o part && ./part | cmp - $doc/examples/c/part.expected"
 asked "C over both shared objects" "gcc -Wall -Werror $doc/examples/c/faults.c \$(pkg-config --cflags --libs pmhost pmpart) -o faults && ./faults 5000"
 asked "C over the archives" "gcc $doc/examples/c/faults.c -l:libpmhost.a -l:libpmpart.a -o faults && ./faults 5000"
-asked "the wheel" 'python3 -m venv v && v/bin/pip install --no-index /usr/share/pmhost/*.whl && v/bin/pmhost -b desk --outputs 2 --no-limit set 0 3.3V'
+asked "the wheel" 'python3 -m venv v && v/bin/pip install --no-index /usr/share/pmhost/*.whl && v/bin/pmhost -b model --outputs 2 --no-limit set 0 3.3V'
 asked "pmb decodes a capture" "pmb decode --values --vout=ulinear16:-12 < $doc/examples/bus.trace | grep -q '3.300048 V'"
 asked "README's example" "pmb replay < $doc/examples/answer-lost.scenario | cmp - $doc/examples/answer-lost.report"
 asked "a capture of sigrok" "printf 'i2c-1: Start\ni2c-1: Address write: 58\n' | pmhost capture sigrok > trace"
 asked "manual pages and completions" 'for each in pmb pmhost; do test -x /usr/bin/$each && man -P cat $each 2> /dev/null | grep -qi NAME && bash -c ". /usr/share/bash-completion/completions/$each && complete -p $each" || exit 1; done'
-asked "tarball, anywhere" "mkdir t && tar -C t --strip-components=1 -xf *.tar.gz && export PKG_CONFIG_PATH=$work/t/lib/pkgconfig LD_LIBRARY_PATH=$work/t/lib && gcc t/share/doc/pmhost/examples/c/order.c \$(pkg-config --cflags --libs pmhost) -o order && ./order | cmp - t/share/doc/pmhost/examples/c/order.expected && readlink -f \$(ldd order | sed -n 's/.*libpmhost.so.* => \\(.*\\) (.*/\\1/p') | grep -q ^$work/t/ && t/bin/pmhost -b desk --outputs 2 --limit 0:3.135V:3.465V set 0 3.3V"
+asked "tarball, anywhere" "mkdir t && tar -C t --strip-components=1 -xf *.tar.gz && export PKG_CONFIG_PATH=$work/t/lib/pkgconfig LD_LIBRARY_PATH=$work/t/lib && gcc t/share/doc/pmhost/examples/c/order.c \$(pkg-config --cflags --libs pmhost) -o order && ./order | cmp - t/share/doc/pmhost/examples/c/order.expected && readlink -f \$(ldd order | sed -n 's/.*libpmhost.so.* => \\(.*\\) (.*/\\1/p') | grep -q ^$work/t/ && t/bin/pmhost -b model --outputs 2 --limit 0:3.135V:3.465V set 0 3.3V"
 step "removed" 'dpkg -P pmhost'
 all > "$after"
 cmp -s "$before" "$after"

@@ -5,7 +5,7 @@ export const CODE = {OPERATION: 0x01, WRITE_PROTECT: 0x10, VOUT_COMMAND: 0x21, V
                      VOUT_MARGIN_LOW: 0x26, VOUT_MIN: 0x2B};
 const END = ["next", "done", "differs", "unknown", "learned"];
 const HEARD = {0x81: "silent", 0x82: "taken", 0x83: "answered"};
-const WITHIN = {0x91: "within", 0x92: "outside", 0x93: "not known"};
+const LIMITS_STATES = {0x91: "within", 0x92: "outside", 0x93: "not known"};
 const SIZES = {host: "pm_host_size", part: "pm_part_size"};
 const PAGE = 65536;
 
@@ -92,7 +92,7 @@ export class Host {
     constructor(library, address, outputs, passes) {
         this.library = library;
         this.at = library.take(library.sizeOf("host"));
-        this.frame = library.take(20);
+        this.sending = library.take(20);
         this.room = library.take(16);
         library.ask("pm_host_new", pointer(this.at), address, outputs, passes);
     }
@@ -106,18 +106,18 @@ export class Host {
     setLimits(output, least, most) { this.library.ask("pm_host_set_limits", pointer(this.at), output, BigInt(least), BigInt(most)); }
 
     // Whether an output's voltage is known to lie within its limits: within, outside or not known.
-    within(output) {
+    limitsState(output) {
         const number = this.library.call("pm_host_limits_state", pointer(this.at), output) & 0xFF;
-        if (!(number in WITHIN)) throw new Refused("pm_host_limits_state", number, this.library.nameOf(number));
-        return WITHIN[number];
+        if (!(number in LIMITS_STATES)) throw new Refused("pm_host_limits_state", number, this.library.nameOf(number));
+        return LIMITS_STATES[number];
     }
 
     // {reads, bytes, wanted}: `wanted` is how many bytes a whole answer has; null where there is nothing to send.
     frame() {
-        this.library.ask("pm_host_frame", pointer(this.at), pointer(this.frame));
-        const [kind, length, wanted] = this.library.bytes(this.frame, 3);
+        this.library.ask("pm_host_frame", pointer(this.at), pointer(this.sending));
+        const [kind, length, wanted] = this.library.bytes(this.sending, 3);
         if (kind === 0) return null;
-        return {reads: kind === 2, bytes: [...this.library.bytes(this.frame + 4, length)], wanted};
+        return {reads: kind === 2, bytes: [...this.library.bytes(this.sending + 4, length)], wanted};
     }
 
     // What became of a frame: C's convention for wasm64 returns a pm_step in memory, whose address comes first.

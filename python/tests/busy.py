@@ -1,7 +1,7 @@
 """Parts that are busy or away for a while of the clock of runs.py, that fall silent, or whose lines are held low."""
 import errno
 
-from pmhost import Output, ModelPart
+from pmhost import ModelPart, Output
 
 from . import kernel, odd_parts, runs
 

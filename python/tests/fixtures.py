@@ -1,5 +1,5 @@
 """A part with two outputs on a bus that keeps what was sent, and a bus with faults."""
-from pmhost import Output, ModelPart, ModelPartBus, Device
+from pmhost import Device, ModelPart, ModelPartBus, Output
 
 ADDRESS = 0x58
 # ULINEAR16 with the exponent -12: 3.3 V is 34CDh, 1 V is 1000h.
@@ -58,6 +58,6 @@ class Faulty(ModelPartBus):
 def rails(bus_type=ModelPartBus, **named):
     """A part with two learned rails; output 0 has limits of 3.2 to 3.465 V."""
     part = ModelPart(ADDRESS, RAILS)
-    pmbus = Device(bus_type(part), ADDRESS, outputs=2, **{"limits": {0: ("3.2", "3.465")}, **named})
+    pmbus = Device(bus_type(part), ADDRESS, outputs=2, **{"limits": {0: ("3.2V", "3.465V")}, **named})
     pmbus.learn_all()
     return pmbus

@@ -7,7 +7,7 @@ import unittest
 from decimal import Decimal
 from unittest import mock
 
-from pmhost import ModelBus, LinuxBus, NoBus, NoTransfer, Device, Smbus2Bus, Unknown
+from pmhost import Device, LinuxBus, ModelBus, NoBus, NoTransfer, Smbus2Bus, Unknown
 from pmhost.bus.ones import given
 from pmhost.bus import Trace, linux
 from pmhost.bus.linux import I2C_FUNCS, I2C_RDWR, I2C_SLAVE, BusTrace, Message, Messages
@@ -29,7 +29,7 @@ class Linux(unittest.TestCase):
             pmbus = Device(bus, ADDRESS, outputs=2)
             pmbus.learn(0)
             self.over.mishaps = ["lost", "hung", "short0", "short1"]
-            self.assertEqual(pmbus.order_volts(0, "3.25"), Decimal("3.25"))
+            self.assertEqual(pmbus.order_voltage(0, "3.25V"), Decimal("3.25"))
         self.assertEqual(self.over.opened, 0)
 
     def test_the_kernel_s_structures(self):
@@ -51,7 +51,7 @@ class Linux(unittest.TestCase):
                 call()
             self.assertEqual(raised.exception.errno, errno.EBADF)
         with self.assertRaises(Unknown):
-            pmbus.order_volts(0, "3.25")
+            pmbus.order_voltage(0, "3.25V")
         bus.close()
         self.assertEqual((self.over.opened, self.over.part.converter.commanded(0)), (1, (4096, 4096)))
 
@@ -194,7 +194,7 @@ class Smbus2(unittest.TestCase):
         pmbus = Device(Smbus2Bus(stand), ADDRESS, outputs=2)
         pmbus.learn(0)
         stand.bus._kernel.mishaps = ["lost", "deaf", "ok", "ok"]
-        self.assertEqual(pmbus.order_volts(0, "3.25"), Decimal("3.25"))
+        self.assertEqual(pmbus.order_voltage(0, "3.25V"), Decimal("3.25"))
         self.assertEqual(stand.bus._kernel.part.word(), "3400")
 
     def test_what_a_bus_answers(self):

@@ -5,10 +5,9 @@ import unittest
 from decimal import Decimal, localcontext
 
 import pmhost
-from pmhost import Band, Format, Host, Known, Limits, LINEAR11, Packet, Sending, Step
+from pmhost import Band, Format, Host, Known, Limits, LINEAR11, Packet, Sending, Step, Voltage
 from pmhost import _library
 from pmhost.errors import name_of, refusal
-from pmhost.values import microvolts_of
 
 from .fixtures import RAILS, rails
 
@@ -58,31 +57,27 @@ class Frames(unittest.TestCase):
         self.assertEqual(pmhost.pec(bytes.fromhex("B005040021CD34")), 0x5A)
 
     def test_numbers_stand_alone(self):
-        self.assertEqual(Format("ULINEAR16", -12).word("3.3"), 0x34CD)
+        self.assertEqual(Format("ULINEAR16", -12).word("3.3V"), 0x34CD)
         self.assertEqual(Format("ULINEAR16", -12).value(0x34CD), Decimal("3.300048"))
         self.assertEqual(Format("DIRECT", 3, 1, 0).value(0x0CE4), Decimal("3.3"))
-        self.assertEqual((LINEAR11.value(0xD300), LINEAR11.word("12")), (Decimal(12), 0x000C))
+        self.assertEqual((LINEAR11.value(0xD300), LINEAR11.word("12V")), (Decimal(12), 0x000C))
 
 
 class Jobs(unittest.TestCase):
     def test_a_voltage_is_ordered_in_exact_decimals(self):
         pmbus = rails()
-        self.assertEqual(pmbus.order_volts(0, "3.3"), Decimal("3.300048"))
-        self.assertEqual(pmbus.order_volts(0, Decimal("3.25")), Decimal("3.25"))
-        self.assertEqual((pmbus.volts(0), pmbus.bus.part.volts(0)), (Decimal("3.25"), Decimal("3.25")))
-        self.assertIsNone(pmbus.volts(1))
+        self.assertEqual(pmbus.order_voltage(0, "3.3V"), Decimal("3.300048"))
+        self.assertEqual(pmbus.order_voltage(0, Voltage("3.25V")), Decimal("3.25"))
+        self.assertEqual((pmbus.voltage(0), pmbus.bus.part.voltage(0)), (Decimal("3.25"), Decimal("3.25")))
+        self.assertIsNone(pmbus.voltage(1))
 
     def test_a_voltage_does_not_hang_on_the_caller_s_precision(self):
         part = rails()
         part.learn(0)
         with localcontext() as context:
             context.prec = 3
-            self.assertEqual(str(part.order_volts(0, "3.3")), "3.300048")
-
-    def test_numbers_that_no_voltage_is_are_refused_at_once(self):
-        for volts in ("1E+999999999999", "1E-999999999999"):
-            with self.assertRaises(ValueError):
-                microvolts_of(Decimal(volts))
+            self.assertEqual(str(part.order_voltage(0, "3.3V")), "3.300048V")
+            self.assertEqual(str(part.order_voltage(0, "3.3125V")), "3.3125V")
 
     def test_registers_that_are_no_voltage_have_no_volts(self):
         part = rails()
@@ -90,7 +85,7 @@ class Jobs(unittest.TestCase):
         part.check(0, "OPERATION")
         for register in ("OPERATION", "WRITE_PROTECT"):
             with self.assertRaisesRegex(ValueError, f"register: {register} is no voltage"):
-                part.volts(0, register)
+                part.voltage(0, register)
 
     def test_limits_and_the_band(self):
         pmbus = rails()
@@ -99,11 +94,11 @@ class Jobs(unittest.TestCase):
         self.assertEqual(pmbus.band(0), (Decimal("3.300048"), Decimal("3.300049")))
         self.assertEqual(pmbus.limits_state(0), "within")
         self.assertEqual(pmbus.limits(0), (Decimal("3.2"), Decimal("3.465")))
-        self.assertEqual(pmbus.host.limits(0), Limits(3200000, 3465000))
+        self.assertEqual(pmbus.host.limits(0), Limits(Voltage("3200000uV"), Voltage("3465000uV")))
         self.assertIsNone(pmbus.limits(1))
-        self.assertEqual(pmbus.host.band(0), Band(3300048, 3300049))
+        self.assertEqual(pmbus.host.band(0), Band(Voltage("3300048uV"), Voltage("3300049uV")))
         pmbus.turn_on(0)
-        pmbus.set_limits(0, "3.2", "3.25")
+        pmbus.set_limits(0, "3.2V", "3.25V")
         self.assertEqual(pmbus.limits_state(0), "outside")
         pmbus.turn_off(0)
         pmbus.restart()
@@ -134,7 +129,7 @@ class Jobs(unittest.TestCase):
 
     def test_a_restart_of_the_part_is_seen(self):
         pmbus = rails()
-        pmbus.order_volts(0, "3.25")
+        pmbus.order_voltage(0, "3.25V")
         pmbus.bus.part.restart()
         self.assertEqual(pmbus.check(0), RAILS[0].command)
         self.assertTrue(pmbus.restart_seen)

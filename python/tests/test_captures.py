@@ -11,7 +11,7 @@ import threading
 import unittest
 import unittest.mock
 
-from pmhost import Output, ModelPart
+from pmhost import ModelPart, Output
 from pmhost.capture import NoCapture, clock_of, i2ctransfer, trace
 from pmhost.capture.vcd import waveform
 from pmhost.faults import heard_by

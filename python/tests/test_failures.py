@@ -2,7 +2,7 @@
 import itertools
 import unittest
 
-from pmhost import Host, Output, ModelPart, ModelPartBus, Device, Refused, Unknown
+from pmhost import Device, Host, ModelPart, ModelPartBus, Output, Refused, Unknown
 
 from .fixtures import ADDRESS, RAILS, Recorded, rails
 
@@ -176,14 +176,14 @@ class WordsOnTheWire(unittest.TestCase):
         pmbus = Device(ModelPartBus(part), ADDRESS)
         pmbus.learn(0)
         for micro in (1, 4, 999, 1001, 16_385, 32_766, 32_767):
-            pmbus.order_volts(0, f"0.{micro:06d}")
+            pmbus.order_voltage(0, f"0.{micro:06d}V")
             self.assertEqual(part.word(0, "VOUT_COMMAND"), micro)
         part = ModelPart(ADDRESS, [Output(mode=0x40, max=0x7FFF, command=0)], coefficients=(1000, 0, 0))
         pmbus = Device(ModelPartBus(part), ADDRESS)
         pmbus.learn(0)
-        pmbus.host.order_micro(0, "VOUT_COMMAND", 1_001_000)
+        pmbus.host.order_voltage(0, "VOUT_COMMAND", "1001000uV")
         pmbus.run()
-        pmbus.order_volts(0, "4.1")
+        pmbus.order_voltage(0, "4.1V")
         self.assertEqual(part.word(0, "VOUT_COMMAND"), 4100)
 
     def test_microvolts_reach_the_host_exactly(self):
@@ -193,8 +193,8 @@ class WordsOnTheWire(unittest.TestCase):
             learned = Device(ModelPartBus(ModelPart(ADDRESS, [Output(mode=0x40)], coefficients=(1000, 0, 0))), ADDRESS)
             learned.host = host
             learned.learn(0)
-            learned.set_limits(0, f"{micro / 10**6:.6f}", f"{micro / 10**6:.6f}")
-            self.assertEqual((host.limits(0).least, host.limits(0).most), (micro, micro))
+            learned.set_limits(0, f"{micro}uV", f"{micro}uV")
+            self.assertEqual((host.limits(0).least.microvolts, host.limits(0).most.microvolts), (micro, micro))
 
     def test_limits_of_an_output_that_is_not_there(self):
         pmbus = rails()
@@ -206,8 +206,8 @@ class WordsOnTheWire(unittest.TestCase):
         part = ModelPart(ADDRESS, [Output(), Output(mode=0x40, max=0x7FFF)], coefficients=(1000, 0, 0))
         pmbus = Device(ModelPartBus(part), ADDRESS, outputs=2)
         pmbus.learn_all()
-        pmbus.order_volts(0, "1.5")
-        pmbus.order_volts(1, "1.5")
+        pmbus.order_voltage(0, "1.5V")
+        pmbus.order_voltage(1, "1.5V")
         self.assertEqual((part.word(0, "VOUT_COMMAND"), part.word(1, "VOUT_COMMAND")), (0x1800, 1500))
 
 

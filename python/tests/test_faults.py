@@ -3,7 +3,7 @@ import itertools
 import random
 import unittest
 
-from pmhost import Differs, ModelPart, Device, Unknown
+from pmhost import Device, Differs, ModelPart, Unknown
 
 from .fixtures import ADDRESS, RAILS, Faulty
 

@@ -32,7 +32,7 @@ class Life:
         self.host = Host(ADDRESS, self.count, passes)
         for output, pair in enumerate(self.limits):
             if pair:
-                self.host.set_limits(output, *pair)
+                self.host.set_limits(output, *(f"{each}uV" for each in pair))
 
     def cell(self):
         return PROTECT if self.draw.random() < 0.1 else (self.draw.randrange(self.count), self.draw.choice(REGISTERS))
@@ -45,9 +45,9 @@ class Life:
                 (self.draw.randint(0, 0xFFFF), 0x1000 + self.draw.randint(0, 19)))
             self.same(("order", cell, word), lambda: self.plain.order(cell, word), lambda: self.host.order(output, code, word))
         elif kind < 0.7:
-            micro = self.draw.choice((self.draw.randint(-10**6, 5 * 10**6), 10**15 + 1, 10**6))
+            micro = self.draw.choice((self.draw.randint(-10**6, 5 * 10**6), 10**15, 10**6))
             self.same(("volts", cell, micro), lambda: self.plain.order_micro(cell, micro),
-                      lambda: self.host.order_micro(output, code, micro))
+                      lambda: self.host.order_voltage(output, code, f"{micro}uV"))
         elif kind < 0.8:
             self.same(("check",), lambda: self.plain.check(cell), lambda: self.host.check(output, code))
         elif kind < 0.94:
@@ -109,7 +109,7 @@ class Life:
         if found is not None:
             band = self.host.band(output)
             least, greatest = (it * 10**6 for it in found)
-            self.case.assertEqual((band.least, band.greatest), (least.__floor__(), greatest.__ceil__()))
+            self.case.assertEqual((band.least.microvolts, band.greatest.microvolts), (least.__floor__(), greatest.__ceil__()))
 
 
 class RandomLives(unittest.TestCase):

@@ -5,7 +5,7 @@ import os
 import random
 import unittest
 
-from pmhost import Host, Output, ModelPart, PartRefused, Refused
+from pmhost import Host, ModelPart, Output, PartRefused, Refused
 
 from . import plain_model  # noqa: F401
 from plain.converter import COMMAND, HIGH, LOW, MAX, MIN, OPERATION, PROTECT, REGISTERS, Converter

@@ -3,7 +3,7 @@ import unittest
 from decimal import Decimal
 
 import pmhost
-from pmhost import Output, ModelPart, PartRefused, SetupRefused
+from pmhost import ModelPart, Output, PartRefused, SetupRefused
 
 from .fixtures import ADDRESS, RAILS
 
@@ -13,9 +13,9 @@ CARRIED = bytes.fromhex("B005040021CD345A")  # the same by PAGE_PLUS, for output
 STORE = bytes.fromhex("B01524")
 
 
-class Made(unittest.TestCase):
+class Numbers(unittest.TestCase):
     def test_coefficients_that_are_left_out_are_those_of_millivolts(self):
-        self.assertEqual(ModelPart(ADDRESS, [Output(mode=0x40, command=3300)]).volts(0), Decimal("3.3"))
+        self.assertEqual(ModelPart(ADDRESS, [Output(mode=0x40, command=3300)]).voltage(0), Decimal("3.3"))
 
     def test_numbers_that_its_memory_cannot_hold_are_refused(self):
         """A field would keep another number without a word."""
@@ -50,7 +50,7 @@ class Heard(unittest.TestCase):
         self.part.hear(STORE)
         self.assertEqual(self.part.stored(0, "VOUT_COMMAND"), 0x34CD)
         self.part.restart()
-        self.assertEqual((self.part.word(0, "VOUT_COMMAND"), self.part.volts(0)), (0x34CD, Decimal("3.300048")))
+        self.assertEqual((self.part.word(0, "VOUT_COMMAND"), self.part.voltage(0)), (0x34CD, Decimal("3.300048")))
         self.assertTrue(self.part.is_on(0))
 
     def test_readings_are_answered_and_stay(self):

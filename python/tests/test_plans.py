@@ -4,7 +4,7 @@ from decimal import Decimal
 from unittest import mock
 
 import pmhost
-from pmhost import Band, Differs, Host, PlanOrder, PlanRefused, RailEnd, RailState, Step, Survey, Unknown
+from pmhost import Band, Differs, Host, PlanOrder, PlanRefused, RailEnd, RailState, Step, Survey, Unknown, Voltage
 
 from pmhost.cuts import cuts
 from pmhost.plans import Tries
@@ -13,7 +13,7 @@ from .fixtures import Faulty, Recorded, rails
 
 VOLTS = {"VOUT_COMMAND": 0x3500}
 REACHED, SPENT = RailEnd("reached"), RailEnd("spent")
-AT_3V3 = RailState(True, Band(3300048, 3300049), "within")
+AT_3V3 = RailState(True, Band(Voltage("3300048uV"), Voltage("3300049uV")), "within")
 
 
 def codes(frames):
@@ -39,7 +39,7 @@ def refused(pmbus, wanted):
 class Rails(unittest.TestCase):
     def test_a_rail_is_told_by_what_is_known(self):
         pmbus = rails()
-        self.assertEqual(pmbus.rail(0), RailState(None, Band(0, 15999756), "not known"))
+        self.assertEqual(pmbus.rail(0), RailState(None, Band(Voltage("0uV"), Voltage("15999756uV")), "not known"))
         self.assertEqual(pmbus.survey(0), REACHED)
         self.assertEqual(pmbus.rail(0), AT_3V3)
         pmbus.turn_off(0)
@@ -75,7 +75,7 @@ class Rails(unittest.TestCase):
         pmbus = recorded(lacks=("VOUT_MIN", "VOUT_MARGIN_HIGH"))
         self.assertEqual(pmbus.apply(0, VOLTS), REACHED)
         self.assertNotIn(0x2B, {frame[4] for frame in pmbus.bus.frames if len(frame) > 4})
-        self.assertEqual(pmbus.rail(0), RailState(True, Band(3312500, 3312500), "within"))
+        self.assertEqual(pmbus.rail(0), RailState(True, Band(Voltage("3312500uV"), Voltage("3312500uV")), "within"))
         for call in (lambda: pmbus.host.check(0, "VOUT_MIN"), lambda: pmbus.host.order(0, "OPERATION", 0xA8)):
             with self.assertRaises(pmhost.LimitRefused) as it:
                 call()
@@ -128,7 +128,7 @@ class Plans(unittest.TestCase):
         pmbus.survey(0, VOLTS)
         self.assertEqual(refused(pmbus, {"VOUT_COMMAND": 0x3800}), ("P6", "AboveMax", "VOUT_COMMAND"))
         self.assertEqual(refused(pmbus, {"VOUT_COMMAND": 0x3000}), ("P5", "BelowMin", "VOUT_COMMAND"))
-        pmbus.set_limits(0, "3.2", "3.465")
+        pmbus.set_limits(0, "3.2V", "3.465V")
         self.assertEqual(refused(pmbus, {"VOUT_MAX": 0x3000}), ("P2", "BelowLimit", "VOUT_MAX"))
         self.assertEqual(refused(pmbus, {"VOUT_MARGIN_HIGH": 0xFFFF}), ("P3", "AboveLimit", "VOUT_MARGIN_HIGH"))
         pmbus.order(0, "WRITE_PROTECT", 0x80)
@@ -163,7 +163,7 @@ class Applies(unittest.TestCase):
         self.assertEqual(end, REACHED)
         self.assertEqual(seen, [PlanOrder("VOUT_MAX", 0x3A00), "done", PlanOrder("VOUT_COMMAND", 0x3900), "done"])
         self.assertEqual(codes(pmbus.bus.frames), [0x24, 0x21])
-        self.assertEqual(pmbus.bus.part.volts(0), Decimal("3.5625"))
+        self.assertEqual(pmbus.bus.part.voltage(0), Decimal("3.5625"))
         self.assertEqual(pmbus.bus.frames[-1], bytes.fromhex("B010"))
 
     def test_nothing_is_written_where_nothing_is_due(self):
@@ -206,7 +206,7 @@ class Applies(unittest.TestCase):
 
     def test_a_job_that_is_interrupted_before_its_first_frame_has_ended(self):
         pmbus = recorded()
-        for job in (lambda: pmbus.order(0, "VOUT_COMMAND", 0x3480), lambda: pmbus.order_volts(0, "3.3"), lambda: pmbus.check(0),
+        for job in (lambda: pmbus.order(0, "VOUT_COMMAND", 0x3480), lambda: pmbus.order_voltage(0, "3.3V"), lambda: pmbus.check(0),
                     lambda: pmbus.learn(0), lambda: pmbus.clear(0), pmbus.store, pmbus.restore):
             with mock.patch("pmhost.device.Transfers", side_effect=KeyboardInterrupt), self.assertRaises(KeyboardInterrupt):
                 job()
@@ -231,35 +231,35 @@ class Applies(unittest.TestCase):
 
     def test_tries_are_a_number_of_16_bits(self):
         for wrong in (-1, 65536):
-            for call in (lambda: recorded().apply(0, VOLTS, tries=wrong), lambda: recorded().set_volts(0, "3.3125", tries=wrong)):
+            for call in (lambda: recorded().apply(0, VOLTS, tries=wrong), lambda: recorded().set_voltage(0, "3.3125V", tries=wrong)):
                 with self.subTest(tries=wrong), self.assertRaisesRegex(ValueError, "^tries: "):
                     call()
         self.assertEqual((recorded().apply(0, VOLTS, tries=0), recorded().apply(0, VOLTS, tries=65535)), (SPENT, REACHED))
         with self.assertRaises(pmhost.Unknown):
-            recorded().set_volts(0, "3.3125", tries=0)
-        self.assertEqual(recorded().set_volts(0, "3.3125", tries=65535), RailState(True, Band(3312500, 3312500), "within"))
+            recorded().set_voltage(0, "3.3125V", tries=0)
+        self.assertEqual(recorded().set_voltage(0, "3.3125V", tries=65535), RailState(True, Band(Voltage("3312500uV"), Voltage("3312500uV")), "within"))
 
     def test_an_apply_without_a_try_left_says_so(self):
         with self.assertRaisesRegex(pmhost.Unknown, "none of 3 tries is left$"):
-            recorded().set_volts(0, "3.3125", tries=3)
+            recorded().set_voltage(0, "3.3125V", tries=3)
 
     def test_volts_are_set_and_the_rail_is_told(self):
         pmbus = rails()
-        self.assertEqual(pmbus.set_volts(0, "3.25"), RailState(True, Band(3250000, 3250000), "within"))
-        self.assertEqual(pmbus.set_volts(0, Decimal("3.3")), AT_3V3)
+        self.assertEqual(pmbus.set_voltage(0, "3.25V"), RailState(True, Band(Voltage("3250000uV"), Voltage("3250000uV")), "within"))
+        self.assertEqual(pmbus.set_voltage(0, Voltage("3.3V")), AT_3V3)
         pmbus.order(0, "OPERATION", 0xA8)
-        margin = pmbus.set_volts(0, "3.25")
-        self.assertEqual((margin.band, pmbus.bus.part.volts(0)), (Band(3375000, 3375000), Decimal("3.375")))
+        margin = pmbus.set_voltage(0, "3.25V")
+        self.assertEqual((margin.band, pmbus.bus.part.voltage(0)), (Band(Voltage("3375000uV"), Voltage("3375000uV")), Decimal("3.375")))
         with self.assertRaises(PlanRefused):
-            pmbus.set_volts(0, "3.6")
+            pmbus.set_voltage(0, "3.6V")
         lossy = rails(Faulty, passes=1)
         lossy.bus.fates = ["ok"] * 7 + ["acked", "ok", "acked"]
         with self.assertRaises(Differs) as it:
-            lossy.set_volts(0, "3.25")
+            lossy.set_voltage(0, "3.25V")
         self.assertEqual((it.exception.word, it.exception.possible), (0x34CD, (0x34CD,)))
         lossy.bus.fates = ["deaf"] * 999
         with self.assertRaises(Unknown):
-            lossy.set_volts(0, "3.25")
+            lossy.set_voltage(0, "3.25V")
 
 
 class Exchanged(Recorded):
@@ -283,8 +283,8 @@ class Formats(unittest.TestCase):
                 pmbus = rails(Exchanged, limits=None)
                 pmbus.bus.frames.clear()
                 pmbus.bus.reads = reads
-                rail = pmbus.set_volts(0, "3.25")
-                self.assertEqual((rail.band, pmbus.bus.part.volts(0)), (Band(3250000, 3250000), Decimal("3.25")))
+                rail = pmbus.set_voltage(0, "3.25V")
+                self.assertEqual((rail.band, pmbus.bus.part.voltage(0)), (Band(Voltage("3250000uV"), Voltage("3250000uV")), Decimal("3.25")))
                 self.assertLess(pmbus.bus.reads, 0)
                 # The survey's own learn is the second read: no word of the format before is ordered behind it.
                 self.assertIn([frame[5:-1] for frame in pmbus.bus.frames if frame[1] == 0x05], (
@@ -310,17 +310,13 @@ class Bounds(unittest.TestCase):
         self.assertEqual([it.to for it in cuts(form, {"VOUT_MARGIN_HIGH": 3}, 1, 2)], [form.told(2)])
 
     def test_numbers_are_of_64_bits(self):
-        form, host = pmhost.Format("ULINEAR16", -12), Host(0x58)
-        for least, most in ((-2**63, 0), (0, 2**63 - 1)):
+        form = pmhost.Format("ULINEAR16", -12)
+        for number in (-2**63, 2**63 - 1):
             with self.assertRaises(pmhost.NumberRefused):
-                host.set_limits(0, least, most)
-            with self.assertRaises(pmhost.NumberRefused):
-                form.nearest(least or most)
+                form.nearest(number)
         for number in (-2**63 - 1, 2**63):
-            for call in (lambda: host.set_limits(0, number, 0), lambda: host.set_limits(0, 0, number), lambda: form.nearest(number),
-                         lambda: host.order_micro(0, "VOUT_COMMAND", number)):
-                with self.assertRaises(ValueError):
-                    call()
+            with self.assertRaises(ValueError):
+                form.nearest(number)
 
     def test_a_bound_is_rounded_to_its_side(self):
         form = pmhost.Format("ULINEAR16", -12)

@@ -4,7 +4,7 @@ import tempfile
 import unittest
 from unittest import mock
 
-from pmhost import ModelPartBus, ModelPart, Output, pec, reads
+from pmhost import ModelPart, ModelPartBus, Output, pec, reads
 from pmhost.cli.probe import revision_words
 from pmhost.probe import Probe
 

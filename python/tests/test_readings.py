@@ -101,7 +101,7 @@ class Values(unittest.TestCase):
         pmbus = Device(ModelPartBus(ModelPart(0x58, [Output()])), 0x58)
         before = pmbus.host.save()
         self.assertEqual(readings.read(pmbus.bus, 0x58, 0, "STATUS_VOUT", None), Reading("STATUS_VOUT", 0))
-        self.assertEqual(readings.noted(pmbus.bus, 0x58, 0), "STATUS_CML 00, STATUS_VOUT 00")
+        self.assertEqual(readings.read_notes(pmbus.bus, 0x58, 0), "STATUS_CML 00, STATUS_VOUT 00")
         self.assertEqual(pmbus.host.save(), before)
 
     def test_what_the_part_noted(self):
@@ -110,10 +110,10 @@ class Values(unittest.TestCase):
         pmbus = Device(bus, 0x58, passes=1)
         pmbus.host.order(0, "VOUT_COMMAND", 0x34CD)
         pmbus.run()
-        self.assertEqual(readings.noted(bus, 0x58, 0), "STATUS_CML 80 COMMAND, STATUS_VOUT 00")
-        self.assertEqual(readings.noted(bus, 0x58, None), "STATUS_CML 80 COMMAND")
+        self.assertEqual(readings.read_notes(bus, 0x58, 0), "STATUS_CML 80 COMMAND, STATUS_VOUT 00")
+        self.assertEqual(readings.read_notes(bus, 0x58, None), "STATUS_CML 80 COMMAND")
         silent = Recorded(part)
-        self.assertEqual(readings.noted(silent, 0x59, 0), "")
+        self.assertEqual(readings.read_notes(silent, 0x59, 0), "")
         self.assertEqual(silent.frames, [bytes.fromhex("B27E")] * 3, "STATUS_VOUT of a part that doesn't answer")
 
 

@@ -9,7 +9,7 @@ import tempfile
 import unittest
 import unittest.mock
 
-from pmhost import ModelPart, faults
+from pmhost import faults, ModelPart
 
 from . import running
 from .data.strike_rows import (APPLIED, ASKED, BELIEVED, BOARD, CONFIRMED, DOUBTS, JOBS, NOTED, ORDER, PROVED, RAILED, RAILS, REFUSED,

@@ -7,16 +7,14 @@ import unittest
 
 from .running import SOURCE
 
-SCRIPT = '''from decimal import Decimal
-
-from pmhost import ModelBus, Differs, LinuxBus, Device, Unknown
+SCRIPT = '''from pmhost import Device, Differs, LinuxBus, ModelBus, Unknown, Voltage
 
 
-def order(bus: LinuxBus | ModelBus, volts: str) -> Decimal:
-    part = Device(bus, 0x58, outputs=2, limits={0: ("3.135", "3.465")})
+def order(bus: LinuxBus | ModelBus, voltage: str | Voltage) -> Voltage:
+    part = Device(bus, 0x58, outputs=2, limits={0: ("3.135V", "3.465V")})
     part.learn(0)
     try:
-        return part.order_volts(0, volts)
+        return part.order_voltage(0, voltage)
     except Unknown as unknown:
         print(unknown, unknown.__cause__, unknown.possible)
         raise
@@ -25,7 +23,7 @@ def order(bus: LinuxBus | ModelBus, volts: str) -> Decimal:
         raise
 
 
-print(order(ModelBus(0x58), "3.3"), [(it.register, it.confirmed) for it in Device(ModelBus(0x58), 0x58).known_cells()])
+print(order(ModelBus(0x58), "3.3V").microvolts, [(it.register, it.confirmed) for it in Device(ModelBus(0x58), 0x58).known_cells()])
 '''
 
 
@@ -49,7 +47,7 @@ class Types(unittest.TestCase):
         self.assertEqual(status, 0, said)
 
     def test_slips_of_a_script_are_found(self):
-        for right, wrong, said_of in (("volts: str", "volts: float", "order_volts"), ("part.learn(0)", "part.learn()", "learn")):
+        for right, wrong, said_of in (("voltage: str | Voltage", "voltage: float", "order_voltage"), ("part.learn(0)", "part.learn()", "learn")):
             with tempfile.NamedTemporaryFile("w", suffix=".py") as script:
                 script.write(SCRIPT.replace(right, wrong))
                 script.flush()

@@ -1,10 +1,12 @@
 """Voltages as people write them, exactly, by no float."""
+import copy
+import pickle
 import random
 import unittest
-from decimal import Decimal
+from decimal import Decimal, localcontext
 from fractions import Fraction
 
-from pmhost import Format
+from pmhost import Format, Voltage
 from pmhost.voltages import MICRO, microvolts, shown
 
 ROWS = [("3.3V", 3_300_000), ("3300mV", 3_300_000), ("3300000uV", 3_300_000), ("-3.3V", -3_300_000), ("-0.5mV", -500), ("0V", 0),
@@ -49,3 +51,46 @@ class Voltages(unittest.TestCase):
         form = Format("DIRECT", 0, 1000, 0)
         for micro in (4_100_000, 1_001_000, 1_000_000):
             self.assertEqual(Fraction(form.nearest(micro), 1000), Fraction(micro, 1_000_000))
+
+
+class Given(unittest.TestCase):
+    """What is given back: a Voltage."""
+
+    def test_it_prints_with_its_unit(self):
+        for text, shown_ in (("3.3V", "3.3V"), ("3300048uV", "3.300048V"), ("850mV", "0.85V"), ("-0.5mV", "-0.0005V"), ("0uV", "0V"), ("-0V", "0V"),
+                             ("12V", "12V"), ("1000000000V", "1000000000V"), ("100mV", "0.1V")):
+            with self.subTest(text=text):
+                voltage = Voltage(text)
+                self.assertEqual((str(voltage), f"{voltage}", repr(voltage)), (shown_, shown_, f"Voltage('{shown_}')"))
+        self.assertEqual(f"{Voltage('3.300048V'):.2f}", "3.30")
+
+    def test_it_is_a_decimal_of_volts(self):
+        voltage = Voltage("3300mV")
+        self.assertIsInstance(voltage, Decimal)
+        self.assertEqual((voltage, hash(voltage), voltage.microvolts), (Decimal("3.3"), hash(Decimal("3.3")), 3_300_000))
+        self.assertEqual({Decimal("3.3"): "it"}[voltage], "it")
+        self.assertLess(Voltage("850mV"), voltage)
+        self.assertNotEqual(voltage, Voltage("3300001uV"))
+
+    def test_it_is_taken_as_it_is(self):
+        voltage = Voltage("3.300048V")
+        self.assertEqual(Voltage(voltage), voltage)
+        self.assertEqual(Voltage(str(voltage)), voltage)
+        self.assertEqual(Format("ULINEAR16", -12).word(Format("ULINEAR16", -12).voltage(0x34CD)), 0x34CD)
+
+    def test_copies_and_pickles_are_the_same(self):
+        voltage = Voltage("-3.300048V")
+        for other in (copy.copy(voltage), copy.deepcopy(voltage), *(pickle.loads(pickle.dumps(voltage, it)) for it in range(2, 6))):
+            self.assertEqual((type(other), other, other.microvolts, str(other)), (Voltage, voltage, -3_300_048, "-3.300048V"))
+
+    def test_it_hangs_on_no_precision_of_the_caller(self):
+        with localcontext() as context:
+            context.prec = 3
+            voltage = Voltage("123456789.123456V")
+            self.assertEqual((str(voltage), voltage.microvolts), ("123456789.123456V", 123_456_789_123_456))
+            self.assertEqual(voltage, Decimal("123456789.123456"))
+            self.assertEqual(pickle.loads(pickle.dumps(voltage)), voltage)
+
+    def test_its_microvolts_are_not_set(self):
+        with self.assertRaises(AttributeError):
+            Voltage("3.3V").microvolts = 1

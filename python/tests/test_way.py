@@ -6,7 +6,7 @@ import tempfile
 import unittest
 from unittest import mock
 
-from pmhost import Output, ModelPart
+from pmhost import ModelPart, Output
 from pmhost.cli import place
 from pmhost.cli.call import Interrupted
 from pmhost.picture import drawing, lane

@@ -51,7 +51,7 @@ tried package rows 0
 plant frames python/src/pmhost/capture/i2ctransfer.py "if ran.returncode or ran.stderr or len(back) != wanted or BYTES.sub(\"\", ran.stdout).strip():" \
     "if ran.returncode:"
 tried frames commands 0
-plant address python/src/pmhost/bus/linux.py "return self._sent(self.address, " "return self._sent(min(self.address, 0x59), "
+plant address python/src/pmhost/bus/linux.py "return self._send(self.address, " "return self._send(min(self.address, 0x59), "
 tried address several 0 7 short
 plant ones python/src/pmhost/bus/linux.py "return given(answer)" "return answer"
 tried ones ones 0

@@ -9,7 +9,7 @@ import paths  # noqa: F401
 from pmhost.errors import NumberRefused, PartRefused, PmhostError, Refused as LibraryRefused
 from pmhost.host import Known, Sending, Step
 from pmhost.packets import read_answer, read_request
-from pmhost.part import Output, ModelPart
+from pmhost.part import ModelPart, Output
 from pmhost.values import NAMES
 from program import needed
 
@@ -108,8 +108,10 @@ class Life:
         elif event.kind == "check":
             self.host.check(*code_of_cell(event.cell))
         else:
-            begin = self.host.order if event.kind == "order" else self.host.order_micro
-            begin(*code_of_cell(event.cell), event.value)
+            if event.kind == "order":
+                self.host.order(*code_of_cell(event.cell), event.value)
+            else:
+                self.host.order_voltage(*code_of_cell(event.cell), f"{event.value}uV")
         self.job = "pending"
 
     def _told(self, step: Step) -> None:
@@ -176,12 +178,12 @@ class Life:
             found = self.host.band(output)
         except LibraryRefused:
             return None
-        return found.least, found.greatest
+        return found.least.microvolts, found.greatest.microvolts
 
     def _microvolts(self, output: int, word: int) -> int:
         """What an output commands, as the part tells it; beyond what the library tells, the value of the word."""
         try:
-            return int(self.part.volts(output).scaleb(6))
+            return self.part.voltage(output).microvolts
         except NumberRefused:
             return microvolts_of(self.words.formats[output], word)
 
@@ -207,9 +209,9 @@ class Life:
         if form.kind == "DIRECT":
             ends = (0x8000, 0x7FFF)[::sign]
             part = ModelPart(self.setup.address, [Output(DIRECT, operation, command, ends[1], high, low, ends[0])], (sign, 0, 3))
-            return sign * int(part.volts(0) * 1000) & 0xFFFF
+            return sign * int(part.voltage(0) * 1000) & 0xFFFF
         part = ModelPart(self.setup.address, [Output(LINEAR, operation, command, 0xFFFF, high, low, 0x0000)])
-        return round(part.volts(0) * 4096)
+        return round(part.voltage(0) * 4096)
 
     def _sign(self, output: int) -> int:
         """The sign of a format's slope."""

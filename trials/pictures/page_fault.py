@@ -147,7 +147,7 @@ def story(bench: Bench, host: Orderer, name: str, order: tuple[int, str, int], f
 
 def microvolts(bench: Bench) -> tuple[int, ...]:
     """What the outputs command."""
-    return tuple(int(bench.part.volts(output).scaleb(6)) for output in bench.outputs)
+    return tuple(bench.part.voltage(output).microvolts for output in bench.outputs)
 
 
 def drawn(output: int, register: str, word: int, faults: str) -> str:

@@ -4,7 +4,7 @@ from __future__ import annotations
 from dataclasses import dataclass
 
 import paths  # noqa: F401
-from pmhost import Host, Output, ModelPart, ModelPartBus
+from pmhost import Host, ModelPart, ModelPartBus, Output
 from pmhost.texts import numbered
 from pmhost.values import CODES, Format
 

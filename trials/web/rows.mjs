@@ -88,7 +88,7 @@ row("1.1 V, and 3.3 V for the output with no limits",
     [provedOrder(limited, bus, 0, 0x1199).end, provedOrder(limited, bus, 1, 0x34CD).end], ["done", "done"]);
 row("what the part has", [0, 1].map((output) => bus.part.word(output, 0x21)), [0x1199, 0x34CD]);
 row("within limits: registers that nobody read, no limits, no output",
-    [limited.within(0), limited.within(1), refusal(() => limited.within(2))], ["not known", "within", 0x04]);
+    [limited.limitsState(0), limited.limitsState(1), refusal(() => limited.limitsState(2))], ["not known", "within", 0x04]);
 limited.restart();
 row("limits after a restart", refusal(() => limited.setLimits(0, 900000, 1300000)), 0x26);
 console.log(`${passed} passed, ${failed} failed`);

@@ -2,9 +2,8 @@
 
     from pmhost import Device, LinuxBus
     with LinuxBus(1, 0x58) as bus:
-        device = Device(bus, 0x58, limits={0: ("3.2", "3.465")})
-        device.learn(0)
-        print(device.order_volts(0, "3.3"))
+        device = Device(bus, 0x58, limits={0: ("3.2V", "3.465V")})
+        print(device.set_voltage(0, "3.3V"))
 
 What the library's calls answer is proved (docs/c.md says of what); this package is tested, and not proved.
 """
@@ -20,11 +19,12 @@ from .part import ModelPart, ModelPartBus, Output
 from .plans import Band, PlanOrder, RailEnd, RailState, Survey, Wanted
 from .transfers import Transfers
 from .values import CODES, LINEAR11, Format
+from .voltages import Voltage
 
 __all__ = [
     "Band", "Bus", "CODES", "Device", "Differs", "Format", "FrameRefused", "Host", "HostRefused", "Known", "LINEAR11",
-    "LimitRefused", "Limits", "LinuxBus", "MemoryRefused", "ModelBus", "ModelPart", "ModelPartBus", "NoBus", "NoTransfer", "NotDone",
-    "NumberRefused", "Output", "Packet", "PartRefused", "PatientBus", "PlanOrder", "PlanRefused", "PmhostError", "RailEnd", "RailState", "Refused", "Sending", "SetupRefused", "Smbus2Bus", "Step", "Survey",
-    "Transfers", "Unknown", "Wanted", "__version__", "code_request", "pec", "read_answer", "read_block", "read_plain", "read_request",
-    "read_write",
+    "LimitRefused", "Limits", "LinuxBus", "MemoryRefused", "ModelBus", "ModelPart", "ModelPartBus", "NoBus", "NoTransfer",
+    "NotDone", "NumberRefused", "Output", "Packet", "PartRefused", "PatientBus", "PlanOrder", "PlanRefused", "PmhostError",
+    "RailEnd", "RailState", "Refused", "Sending", "SetupRefused", "Smbus2Bus", "Step", "Survey", "Transfers", "Unknown", "Voltage",
+    "Wanted", "__version__", "code_request", "pec", "read_answer", "read_block", "read_plain", "read_request", "read_write",
 ]

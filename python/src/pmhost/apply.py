@@ -422,7 +422,7 @@ class Board:
             return False
         judge = self.on(it.rail).host.copy()
         try:
-            judge.set_limits(it.rail.output, *it.rail.limits)
+            judge.set_limits(it.rail.output, *(voltages.of_microvolts(each) for each in it.rail.limits))
             judge.order(it.rail.output, it.register, it.last)
         except Refused as fault:
             return fault.letter in ("L3", "L4")

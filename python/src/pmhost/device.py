@@ -1,26 +1,26 @@
-"""Supply voltages over a bus: jobs that are carried out, and volts as exact decimals."""
+"""Supply voltages over a bus: jobs that are carried out, and voltages with their unit."""
 from __future__ import annotations
 
-from decimal import Decimal
 from typing import Callable, Iterable, Mapping
 
 from .errors import Differs, Refused, Unknown
 from .host import Bus, Host, Known, Step
 from .plans import APPLY_TRIES, SURVEY_TRIES, PlanOrder, RailEnd, RailState, Survey, Tries, Wanted
 from .transfers import Transfers
-from .values import Volts, code_of, microvolts_of, volts_of, whole, NAMES
+from .values import NAMES, code_of, whole
+from .voltages import GivenVoltage, Voltage
 
 
 class Device:
     """A part on a bus, through a host of its own.
 
-    `limits` gives outputs a least and a most, as {0: ("3.2", "3.465")}: no order beyond them leaves this host, and
-    they can be narrowed by `set_limits`. `lacks` names registers that the part doesn't have, as ("VOUT_MIN",). Volts are text, as
-    "3.3", or a decimal.Decimal; never a float.
+    `limits` gives outputs a least and a most, as {0: ("3.2V", "3.465V")}: no order beyond them leaves this host, and
+    they can be narrowed by `set_limits`. `lacks` names registers that the part doesn't have, as ("VOUT_MIN",). A voltage is a text with
+    its unit, as "3.3V" or "850mV", or a Voltage, which is what is given back.
     """
 
     def __init__(self, bus: Bus, address: int, outputs: int = 1, passes: int = 3,
-                 limits: Mapping[int, tuple[Volts, Volts]] | None = None, lacks: Iterable[str | int] = ()) -> None:
+                 limits: Mapping[int, tuple[GivenVoltage, GivenVoltage]] | None = None, lacks: Iterable[str | int] = ()) -> None:
         for name in ("write", "read"):
             if not callable(getattr(bus, name, None)):
                 raise TypeError(f"bus: {bus!r} has no call {name}: see pmhost.Bus")
@@ -38,22 +38,22 @@ class Device:
 
     # ---- Limits and what is known ----
 
-    def set_limits(self, output: int, least: Volts, most: Volts) -> None:
-        """Gives an output limits, or narrower ones. N5, L1, L6."""
-        self.host.set_limits(output, microvolts_of(least, "least"), microvolts_of(most, "most"))
+    def set_limits(self, output: int, least: GivenVoltage, most: GivenVoltage) -> None:
+        """Gives an output limits, or narrower ones. L1, L6."""
+        self.host.set_limits(output, least, most)
 
-    def limits(self, output: int) -> tuple[Decimal, Decimal] | None:
-        """The limits of an output in volts, None where it has none."""
+    def limits(self, output: int) -> tuple[Voltage, Voltage] | None:
+        """The limits of an output, None where it has none."""
         found = self.host.limits(output)
-        return None if found is None else (volts_of(found.least), volts_of(found.most))
+        return None if found is None else (found.least, found.most)
 
     def limits_state(self, output: int) -> str:
         """How the output lies to its limits, by what is known: `within`, which it is where it has none, `outside`, or `not known`
         where that doesn't tell."""
         return self.host.limits_state(output)
 
-    def band(self, output: int) -> tuple[Decimal, Decimal] | None:
-        """Which volts the output may be commanded to, by what is known; None where its format isn't known, or where OPERATION
+    def band(self, output: int) -> tuple[Voltage, Voltage] | None:
+        """Which voltages the output may be commanded to, by what is known; None where its format isn't known, or where OPERATION
         may hand its voltage to AVSBus."""
         try:
             found = self.host.band(output)
@@ -61,19 +61,19 @@ class Device:
             if it.letter == "H7" or it.name == "NoBand":
                 return None
             raise
-        return volts_of(found.least), volts_of(found.greatest)
+        return found.least, found.greatest
 
     def rail(self, output: int) -> RailState:
         """What the output commands, by what is known: `survey` reads what that needs."""
         return self.host.rail(output)
 
-    def volts(self, output: int, register: str | int = "VOUT_COMMAND") -> Decimal | None:
-        """The volts of a register whose word is confirmed, rounded down to microvolts; None where none is. A ValueError of a
+    def voltage(self, output: int, register: str | int = "VOUT_COMMAND") -> Voltage | None:
+        """The voltage of a register whose word is confirmed, rounded down to microvolts; None where none is. A ValueError of a
         register that is no voltage."""
         if NAMES[code_of(register)] in ("OPERATION", "WRITE_PROTECT"):
             raise ValueError(f"register: {NAMES[code_of(register)]} is no voltage")
         word, form = self.host.confirmed_word(output, register), self.host.format(output)
-        return None if word is None or form is None else form.value(word)
+        return None if word is None or form is None else form.voltage(word)
 
     def known_cells(self) -> list[Known]:
         """What is known of every register."""
@@ -109,14 +109,15 @@ class Device:
         for output in range(self.host.outputs):
             self.learn(output)
 
-    def order_volts(self, output: int, volts: Volts, register: str | int = "VOUT_COMMAND") -> Decimal:
-        """Orders the word nearest to a voltage, reads it back, and answers the volts that it stands for.
+    def order_voltage(self, output: int, voltage: GivenVoltage, register: str | int = "VOUT_COMMAND") -> Voltage:
+        """Orders the word nearest to a voltage, reads it back, and answers the voltage that it stands for.
 
         The output's format has to be learned first (H7). Raises a Refused before anything is sent, and Differs or
         Unknown where the word wasn't confirmed."""
-        step = self._do(lambda: self.host.order_micro(output, register, microvolts_of(volts)))
-        self._ended(step, f"order {output} {volts} V", (output, register))
-        found = self.volts(output, register)
+        wanted = Voltage(voltage)
+        step = self._do(lambda: self.host.order_voltage(output, register, wanted))
+        self._ended(step, f"order {output} {wanted}", (output, register))
+        found = self.voltage(output, register)
         assert found is not None
         return found
 
@@ -161,27 +162,28 @@ class Device:
         self.transfers = Transfers()
         return self.host.run_apply(output, wanted, self.bus, tries, self.transfers, before_order, after_order)
 
-    def set_volts(self, output: int, volts: Volts, register: str | int = "VOUT_COMMAND", tries: int = APPLY_TRIES) -> RailState:
+    def set_voltage(self, output: int, voltage: GivenVoltage, register: str | int = "VOUT_COMMAND",
+                    tries: int = APPLY_TRIES) -> RailState:
         """Learns the output's format, applies the word nearest to a voltage in it, and says what the output commands then. Where
         a survey meanwhile learns another format, as of a part that was exchanged, the word is made anew. Raises what refused it,
         and Differs or Unknown where the word isn't known to be held."""
-        microvolts, name, left = microvolts_of(volts), NAMES[code_of(register)], Tries(whole(tries, 0, 0xFFFF, "tries"))
+        voltage, name, left = Voltage(voltage), NAMES[code_of(register)], Tries(whole(tries, 0, 0xFFFF, "tries"))
         end = RailEnd("format")
         while end.kind == "format":
             self.learn(output)
             form = self.host.format(output)
             assert form is not None
             self.transfers = Transfers()
-            end = self.host.run_apply(output, {name: form.nearest(microvolts)}, self.bus, left, self.transfers, form=form)
+            end = self.host.run_apply(output, {name: form.word(voltage)}, self.bus, left, self.transfers, form=form)
         if end.refused is not None:
             raise end.refused
         cell = end.register or name
         if end.kind == "spent":
             why = self.transfers.why()
-            raise Unknown(f"set {output} {volts} V: {cell}: none of {tries} tries is left{': ' * bool(why)}{why}", "unknown", None,
+            raise Unknown(f"set {output} {voltage}: {cell}: none of {tries} tries is left{': ' * bool(why)}{why}", "unknown", None,
                           self.host.possible_words(output, cell)) from self.transfers.error
         if end.kind == "differs":
-            self._ended(Step("differs", end.word), f"set {output} {volts} V: {cell}", (output, cell))
+            self._ended(Step("differs", end.word), f"set {output} {voltage}: {cell}", (output, cell))
         return self.rail(output)
 
     def clear(self, output: int) -> None:

@@ -61,7 +61,7 @@ class PmhostError(Exception):
 
 class Refused(PmhostError):
     """A call that the library refused: it changed nothing and sent nothing, but a part that refuses a frame (K) may set a bit of
-    STATUS_CML. A call of several jobs, as `set_volts`, may have carried some out before one was refused. `register` is the one that
+    STATUS_CML. A call of several jobs, as `set_voltage`, may have carried some out before one was refused. `register` is the one that
     the refusal of a plan is about, where it is about one."""
 
     def __init__(self, number: int) -> None:

@@ -11,6 +11,7 @@ from .errors import Refused, accepted, refusal, refusal_of_plan
 from .plans import APPLY_TRIES, ENDS, Band, PlanOrder, RailEnd, RailState, Survey, Tries, Wanted, wanted_image
 from .transfers import Transfers
 from .values import NAMES, Format, code_of, frame_bytes, whole
+from .voltages import GivenVoltage, Voltage, given_microvolts, of_microvolts
 
 REFERENCE = ctypes.byref
 STORE_USER_ALL = b"\x15"
@@ -61,10 +62,10 @@ class Known:
 
 @dataclass(frozen=True)
 class Limits:
-    """The least and the most that an output may be commanded to, in microvolts."""
+    """The least and the most that an output may be commanded to."""
 
-    least: int
-    most: int
+    least: Voltage
+    most: Voltage
 
 
 LIMITS_STATES = {0x91: "within", 0x92: "outside", 0x93: "not known"}
@@ -83,6 +84,10 @@ def registers_image(lacks: Iterable[str | int]) -> at.RegistersImage:
             raise ValueError(f"lacks: {name} is a register that every part has")
         setattr(image, name.lower(), 0)
     return image
+
+
+def band_of(image: at.BandImage) -> Band:
+    return Band(of_microvolts(image.least), of_microvolts(image.greatest))
 
 
 def words_of(image: at.WordsImage) -> tuple[int, ...] | None:
@@ -132,11 +137,10 @@ class Host:
 
     # ---- Limits ----
 
-    def set_limits(self, output: int, least: int, most: int) -> None:
-        """Gives an output limits in microvolts, or narrower ones. N5, L1, L6; H3 while an order is open that they would refuse."""
-        least = whole(least, -(2**63), 2**63 - 1, "least")
-        most = whole(most, -(2**63), 2**63 - 1, "most")
-        accepted(library.pm_host_set_limits(REFERENCE(self._image), self._there(output), least, most))
+    def set_limits(self, output: int, least: GivenVoltage, most: GivenVoltage) -> None:
+        """Gives an output limits, or narrower ones. L1, L6; H3 while an order is open that they would refuse."""
+        pair = given_microvolts(least, "least"), given_microvolts(most, "most")
+        accepted(library.pm_host_set_limits(REFERENCE(self._image), self._there(output), *pair))
 
     def limits(self, output: int) -> Limits | None:
         """The limits of an output, None where it has none."""
@@ -145,7 +149,7 @@ class Host:
         if number == 0xE6:
             return None
         accepted(number)
-        return Limits(found.least, found.most)
+        return Limits(of_microvolts(found.least), of_microvolts(found.most))
 
     def limits_state(self, output: int) -> str:
         """How an output's voltage lies to its limits, by what is known: `within`, which it is where it has none, `outside`, or
@@ -160,13 +164,13 @@ class Host:
         to AVSBus, N5."""
         found = at.BandImage()
         accepted(library.pm_host_band(REFERENCE(self._image), self._there(output), REFERENCE(found)))
-        return Band(found.least, found.greatest)
+        return band_of(found)
 
     def rail(self, output: int) -> RailState:
         """What an output commands, by what is known. An output that is off has its band too."""
         found = at.RailImage()
         accepted(library.pm_host_rail(REFERENCE(self._image), self._there(output), REFERENCE(found)))
-        band = None if found.band else Band(found.ends.least, found.ends.greatest)
+        band = None if found.band else band_of(found.ends)
         return RailState(POWER[found.power], band, LIMITS_STATES[found.within])
 
     # ---- Plans and surveys ----
@@ -204,9 +208,9 @@ class Host:
         code, word = code_of(register), whole(word, 0, 0xFFFF, "word")
         accepted(library.pm_host_order(REFERENCE(self._image), self._there(output), code, word))
 
-    def order_micro(self, output: int, register: str | int, microvolts: int) -> None:
-        """Begins an order of the word nearest to microvolts. H3, L7, H5, H7, N5, N3, N4, L3, L4, H6."""
-        code, microvolts = code_of(register), whole(microvolts, -(2**63), 2**63 - 1, "microvolts")
+    def order_voltage(self, output: int, register: str | int, voltage: GivenVoltage) -> None:
+        """Begins an order of the word nearest to a voltage. H3, L7, H5, H7, N3, N4, L3, L4, H6."""
+        code, microvolts = code_of(register), given_microvolts(voltage)
         accepted(library.pm_host_order_microvolts(REFERENCE(self._image), self._there(output), code, microvolts))
 
     def check(self, output: int, register: str | int) -> None:

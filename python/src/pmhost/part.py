@@ -3,12 +3,12 @@ from __future__ import annotations
 
 import ctypes
 from dataclasses import dataclass
-from decimal import Decimal
 from typing import Any, Callable
 
 from ._library import ConfigImage, PartImage, ReplyImage, library
 from .errors import PartRefused, accepted, name_of, refusal
-from .values import code_of, frame_bytes, volts_of, whole
+from .values import code_of, frame_bytes, whole
+from .voltages import Voltage, of_microvolts
 
 SILENT, TAKEN, ANSWERED = 0x81, 0x82, 0x83
 REGISTERS = ("operation", "command", "max", "high", "low", "min")
@@ -131,9 +131,9 @@ class ModelPart:
         """PAGE: the output that plain packets reach."""
         return self._asked(library.pm_part_page, ctypes.c_uint8)
 
-    def volts(self, output: int) -> Decimal:
-        """The volts that an output commands, on or off, rounded down to microvolts."""
-        return volts_of(self._asked(library.pm_part_commanded_microvolts, ctypes.c_int64, self._there(output)))
+    def voltage(self, output: int) -> Voltage:
+        """The voltage that an output commands, on or off, rounded down to microvolts."""
+        return of_microvolts(self._asked(library.pm_part_commanded_microvolts, ctypes.c_int64, self._there(output)))
 
     def is_on(self, output: int) -> bool:
         """Whether OPERATION has an output on."""

@@ -9,6 +9,7 @@ from . import _library as at
 from ._library import library
 from .errors import Refused, accepted
 from .values import NAMES, code_of, whole
+from .voltages import Voltage
 
 if TYPE_CHECKING:
     from .host import Step
@@ -25,10 +26,10 @@ Wanted = Mapping[Union[str, int], int]
 
 @dataclass(frozen=True)
 class Band:
-    """Which voltages an output may be commanded to, in microvolts, the least rounded down and the greatest up."""
+    """Which voltages an output may be commanded to, the least rounded down to a microvolt and the greatest up."""
 
-    least: int
-    greatest: int
+    least: Voltage
+    greatest: Voltage
 
 
 @dataclass(frozen=True)

@@ -121,7 +121,7 @@ class Probe:
             is_refused, found.writes[name] = self._became_of(faulty)
             if not is_refused:
                 found.faults.append(f"a write {name} {'is taken' if found.writes[name].startswith('taken') else 'may be taken'}")
-        self._sent(frame)
+        self._send(frame)
         return found
 
     # ---- The outputs ----
@@ -193,7 +193,7 @@ class Probe:
 
     # ---- Writes with a fault ----
 
-    def _sent(self, frame: bytes) -> bool:
+    def _send(self, frame: bytes) -> bool:
         """Whether a write was acknowledged in three tries."""
         for _ in range(TRIES):
             try:
@@ -224,13 +224,13 @@ class Probe:
 
     def _try(self, faulty: bytes) -> tuple[bool | None, str]:
         """Whether a write with a fault is taken, by STATUS_CML before it and behind it, and in words; None where that isn't known."""
-        self._sent(CLEAR.frame(self.address))
+        self._send(CLEAR.frame(self.address))
         before = self._status()
         if before is None:
             return None, "not known, STATUS_CML gave no good answer"
         if before:
             return None, f"not known, STATUS_CML is {before:02X} behind a good CLEAR_FAULTS"
-        is_acknowledged, after = self._sent(faulty), self._status()
+        is_acknowledged, after = self._send(faulty), self._status()
         if after is None:
             return None, "not known, STATUS_CML gave no good answer"
         if after & NOT_TAKEN:

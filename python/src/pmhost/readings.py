@@ -11,7 +11,7 @@ from decimal import Decimal
 from .host import Bus
 from .reads import Read, Reads
 from .status import BITS, names_of
-from .values import LINEAR11, Format, volts_of
+from .values import LINEAR11, Format, decimal_of
 
 # The side of COEFFICIENTS that is for what is read.
 OF_READING = 0x01
@@ -77,7 +77,7 @@ def read(bus: Bus, address: int, output: int | None, name: str, form: Format | N
         return Reading(name, word, bits=names_of(name, word))
     found = None if output is None and name == IN_OUTPUTS_FORMAT else format_of(reads, name, form)
     micro = None if found is None else found.told(word)
-    return Reading(name, word, None if micro is None else volts_of(micro))
+    return Reading(name, word, None if micro is None else decimal_of(micro))
 
 
 def format_of(reads: Reads, name: str, form: Format | None) -> Format | None:
@@ -99,7 +99,7 @@ def coefficients_of(answer: Read) -> Format | None:
         return None
 
 
-def noted(bus: Bus, address: int, output: int | None) -> str:
+def read_notes(bus: Bus, address: int, output: int | None) -> str:
     """What the part noted behind a job that ended badly: STATUS_CML and STATUS_VOUT of the output. Nothing where it gives no good
     answer."""
     found = [read(bus, address, None, "STATUS_CML", None)]

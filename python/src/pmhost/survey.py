@@ -31,7 +31,7 @@ def selection(operation: int) -> tuple[str, bool] | None:
         part = ModelPart(0x58, [Output(mode=0, operation=operation, command=3, high=4, low=2, max=5, min=1)])
     except SetupRefused:
         return None
-    return SELECTED[int(part.volts(0))], part.is_on(0)
+    return SELECTED[int(part.voltage(0))], part.is_on(0)
 
 
 @dataclass
@@ -77,10 +77,10 @@ def commanded(part: Device, output: int) -> Commanded:
     state, limits, form = part.host.rail(output), part.host.limits(output), part.host.format(output)
     operation = only_word(part, output, "OPERATION")
     chosen = None if operation is None else selection(operation)
-    found = Commanded(is_on=state.is_on, limits=None if limits is None else (limits.least, limits.most),
+    found = Commanded(is_on=state.is_on, limits=None if limits is None else (limits.least.microvolts, limits.most.microvolts),
                       limits_state=None if limits is None else state.limits_state)
     if state.band is not None:
-        found.least, found.greatest = state.band.least, state.band.greatest
+        found.least, found.greatest = state.band.least.microvolts, state.band.greatest.microvolts
     if chosen is not None:
         found.selected, word = chosen[0], only_word(part, output, chosen[0])
         found.value = None if form is None else form.told(word)

@@ -1,17 +1,14 @@
-"""Numbers, volts and registers as callers write them, taken exactly or refused with what was wrong."""
+"""Numbers and registers as callers write them, taken exactly or refused with what was wrong, and formats of words."""
 from __future__ import annotations
 
 import ctypes
-import re
 from dataclasses import dataclass
 from decimal import Decimal
-from fractions import Fraction
-from typing import Callable, Union
+from typing import Callable
 
 from ._library import FormatImage, library
 from .errors import NumberRefused, accepted
-
-Volts = Union[str, Decimal]
+from .voltages import GivenVoltage, Voltage, given_microvolts, of_microvolts
 
 # The cells of a host, by their names in PMBus 1.3 Part II.
 CODES = {
@@ -24,8 +21,6 @@ CODES = {
     "WRITE_PROTECT": 0x10,
 }
 NAMES = {code: name for name, code in CODES.items()}
-MOST = 10**15
-DECIMAL = re.compile(r"-?[0-9]+(\.[0-9]+)?\Z")
 
 
 def whole(number: object, least: int, most: int, what: str, why: str = "") -> int:
@@ -49,33 +44,9 @@ def code_of(register: object) -> int:
     return code
 
 
-def microvolts_of(volts: object, what: str = "volts") -> int:
-    """The microvolts of a number of volts, exactly: text as "3.3", or a decimal.Decimal."""
-    if isinstance(volts, float):
-        raise TypeError(f"{what}: a float isn't exact, {volts!r} is {Decimal(volts)}: give text or a decimal.Decimal")
-    if isinstance(volts, str):
-        if not DECIMAL.match(volts):
-            raise ValueError(f'{what}: {volts!r} is no decimal number, as "3.3"')
-        volts = Decimal(volts)
-    if not isinstance(volts, Decimal):
-        raise TypeError(f'{what}: give volts as text, as "3.3", or as a decimal.Decimal, and not {volts!r}')
-    if not volts.is_finite():
-        raise ValueError(f"{what}: {volts} is no number of volts")
-    if volts and volts.adjusted() > 9:
-        raise ValueError(f"{what}: {volts} V is beyond 10^9 V")
-    if volts and volts.adjusted() < -6:
-        raise ValueError(f"{what}: {volts} V is no whole number of microvolts")
-    exact = Fraction(volts) * 1_000_000
-    if exact.denominator != 1:
-        raise ValueError(f"{what}: {volts} V is no whole number of microvolts")
-    if abs(exact) > MOST:
-        raise ValueError(f"{what}: {volts} V is beyond 10^9 V")
-    return int(exact)
-
-
-def volts_of(microvolts: int) -> Decimal:
-    """So many microvolts in volts."""
-    return Decimal(f"{microvolts}E-6")
+def decimal_of(millionths: int) -> Decimal:
+    """So many millionths of a unit, in that unit."""
+    return Decimal(f"{millionths}E-6")
 
 
 def frame_bytes(frame: object, most: int, what: str = "bytes") -> bytes:
@@ -134,11 +105,15 @@ class Format:
 
     def value(self, word: int) -> Decimal:
         """A word's value, in volts or the unit of a reading, rounded down to millionths."""
-        return volts_of(self.microvolts(word))
+        return decimal_of(self.microvolts(word))
 
-    def word(self, value: Volts) -> int:
-        """The word nearest to a value."""
-        return self.nearest(microvolts_of(value, "value"))
+    def voltage(self, word: int) -> Voltage:
+        """The voltage of a word, rounded down to microvolts."""
+        return of_microvolts(self.microvolts(word))
+
+    def word(self, voltage: GivenVoltage) -> int:
+        """The word nearest to a voltage."""
+        return self.nearest(given_microvolts(voltage))
 
     def nearest(self, microvolts: int) -> int:
         """The word nearest to so many millionths. N3, N4, N5."""

@@ -49,7 +49,7 @@ def known_of(part: Device, output: int, lacks: tuple[str, ...] = ()) -> Knowledg
     for key in (it for it in BOUNDS if SETTINGS[it] not in lacks):
         # What the library can't tell in microvolts is beyond every scale.
         bounds[key] = None if form is None else form.told(only_word(part, output, SETTINGS[key]))
-    return Knowledge(state.is_on, None if state.band is None else (state.band.least, state.band.greatest), bounds)
+    return Knowledge(state.is_on, None if state.band is None else (state.band.least.microvolts, state.band.greatest.microvolts), bounds)
 
 
 class Taking:

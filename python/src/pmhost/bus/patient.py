@@ -23,7 +23,8 @@ UNHEARD = errno.ENXIO
 
 
 def timeout_of(given: int | None, is_long: bool) -> int:
-    """For how many milliseconds a busy part is waited for: those that were given, or those for a store and a restore, or for another write."""
+    """How many milliseconds a busy part is waited for: those that were given, or else those of a store and a restore, or of another
+    write."""
     return given if given is not None else LONG_TIMEOUT if is_long else TIMEOUT
 
 

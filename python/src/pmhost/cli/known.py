@@ -41,7 +41,7 @@ def known(arguments: argparse.Namespace) -> int:
     return 0
 
 
-def volts_of(part: Device, it: Known) -> int | None:
+def microvolts_of(part: Device, it: Known) -> int | None:
     form = None if it.output is None else part.host.format(it.output)
     if form is None or it.confirmed is None or it.register not in VOLTAGES:
         return None
@@ -51,7 +51,7 @@ def volts_of(part: Device, it: Known) -> int | None:
 def words_of(part: Device, it: Known) -> str:
     """A word that is confirmed, the words that are possible, or any."""
     if it.confirmed is not None:
-        micro = volts_of(part, it)
+        micro = microvolts_of(part, it)
         return f"{in_digits(it.register, it.confirmed)}{'' if micro is None else f' {voltages.shown(micro)}'} confirmed"
     if it.possible is None:
         return "any"
@@ -60,7 +60,7 @@ def words_of(part: Device, it: Known) -> str:
 
 def row_of(part: Device, it: Known) -> dict[str, object]:
     return {"output": it.output, "register": it.register, "word": in_digits(it.register, it.confirmed),
-            "volts": number(volts_of(part, it)),
+            "volts": number(microvolts_of(part, it)),
             "possible": None if it.possible is None else [in_digits(it.register, word) for word in it.possible]}
 
 

@@ -18,7 +18,8 @@ from . import readings
 from .answer import Answer, in_digits
 from .call import Call, said
 from .completion import completed_by
-from .outcome import DEVICE, REGISTERS, VOLTAGES, answer_of, cell_words, ended_badly, noted_of, rail_words, refused, survey_order, why_not
+from .outcome import (DEVICE, REGISTERS, VOLTAGES, answer_of, cell_words, rail_words, read_notes_behind, refused, survey_order, tell_bad_end,
+                      why_not)
 from .parser import BadCall, bus_options, shown, whole
 
 MARGIN_HIGH, MARGIN_LOW = 0xA8, 0x94
@@ -201,7 +202,7 @@ def learn(arguments: argparse.Namespace) -> int:
         found.text = f"learned {probe.format_words(form)}"
     else:
         found.status, found.text = 1, "unknown"
-        found.why = probe.why_not_learned(part, arguments.output) + readings.noted(part, arguments.output)
+        found.why = probe.why_not_learned(part, arguments.output) + readings.read_notes(part, arguments.output)
     return call.say(found)
 
 
@@ -225,7 +226,7 @@ def read(arguments: argparse.Namespace) -> int:
     except NotBelieved as doubt:
         return call.say(not_told(arguments, part, doubt))
     if step.kind != "done":
-        return call.say(ended_badly(arguments, part, register, step))
+        return call.say(tell_bad_end(arguments, part, register, step))
     found = answer_of(arguments, part, register, "done")
     assert found.word is not None
     found.text = f"{cell_words(arguments, part, register, found.word)} confirmed"
@@ -239,7 +240,7 @@ def survey_output(arguments: argparse.Namespace) -> int:
     found = answer_of(arguments, call.part(), None, "told", text=rail_words(state))
     found.commanded = state
     if not state.is_well:
-        found.status, found.end, found.why = 1, "unsure", why_not(state) + noted_of(call.part(), arguments.output, state)
+        found.status, found.end, found.why = 1, "unsure", why_not(state) + read_notes_behind(call.part(), arguments.output, state)
     return call.say(found)
 
 
@@ -262,7 +263,7 @@ def carry_out(arguments: argparse.Namespace, register: str, begin: Callable[[], 
             return call.say(refused(arguments, part, register, fault))
         step = part.run()
         if step.kind != "done":
-            found = ended_badly(arguments, part, register, step)
+            found = tell_bad_end(arguments, part, register, step)
             found.text += "; nothing was ordered"
             return call.say(found)
         held = part.host.possible_words(output, register)
@@ -282,7 +283,7 @@ def carry_out(arguments: argparse.Namespace, register: str, begin: Callable[[], 
             and is_near(part, output, register, wanted, int(arguments.accept), held, step.word)):
         return call.say(survey_order(arguments, part, register, is_accepted=True))
     if step.kind != "done":
-        return call.say(ended_badly(arguments, part, register, step))
+        return call.say(tell_bad_end(arguments, part, register, step))
     return call.say(survey_order(arguments, part, register))
 
 
@@ -292,9 +293,9 @@ def set_voltage(arguments: argparse.Namespace) -> int:
     output, register = arguments.output, arguments.register
     if not learn_once(part, output):
         found = answer_of(arguments, part, register, "unknown", status=1, text="its format isn't known, nothing was ordered",
-                          why=probe.why_not_learned(part, output) + readings.noted(part, output))
+                          why=probe.why_not_learned(part, output) + readings.read_notes(part, output))
         return int(arguments.call.say(found))
-    return carry_out(arguments, register, lambda: part.host.order_micro(output, register, arguments.microvolts),
+    return carry_out(arguments, register, lambda: part.host.order_voltage(output, register, voltages.of_microvolts(arguments.microvolts)),
                        None if arguments.accept is None else arguments.microvolts)
 
 
@@ -338,7 +339,7 @@ def send_command(arguments: argparse.Namespace) -> int:
     found = answer_of(arguments, part, None, step.kind)
     if step.kind != "done":
         found.status, found.text = 1, "unknown"
-        found.why = (part.transfers.why() or "no good answer") + readings.noted(part, output)
+        found.why = (part.transfers.why() or "no good answer") + readings.read_notes(part, output)
         return call.say(found)
     status, why = call.only().unsure_of_last(arguments.command != "clear")
     found = answer_of(arguments, part, None, "unknown" if status else "acknowledged", status=status, why=why)

@@ -12,7 +12,7 @@ from ..survey import FORMAT, Commanded, commanded, selection, survey
 from ..values import CODES
 from .answer import Answer, between, in_digits
 from .call import said
-from .readings import noted
+from .readings import read_notes
 
 DEVICE = "WRITE_PROTECT"
 REGISTERS = tuple(name for name in CODES if name != DEVICE)
@@ -65,7 +65,7 @@ def possible_words(answer: Answer) -> str:
     return f"{answer.register} unknown, possible {words}"
 
 
-def ended_badly(arguments: argparse.Namespace, part: Device, register: str, step: Step) -> Answer:
+def tell_bad_end(arguments: argparse.Namespace, part: Device, register: str, step: Step) -> Answer:
     """An order that differs, or a job without a good answer."""
     found = answer_of(arguments, part, register, step.kind, status=1)
     if step.kind == "differs" and step.word is not None:
@@ -74,7 +74,7 @@ def ended_badly(arguments: argparse.Namespace, part: Device, register: str, step
                      f"{with_why(part)}")
     else:
         found.text, found.why = possible_words(found), part.transfers.why() or "no good answer"
-    found.why += noted(part, arguments.output)
+    found.why += read_notes(part, arguments.output)
     return found
 
 
@@ -164,15 +164,15 @@ def survey_order(arguments: argparse.Namespace, part: Device, register: str, is_
         found.text = f"{words}; {commanded_words(surveyed, register, micro)}"
         if not is_well(surveyed, register, micro):
             found.status, found.end, found.why = 1, "cut" if surveyed.is_well else "unsure", why_not(surveyed)
-    found.why += noted_of(part, output, surveyed)
+    found.why += read_notes_behind(part, output, surveyed)
     if found.restart_seen:
         found.text += "; restart seen, or the part rounds" if is_accepted else "; restart seen"
     return found
 
 
-def noted_of(part: Device, output: int, found: Commanded) -> str:
+def read_notes_behind(part: Device, output: int, found: Commanded) -> str:
     """What the part noted behind a survey of which a job ended badly; nothing where none did."""
-    return noted(part, output) if found.missing else ""
+    return read_notes(part, output) if found.missing else ""
 
 
 def why_not(found: Commanded) -> str:

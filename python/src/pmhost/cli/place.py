@@ -11,6 +11,7 @@ from ..part import ModelPartBus
 from ..parts import MODEL_BUS, BoardPart
 from ..device import Device
 from ..transfers import Transfers
+from ..voltages import of_microvolts
 
 HELD_LOW = ("a line is held low: address 02, which no part may have, acknowledges: clock SCL nine times and send a stop, "
             "cycle the supply last")
@@ -36,7 +37,7 @@ class Place:
 
     # ---- The bus ----
 
-    def opened(self) -> ModelPartBus | LinuxBus:
+    def open(self) -> ModelPartBus | LinuxBus:
         """The bus, opened at its first use. NoBus, too, where a line is held low."""
         if self._bus is None:
             try:
@@ -60,7 +61,7 @@ class Place:
 
     def patient(self, busy_timeout: int | None = None) -> ModelPartBus | PatientBus:
         """The bus that waits for a busy part, which a model part never is; without a time that of the call."""
-        bus, options = self.opened(), self._options
+        bus, options = self.open(), self._options
         if not isinstance(bus, LinuxBus):
             return bus
         return PatientBus(bus, options.delay, options.busy_timeout if busy_timeout is None else busy_timeout)
@@ -78,8 +79,8 @@ class Place:
         if self._pmbus is None:
             bus, part = self.patient(), self.part
             self._pmbus = Device(bus, part.address, part.outputs, self._options.passes, lacks=part.lacks)
-            for output, (least, most) in self.limits.items():
-                self._pmbus.host.set_limits(output, least, most)
+            for output, pair in self.limits.items():
+                self._pmbus.host.set_limits(output, *(of_microvolts(each) for each in pair))
         return self._pmbus
 
     @property

@@ -15,7 +15,7 @@ from .completion import FILES, completed_by
 from .orders import ACCEPT, STORES
 from .outcome import rail_words
 from .parser import BadCall, bus_options, file_of
-from .readings import noted
+from .readings import read_notes
 from .way import WayFile, output_of
 
 
@@ -142,7 +142,7 @@ def stop_of(board: Board, run: Any) -> str:
 
 def told_of(board: Board, stopped: Stopped) -> str:
     """Why no further frame was sent, and what the part noted of a job that ended badly."""
-    return str(stopped) + ("" if stopped.part is None else noted(board.parts[stopped.part], stopped.output))
+    return str(stopped) + ("" if stopped.part is None else read_notes(board.parts[stopped.part], stopped.output))
 
 
 def after_a_stop(board: Board) -> str:

@@ -36,7 +36,7 @@ def digits_of(found: readings.Reading) -> str | None:
     return None if found.word is None else f"{found.word:0{2 * KINDS[found.name].size}X}"
 
 
-def noted(part: Device, output: int | None) -> str:
+def read_notes(part: Device, output: int | None) -> str:
     """What the part noted behind a job that ended badly, for the end of a line; nothing where it gives no good answer."""
-    words = readings.noted(part.bus, part.host.address, output)
+    words = readings.read_notes(part.bus, part.host.address, output)
     return f"; {words}" if words else ""
