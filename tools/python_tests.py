@@ -18,7 +18,7 @@ from tally import Tally
 
 TESTS = os.path.join(ROOT, "python", "tests")
 # Reasons for which a test may be skipped: what the gate's machine need not have.
-ALLOWED = ("no mypy here", "no clone: git tells the scripts", "no sigrok-cli on this machine")
+ALLOWED = ("no mypy here", "no clone: git tells the scripts", "no sigrok-cli on this machine", "no strace on this machine")
 
 
 def by_content():
