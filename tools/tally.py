@@ -21,7 +21,7 @@ class Tally:
         if failed:
             print(said, flush=True)
 
-    def end(self):
-        """The last line, and the status: 1 where something failed or nothing was tried."""
-        print(f"{self.passed} passed, {self.failed} failed", flush=True)
+    def end(self, note=""):
+        """The last line, with a note of what wasn't tried, and the status: 1 if something failed or nothing was tried."""
+        print(f"{self.passed} passed, {self.failed} failed{note}", flush=True)
         return 1 if self.failed or not self.passed else 0
