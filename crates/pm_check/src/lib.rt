@@ -5,15 +5,14 @@
 //! lives. Nothing is trusted but that the answers came; who wrote the log doesn't matter. It takes no memory.
 //!
 //! ```
-//! fn checked() -> Result<(), CheckFault> {
+//! fn checked(answer: &[u8]) -> Result<(), CheckFault> {
 //!     let cell = Cell::Out(0, Reg::VoutCommand);
 //!     let request = [0xB0, 0x06, 0x02, 0x00, 0x21];
-//!     let answer = [0xB1, 0x02, 0xCD, 0x34, 0xB9];
 //!     let acts = [
 //!         Act::Begun(Job::Check(cell)),
-//!         Act::Sent(&request, Told::Got(&answer)),
+//!         Act::Sent(&request, Told::Got(answer)),
 //!     ];
-//!     check(0x58, 2, 2, &acts, &[Claim::Holds { cell, word: 0x34CD }])
+//!     check(0x58, 2, 2, &acts, &[Claim::Holds { cell, word: 0x34CD }]) // B1 02 CD 34 B9 proves it
 //! }
 //! ```
 //!
