@@ -1,8 +1,10 @@
 """Tries the plain model on worked cases, and what is promised of both ends together on random scenarios:
-`python3 -m plain [SEED [TEXTS]]` in python/tests/. Status 1 where one fails."""
+`python3 -m plain [SEED [TEXTS]]` in python/tests/. Status 1 if one fails. `python3 -m plain replay|hear|decode|number ..` does what
+`pmb` does, by the plain model."""
 import random
 import sys
 
+from . import commandline
 from .commands import hear, number
 from .converter import COMMAND, OPERATION, PROTECT
 from .host import ANY, Host
@@ -332,4 +334,4 @@ def main():
     return 1 if faults else 0
 
 
-sys.exit(main())
+sys.exit(commandline.main(sys.argv[1:]) if commandline.is_command(sys.argv[1:]) else main())
