@@ -1,9 +1,26 @@
-//! How many lines an engine writes for a long text.
+//! Long texts, told by what is repeated, and how many lines an engine writes for them.
 
 use crate::checks::{equal, is_true};
-use pm_test_streams::{Engine, Engines, Long, in_pieces, text_of};
-use std::alloc::AllocError;
+use pm_test_streams::{Engine, Engines, in_pieces};
+use std::alloc::{AllocError, Global};
 use std::process::Abort;
+
+/// A text: how it begins, what is repeated and how often, and how it ends.
+pub(crate) type Long = ([&'static str; 2], &'static str, usize, &'static str);
+
+/// The whole text.
+pub(crate) fn text_of(alloc: Global, long: Long) -> Result<Vec<u8>, AllocError> {
+    let (heads, part, count, tail) = long;
+    let mut text = Vec::new(alloc);
+    for head in heads {
+        text.extend_from_slice(head.as_bytes())?;
+    }
+    for _ in 0..count {
+        text.extend_from_slice(part.as_bytes())?;
+    }
+    text.extend_from_slice(tail.as_bytes())?;
+    Ok(text)
+}
 
 /// How many lines are written, and how they begin and end.
 pub(crate) type Written = (usize, &'static str, &'static str);

@@ -2,11 +2,13 @@
 //! the codes that are counted, lines, events, outputs, the bytes of a line or of a part, digits, words.
 
 use crate::checks::{equal, is_true};
-use crate::engines::long_text::{Written, expect_lines, is_written};
+use crate::long_text::{Long, Written, expect_lines, is_written, text_of};
+use clap::error::ErrorKind;
 use pm_test_streams::{
-    CODES, CODES_SAID, Engine, Engines, FRAME, Long, REPORT, SCENARIO, TAKEN, in_pieces, text_of,
+    CODES, CODES_SAID, Engine, Engines, FRAME, REPORT, SCENARIO, TAKEN, in_pieces,
 };
 use pm_text::{TextFault, TraceLine, read_scenario, read_trace_line, render_line};
+use pm_tool::{Chosen, chosen};
 use std::alloc::Global;
 use std::process::Abort;
 use std::test::Fail;
@@ -21,6 +23,8 @@ const ONE_EVENT: &str =
 
 const EIGHT: &str =
     "scenario 1\naddress 58\npasses 2\nprotect 00\ncoefficients 1 0 0\noutput 14 80 1000 4000 1100 0F00\noutput 14 80 1000 4000 1100 0F00\noutput 14 80 1000 4000 1100 0F00\noutput 14 80 1000 4000 1100 0F00\noutput 14 80 1000 4000 1100 0F00\noutput 14 80 1000 4000 1100 0F00\noutput 14 80 1000 4000 1100 0F00\noutput 14 80 1000 4000 1100 0F00\nbegin\n";
+
+const OUTPUTS: &str = "output 0 VOUT_COMMAND 1000\noutput 1 VOUT_COMMAND 1000\n";
 
 /// The end of a report of eight outputs.
 const OUTPUT_7: &str =
@@ -116,6 +120,82 @@ fn long_scenarios_are_replayed(rt: HostRuntime) -> Result<(), Fail> {
     // Memory was taken once: there is room for one event for each line feed, and one.
     let events = read_scenario(rt.alloc(), &text)?.events.into_vec();
     equal(&rt, &events.capacity(), &100_001, &2);
+    Ok(())
+}
+
+/// Long texts of frames, and what is printed of them.
+static LONG_FRAMES: [(Long, Written); 8] = [
+    (
+        (["", ""], "11", 524_288, ""),
+        (3, "silent\noutput 0", OUTPUTS),
+    ),
+    (
+        (["", ""], "11 ", 349_525, ""),
+        (3, "silent\noutput 0", OUTPUTS),
+    ),
+    (
+        (["", ""], "\n", 1_048_575, "/"),
+        (3, "silent\noutput 0", OUTPUTS),
+    ),
+    (
+        (["B099", ""], "00", 300_000, ""),
+        (3, "refused K1 Frame F5 WrongPec 300001\n", OUTPUTS),
+    ),
+    (
+        (["", ""], "/\n", 524_288, ""),
+        (524_290, "silent\nsilent\n", OUTPUTS),
+    ),
+    (
+        (["", ""], "B0\n", 349_525, ""),
+        (
+            349_527,
+            "refused K1 Frame F2 Short 1\nrefused K1 Frame F2 Short 1\n",
+            OUTPUTS,
+        ),
+    ),
+    (
+        (["", ""], "B0 20 /\n", 131_072, ""),
+        (131_074, "answer B1 14 ED\nanswer B1 14 ED\n", OUTPUTS),
+    ),
+    (
+        (["", ""], "restart\n", 131_072, ""),
+        (131_074, "restarted\nrestarted\n", OUTPUTS),
+    ),
+];
+
+#[test]
+fn long_texts_are_heard(rt: HostRuntime) -> Result<(), Fail> {
+    Ok(expect_lines(&rt, Engine::Hear, &LONG_FRAMES)?)
+}
+
+// `hear` refuses a text for this, and writes nothing.
+fn is_not_heard(rt: &(impl Abort + AllocGlobal), text: &[u8], fault: TextFault) {
+    let (end, written) = Engine::Hear.text_of(rt.alloc(), in_pieces(text, 4096));
+    equal(rt, &end, &Err(fault), &1);
+    is_true(rt, written.is_empty(), &2);
+}
+
+/// Long texts whose last line is faulty.
+static FAULTY_AT_THE_END: [(Long, TextFault); 3] = [
+    (
+        (["", ""], "\n", 1_048_575, "Z"),
+        TextFault::BadHex(1_048_576),
+    ),
+    (
+        (["", ""], "#\n", 300_000, "/ /"),
+        TextFault::Syntax(300_001),
+    ),
+    (
+        (["", ""], " \n", 300_000, "restart /"),
+        TextFault::Syntax(300_001),
+    ),
+];
+
+#[test]
+fn a_faulty_line_at_the_end_of_a_long_text_is_told(rt: HostRuntime) -> Result<(), Fail> {
+    for &(long, fault) in &FAULTY_AT_THE_END {
+        is_not_heard(&rt, &text_of(rt.alloc(), long)?, fault);
+    }
     Ok(())
 }
 
@@ -252,4 +332,67 @@ fn long_parts_are_rendered_with_great_numbers(rt: HostRuntime) -> Result<(), Fai
     let wanted = "18446744073709551615 58 write F3 Long 2";
     is_rendered(&rt, &line, (300, Some(300)), u64::MAX, wanted)?;
     Ok(())
+}
+
+// The words choose a `number` of this format and this word, with a micro of so many bytes.
+fn is_number(
+    rt: &(impl Abort + AllocGlobal),
+    words: &[&str],
+    wanted: (&str, &str, usize),
+) -> Result<(), Fail> {
+    let (wanted_format, wanted_word, bytes) = wanted;
+    match chosen(rt.alloc(), words)? {
+        Chosen::Number {
+            format,
+            word,
+            micro,
+        } => {
+            equal(rt, &format, &wanted_format, &1);
+            equal(rt, &word, &Some(wanted_word), &2);
+            equal(rt, &micro.map(|text| text.len()), &Some(bytes), &3);
+        }
+        _ => panic!(rt; "not number"),
+    }
+    Ok(())
+}
+
+#[test]
+fn a_long_word_is_chosen(rt: HostRuntime) -> Result<(), Fail> {
+    let alloc = rt.alloc();
+    let digits = text_of(alloc, (["--micro=", ""], "0", 1_000_000, "1"))?;
+    let micro = String::from_utf8(digits)?;
+    let words = [
+        "pmb",
+        "number",
+        "--format",
+        "direct:-32768:-32768:-12",
+        "--word",
+        "7FFF",
+        micro.as_str(),
+    ];
+    is_number(&rt, &words, ("direct:-32768:-32768:-12", "7FFF", 1_000_001))
+}
+
+// A command and ten thousand words more are refused so.
+fn is_no_command(
+    rt: &(impl Abort + AllocGlobal),
+    command: &str,
+    kind: ErrorKind,
+) -> Result<(), Fail> {
+    let mut words = vec![in rt.alloc(); "more"; 10_000]?;
+    words.insert(0, command)?;
+    words.insert(0, "pmb")?;
+    let found = chosen(rt.alloc(), words.as_slice())
+        .err()
+        .map(|error| error.kind());
+    equal(rt, &found, &Some(kind), &command);
+    Ok(())
+}
+
+#[test]
+fn many_words_are_no_command(rt: HostRuntime) -> Result<(), Fail> {
+    is_no_command(&rt, "hear", ErrorKind::UnknownArgument)?;
+    is_no_command(&rt, "number", ErrorKind::UnknownArgument)?;
+    is_no_command(&rt, "listen", ErrorKind::InvalidSubcommand)?;
+    is_no_command(&rt, "--help", ErrorKind::DisplayHelp)
 }

@@ -1,7 +1,9 @@
 //! What `decode` gathers before it writes, where a read brings as many bytes as it asks for.
-use crate::checks::{equal, printed};
-use pm_test_streams::{Engine, Engines, blank_paper, in_pieces};
+use crate::checks::{equal, is_true, printed};
+use pm_test_streams::{Ended, Engine, Engines, Failure, Paper, Pieces, blank_paper, in_pieces};
+use pm_text::TextFault;
 use std::alloc::Global;
+use std::io::ErrorKind;
 use std::process::Abort;
 use std::test::Fail;
 
@@ -53,4 +55,42 @@ fn lines_are_gathered_while_whole_pieces_come(rt: HostRuntime) -> Result<(), Fai
     is_written_by(&rt, 56, 2)?;
     is_written_by(&rt, 64, 2)?;
     is_written_by(&rt, 2000, 4)
+}
+
+// A trace whose third read fails, and a writer.
+fn cut_off<'a>(alloc: Global, text: &'a [u8], written: Paper) -> Ended<'a> {
+    let read = Pieces {
+        fails_at: 3,
+        kind: ErrorKind::Other,
+        ..in_pieces(text, 4096)
+    };
+    Engine::Decode.over(alloc, read, written)
+}
+
+// The first 1,024 bytes have 113 line feeds.
+#[test]
+fn what_was_gathered_is_written_before_a_failed_read_is_told(rt: HostRuntime) -> Result<(), Fail> {
+    let text = clears(rt.alloc(), 192)?;
+    let ended = cut_off(rt.alloc(), &text, blank_paper(rt.alloc(), 4096));
+    equal(&rt, &ended.end, &Err(TextFault::Read), &1);
+    is_true(&rt, ended.read_failed && !ended.write_failed, &2);
+    equal(&rt, &ended.written.calls, &1, &3);
+    let wanted = told(rt.alloc(), 113)?;
+    let written = ended.written.taken;
+    equal(&rt, &written.as_slice(), &wanted.as_bytes(), &4);
+    Ok(())
+}
+
+#[test]
+fn a_failed_write_is_told_where_a_read_failed_before(rt: HostRuntime) -> Result<(), Fail> {
+    let text = clears(rt.alloc(), 192)?;
+    let written = Paper {
+        fails_at: 1,
+        failure: Failure::Nothing,
+        ..blank_paper(rt.alloc(), 4096)
+    };
+    let ended = cut_off(rt.alloc(), &text, written);
+    equal(&rt, &ended.end, &Err(TextFault::Write), &1);
+    is_true(&rt, ended.read_failed && ended.write_failed, &2);
+    Ok(())
 }

@@ -1,4 +1,4 @@
-//! The faults of texts: their words, what stands beside them, and how they show.
+//! The faults of texts and of numbers: their words, what stands beside them, and how they show.
 
 use crate::checks::{equal, printed};
 use pm_device::ConfigFault;
@@ -6,6 +6,7 @@ use pm_host::HostFault;
 use pm_num::NumFault;
 use pm_table::{Cell, Reg, TableFault};
 use pm_text::TextFault;
+use pm_tool::NumberFault;
 use pm_world::SetupFault;
 use std::process::Abort;
 use std::test::Fail;
@@ -88,5 +89,50 @@ fn each_fault_of_a_text_has_its_words(rt: HostRuntime) -> Result<(), Fail> {
     }
     let passes = SetupFault::Host(HostFault::Passes);
     equal(&rt, &TextFault::Setup(passes).setup(), &Some(passes), &1);
+    Ok(())
+}
+
+// A refusal's words, which it shows, and its status.
+fn is_refused(
+    rt: &(impl Abort + AllocGlobal),
+    fault: NumberFault,
+    words: &str,
+    status: u8,
+) -> Result<(), Fail> {
+    equal(rt, &fault.words(), &words, &1);
+    equal(rt, &fault.status(), &status, &words);
+    let shown = printed(rt.alloc(), &fault, "")?;
+    equal(rt, &shown.as_str(), &words, &2);
+    Ok(())
+}
+
+/// A refusal, its words and its status.
+static NUMBER_FAULTS: [(NumberFault, &str, u8); 11] = [
+    (NumberFault::OneOf, "give one of --word and --micro", 2),
+    (NumberFault::Format, "bad format", 2),
+    (NumberFault::Word, "bad word", 2),
+    (NumberFault::Micro, "bad micro", 2),
+    (NumberFault::Num(NumFault::ZeroSlope), "N1 ZeroSlope", 1),
+    (
+        NumberFault::Num(NumFault::ExponentRange),
+        "N2 ExponentRange",
+        1,
+    ),
+    (NumberFault::Num(NumFault::BelowLeast), "N3 BelowLeast", 1),
+    (
+        NumberFault::Num(NumFault::AboveGreatest),
+        "N4 AboveGreatest",
+        1,
+    ),
+    (NumberFault::Num(NumFault::TooLarge), "N5 TooLarge", 1),
+    (NumberFault::Text(TextFault::Write), "X5 Write", 1),
+    (NumberFault::Text(TextFault::Memory), "X6 Memory", 1),
+];
+
+#[test]
+fn each_refusal_of_a_number_has_its_words_and_status(rt: HostRuntime) -> Result<(), Fail> {
+    for &(fault, words, status) in &NUMBER_FAULTS {
+        is_refused(&rt, fault, words, status)?;
+    }
     Ok(())
 }

@@ -2,7 +2,7 @@
 //! were made, and what was written until then.
 
 use crate::checks::{equal, is_true, printed};
-use crate::engines::worked::worked;
+use crate::worked::worked;
 use pm_test_streams::{
     Engine, Engines, FRAME, Failure, Halves, KINDS, Paper, Pieces, SCENARIO, TRACE, blank_paper,
     in_pieces,
@@ -35,6 +35,34 @@ fn calls_made(alloc: Global, engine: Engine, input: &str, piece: usize) -> (usiz
     let read = in_pieces(input.as_bytes(), piece);
     let ended = engine.over(alloc, read, blank_paper(alloc, piece));
     (ended.read.calls, ended.written.calls)
+}
+
+fn makes_calls(
+    rt: &(impl Abort + AllocGlobal),
+    engine: Engine,
+    input: &str,
+    piece: usize,
+    calls: usize,
+) {
+    let (made, _) = calls_made(rt.alloc(), engine, input, piece);
+    equal(rt, &made, &calls, &(engine, piece));
+}
+
+/// How many bytes are read at a time, and the calls that read 205, 97 and 23 bytes and find the end.
+static CALLS: [(usize, usize, usize, usize); 4] = [
+    (1, 206, 98, 24),
+    (7, 31, 15, 5),
+    (100, 4, 2, 2),
+    (4096, 2, 2, 2),
+];
+
+#[test]
+fn an_engine_reads_to_the_end_and_no_further(rt: HostRuntime) {
+    for &(piece, replays, decodes, hears) in &CALLS {
+        makes_calls(&rt, Engine::Replay, SCENARIO, piece, replays);
+        makes_calls(&rt, Engine::Decode, TRACE, piece, decodes);
+        makes_calls(&rt, Engine::Hear, FRAME, piece, hears);
+    }
 }
 
 // How many lines a trace has in the bytes that so many calls read; 0 for another engine's text.
@@ -136,7 +164,7 @@ fn ends_at_write(
     );
 }
 
-// Each way in which a write fails at this call; if each byte is written alone, one kind of error at each place.
+// Each way in which a write fails; if each byte is written alone, one kind of error at each place.
 fn ends_at_each_write(
     rt: &(impl Abort + AllocGlobal),
     worked: (Engine, &str, &str),

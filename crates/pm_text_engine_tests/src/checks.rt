@@ -1,0 +1,27 @@
+//! What every test asks, and the texts that it makes, as calls: a macro that words a text is proved anew wherever it stands.
+ghost use Rattle.std.specs.Prelude.{IsTrue};
+
+use std::alloc::{AllocError, Global};
+use std::fmt::{Debug, Display};
+use std::process::Abort;
+
+/// A value as it is printed, with a text behind it.
+pub(crate) fn printed(
+    alloc: Global,
+    value: &impl Display,
+    more: &str,
+) -> Result<String, AllocError> {
+    format!(in alloc; "{value}{more}")
+}
+
+/// Fails where what is found isn't what is wanted, and says both and where that was.
+pub(crate) fn equal<T: PartialEq + Debug>(rt: &impl Abort, found: &T, wanted: &T, at: &impl Debug) {
+    is_true(rt, found == wanted, &(found, wanted, at));
+}
+
+/// Fails where this doesn't hold, and says where that was.
+pub(crate) fn is_true(rt: &impl Abort, holds: bool, at: &impl Debug)
+    ensures { IsTrue holds }
+{
+    assert!(rt; holds, "{at:?}");
+}
