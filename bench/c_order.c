@@ -1,9 +1,8 @@
 /* How long an order takes over the static library, and how much stack its calls take; beside it an order by
  * plain code: the frame and its PEC, the answer judged, no words kept. bench/c_order.sh runs it. With arguments it does
- * one thing alone and ends, so that its instructions are counted: `loop`, orders; `guard`, orders within limits; `plan`,
- * orders within limits that a plan gives, and `asked`, plans that are asked for their next order alone; `run`, orders by
- * pm_host_run over a bus of no cost; `patient`, the same by pm_patient_run, with its patience of 200 ms; `bands`, bands of
- * outputs whose registers list as many words as they can. The second says the format, `linear` or `direct`, and the third
+ * one thing alone and ends, so that its instructions are counted: `loop`, orders; `guard`, orders within limits; `run`, orders by
+ * pm_host_run over a bus of no cost; `patient`, the same by pm_patient_run, with its patience of 200 ms; `set`, courses to
+ * a voltage within limits over a bus that answers from a table, with all that is read before the order and after it; `bands`, bands of outputs whose registers list as many words as they can. The second says the format, `linear` or `direct`, and the third
  * how often. It prints how many orders were done, or how many listed words were looked at. */
 #include "pmhost_patient.h"
 #include <stdio.h>
@@ -27,25 +26,6 @@ static int order(pm_host *host, const uint8_t *answer, uint16_t word) {
     pm_host_write_ended(host, 1);
     pm_host_frame(host, &frame);
     return pm_host_read_ended(host, answer, 5).kind == PM_DONE;
-}
-
-/* The same of an order that a plan gives. */
-static int planned(pm_host *host, const uint8_t *answer, uint16_t word) {
-    const pm_wanted wanted = {.command = {1, word}};
-    pm_plan_order next;
-    pm_sending frame;
-    if (pm_host_next(host, 0, &wanted, &next) || pm_host_frame(host, &frame))
-        return 0;
-    pm_host_write_ended(host, 1);
-    pm_host_frame(host, &frame);
-    return pm_host_read_ended(host, answer, 5).kind == PM_DONE;
-}
-
-/* A plan is asked for its next order, which isn't begun. */
-static int asked(const pm_host *host, uint16_t word) {
-    const pm_wanted wanted = {.command = {1, word}};
-    pm_plan_order next;
-    return pm_host_plan(host, 0, &wanted, &next) == PM_OK;
 }
 
 /* A bus of no cost: each write is acknowledged, and each read has the answer that the context points to. */
@@ -81,6 +61,55 @@ static int order_by_loop(pm_host *host, const uint8_t *answer, uint16_t word, in
     return (is_patient ? pm_patient_run(host, &bus) : pm_host_run(host, free_write, free_read, &answer)).kind == PM_DONE;
 }
 
+/* A part of which the first output is on at VOUT_COMMAND: its answers by command code, and the one of two words that it holds. */
+typedef struct {
+    uint8_t answers[2][0x40][4];
+    uint8_t held;
+} table_part;
+
+static void put_answer(table_part *part, uint8_t code, uint8_t count, uint16_t word, int held) {
+    uint8_t bytes[9] = {0xB0, 0x06, 0x02, 0x00, code, 0xB1, count, (uint8_t)word, (uint8_t)(word >> 8)};
+    uint8_t *to = part->answers[held][code];
+    memcpy(to, bytes + 6, (size_t)count + 1);
+    to[count + 1] = pm_pec(bytes, (uint64_t)count + 7);
+}
+
+static void new_table_part(table_part *part) {
+    for (int held = 0; held < 2; held++) {
+        const uint8_t protect[4] = {0xB0, PM_WRITE_PROTECT, 0xB1, 0x00};
+        put_answer(part, 0x20, 1, 0x14, held); /* VOUT_MODE: ULINEAR16, 2^-12 V a step */
+        put_answer(part, PM_OPERATION, 1, 0x80, held);
+        put_answer(part, PM_VOUT_COMMAND, 2, (uint16_t)(0x34CD + held), held);
+        put_answer(part, PM_VOUT_MAX, 2, 0x4000, held);
+        put_answer(part, PM_VOUT_MIN, 2, 0x0000, held);
+        part->answers[held][PM_WRITE_PROTECT][0] = 0x00;
+        part->answers[held][PM_WRITE_PROTECT][1] = pm_pec(protect, 4);
+    }
+    part->held = 0;
+}
+
+static uint8_t table_write(void *context, const uint8_t *bytes, uint64_t count) {
+    (void)count;
+    ((table_part *)context)->held = bytes[5] != 0xCD;
+    return PM_ACKED;
+}
+
+static uint64_t table_read(void *context, const uint8_t *request, uint64_t count, uint8_t *answer, uint64_t room) {
+    const table_part *part = (const table_part *)context;
+    const uint8_t *from = part->answers[part->held][request[count - 1]];
+    for (uint64_t i = 0; i < room; i++)
+        answer[i] = from[i];
+    return room;
+}
+
+/* A voltage is set, of the two words the one that isn't held. */
+static int set(pm_host *host, table_part *part, int word) {
+    int64_t microvolts = word ? 3300293 : 3300048;
+    pm_course course;
+    return pm_course_microvolts(&course, 0, PM_VOUT_COMMAND, microvolts, 40) == PM_OK &&
+           pm_host_run_course(host, &course, table_write, table_read, part).kind == PM_REACHED && part->held == word;
+}
+
 /* Answers the request that is being sent by these bytes. */
 static void answer(pm_host *host, const uint8_t *payload, uint8_t count) {
     uint8_t bytes[24];
@@ -101,18 +130,6 @@ static void learn(pm_host *host, uint8_t output, int is_direct) {
     answer(host, is_direct ? (const uint8_t[]){0x40} : (const uint8_t[]){0x14}, 1);
     if (is_direct)
         answer(host, (const uint8_t[]){0x99, 0x01, 0x02, 0x00, 0x01}, 5);
-}
-
-/* The host reads what a plan of an output needs. */
-static void read_for_a_plan(pm_host *host) {
-    static const uint8_t codes[] = {PM_OPERATION, PM_VOUT_COMMAND, PM_VOUT_MAX, PM_VOUT_MIN};
-    static const uint8_t words[4][2] = {{0x80}, {0xCE, 0x34}, {0x00, 0x40}, {0x00, 0x00}};
-    for (size_t i = 0; i < sizeof codes; i++) {
-        pm_host_check(host, 0, codes[i]);
-        answer(host, words[i], i ? 2 : 1);
-    }
-    pm_host_check(host, 0, PM_WRITE_PROTECT);
-    pm_host_read_ended(host, (const uint8_t[]){0xB1, 0x00, 0x60}, 3);
 }
 
 /* Orders words for an output's registers whose answers are all lost. How many words they list then. */
@@ -211,27 +228,27 @@ int main(int count, char **arguments) {
         fprintf(stderr, "the archive's host doesn't fit that of this pmhost.h\n");
         return 1;
     }
+    table_part part;
     pm_host_new(&host, 0x58, 8, 3);
     if (count > 3) {
         long all = atol(arguments[3]);
         int is_direct = !strcmp(arguments[2], "direct");
         int is_patient = !strcmp(arguments[1], "patient"), is_run = is_patient || !strcmp(arguments[1], "run");
-        if (strcmp(arguments[1], "loop")) {
+        int is_set = !strcmp(arguments[1], "set");
+        if (is_set)
+            new_table_part(&part);
+        else if (strcmp(arguments[1], "loop")) {
             learn(&host, 0, is_direct);
             learn(&host, 1, is_direct);
         }
-        int is_plan = !strcmp(arguments[1], "plan"), is_asked = !strcmp(arguments[1], "asked");
-        if (is_plan || is_asked || !strcmp(arguments[1], "guard"))
+        if (is_set || !strcmp(arguments[1], "guard"))
             pm_host_set_limits(&host, 0, 3200000, 3400000);
-        if (is_plan || is_asked)
-            read_for_a_plan(&host);
         if (!strcmp(arguments[1], "bands"))
             done = bands(&host, all);
         else
             for (long i = 0; i < all; i++)
-                done += is_run     ? order_by_loop(&host, answers[i & 1], (uint16_t)(0x34CD + (i & 1)), is_patient)
-                        : is_asked ? asked(&host, (uint16_t)(0x34D0 + (i & 1)))
-                        : is_plan  ? planned(&host, answers[i & 1], (uint16_t)(0x34CD + (i & 1)))
+                done += is_set     ? set(&host, &part, !(i & 1))
+                        : is_run   ? order_by_loop(&host, answers[i & 1], (uint16_t)(0x34CD + (i & 1)), is_patient)
                                    : order(&host, answers[i & 1], (uint16_t)(0x34CD + (i & 1)));
         printf("%ld\n", done);
         return 0;

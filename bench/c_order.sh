@@ -1,7 +1,7 @@
 #!/usr/bin/env bash
 # How long an order takes over the static library of crates/pm_host_c beside plain code, the stack of its calls as
-# they ran and of the deepest call as the compiler finds it, how many instructions an order takes by valgrind's callgrind,
-# how big the archive is and what it wants.
+# they ran and of the deepest call as the compiler finds it, how many instructions an order and a course to a voltage
+# take by valgrind's callgrind, how big the archive is and what it wants.
 #
 #   bench/c_order.sh [--archive FILE]
 set -eu
@@ -23,12 +23,14 @@ if [ -z "$archive" ]; then
 fi
 gcc -O2 -Wno-unused-result -Icrates/pm_host_c/include bench/c_order.c "$archive" -o "$folder/bench"
 "$folder/bench"
-# counted ORDERS: the instructions of a program that gives so many
-counted() { valgrind --tool=callgrind --callgrind-out-file=/dev/null "$folder/bench" loop linear "$1" 2>&1 | sed -n 's/.*Collected : //p'; }
+# counted WHAT ORDERS: the instructions of a program that gives so many
+counted() { valgrind --tool=callgrind --callgrind-out-file=/dev/null "$folder/bench" "$1" linear "$2" 2>&1 | sed -n 's/.*Collected : //p'; }
+# for_one WHAT: the instructions for one
+for_one() { echo $((($(counted "$1" 2500) - $(counted "$1" 500) + 1000) / 2000)); }
 if command -v valgrind > /dev/null; then
-    echo "an order: $((($(counted 2500) - $(counted 500) + 1000) / 2000)) instructions"
+    echo "an order: $(for_one loop) instructions; a course to a voltage, with all that it reads: $(for_one set) instructions"
 else
-    echo "valgrind: not on this machine, so an order's instructions aren't counted"
+    echo "valgrind: not on this machine, so instructions aren't counted"
 fi
 size "$archive" | awk 'NR == 2 {print "archive: " $1 " bytes of text, " $2 + $3 " of data"}'
 echo "symbols that it wants: $(nm -u "$archive" | grep -c ' U ' || true)"

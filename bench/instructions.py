@@ -39,8 +39,7 @@ def an_order(name, orders, folder):
 
 
 # What bench/c_order.c does alone, by its first argument.
-OVER_C = {"loop": "an order over pm_host_c", "guard": "one within limits", "plan": "one within limits that a plan gives",
-          "asked": "a plan that is asked for its next order"}
+OVER_C = {"loop": "an order over pm_host_c", "guard": "one within limits", "set": "a course to a voltage within limits, with all that it reads"}
 
 
 def c_orders(archives, folder):

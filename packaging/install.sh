@@ -125,6 +125,8 @@ package() {
     while IFS= read -r each; do put 644 "$root/python/src/$each" "lib/pmhost/$each"; done < "$work/modules"
     shared "$work/libpmhost.so" libpmhost.so "$(archive pm_host_c)" "$(archive pm_device_c)"
     put 644 "$work/libpmhost.so" lib/pmhost/pmhost/libpmhost.so
+    ${CC:-cc} -shared -fPIC -O2 -o "$work/preload.so" "$root/python/src/pmhost/torture/preload.c" -ldl
+    put 644 "$work/preload.so" lib/pmhost/pmhost/torture/preload.so
     put 755 "$root/packaging/pmhost" bin/pmhost
     put 644 "$root/docs/pmhost.1" share/man/man1/pmhost.1
     [ -n "${COMPLETION-}" ] || python3 -B "$to/bin/pmhost" --completion > "$work/completion"

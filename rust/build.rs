@@ -46,7 +46,7 @@ fn main() {
     if target.contains("linux") {
         // Tests only: tests/calls/other_library.rs answers these calls as another library's would.
         println!(
-            "cargo:rustc-link-arg-tests=-Wl,--wrap=pm_version,--wrap=pm_host_version,--wrap=pm_host_size,--wrap=pm_part_size"
+            "cargo:rustc-link-arg-tests=-Wl,--wrap=pm_version,--wrap=pm_host_version,--wrap=pm_host_size,--wrap=pm_part_size,--wrap=pm_course_version,--wrap=pm_course_size"
         );
     }
     for library in ["pm_host_c", "pm_device_c"] {

@@ -22,7 +22,7 @@ class Copy:
 
     def __init__(self, folder, built):
         self.folder, self.built, self.sound = folder, built, {}
-        for each in ("crates/pm_host_c/include", "crates/pm_device_c/include", "examples/c", "trials/c/rows", "rust"):
+        for each in ("crates/pm_host_c/include", "crates/pm_device_c/include", "examples/c", "trials/c/rows", "trials/course", "rust"):
             shutil.copytree(os.path.join(ROOT, each), os.path.join(folder, each), ignore=shutil.ignore_patterns("target"))
 
     def run(self, *words, **environment):
@@ -63,8 +63,8 @@ class Copy:
             return self.row(row)
         if test == "dropped answers":
             return self.warns(row)
-        if test == "rail.c":
-            return self.rail()
+        if test == "course rows":
+            return self.course_row(row)
         if test == "patient_rows.c":
             return self.patient_row(row)
         if test == "i2c_dev.c":
@@ -82,16 +82,18 @@ class Copy:
         self.program("rows", "trials/c/rows/run_rows.c")
         return f"\n{name}: " not in "\n" + self.run("./rows")[1]
 
-    def rail(self):
-        """Whether rail.c prints what it is to print."""
-        self.program("rail", "examples/c/rail.c")
-        with open(os.path.join(self.folder, "examples/c/rail.expected"), encoding="utf-8") as wanted:
-            return self.run("timeout", "60", "./rail")[1] == wanted.read()
+    def course_row(self, name):
+        """Whether this row of courses is right."""
+        self.program("courses", "trials/course/rows.c")
+        status, text = self.run("timeout", "60", "./courses", "trials/course/rows.txt")
+        return status in (0, 1) and f"\n{name}: " not in "\n" + text
 
     def warns(self, call):
         """Whether gcc warns of this call alone on a line."""
         with open(os.path.join(self.folder, "drops.c"), "w", encoding="utf-8") as file:
-            file.write(f'#include "pmhost.h"\nstatic pm_host host;\nint main(void) {{ pm_host_{call}; return 0; }}\n')
+            call = call if call.startswith("pm_") else f"pm_host_{call}"
+            file.write('#include "pmhost.h"\nstatic pm_host host;\nstatic pm_course course;\nstatic pm_wanted wanted;\nstatic pm_sending sending;\n'
+                       f'int main(void) {{ (void)host; (void)course; (void)wanted; (void)sending; {call}; return 0; }}\n')
         return self.run("gcc", "-Icrates/pm_host_c/include", "-Werror=unused-result", "-c", "drops.c")[0] != 0
 
     def patient_row(self, name):

@@ -25,7 +25,8 @@ STRUCTS = {
     "cell": ("KnownCell", "pm_host_c/src/known_cells.rt"), "known": ("KnownCells", "pm_host_c/src/known_cells.rt"),
     "registers": ("RegistersImage", "pm_host_c/src/guard_image.rt"),
     "limits": ("LimitsImage", "pm_host_c/src/guard_image.rt"), "band": ("BandImage", "pm_host_c/src/limits.rt"),
-    "rail": ("RailImage", "pm_host_c/src/rail.rt"), "plan_order": ("PlanOrderImage", "pm_host_c/src/plan.rt"),
+    "rail": ("RailImage", "pm_host_c/src/rail.rt"), "course_end": ("CourseEndImage", "pm_host_c/src/course_end_image.rt"),
+    "course_job": ("CourseJobImage", "pm_host_c/src/course.rt"),
     "wish": ("WishImage", "pm_host_c/src/wanted_image.rt"), "wanted": ("WantedImage", "pm_host_c/src/wanted_image.rt"),
     "format": ("FormatNumbers", "pm_host_c/src/format_numbers.rt"), "name": ("NameImage", "pm_host_c/src/names.rt"),
     "packet": ("PacketImage", "pm_host_c/src/packet.rt"), "payload": ("PayloadImage", "pm_host_c/src/answer.rt"),
@@ -158,12 +159,13 @@ def letters():
 
 def sizes():
     """Versions, layouts, and the bytes of a host and of a part: the types' by their tests, which are proved."""
-    size = {name: int(re.search(rf"{name}\(\), &(\d+)", CRATES[crate]["tests.rt"])[1])
-            for crate, name in (("pm_host_c", "pm_host_size"), ("pm_host_c", "pm_survey_size"), ("pm_device_c", "pm_part_size"))}
-    survey = int(re.search(r"VERSION: u16 = (\d+);", CRATES["pm_host_c"]["survey_image.rt"])[1])
+    tests = {"pm_host_size": read("crates/pm_host_c/src/tests.rt"), "pm_course_size": read("crates/pm_host_c/src/tests/courses.rt"),
+             "pm_part_size": CRATES["pm_device_c"]["tests.rt"]}
+    size = {name: int(re.search(rf"{name}\(\), &(\d+)", text)[1]) for name, text in tests.items()}
+    course = int(re.search(r"VERSION: u16 = (\d+);", CRATES["pm_host_c"]["course_image.rt"])[1])
     layout = {crate: int(re.search(r"VERSION: u16 = (\d+);", read("crates", crate, "src/image.rt"))[1]) for crate in ("pm_host", "pm_device")}
     host = {"VERSION": int(re.search(r"const VERSION: u16 = (\w+);", CRATES["pm_host_c"]["host.rt"])[1], 0), "HOST_VERSION": layout["pm_host"],
-            "HOST_SIZE": size["pm_host_size"], "SURVEY_VERSION": survey, "SURVEY_SIZE": size["pm_survey_size"],
+            "HOST_SIZE": size["pm_host_size"], "COURSE_VERSION": course, "COURSE_SIZE": size["pm_course_size"],
             "CELLS": int(COUNTS["PM_CELLS"])}
     part = {"PART_VERSION": layout["pm_device"], "PART_SIZE": size["pm_part_size"]}
     for crate, types in ("pm_host_c", host), ("pm_device_c", part):

@@ -1,6 +1,6 @@
-/* A rail is surveyed and set over a bus with a model part: what it commands before, on the way and afterwards, with each
+/* A rail is surveyed and set by courses over a bus with a model part: what it commands before, on the way and afterwards, with each
  * write; what is refused, and how a bus that loses every write ends. Then random rails under faults: what the output commands
- * behind each frame is its old voltage or its new one, and where the end is PM_REACHED the part holds each wanted word. */
+ * after each frame is its old voltage or its new one, and where the end is PM_REACHED the part holds each wanted word. */
 #include "pmhost.h"
 #include "pmpart.h"
 #include <stdio.h>
@@ -120,19 +120,45 @@ static bus new_bus(uint16_t operation, uint16_t command, uint16_t max, uint16_t 
     return new_bus_of(0x14, operation, command, max, high, low, min); /* ULINEAR16, 2^-12 V */
 }
 
-static void tell(const char *what, pm_rail_end end) {
-    static const char *const kinds[] = {"?", "reached", "refused", "still differs", "spent"};
+static void tell(const char *what, pm_course_end end) {
+    static const char *const kinds[] = {"?", "reached", "refused", "still differs", "spent", "another format", "another source"};
     pm_name name;
     printf("%s: %s", what, kinds[end.kind]);
     if (end.kind == PM_REFUSED && pm_refusal_name(end.number, &name) == PM_OK)
         printf(" %s", name.text);
     if (end.code)
         printf(" %02Xh", end.code);
-    if (end.kind == PM_STILL_DIFFERS)
+    if (end.kind == PM_STILL_DIFFERS || end.kind == PM_OTHER_FORMAT || end.kind == PM_OTHER_SOURCE)
         printf(", %04X", end.word);
-    if (end.kind == PM_SPENT && end.word != 0 && pm_refusal_name((uint8_t)end.word, &name) == PM_OK)
+    if (end.kind == PM_SPENT && end.fault == PM_NO_ANSWER)
+        printf(", no answer came to the last frame");
+    if (end.kind == PM_SPENT && end.fault == PM_NO_ACKNOWLEDGEMENT)
+        printf(", the last write wasn't acknowledged");
+    if (end.kind == PM_SPENT && end.fault >= PM_F1_NOT_OURS && pm_refusal_name((uint8_t)end.fault, &name) == PM_OK)
         printf(", the last answer had %s", name.text);
     printf("\n");
+}
+
+/* Courses to words, to a voltage, and to a byte of OPERATION, carried out. */
+static pm_course_end apply(pm_host *host, const pm_wanted *wanted, uint16_t tries, bus *on) {
+    pm_course course;
+    if (pm_course_words(&course, 0, wanted, tries) != PM_OK)
+        exit(1);
+    return pm_host_run_course(host, &course, put, ask, on);
+}
+
+static pm_course_end set(pm_host *host, uint8_t code, int64_t microvolts, uint16_t tries, bus *on) {
+    pm_course course;
+    if (pm_course_microvolts(&course, 0, code, microvolts, tries) != PM_OK)
+        exit(1);
+    return pm_host_run_course(host, &course, put, ask, on);
+}
+
+static pm_course_end power(pm_host *host, uint8_t byte, uint16_t tries, bus *on) {
+    pm_course course;
+    if (pm_course_power(&course, 0, byte, tries) != PM_OK)
+        exit(1);
+    return pm_host_run_course(host, &course, put, ask, on);
 }
 
 static void tell_rail(const pm_host *host) {
@@ -155,7 +181,7 @@ static pm_host new_host(void) {
 
 static void story(void) {
     pm_wanted volts, high;
-    pm_survey survey;
+    pm_course survey;
     pm_host host = new_host();
     bus on = new_bus(0x80, 0x1000, 0x1800, 0x1800, 0x1000, 0x0800);
     memset(&volts, 0, sizeof volts);
@@ -165,73 +191,91 @@ static void story(void) {
     high = volts;
     high.command.word = 0x4000; /* 4 V */
     tell_rail(&host);
-    if (pm_survey_new(&survey, 0, 8) != PM_OK)
+    if (pm_course_survey(&survey, 0, 8) != PM_OK)
         exit(1);
-    tell("survey", pm_host_run_survey(&host, &survey, put, ask, &on));
+    tell("survey", pm_host_run_course(&host, &survey, put, ask, &on));
     tell_rail(&host);
-    tell("apply 4 V", pm_host_run_apply(&host, 0, &high, 40, put, ask, &on));
+    tell("apply 4 V", apply(&host, &high, 40, &on));
     on.is_told = 1;
-    tell("apply 3.3 V", pm_host_run_apply(&host, 0, &volts, 40, put, ask, &on));
+    tell("apply 3.3 V", apply(&host, &volts, 40, &on));
     tell_rail(&host);
-    tell("apply 3.3 V again", pm_host_run_apply(&host, 0, &volts, 40, put, ask, &on));
+    tell("apply 3.3 V again", apply(&host, &volts, 40, &on));
     printf("  %u writes and %u reads in all\n", on.writes, on.reads);
     on.faults = 4;
     volts.command.word = 0x3400;
     on.writes = on.reads = 0;
-    tell("apply 3.25 V, the answers to one order are lost", pm_host_run_apply(&host, 0, &volts, 40, put, ask, &on));
+    tell("apply 3.25 V, the answers to one order are lost", apply(&host, &volts, 40, &on));
     printf("  %u writes and %u reads\n", on.writes, on.reads);
     volts.command.word = 0x34CD;
-    tell("apply 3.3 V with 6 tries", pm_host_run_apply(&host, 0, &volts, 6, put, ask, &on));
-    tell("apply 3.3 V with 7 tries", pm_host_run_apply(&host, 0, &volts, 7, put, ask, &on));
+    tell("apply 3.3 V with 6 tries", apply(&host, &volts, 6, &on));
+    tell("apply 3.3 V with 7 tries", apply(&host, &volts, 7, &on));
     on.writes = on.reads = 0;
-    tell("apply 3.3 V with 8 tries", pm_host_run_apply(&host, 0, &volts, 8, put, ask, &on));
+    tell("apply 3.3 V with 8 tries", apply(&host, &volts, 8, &on));
     printf("  %u writes and %u reads\n", on.writes, on.reads);
     volts.command.word = 0x3000;
     on.faults = 2;
-    tell("apply 3 V, writes are lost", pm_host_run_apply(&host, 0, &volts, 40, put, ask, &on));
+    tell("apply 3 V, writes are lost", apply(&host, &volts, 40, &on));
     on.faults = 3;
-    tell("apply 3 V, nobody is there", pm_host_run_apply(&host, 0, &volts, 40, put, ask, &on));
+    tell("apply 3 V, nobody is there", apply(&host, &volts, 40, &on));
     on.faults = 5;
-    tell("apply 3 V, answers are damaged", pm_host_run_apply(&host, 0, &volts, 40, put, ask, &on));
+    tell("apply 3 V, answers are damaged", apply(&host, &volts, 40, &on));
     on.faults = 6;
     volts.command.word = 0x3400;
-    tell("apply 3.25 V, answers behind the order are damaged", pm_host_run_apply(&host, 0, &volts, 40, put, ask, &on));
+    tell("apply 3.25 V, answers after the order are damaged", apply(&host, &volts, 40, &on));
     on.faults = 0;
     volts.command.word = 0x3000;
     if (pm_host_order(&host, 0, PM_WRITE_PROTECT, 0x80) != PM_OK || pm_host_run(&host, put, ask, &on).kind != PM_DONE)
         exit(1);
-    tell("apply 3 V, protected", pm_host_run_apply(&host, 0, &volts, 40, put, ask, &on));
+    tell("apply 3 V, protected", apply(&host, &volts, 40, &on));
     tell_rail(&host);
 }
 
 /* The same by voltages. */
 static void voltages(void) {
+    pm_course none;
     pm_host host = new_host();
     bus on = new_bus(0x80, 0x1000, 0x4000, 0x1800, 0x1000, 0x0800);
     on.is_told = 1;
-    tell("set 3.3 V", pm_host_run_set(&host, 0, PM_VOUT_COMMAND, 3300000, 40, put, ask, &on));
+    tell("set 3.3 V", set(&host, PM_VOUT_COMMAND, 3300000, 40, &on));
     tell_rail(&host);
-    tell("set VOUT_MAX to 3.5 V", pm_host_run_set(&host, 0, PM_VOUT_MAX, 3500000, 40, put, ask, &on));
-    tell("set the margins to 3.4 V", pm_host_run_set(&host, 0, PM_VOUT_MARGIN_HIGH, 3400000, 40, put, ask, &on));
-    tell("and to 3 V", pm_host_run_set(&host, 0, PM_VOUT_MARGIN_LOW, 3000000, 40, put, ask, &on));
-    tell("set VOUT_MIN to 2.5 V", pm_host_run_set(&host, 0, PM_VOUT_MIN, 2500000, 40, put, ask, &on));
-    tell("set 4 V", pm_host_run_set(&host, 0, PM_VOUT_COMMAND, 4000000, 40, put, ask, &on));
-    tell("set 20 V", pm_host_run_set(&host, 0, PM_VOUT_COMMAND, 20000000, 40, put, ask, &on));
-    tell("set OPERATION", pm_host_run_set(&host, 0, PM_OPERATION, 3300000, 40, put, ask, &on));
+    tell("set VOUT_MAX to 3.5 V", set(&host, PM_VOUT_MAX, 3500000, 40, &on));
+    tell("set the margins to 3.4 V", set(&host, PM_VOUT_MARGIN_HIGH, 3400000, 40, &on));
+    tell("and to 3 V", set(&host, PM_VOUT_MARGIN_LOW, 3000000, 40, &on));
+    tell("set VOUT_MIN to 2.5 V", set(&host, PM_VOUT_MIN, 2500000, 40, &on));
+    tell("set 4 V", set(&host, PM_VOUT_COMMAND, 4000000, 40, &on));
+    tell("set 20 V", set(&host, PM_VOUT_COMMAND, 20000000, 40, &on));
+    if (pm_course_microvolts(&none, 0, PM_OPERATION, 3300000, 40) != PM_H5_BAD_WORD)
+        exit(1);
     on.reads = 0;
-    tell("set 3.25 V without a try", pm_host_run_set(&host, 0, PM_VOUT_COMMAND, 3250000, 0, put, ask, &on));
-    tell("set 3.25 V with one", pm_host_run_set(&host, 0, PM_VOUT_COMMAND, 3250000, 1, put, ask, &on));
+    tell("set 3.25 V without a try", set(&host, PM_VOUT_COMMAND, 3250000, 0, &on));
+    tell("set 3.25 V with one", set(&host, PM_VOUT_COMMAND, 3250000, 1, &on));
     on.faults = 5;
-    tell("set 3.25 V, answers are damaged", pm_host_run_set(&host, 0, PM_VOUT_COMMAND, 3250000, 2, put, ask, &on));
+    tell("set 3.25 V, answers are damaged", set(&host, PM_VOUT_COMMAND, 3250000, 2, &on));
     printf("  %u reads\n", on.reads);
     on.faults = 0;
     on.other = new_bus_of(0x15, 0x80, 0x0800, 0x4000, 0x0C00, 0x0800, 0x0400).part; /* 2^-11 V */
     on.exchange = 2;
-    tell("set 3.25 V, the part is exchanged behind the learn",
-         pm_host_run_set(&host, 0, PM_VOUT_COMMAND, 3250000, 40, put, ask, &on));
+    tell("set 3.25 V, the part is exchanged after the learn", set(&host, PM_VOUT_COMMAND, 3250000, 40, &on));
     on.other = new_bus(0x80, 0x1000, 0x4000, 0x1800, 0x1000, 0x0800).part;
     on.exchange = 1;
-    tell("set 3.25 V, the part was exchanged before", pm_host_run_set(&host, 0, PM_VOUT_COMMAND, 3250000, 40, put, ask, &on));
+    tell("set 3.25 V, the part was exchanged before", set(&host, PM_VOUT_COMMAND, 3250000, 40, &on));
+    tell_rail(&host);
+}
+
+/* The same of OPERATION: off is the first frame, and nothing is read before it. */
+static void powers(void) {
+    pm_host host = new_host();
+    bus on = new_bus(0x80, 0x1000, 0x4000, 0x1800, 0x0C00, 0x0800);
+    on.is_told = 1;
+    tell("off", power(&host, 0x00, 9, &on));
+    tell_rail(&host);
+    printf("  %u writes and %u reads\n", on.writes, on.reads);
+    tell("on", power(&host, 0x80, 40, &on));
+    tell_rail(&host);
+    tell("margin high, 1.5 V", power(&host, 0xA8, 40, &on));
+    tell_rail(&host);
+    on.faults = 3;
+    tell("off, nobody is there", power(&host, 0x00, 2, &on));
     tell_rail(&host);
 }
 
@@ -259,11 +303,11 @@ static pm_wish wish(void) {
 
 static void random_rails(unsigned rails) {
     static const uint16_t bytes[] = {0x00, 0x80, 0x98, 0xA8};
-    unsigned ends[5] = {0, 0, 0, 0, 0}, others = 0, unheld = 0, idle = 0, early = 0;
+    unsigned ends[7] = {0, 0, 0, 0, 0, 0, 0}, others = 0, unheld = 0, idle = 0, early = 0;
     while (rails--) {
         pm_host host = new_host();
         pm_wanted wanted;
-        pm_rail_end end;
+        pm_course_end end;
         /* (arguments of a call may be drawn in any order, and declarations in this one alone) */
         uint16_t min = word(), margin_low = word(), margin_high = word(), max = word(), command = word();
         bus on = new_bus(bytes[draw(4)], command, max, margin_high, margin_low, min), to;
@@ -275,7 +319,7 @@ static void random_rails(unsigned rails) {
                      wanted.min.has ? wanted.min.word : held(&on, PM_VOUT_MIN));
         on.wanted = commanded(&to.part);
         on.faults = draw(4) != 0;
-        end = pm_host_run_apply(&host, 0, &wanted, 60, put, ask, &on);
+        end = apply(&host, &wanted, 60, &on);
         ends[end.kind]++;
         others += on.others;
         early += end.kind == PM_REFUSED && on.writes != 0;
@@ -289,15 +333,16 @@ static void random_rails(unsigned rails) {
     }
     printf("random rails: %u reached, %u of them with nothing to write, %u refused, %u still differ, %u spent\n", ends[1], idle,
            ends[2], ends[3], ends[4]);
-    printf("frames behind which another voltage was commanded: %u; rails reached that hold another word: %u; writes of a rail "
+    printf("frames after which another voltage was commanded: %u; rails reached that hold another word: %u; writes of a rail "
            "that was refused: %u\n", others, unheld, early);
 }
 
 int main(int count, char **words) {
-    if (pm_survey_size() != sizeof(pm_survey) || pm_survey_version() != PM_SURVEY_VERSION)
+    if (pm_course_size() != sizeof(pm_course) || pm_course_version() != PM_COURSE_VERSION)
         return 1;
     story();
     voltages();
+    powers();
     random_rails(count > 1 ? (unsigned)atol(words[1]) : 3000);
     return 0;
 }

@@ -1,12 +1,12 @@
-/* Firmware that sets two supply rails and looks after them. It learns the rails' formats, orders a voltage of each, and
- * then checks them round by round: a rail that no longer holds its word is set again, and after a restart of the part
- * all of them. Nothing here takes memory or knows the board: bus.h and console.h are what a board has to have. */
+/* Firmware that sets two supply rails and looks after them. A course brings each to its voltage, and then they are checked
+ * round by round: a rail that no longer holds its word is set again, and after a restart of the part all of them. Nothing
+ * here takes memory or knows the board: bus.h and console.h are what a board has to have. */
 #include "bus.h"
 #include "console.h"
 #include "pmhost.h"
 #include <stddef.h>
 
-enum { ADDRESS = 0x58, PASSES = 3, ROUNDS = 24, RAILS = 2, ATTEMPTS = 4 };
+enum { ADDRESS = 0x58, PASSES = 3, ROUNDS = 24, RAILS = 2, TRIES = 60 };
 
 typedef struct {
     const char *name;
@@ -72,44 +72,30 @@ static uint64_t ask(void *context, const uint8_t *request, uint64_t count, uint8
     return bus_read(request, (unsigned)count, answer, (unsigned)room);
 }
 
-/* Carries frames until the open job ends: how it ended, PM_UNKNOWN where none was open. */
-static pm_step carry_out(pm_host *host) {
-    return pm_host_run(host, put, ask, NULL);
-}
-
 /* ---- The rails ---- */
 
-static int learn(pm_host *host, const rail *of) {
-    for (int i = 0; i < ATTEMPTS; i++)
-        if (pm_host_learn(host, of->output) == PM_OK && carry_out(host).kind == PM_LEARNED)
-            return 1;
-    say(of, ": no format was learned\n");
-    return 0;
-}
-
-/* Orders the rail's voltage: 1 where its word was read back. */
+/* Brings the rail to its voltage: 1 where its word is held, by what was read after the order. */
 static int set_rail(pm_host *host, const rail *of) {
-    for (int i = 0; i < ATTEMPTS; i++) {
-        if (pm_host_order_microvolts(host, of->output, PM_VOUT_COMMAND, of->microvolts) != PM_OK) {
-            say(of, ": the order is refused\n");
-            return 0;
-        }
-        if (carry_out(host).kind == PM_DONE) {
-            say(of, ": set to ");
-            say_held(host, of);
-            return 1;
-        }
+    pm_course course;
+    pm_course_end end;
+    if (pm_course_microvolts(&course, of->output, PM_VOUT_COMMAND, of->microvolts, TRIES) != PM_OK)
+        return 0;
+    end = pm_host_run_course(host, &course, put, ask, NULL);
+    if (end.kind != PM_REACHED) {
+        say(of, end.kind == PM_REFUSED ? ": the order is refused\n" : ": the order didn't end well\n");
+        return 0;
     }
-    say(of, ": the order didn't end well\n");
-    return 0;
+    say(of, ": set to ");
+    say_held(host, of);
+    return 1;
 }
 
-/* Learns and sets all rails, from nothing known. */
+/* Sets all rails, from nothing known. */
 static int set_all(pm_host *host) {
     int are_set = 1;
     pm_host_restart(host);
     for (int i = 0; i < RAILS; i++)
-        are_set &= learn(host, &rails[i]) && set_rail(host, &rails[i]);
+        are_set &= set_rail(host, &rails[i]);
     return are_set;
 }
 
@@ -122,7 +108,7 @@ static finding check_rail(pm_host *host, const rail *of) {
     pm_standing standing;
     pm_format format;
     uint16_t wanted;
-    if (pm_host_check(host, of->output, PM_VOUT_COMMAND) != PM_OK || carry_out(host).kind != PM_DONE)
+    if (pm_host_check(host, of->output, PM_VOUT_COMMAND) != PM_OK || pm_host_run(host, put, ask, NULL).kind != PM_DONE)
         return UNREAD;
     if (pm_host_restart_seen(host) == 1)
         return RESTARTED;

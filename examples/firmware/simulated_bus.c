@@ -6,7 +6,7 @@
 #include "pmpart.h"
 #include <string.h>
 
-enum { RESTARTS_EACH = 37 };
+enum { RESTARTS_EACH = 73 };
 
 typedef enum { NONE, FRAME_LOST, FRAME_CUT, FRAME_DAMAGED, ANSWER_LOST, ANSWER_DAMAGED, FALSE_ACKNOWLEDGEMENT } fault;
 

@@ -19,8 +19,10 @@ import zipfile
 HOME = os.path.dirname(os.path.dirname(os.path.abspath(__file__)))
 CRATES = ("pm_host_c", "pm_device_c")
 LIBRARY = "libpmhost.so"
+# What stands below the programs of `pmhost torture`, and its source among the files.
+PRELOAD, PRELOAD_SOURCE = "torture/preload.so", "torture/preload.c"
 # The files of the package that are no programs are data that its modules read.
-KINDS = (".py", ".typed", ".json", ".toml", ".txt")
+KINDS = (".py", ".typed", ".json", ".toml", ".txt", ".c")
 
 
 def setting(name):
@@ -77,6 +79,14 @@ def shared_object(folder):
         raise SystemExit(f"pmhost: no C compiler '{compiler[0]}': install gcc, or give CC") from None
     except subprocess.CalledProcessError:
         raise SystemExit(f"pmhost: the C compiler didn't take {' and '.join(found)}: are they for this machine?") from None
+    return path
+
+
+def preload_object(folder):
+    """The object that `pmhost torture` puts below a program, which the machine's C compiler makes."""
+    path = os.path.join(folder, os.path.basename(PRELOAD))
+    source = os.path.join(HOME, "src", "pmhost", PRELOAD_SOURCE)
+    subprocess.run([*shlex.split(os.environ.get("CC", "cc")), "-shared", "-fPIC", "-O2", "-o", path, source, "-ldl"], check=True)
     return path
 
 
@@ -137,6 +147,7 @@ def build_wheel(wheel_directory, config_settings=None, metadata_directory=None):
         for source in sources():
             wheel.add(f"pmhost/{source}", read(os.path.join(HOME, "src", "pmhost", source)))
         wheel.add(f"pmhost/{LIBRARY}", library, 0o755)
+        wheel.add(f"pmhost/{PRELOAD}", read(preload_object(folder)), 0o755)
         add_facts(wheel)
     return name
 

@@ -23,6 +23,9 @@ class Wire:
     def is_low(self):
         return any(getattr(part, "is_low", False) for part in self.parts.values())
 
+    def is_at(self, address):
+        return address in self.parts
+
     def restart(self):
         if self.meant in self.parts:
             self.parts[self.meant].restart()

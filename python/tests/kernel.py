@@ -111,6 +111,10 @@ class Part:
         reply = self.converter.hear(frame, ending)
         return None if reply == "silent" else reply
 
+    def is_at(self, address):
+        """Whether it acknowledges its address alone."""
+        return address == self.converter.setup["address"]
+
     def word(self):
         """What output 0 holds."""
         return f"{self.converter.cells[0, COMMAND]:04X}"
@@ -189,6 +193,9 @@ class Absent(Part):
     def hear(self, frame, ending):
         return None
 
+    def is_at(self, address):
+        return False
+
 
 class FakeKernel:
     """The calls of pmhost.bus.linux.Kernel. `faults` has the kernel's error for a path that is opened and for each request."""
@@ -232,10 +239,10 @@ class FakeKernel:
 
     def transfer(self, messages):
         """What the kernel answers of a transfer, after the part has heard it. A lone read of one byte goes to address 02h, which
-        nobody acknowledges, unless the part holds the data line low."""
+        nobody acknowledges, unless the part holds the data line low, or asks who is there."""
         if len(messages) == 1 and messages[0].flags == I2C_M_RD:
-            assert (messages[0].addr, messages[0].len) == (0x02, 1)
-            if not getattr(self.part, "is_low", False):
+            assert messages[0].len == 1
+            if not getattr(self.part, "is_low", False) and not (hasattr(self.part, "is_at") and self.part.is_at(messages[0].addr)):
                 self.fail(errno.ENXIO)
             return 1
         sent, back = messages[0], messages[1] if len(messages) == 2 else None

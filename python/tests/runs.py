@@ -3,7 +3,7 @@
 A file has a block for each run, a blank line between them. The lines of a block, of which `words` and `status` must stand there:
 
     words: WORDS         the command line; `FILE` is the file of rails of the block
-    mishaps: M M ..      what befalls the transfers (kernel.py)
+    mishaps: M M*3 ..    what befalls the transfers (kernel.py), one of them three times here
     part: KIND [M M ..] [coefficients m b R]     the kind of part, and VOUT_MODEs in hexadecimal; `odd.KIND` of odd_parts.py,
                          `busy.KIND` of busy.py
     board: BUS ADDRESS KIND ..                   one of several parts (board_kernel.py), in the place of `part`
@@ -77,7 +77,11 @@ class Run:
 
     def take(self, key, text):
         """A line of the block."""
-        if key in ("words", "mishaps", "part", "held", "writes"):
+        if key == "mishaps":
+            # `ok*6` stands for six of them.
+            several = (word.partition("*") for word in text.split())
+            self.mishaps = " ".join(" ".join([word] * int(count or 1)) for word, _, count in several)
+        elif key in ("words", "part", "held", "writes"):
             setattr(self, key, text)
         elif key in ("out", "err"):
             setattr(self, key, f"{getattr(self, key)}{text}\n")

@@ -215,6 +215,13 @@ class Files(unittest.TestCase):
                           "3 transfers failed, the last: No such device or address", err)
         self.assertEqual([self.codes(name) for name in ("u12", "u13")], [[], []])
 
+    def test_a_model_that_only_contains_the_name_is_another(self):
+        for model in (b"XLTC3880", b"LTC388", b" LTC3880", b"ltc3880"):
+            self.parts["u12"].blocks = {0x9A: model}
+            status, out, err = applied(self.text, self.over())
+            self.assertEqual((status, out, self.codes("u12")), (1, "", []), model)
+            self.assertIn(f'u12: MFR_MODEL is "{model.decode()}", and has to begin with "LTC3880"', err)
+
     def test_a_model_that_gives_no_good_answer(self):
         self.parts["u12"].blocks = {}
         status, _, err = applied(self.text, self.over(), command="verify")

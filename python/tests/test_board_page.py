@@ -96,8 +96,7 @@ class Cases(unittest.TestCase):
 
     def test_a_maximum_below_the_word(self):
         self.assertEqual(self.ran(self.part(VOUT_MAX=0x2800), "set", "0", "3.3V"), (
-            1, "set 0: VOUT_COMMAND 34CD 3.300048V confirmed; CUT: the output commands 2.5V, OUTSIDE 3.135V to 3.465V",
-            "set 0 3.3V: the output commands a voltage outside its limits"))
+            1, "set 0: refused P6 AboveMax", "set 0 3.3V: VOUT_COMMAND: it would be above VOUT_MAX, which is 2.5V: order VOUT_MAX first"))
         self.assertEqual(self.ran(self.part(VOUT_MAX=0x2800), "apply", "FILE"), (
             1, "io: the output commands 1V, OUTSIDE 3.135V to 3.465V",
             "apply FILE: io.volts: 3.300048V is above VOUT_MAX, which is 2.5V, and not in the file: P6 AboveMax; nothing was ordered of "

@@ -1,5 +1,6 @@
 """Captures of a bus as traces, with the times of their packets, live and in little memory; frames as commands of i2ctransfer,
 and back, and run."""
+import hashlib
 import os
 import select
 import signal
@@ -17,8 +18,9 @@ from pmhost.capture.vcd import waveform
 from pmhost.faults import heard_by
 
 from . import running
-from .data.capture_rows import (ADDRESSED, CAPTURES, COUNTS, ENDLESS, FAILED, FAULTY, FRAMES, HEADS, LONG, MOST_MEMORY, NO_COMMANDS,
-                                READINGS, REFUSED, SHORT, STAND_IN, STREAMS, TIMES, TRANSFERS, UNDRAWN, UNTIMED, WRONG)
+from .data.capture_rows import (ADDRESSED, CAPTURES, COUNTS, ENDLESS, FAILED, FAULTY, FAULTY_WAVEFORM, FRAMES, HEADS, LONG,
+                                MOST_MEMORY, NO_COMMANDS, READINGS, REFUSED, SHORT, STAND_IN, STREAMS, TIMES, TRANSFERS, UNDRAWN,
+                                UNTIMED, WRONG)
 from .running import DATA, EXAMPLES, called, needs, needs_tool, pmhost, stored
 
 FOLDER = os.path.join(DATA, "captures")
@@ -57,10 +59,12 @@ class Waveforms(unittest.TestCase):
     """The stored waveforms are those of the packets, and what sigrok-cli makes of them."""
 
     def test_waveforms_are_drawn_from_their_packets(self):
-        for name, path in ("bus", os.path.join(EXAMPLES, "bus.trace")), ("faults", os.path.join(FOLDER, "faults.bus")):
-            with self.subTest(name):
-                self.assertEqual(waveform(stored(path)), capture(f"{name}.vcd"))
-                self.assertEqual(pmhost("capture", "waveform", text=stored(path)), (0, capture(f"{name}.vcd"), ""))
+        faulty = waveform(capture("faults.bus"))
+        self.assertEqual(hashlib.sha256(faulty.encode()).hexdigest(), FAULTY_WAVEFORM)
+        for text, drawn in (stored(EXAMPLES, "bus.trace"), capture("bus.vcd")), (capture("faults.bus"), faulty):
+            with self.subTest(text):
+                self.assertEqual(waveform(text), drawn)
+                self.assertEqual(pmhost("capture", "waveform", text=text), (0, drawn, ""))
 
     def test_bytes_need_no_spaces_between_them(self):
         spaced = waveform("B0 06 02 00 21 / B1 02! CD 34 B9\n")
@@ -74,10 +78,13 @@ class Waveforms(unittest.TestCase):
 
     @needs_tool("sigrok-cli")
     def test_sigrok_reads_them_as_stored(self):
-        for name, options, wanted in (("bus", [], "bus.sigrok"), ("faults", [], "faults.sigrok"), ("kernel", [], "kernel.sigrok"),
-                                      ("bus", ["--protocol-decoder-samplenum"], "bus.samples")):
-            with self.subTest(wanted):
-                ran = subprocess.run(["sigrok-cli", "-I", "vcd", "-i", os.path.join(FOLDER, f"{name}.vcd"), "-P",
+        for drawn, options, wanted in ((capture("bus.vcd"), [], "bus.sigrok"), (capture("kernel.vcd"), [], "kernel.sigrok"),
+                                       (waveform(capture("faults.bus")), [], "faults.sigrok"),
+                                       (capture("bus.vcd"), ["--protocol-decoder-samplenum"], "bus.samples")):
+            with self.subTest(wanted), tempfile.NamedTemporaryFile("w", suffix=".vcd") as file:
+                file.write(drawn)
+                file.flush()
+                ran = subprocess.run(["sigrok-cli", "-I", "vcd", "-i", file.name, "-P",
                                       "i2c:scl=SCL:sda=SDA:address_format=unshifted", "-A", "i2c=addr-data", *options],
                                      capture_output=True, text=True)
                 self.assertEqual(ran.stdout, capture(wanted), ran.stderr)

@@ -7,7 +7,7 @@ import os
 import random
 import unittest
 
-from pmhost import Host, Packet, Survey, pec
+from pmhost import Course, Host, Packet, pec
 
 from . import plain_model  # noqa: F401
 from plain.converter import COMMAND, HIGH, LOW, MAX, MIN, OPERATION, PROTECT, Converter
@@ -65,10 +65,14 @@ class OfLibrary:
         return step
 
     def survey(self, output, wanted, bus):
-        survey = Survey(output, None if wanted is None else {name_of(register): word for register, word in wanted.items()}, TRIES)
-        while (state := self.host.survey(survey)) == "begun":
-            survey.told(self.carry_out(bus))
-        return state
+        """A course up to its first order, or to its end."""
+        words = None if wanted is None else {name_of(register): word for register, word in wanted.items()}
+        course = Course.survey(output, TRIES) if words is None else Course.words(output, words, TRIES)
+        while (job := course.next(self.host)) is not None and job.word is None:
+            step = None
+            while step is None or not step.is_over:
+                step = course.read_ended(self.host, bus.read(course.frame(self.host).frame))
+        return "done" if job is not None or course.frame(self.host) is not None or course.ended.kind != "spent" else "spent"
 
     def possible(self, cell):
         found = self.host.possible_words(cell[0] or 0, NAMES[cell[1]])

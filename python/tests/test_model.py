@@ -105,7 +105,8 @@ class Life:
             self.case.assertEqual(self.host.confirmed_word(output, register), self.plain.standing((output, register)))
         self.case.assertEqual(self.host.restart_seen, self.plain.restart_seen())
         found = plain_limits.band(self.plain, output)
-        self.case.assertEqual(self.host.limits_state(output), STATES[plain_limits.within(self.limits[output], found)])
+        state = STATES[plain_limits.within(self.limits[output], found)]
+        self.case.assertEqual(self.host.limits_state(output), state if self.limits[output] is not None else "no limits")
         if found is not None:
             band = self.host.band(output)
             least, greatest = (it * 10**6 for it in found)

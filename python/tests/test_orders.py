@@ -82,12 +82,11 @@ class Orders(unittest.TestCase):
         self.assertEqual(self.places(part.lines), ["00 21", "00 24"])
         self.assertIn("core: the output commands 3.350097V, within 3V to 3.6V\n", out)
 
-    def test_a_survey_ends_at_the_first_register_without_an_answer(self):
+    def test_a_register_without_an_answer_is_asked_for_again(self):
         part = kernel.Part()
         words = ["-b", "7", "-a", "58", "--outputs", "2", "--no-limit", "set", "0", "3.3V"]
-        status, _, err = called(words, kernel.FakeKernel(part, ["ok"] * 8 + ["deaf"] * 3))
-        # Behind it the two status registers alone.
-        self.assertEqual((status, part.lines[-3:]), (1, ["B0 06 02 00 24 /", "B0 7E /", "B0 06 02 00 7A /"]), err)
+        status, _, err = called(words, kernel.FakeKernel(part, ["ok"] * 11 + ["deaf"] * 3))
+        self.assertEqual((status, err, part.lines[-3:]), (0, "", ["B0 06 02 00 24 /", "B0 06 02 00 2B /", "B0 10 /"]))
 
     def test_everything_is_read_before_the_first_write(self):
         part, *_ = self.apply(TWO)
@@ -153,7 +152,8 @@ class Orders(unittest.TestCase):
         _, status, out, err = self.apply(TWO, more=more)
         self.assertIn("band 0: commands 1.5V, within 0.5V to 4V\n", out)
         self.assertEqual(status, 1)
-        self.assertIn("CUT: the output commands 4.5V, within 0.5V to 5V", out)
+        self.assertIn("set 1: refused P6 AboveMax\n", out)
+        self.assertIn("band 1: commands 3V, within 0.5V to 5V\n", out)
         _, status, out, err = self.apply(TWO, more=["+", "set", "1", "5.1V"])
         self.assertIn("set 1: refused L4 AboveLimit\n", out)
         words = ["-b", "7", "-a", "58", "--outputs", "2", "--limit", "0:0.5V:1.2V"]

@@ -1,4 +1,4 @@
-"""Random lives with a plan for each of two outputs: frames are lost, cut, damaged, repeated and falsely acknowledged, orders end in any
+"""Random lives with a course for each of two outputs: frames are lost, cut, damaged, repeated and falsely acknowledged, orders end in any
 way, the host restarts, and other jobs come between. The converter is watched after each event: each output commands its old voltage or
 the wanted one, and changes once at most. PMHOST_PLAN_LIVES says how many lives there are, as 50000."""
 import collections
@@ -7,7 +7,7 @@ import random
 import unittest
 from fractions import Fraction
 
-from pmhost import Host, PlanRefused, Survey
+from pmhost import Course, Host
 
 from . import plain_model  # noqa: F401
 from plain.converter import COMMAND, HIGH, LOW, MAX, MIN, OPERATION, Converter, format_of
@@ -22,14 +22,19 @@ WORDS, BYTES = (0x0000, 0x0010, 0x0100, 0x7000, 0x8000, 0xFFF0), (0x00, 0x80, 0x
 FATES = ("whole",) * 14 + ("lost", "cut", "bit", "twice", "mute", "false")
 
 
-class Course:
-    """What is wanted of an output, what it commanded last, and how its plan stands: `going`, `done` or `refused`."""
+class Way:
+    """What is wanted of an output, what it commanded last, and how its course stands: `going`, `done` or `refused`."""
 
     def __init__(self, draw, life, output):
-        self.output, self.state, self.changes, self.survey = output, "going", 0, None
+        self.output, self.state, self.changes = output, "going", 0
         self.wanted = {register: draw.choice(WORDS) for register in VOLTAGES if draw.random() < 0.67}
         held = {register: life.part.cells[output, register] for register in (OPERATION, *VOLTAGES)}
         self.last, self.goal = commands(life.worth, held), commands(life.worth, {**held, **self.wanted})
+        self.begin()
+
+    def begin(self):
+        """Its course, from its start."""
+        self.course = Course.words(self.output, self.wanted, 60)
 
 
 class Life:
@@ -43,7 +48,7 @@ class Life:
         self.part = Converter({"address": ADDRESS, "count": 2, "outputs": [(mode, start) for start in starts], "version": 2,
                                "protect": 0x40 if draw.random() < 0.1 else 0, "coefficients": coefficients})
         self.host = Host(ADDRESS, 2, draw.randint(1, 3))
-        self.courses = [Course(draw, self, output) for output in range(2)]
+        self.ways, self.under_way = [Way(draw, self, output) for output in range(2)], None
 
     # ---- Events ----
 
@@ -51,49 +56,39 @@ class Life:
         """An event: a job begins, or a frame goes over the bus; the host may restart."""
         if self.draw.random() < 0.003:
             self.host.restart()
+            self.under_way = None
         elif self.host.frame() is None:
             self.begin()
         else:
             self.send()
-        for course in self.courses:
-            self.watch(course)
+        for way in self.ways:
+            self.watch(way)
 
     def begin(self):
-        """A step of a plan, or a job beside it, of which none changes what is held but for plans."""
-        going = [course for course in self.courses if course.state == "going"] or self.courses
-        course, chance = self.draw.choice(going), self.draw.random()
+        """A job of a course, or one beside it, of which none changes what is held but for courses."""
+        going = [way for way in self.ways if way.state == "going"] or self.ways
+        way, chance, self.under_way = self.draw.choice(going), self.draw.random(), None
         if chance < 0.04:
-            self.host.clear(course.output)
+            self.host.clear(way.output)
         elif chance < 0.06:
             self.host.store()
         elif chance < 0.12:
-            self.host.check(course.output, self.draw.choice(("OPERATION", "VOUT_MAX", "VOUT_COMMAND")))
+            self.host.check(way.output, self.draw.choice(("OPERATION", "VOUT_MAX", "VOUT_COMMAND")))
         else:
-            self.step(course)
+            self.step(way)
 
-    def step(self, course):
-        """The next order of a plan; where something isn't known, the next job of a survey."""
-        try:
-            order = self.host.next(course.output, course.wanted)
-        except PlanRefused as fault:
-            if fault.letter in ("P1", "P4"):
-                self.read(course)
-            else:
-                course.state = "refused"
+    def step(self, way):
+        """The next job of a course; where it has ended, a new one."""
+        sending = way.course.frame(self.host)
+        if sending is not None:
+            self.under_way, self.orders = way.course, self.orders + (not sending.is_request)
             return
-        course.survey = None
-        if order is not None:
-            self.orders, course.state = self.orders + 1, "going"
-            return
-        course.state = "done"
-        for register, word in course.wanted.items():
-            assert self.part.cells[course.output, register] == word, "a plan says done, and a word isn't held"
-
-    def read(self, course):
-        if course.survey is None or course.survey.tries == 0:
-            course.survey = Survey(course.output, course.wanted, 40)
-        if self.host.survey(course.survey) != "begun":
-            course.survey = None
+        end = way.course.ended
+        way.state = {"reached": "done", "refused": "refused"}.get(end.kind, "going")
+        way.begin()
+        if way.state == "done":
+            for register, word in way.wanted.items():
+                assert self.part.cells[way.output, register] == word, "a course has reached its end, and a word isn't held"
 
     def send(self):
         """The frame that is sent meets its fate."""
@@ -112,22 +107,26 @@ class Life:
             came = reply if isinstance(reply, list) and fate != "mute" else []
             if came and self.draw.random() < 0.05:
                 came = [*came[:-1], came[-1] ^ 1 << self.draw.randrange(8)]
-            step = self.host.read_ended(bytes(came))
+            self.tell("read_ended", bytes(came))
         else:
-            step = self.host.write_ended(fate == "false" or fate != "mute" and reply != "silent")
-        for course in self.courses:
-            if step.is_over and course.survey is not None:
-                course.survey.told(step)
+            self.tell("write_ended", fate == "false" or fate != "mute" and reply != "silent")
+
+    def tell(self, name, what):
+        """The course of the open job is told, otherwise the host."""
+        if self.under_way is None:
+            getattr(self.host, name)(what)
+        else:
+            getattr(self.under_way, name)(self.host, what)
 
     # ---- What is watched ----
 
-    def watch(self, course):
-        held = {register: self.part.cells[course.output, register] for register in (OPERATION, *VOLTAGES)}
+    def watch(self, way):
+        held = {register: self.part.cells[way.output, register] for register in (OPERATION, *VOLTAGES)}
         now = commands(self.worth, held)
-        if now != course.last:
-            course.changes += 1
-            assert now == course.goal and course.changes == 1, (course.output, course.wanted, held)
-            course.last = now
+        if now != way.last:
+            way.changes += 1
+            assert now == way.goal and way.changes == 1, (way.output, way.wanted, held)
+            way.last = now
 
 
 class Lives(unittest.TestCase):
@@ -138,12 +137,12 @@ class Lives(unittest.TestCase):
                 life = Life(draw)
                 for _ in range(EVENTS):
                     life.happens()
-                counted.update(course.state for course in life.courses)
-                counted.update(orders=life.orders, changes=sum(course.changes for course in life.courses))
+                counted.update(way.state for way in life.ways)
+                counted.update(orders=life.orders, changes=sum(way.changes for way in life.ways))
         for name in ("done", "refused", "orders", "changes"):
             self.assertGreater(counted[name], LIVES // 8, name)
         if LIVES >= 1000:
-            print(f"{LIVES} lives: {counted['done']} plans done, {counted['refused']} refused, {counted['going']} under way; "
+            print(f"{LIVES} lives: {counted['done']} courses done, {counted['refused']} refused, {counted['going']} under way; "
                   f"{counted['orders']} orders, {counted['changes']} changes of what is commanded", flush=True)
 
 

@@ -1,17 +1,14 @@
-"""The library's plan beside the plain one, which was written from the pages' text: each start with each goal, over four values of all
+"""The library's course beside the plain plan, which was written from the pages' text: each start with each goal, over four values of all
 five registers, and over six of the selected word, VOUT_MIN and VOUT_MAX; rising and falling formats, and each selection. PMHOST_GOALS
 says how many goals are drawn for each start, or `all`."""
-import ctypes
+import functools
 import itertools
 import os
 import random
 import unittest
 
-from pmhost import Host, pec
-from pmhost._library import PlanOrderImage, library
+from pmhost import Course, Host, pec
 from pmhost.errors import name_of as refusal_of
-from pmhost.host import PLAN_DONE
-from pmhost.plans import wanted_image
 from pmhost.values import CODES
 
 from . import plain_model  # noqa: F401
@@ -27,66 +24,73 @@ FORMATS = {0x14: lambda volts: volts << 12, 0x40: lambda volts: -volts & 0xFFFF}
 COEFFICIENTS = (-1).to_bytes(2, "little", signed=True) + bytes(3)
 
 
+@functools.cache
+def answer(frame, payload, is_counted):
+    """A good answer of these bytes."""
+    came = bytes([ADDRESS << 1 | 1, *([len(payload)] if is_counted else []), *payload])
+    return came + bytes([pec(frame + came)])
+
+
 def answered(host, payload, is_counted=True):
     """Carries the open job's request out with a good answer of these bytes."""
-    sending = host.frame()
-    came = bytes([ADDRESS << 1 | 1, *([len(payload)] if is_counted else []), *payload])
-    return host.read_ended(came + bytes([pec(sending.frame + came)]))
+    return host.read_ended(answer(host.frame().frame, payload, is_counted))
 
 
 class Known:
-    """A host of one output, which knows its format."""
+    """A host of one output, whose part holds these values, and how each read of a course is answered."""
 
-    def __init__(self, mode):
+    def __init__(self, mode, operation, values):
         self.host, self.word = Host(ADDRESS, 1, 1), FORMATS[mode]
         self.host.learn(0)
         if answered(self.host, bytes([mode])).kind == "next":
             assert answered(self.host, COEFFICIENTS).kind == "learned"
-        self.host.check(0, "WRITE_PROTECT")
-        answered(self.host, b"\0", is_counted=False)
-
-    def read(self, operation, values):
-        """It reads these words."""
-        for code, payload in [(0x01, bytes([operation])), *((it, self.word(volts).to_bytes(2, "little")) for it, volts in values.items())]:
+        held = {0x01: bytes([operation]), **{it: self.word(volts).to_bytes(2, "little") for it, volts in values.items()}}
+        self.answers = {0x20: (bytes([mode]), True), 0x30: (COEFFICIENTS, True), 0x10: (b"\0", False),
+                        **{code: (payload, True) for code, payload in held.items()}}
+        for code in held:
             self.host.check(0, code)
-            assert answered(self.host, payload).kind == "done"
+            assert answered(self.host, *self.answers[code]).kind == "done"
 
 
 class Goal:
     """Wanted values, as the plain plan and the library take them."""
 
     def __init__(self, word, values):
-        self.values, self.image = values, wanted_image({register: word(volts) for register, volts in values.items()})
+        self.values, self.words = values, {register: word(volts) for register, volts in values.items()}
 
 
 class Space(unittest.TestCase):
     """What is compared is counted: `pairs`, and how the plans answered."""
 
     def setUp(self):
-        self.pairs, self.ends, self.found, self.letters = 0, {}, PlanOrderImage(), {}
+        self.pairs, self.ends, self.letters = 0, {}, {}
 
-    def library_says(self, host, goal):
-        """The library's answer, as the plain plan has it."""
-        number = library.pm_host_plan(ctypes.byref(host._image), 0, ctypes.byref(goal.image), ctypes.byref(self.found))
-        if number == PLAN_DONE:
+    def library_says(self, known, goal):
+        """The library's answer, as the plain plan has it: what a course orders first, once it has read all that it needs."""
+        host, course = known.host.copy(), Course.words(0, goal.words)
+        while (sending := course.frame(host)) is not None and sending.is_request:
+            code = 0x30 if sending.frame[1] == 0x30 else sending.frame[-1]
+            course.read_ended(host, answer(sending.frame, *known.answers[code]))
+        if sending is not None:
+            job = course.job()
+            return CODES[job.register], job.word
+        end = course.ended
+        if end.kind == "reached":
             return None
-        if number:
-            self.letters.setdefault(number, refusal_of(number))
-            return f"{self.letters[number]} {name_of(self.found.code)}"
-        return self.found.code, self.found.word
+        self.letters.setdefault(end.number, refusal_of(end.number))
+        return f"{self.letters[end.number]} {end.register}"
 
     def compare(self, mode, operation, start, goals):
         """A start with its goals."""
-        known = Known(mode)
-        known.read(operation, start)
+        known = Known(mode, operation, start)
         held = {0x01: operation, **start}
         for goal in goals:
             plain, now = planned(int, held, 0, None, goal.values), commands(int, held)
             wanted = (plain[0], known.word(plain[1])) if isinstance(plain, tuple) else plain
             self.pairs += 1
             self.ends[str(plain)[:2] if isinstance(plain, str) else plain and name_of(plain[0])] = True
-            if self.library_says(known.host, goal) != wanted:
-                self.fail(f"{mode:02X} {operation:02X} {start} -> {goal.values}: {self.library_says(known.host, goal)}, and not {wanted}")
+            if (found := self.library_says(known, goal)) != wanted:
+                self.fail(f"{mode:02X} {operation:02X} {start} -> {goal.values}: {found}, and not {wanted}")
             if isinstance(plain, tuple):
                 self.look_at(held, goal.values, now)
 

@@ -1,18 +1,17 @@
-"""What an output commands, plans, surveys and the loops over them; words as in docs/: 34CDh is 3.300048 V."""
+"""What an output commands, and the courses of an output; words as in docs/: 34CDh is 3.300048 V."""
 import unittest
 from decimal import Decimal
 from unittest import mock
 
 import pmhost
-from pmhost import Band, Differs, Host, PlanOrder, PlanRefused, RailEnd, RailState, Step, Survey, Unknown, Voltage
+from pmhost import Band, Course, CourseEnd, Differs, Host, Job, PlanRefused, RailState, Spent, Step, Unknown, Voltage
 
 from pmhost.cuts import cuts
-from pmhost.plans import Tries
+from pmhost.rounded import meaning
 
 from .fixtures import Faulty, Recorded, rails
 
 VOLTS = {"VOUT_COMMAND": 0x3500}
-REACHED, SPENT = RailEnd("reached"), RailEnd("spent")
 AT_3V3 = RailState(True, Band(Voltage("3300048uV"), Voltage("3300049uV")), "within")
 
 
@@ -29,53 +28,79 @@ def recorded(**named):
 
 
 def refused(pmbus, wanted):
-    """The letter and the register of a plan's refusal."""
+    """The letter, the name and the register of a course's refusal; where it isn't refused the first order."""
+    def stop(order):
+        raise EOFError
+
     try:
-        return pmbus.host.plan(0, wanted)
-    except PlanRefused as it:
+        pmbus.apply(0, wanted, before_order=stop)
+    except pmhost.Refused as it:
         return it.letter, it.name, it.register
+    except EOFError:
+        return "order"
+    return None
 
 
 class Rails(unittest.TestCase):
     def test_a_rail_is_told_by_what_is_known(self):
         pmbus = rails()
         self.assertEqual(pmbus.rail(0), RailState(None, Band(Voltage("0uV"), Voltage("15999756uV")), "not known"))
-        self.assertEqual(pmbus.survey(0), REACHED)
+        self.assertEqual(pmbus.survey(0), AT_3V3)
         self.assertEqual(pmbus.rail(0), AT_3V3)
-        pmbus.turn_off(0)
-        self.assertEqual(pmbus.rail(0), RailState(False, AT_3V3.band, "within"))
-        self.assertEqual(Host(0x58).rail(0), RailState(None, None, "within"))
+        self.assertEqual(pmbus.turn_off(0), RailState(False, AT_3V3.band, "within"))
+        self.assertEqual(Host(0x58).rail(0), RailState(None, None, "no limits"))
 
     def test_a_survey_reads_what_decides_and_no_more(self):
         pmbus = recorded()
-        self.assertEqual(pmbus.survey(0), REACHED)
+        pmbus.survey(0)
         self.assertEqual([frame[4] for frame in pmbus.bus.frames], [0x20, 0x01, 0x21, 0x24, 0x2B])
         pmbus.bus.frames.clear()
-        self.assertEqual(pmbus.survey(0, {"VOUT_MARGIN_LOW": 0x3400}), REACHED)
+        pmbus.apply(0, {"VOUT_MARGIN_LOW": 0x3400})
         self.assertEqual([frame[-1] for frame in pmbus.bus.frames], [0x20, 0x01, 0x21, 0x24, 0x26, 0x2B, 0x10])
 
     def test_a_survey_is_spent_and_says_so(self):
         pmbus = rails(Faulty)
         pmbus.bus.fates = ["deaf"] * 99
-        self.assertEqual(pmbus.survey(0, tries=3), SPENT)
-        self.assertEqual(Host(0x58).survey(Survey(0, tries=0)), "spent")
+        with self.assertRaises(Spent) as it:
+            pmbus.survey(0, tries=3)
+        self.assertEqual((str(it.exception), it.exception.register, it.exception.possible), (
+            "survey 0: VOUT_MODE: none of 3 tries is left, with the last answer this was wrong: no answer: look at the bus; 3 transfers "
+            "failed, the last: no answer", "VOUT_MODE", None))
+        host, course = Host(0x58), Course.survey(0, tries=0)
+        self.assertIsNone(course.frame(host))
+        self.assertEqual(course.ended, CourseEnd("spent", "VOUT_MODE"))
 
-    def test_a_survey_is_told_how_its_jobs_ended(self):
-        host, survey = Host(0x58, 1, 1), Survey(0, tries=2)
-        self.assertEqual((survey.output, survey.tries, host.survey(survey)), (0, 2, "begun"))
-        with self.assertRaises(pmhost.HostRefused):
-            host.survey(survey)
-        with self.assertRaises(pmhost.MemoryRefused) as it:
-            survey.told(Step("next"))
-        self.assertEqual(it.exception.name, "NoEnd")
-        survey.told(host.read_ended(b""))
-        self.assertEqual(host.survey(survey), "begun")
+    def test_a_course_is_carried_out_frame_by_frame(self):
+        host, course = Host(0x58, 1, 1), Course.survey(0, tries=2)
+        self.assertEqual((course.output, course.tries, course.ended), (0, 2, None))
+        self.assertEqual((course.next(host), course.job()), (Job("learn", "VOUT_MODE"), None))
+        self.assertEqual(course.frame(host), course.frame(host))
+        self.assertEqual((course.frame(host), course.job()), (host.frame(), Job("learn", "VOUT_MODE")))
+        self.assertEqual(course.read_ended(host, b""), Step("unknown"))
+        self.assertEqual((course.job(), host.frame()), (None, None))
+        host.check(0, "OPERATION")
+        self.assertIsNone(course.frame(host))
+        with self.assertRaises(pmhost.HostRefused) as it:
+            course.end()
+        self.assertEqual(it.exception.letter, "H3")
+        host.read_ended(b"")
+        course.read_ended(host, b"" if course.frame(host) else None)
+        self.assertIsNone(course.frame(host))
+        with self.assertRaisesRegex(Spent, "^VOUT_MODE: none of 2 tries is left, with the last answer this was wrong: no answer: look at the bus$"):
+            course.end()
+
+    def test_a_course_is_copied(self):
+        host, course = Host(0x58), Course.words(0, VOLTS, 2)
+        course.frame(host)
+        other = course.copy()
+        self.assertEqual((other.save(), other.job(), other.output, other.tries), (course.save(), course.job(), 0, 2))
+        course.read_ended(host, b"")
+        self.assertNotEqual(other.save(), course.save())
 
     def test_a_part_without_a_register_is_never_asked_for_it(self):
         pmbus = recorded(lacks=("VOUT_MIN", "VOUT_MARGIN_HIGH"))
-        self.assertEqual(pmbus.apply(0, VOLTS), REACHED)
+        self.assertEqual(pmbus.apply(0, VOLTS), RailState(True, Band(Voltage("3312500uV"), Voltage("3312500uV")), "within"))
         self.assertNotIn(0x2B, {frame[4] for frame in pmbus.bus.frames if len(frame) > 4})
-        self.assertEqual(pmbus.rail(0), RailState(True, Band(Voltage("3312500uV"), Voltage("3312500uV")), "within"))
         for call in (lambda: pmbus.host.check(0, "VOUT_MIN"), lambda: pmbus.host.order(0, "OPERATION", 0xA8)):
             with self.assertRaises(pmhost.LimitRefused) as it:
                 call()
@@ -83,8 +108,8 @@ class Rails(unittest.TestCase):
         with self.assertRaises(ValueError):
             Host(0x58, lacks=("VOUT_COMMAND",))
         pmbus.bus.frames.clear()
-        end = pmbus.apply(0, {"VOUT_MIN": 0x3400, "VOUT_COMMAND": 0x3480})
-        self.assertEqual((end.kind, end.refused.letter, end.register, codes(pmbus.bus.frames)), ("refused", "L7", "VOUT_MIN", []))
+        self.assertEqual(refused(pmbus, {"VOUT_MIN": 0x3400, "VOUT_COMMAND": 0x3480}), ("L7", "MissingRegister", "VOUT_MIN"))
+        self.assertEqual(pmbus.bus.frames, [])
 
     def test_every_register_that_the_part_has_is_read(self):
         pmbus = recorded(lacks=("VOUT_MAX",))
@@ -96,48 +121,94 @@ class Rails(unittest.TestCase):
         pmbus.host.check(0, "OPERATION")
         answer = bytes.fromhex("B006020001B101B0")
         pmbus.host.read_ended(answer[5:] + bytes([pmhost.pec(answer)]))
-        self.assertEqual((pmbus.band(0), pmbus.rail(0).band), (None, None))
+        self.assertEqual((pmbus.band(0), pmbus.rail(0).band, pmbus.rail(0).selected), (None, None, "AVSBus"))
 
     def test_a_survey_is_stuck_at_a_missing_margin(self):
         pmbus = recorded(limits=None)
         pmbus.order(0, "OPERATION", 0xA8)
         lacking = pmhost.Device(pmbus.bus, 0x58, 2, lacks=("VOUT_MARGIN_HIGH",))
-        end = lacking.survey(0)
-        self.assertEqual((end.kind, end.refused.letter), ("refused", "L7"))
+        for call in (lambda: lacking.survey(0), lambda: lacking.apply(0, VOLTS)):
+            pmbus.bus.frames.clear()
+            with self.assertRaises(PlanRefused) as it:
+                call()
+            self.assertEqual((it.exception.letter, it.exception.register, codes(pmbus.bus.frames)), ("P4", "VOUT_MARGIN_HIGH", []))
+
+
+class Power(unittest.TestCase):
+    def test_off_is_the_first_frame(self):
+        pmbus = recorded()
+        pmbus.turn_off(0)
+        self.assertEqual([frame.hex() for frame in pmbus.bus.frames], ["b005030001008b", "b006020001"])
+
+    def test_off_is_given_to_a_part_that_answers_nothing_else(self):
+        """Whatever VOUT_MODE is, and where it isn't answered, and where the host knows that byte already."""
+        for mode in (0x14, 0x40):
+            part = pmhost.ModelPart(0x58, [pmhost.Output(mode=mode, max=0x7FFF)])
+            pmbus = pmhost.Device(Recorded(part), 0x58)
+            pmbus.turn_off(0)
+            self.assertEqual((len(pmbus.bus.frames), pmbus.bus.part.is_on(0)), (2, False))
+            pmbus.bus.part.hear(bytes.fromhex("B0050300018026")[:-1] + bytes([pmhost.pec(bytes.fromhex("B00503000180"))]))
+            self.assertTrue(pmbus.bus.part.is_on(0))
+            pmbus.turn_off(0)
+            self.assertEqual((len(pmbus.bus.frames), pmbus.bus.part.is_on(0)), (4, False))
+
+    def test_on_is_judged_by_what_it_selects(self):
+        pmbus = recorded()
+        self.assertEqual(pmbus.turn_on(0), AT_3V3)
+        self.assertEqual(codes(pmbus.bus.frames), [])
+        margin = RailState(True, Band(Voltage("3375000uV"), Voltage("3375000uV")), "within")
+        self.assertEqual((pmbus.margin(0, "high"), pmbus.bus.part.word(0, "OPERATION")), (margin, 0xA8))
+        self.assertEqual(pmbus.margin(0, "low").band, Band(Voltage("3250000uV"), Voltage("3250000uV")))
+        self.assertEqual([(pmbus.rail(0).selected, pmbus.rail(1).selected), pmbus.turn_off(0).selected], [("VOUT_MARGIN_LOW", None), "VOUT_COMMAND"])
+        # VOUT_MAX is above these limits: the margin alone is known to lie within them.
+        self.assertEqual(rails(limits={0: ("3.2V", "3.38V")}).margin(0, "high").limits_state, "within")
+        narrow = rails(limits={0: ("3.2V", "3.31V")})
+        with self.assertRaises(pmhost.LimitRefused) as it:
+            narrow.margin(0, "high")
+        self.assertEqual((it.exception.letter, it.exception.register, narrow.bus.part.word(0, "OPERATION")), ("L5", "OPERATION", 0x80))
+
+    def test_a_protected_operation_is_not_ordered_on(self):
+        pmbus = recorded(limits=None)
+        pmbus.turn_off(0)
+        pmbus.order(0, "WRITE_PROTECT", 0x80)
         pmbus.bus.frames.clear()
-        end = lacking.apply(0, VOLTS)
-        self.assertEqual((end.kind, end.refused.letter, end.register, codes(pmbus.bus.frames)),
-                         ("refused", "P4", "VOUT_MARGIN_HIGH", []))
+        with self.assertRaises(PlanRefused) as it:
+            pmbus.turn_on(0)
+        self.assertEqual((it.exception.letter, it.exception.register, codes(pmbus.bus.frames)), ("P7", "OPERATION", []))
 
 
 class Plans(unittest.TestCase):
-    def test_a_plan_is_told_and_begun(self):
+    def test_an_order_is_told_before_it_begins(self):
         pmbus = rails()
-        pmbus.survey(0, VOLTS)
-        self.assertEqual(pmbus.host.plan(0, VOLTS), PlanOrder("VOUT_COMMAND", 0x3500))
-        self.assertEqual(pmbus.host.plan(0, {0x21: 0x34CD}), None)
-        self.assertEqual((pmbus.host.next(0, {}), pmbus.host.frame()), (None, None))
-        self.assertEqual(pmbus.host.next(0, VOLTS), PlanOrder("VOUT_COMMAND", 0x3500))
-        self.assertEqual(pmbus.host.frame().frame, bytes.fromhex("B0050400 21003559"))
-        with self.assertRaises(pmhost.HostRefused):
-            pmbus.host.plan(0, VOLTS)
+        course, seen = Course.words(0, VOLTS), []
+
+        def stop(order):
+            seen.append((order, pmbus.host.possible_words(0, "VOUT_COMMAND")))
+            raise EOFError
+
+        for _ in range(2):
+            with self.assertRaises(EOFError):
+                pmbus.complete(course, stop)
+            self.assertEqual((course.next(pmbus.host), pmbus.host.frame(), course.job()), (Job("order", "VOUT_COMMAND", 0x3500), None, None))
+        self.assertEqual([order for order, _ in seen], [Job("order", "VOUT_COMMAND", 0x3500)] * 2)
+        self.assertEqual(pmbus.host.possible_words(0, "VOUT_COMMAND"), (0x34CD,), "an order that hasn't begun makes no word possible")
+        self.assertEqual(course.frame(pmbus.host).frame, bytes.fromhex("B0050400 21003559"))
+        self.assertEqual(rails().apply(0, {0x21: 0x34CD}), AT_3V3)
 
     def test_each_refusal_names_its_register(self):
         pmbus = rails(limits=None)
-        self.assertEqual(refused(pmbus, VOLTS), ("P4", "NotKnown", "OPERATION"))
-        pmbus.survey(0, VOLTS)
         self.assertEqual(refused(pmbus, {"VOUT_COMMAND": 0x3800}), ("P6", "AboveMax", "VOUT_COMMAND"))
         self.assertEqual(refused(pmbus, {"VOUT_COMMAND": 0x3000}), ("P5", "BelowMin", "VOUT_COMMAND"))
         pmbus.set_limits(0, "3.2V", "3.465V")
-        self.assertEqual(refused(pmbus, {"VOUT_MAX": 0x3000}), ("P2", "BelowLimit", "VOUT_MAX"))
-        self.assertEqual(refused(pmbus, {"VOUT_MARGIN_HIGH": 0xFFFF}), ("P3", "AboveLimit", "VOUT_MARGIN_HIGH"))
+        self.assertEqual(refused(pmbus, {"VOUT_MAX": 0x3000}), ("L3", "BelowLimit", "VOUT_MAX"))
+        self.assertEqual(refused(pmbus, {"VOUT_MARGIN_HIGH": 0xFFFF}), ("L4", "AboveLimit", "VOUT_MARGIN_HIGH"))
+        self.assertEqual(refused(pmbus, VOLTS), "order")
         pmbus.order(0, "WRITE_PROTECT", 0x80)
         self.assertEqual(refused(pmbus, VOLTS), ("P7", "Protected", "VOUT_COMMAND"))
-        pmbus.restart()
-        self.assertEqual(refused(pmbus, VOLTS), ("P1", "FormatUnknown", None))
-        lacking = rails(lacks=("VOUT_MIN",))
-        with self.assertRaises(pmhost.LimitRefused):
-            lacking.host.plan(0, {"VOUT_MIN": 0x3400})
+        with self.assertRaisesRegex(pmhost.LimitRefused, "^VOUT_COMMAND: L4 AboveLimit: above the output's limits: give a voltage within them$"):
+            pmbus.set_voltage(0, "5V")
+        with self.assertRaisesRegex(pmhost.NumberRefused, "^VOUT_COMMAND: N4 AboveGreatest: "):
+            pmbus.set_voltage(0, "33V")
 
     def test_a_wish_stands_once_in_a_mapping(self):
         with self.assertRaisesRegex(ValueError, "wanted: VOUT_COMMAND stands twice"):
@@ -147,53 +218,71 @@ class Plans(unittest.TestCase):
                 recorded().apply(0, wanted)
 
     def test_what_is_no_voltage_is_no_wish(self):
-        host = Host(0x58)
         for wanted in ({"OPERATION": 0x80}, {"WRITE_PROTECT": 0}, {"VOUT": 1}, {"VOUT_MAX": 0x10000}):
             with self.assertRaises(ValueError):
-                host.plan(0, wanted)
+                Course.words(0, wanted)
         with self.assertRaises(TypeError):
-            host.plan(0, {"VOUT_MAX": "3.3"})
+            Course.words(0, {"VOUT_MAX": "3.3"})
+
+    def test_several_voltages_are_wanted(self):
+        pmbus = recorded(limits=None)
+        course = Course.voltage(0, "3.5625V")
+        course.want("VOUT_MAX", "3.625V")
+        pmbus.complete(course)
+        self.assertEqual((codes(pmbus.bus.frames), pmbus.bus.part.voltage(0)), ([0x24, 0x21], Decimal("3.5625")))
+        course = Course.voltage(0, "3.5625V", "VOUT_MAX")
+        course.want("VOUT_MAX", "3.6V")
+        pmbus.complete(course)
+        self.assertEqual(pmbus.bus.part.word(0, "VOUT_MAX"), 0x3999)
 
 
 class Applies(unittest.TestCase):
     def test_a_rail_is_set_bound_first_and_surveyed(self):
         pmbus, seen = recorded(limits=None), []
         wanted = {"VOUT_COMMAND": 0x3900, "VOUT_MAX": 0x3A00}
-        end = pmbus.apply(0, wanted, before_order=seen.append, after_order=lambda order, step: seen.append(step.kind))
-        self.assertEqual(end, REACHED)
-        self.assertEqual(seen, [PlanOrder("VOUT_MAX", 0x3A00), "done", PlanOrder("VOUT_COMMAND", 0x3900), "done"])
+        pmbus.apply(0, wanted, before_order=seen.append, after_order=lambda order, step: seen.append((order.register, step.kind)))
+        self.assertEqual(seen, [Job("order", "VOUT_MAX", 0x3A00), ("VOUT_MAX", "done"), Job("order", "VOUT_COMMAND", 0x3900),
+                                ("VOUT_COMMAND", "done")])
         self.assertEqual(codes(pmbus.bus.frames), [0x24, 0x21])
         self.assertEqual(pmbus.bus.part.voltage(0), Decimal("3.5625"))
         self.assertEqual(pmbus.bus.frames[-1], bytes.fromhex("B010"))
 
+    def test_hooks_stand_alone_too(self):
+        for name in ("before_order", "after_order"):
+            seen = []
+            recorded().apply(0, VOLTS, **{name: lambda *words: seen.append(words)})
+            self.assertEqual([words[0] for words in seen], [Job("order", "VOUT_COMMAND", 0x3500)], name)
+
     def test_nothing_is_written_where_nothing_is_due(self):
         pmbus = recorded()
-        self.assertEqual(pmbus.apply(0, {"VOUT_COMMAND": 0x34CD, "VOUT_MIN": 0x3334}), REACHED)
+        self.assertEqual(pmbus.apply(0, {"VOUT_COMMAND": 0x34CD, "VOUT_MIN": 0x3334}), AT_3V3)
         self.assertEqual(codes(pmbus.bus.frames), [])
         self.assertEqual(len(pmbus.bus.frames), 6)
 
     def test_what_is_refused_has_written_nothing(self):
         pmbus = recorded()
-        end = pmbus.apply(0, {"VOUT_MAX": 0x3700, "VOUT_COMMAND": 0x3768})
-        self.assertEqual((end.kind, end.refused.letter, end.register), ("refused", "P6", "VOUT_COMMAND"))
+        self.assertEqual(refused(pmbus, {"VOUT_MAX": 0x3700, "VOUT_COMMAND": 0x3768}), ("P6", "AboveMax", "VOUT_COMMAND"))
         self.assertEqual(codes(pmbus.bus.frames), [])
 
     def test_an_order_that_differs_is_given_once_again(self):
         pmbus = rails(Faulty, passes=1)
         begun = []
         pmbus.bus.fates = ["ok"] * 6 + ["deaf"]
-        self.assertEqual(pmbus.apply(0, VOLTS, before_order=begun.append), REACHED)
+        pmbus.apply(0, VOLTS, before_order=begun.append)
         self.assertEqual(len(begun), 2)
         begun.clear()
         pmbus.bus.fates = ["ok"] * 6 + ["acked", "ok", "acked"]
-        end = pmbus.apply(0, {"VOUT_COMMAND": 0x3480}, before_order=begun.append)
-        self.assertEqual((end, len(begun)), (RailEnd("differs", None, "VOUT_COMMAND", 0x3500), 2))
+        with self.assertRaises(Differs) as it:
+            pmbus.apply(0, {"VOUT_COMMAND": 0x3480}, before_order=begun.append)
+        self.assertEqual((it.exception.register, it.exception.word, it.exception.possible, len(begun)), ("VOUT_COMMAND", 0x3500, (0x3500,), 2))
+        self.assertEqual(str(it.exception), "apply 0: VOUT_COMMAND: the part holds 3500h, and not what was ordered twice: it lost, refused, "
+                                            "limited or rounded it: look at STATUS_CML, VOUT_MAX and VOUT_MIN")
 
     def test_an_order_that_ended_unknown_is_checked_first(self):
         pmbus = rails(Faulty, passes=1)
         begun = []
         pmbus.bus.fates = ["ok"] * 7 + ["lost"]
-        self.assertEqual(pmbus.apply(0, VOLTS, before_order=begun.append), REACHED)
+        pmbus.apply(0, VOLTS, before_order=begun.append)
         self.assertEqual(len(begun), 1)
 
     def test_an_order_that_the_caller_stops_is_not_sent(self):
@@ -203,6 +292,25 @@ class Applies(unittest.TestCase):
                 pmbus.apply(0, VOLTS, before_order=mock.Mock(side_effect=fault))
             self.assertEqual([frame for frame in pmbus.bus.frames if frame[1] == 0x05], [])
             self.assertIsNone(pmbus.host.frame())
+
+    def test_a_course_that_is_interrupted_goes_on(self):
+        """Whichever of its transfers is broken off, the job has ended, and another call goes on from there."""
+        for place in range(14):
+            pmbus, course = recorded(), Course.words(0, VOLTS)
+            calls = [*[mock.DEFAULT] * place, KeyboardInterrupt, *[mock.DEFAULT] * 40]
+            with mock.patch.object(pmbus.bus.part, "hear", wraps=pmbus.bus.part.hear, side_effect=calls):
+                with self.subTest(place=place), self.assertRaises(KeyboardInterrupt):
+                    pmbus.complete(course)
+                self.assertEqual((pmbus.host.frame(), course.job(), course.ended), (None, None, None))
+                pmbus.complete(course)
+            self.assertEqual((course.ended.kind, pmbus.bus.part.word(0, "VOUT_COMMAND")), ("reached", 0x3500))
+
+    def test_what_a_hook_raises_behind_an_order_goes_on_to_the_caller(self):
+        pmbus, course = recorded(), Course.words(0, VOLTS)
+        with self.assertRaises(EOFError):
+            pmbus.complete(course, after_order=mock.Mock(side_effect=EOFError))
+        self.assertEqual((pmbus.host.frame(), pmbus.host.confirmed_word(0, "VOUT_COMMAND"), course.ended), (None, 0x3500, None))
+        self.assertEqual((pmbus.complete(course).is_on, course.ended), (True, CourseEnd("reached")))
 
     def test_a_job_that_is_interrupted_before_its_first_frame_has_ended(self):
         pmbus = recorded()
@@ -215,33 +323,59 @@ class Applies(unittest.TestCase):
     def test_a_refused_call_leaves_the_callers_open_job(self):
         pmbus = recorded()
         pmbus.host.check(0, "VOUT_COMMAND")
-        for job in (lambda: pmbus.order(0, "VOUT_COMMAND", 0x3480), lambda: pmbus.apply(0, {"VOUT_COMMAND": "x"}), pmbus.store):
+        for job in (lambda: pmbus.order(0, "VOUT_COMMAND", 0x3480), lambda: pmbus.apply(0, {"VOUT_COMMAND": "x"}), pmbus.store,
+                    lambda: pmbus.apply(0, VOLTS), lambda: pmbus.turn_off(0), lambda: pmbus.survey(0)):
             with self.assertRaises((pmhost.HostRefused, TypeError)):
                 job()
         self.assertIsNotNone(pmbus.host.frame())
 
     def test_tries_bound_all_jobs(self):
-        pmbus = recorded()
-        self.assertEqual(pmbus.apply(0, VOLTS, tries=5), SPENT)
-        self.assertEqual(codes(pmbus.bus.frames), [])
-        pmbus.bus.frames.clear()
-        self.assertEqual(pmbus.apply(0, VOLTS, tries=6), RailEnd("spent", None, "VOUT_COMMAND"))
-        self.assertEqual(codes(pmbus.bus.frames), [])
-        self.assertEqual(pmbus.apply(0, VOLTS, tries=13), REACHED)
+        for tries, register in ((5, "WRITE_PROTECT"), (6, "VOUT_COMMAND")):
+            pmbus = recorded()
+            with self.assertRaises(Spent) as it:
+                pmbus.apply(0, VOLTS, tries=tries)
+            self.assertEqual((it.exception.register, codes(pmbus.bus.frames)), (register, []))
+        self.assertEqual(pmbus.apply(0, VOLTS, tries=13).is_on, True)
 
     def test_tries_are_a_number_of_16_bits(self):
         for wrong in (-1, 65536):
             for call in (lambda: recorded().apply(0, VOLTS, tries=wrong), lambda: recorded().set_voltage(0, "3.3125V", tries=wrong)):
                 with self.subTest(tries=wrong), self.assertRaisesRegex(ValueError, "^tries: "):
                     call()
-        self.assertEqual((recorded().apply(0, VOLTS, tries=0), recorded().apply(0, VOLTS, tries=65535)), (SPENT, REACHED))
-        with self.assertRaises(pmhost.Unknown):
-            recorded().set_voltage(0, "3.3125V", tries=0)
+        for call in (lambda: recorded().apply(0, VOLTS, tries=0), lambda: recorded().set_voltage(0, "3.3125V", tries=0)):
+            with self.assertRaises(pmhost.Unknown):
+                call()
         self.assertEqual(recorded().set_voltage(0, "3.3125V", tries=65535), RailState(True, Band(Voltage("3312500uV"), Voltage("3312500uV")), "within"))
 
     def test_an_apply_without_a_try_left_says_so(self):
-        with self.assertRaisesRegex(pmhost.Unknown, "none of 3 tries is left$"):
+        with self.assertRaisesRegex(pmhost.Spent, "^set 0 3.3125V: VOUT_MAX: none of 3 tries is left, all answers were good: give more tries, "
+                                                  "or look why the part changes$"):
             recorded().set_voltage(0, "3.3125V", tries=3)
+
+    def test_an_end_says_what_was_wrong(self):
+        errors = rails(Faulty, passes=1)
+        errors.bus.fates = ["error"] * 99
+        with self.assertRaises(Spent) as it:
+            errors.set_voltage(0, "3.25V", tries=2)
+        self.assertEqual(str(it.exception), "set 0 3.25V: VOUT_MODE: none of 2 tries is left, with the last answer this was wrong: no answer: "
+                                            "look at the bus; 1 transfer failed, the last: Remote I/O error")
+        self.assertIsInstance(it.exception.__cause__, OSError)
+        errors.bus.fates = ["bit"] * 99
+        with self.assertRaisesRegex(Spent, "this was wrong: F4 WrongCount: look at the bus; 1 answer wasn't good: F4 WrongCount$"):
+            errors.survey(0, tries=2)
+        device = pmhost.Device(Answers({0x20: 0x21}), 0x58)
+        with self.assertRaises(pmhost.NoFormat) as it:
+            device.set_voltage(0, "3.3V")
+        self.assertEqual((str(it.exception), it.exception.word, device.bus.asked), (
+            "set 0 3.3V: VOUT_MODE is 21h, a format that this host doesn't speak: order words and no voltages, by `order`", 0x21, [0x20]))
+        with self.assertRaisesRegex(pmhost.OtherSource, "OPERATION is 90h, by which another source may decide the voltage: order"):
+            pmhost.Device(Answers({0x20: 0x14, 0x01: 0x90}), 0x58).survey(0)
+        device = pmhost.Device(Answers({0x20: 0x14, 0x01: 0xB0}), 0x58)
+        with self.assertRaises(pmhost.OtherSource) as it:
+            device.set_voltage(0, "3.3V")
+        self.assertEqual((str(it.exception), it.exception.word, device.bus.asked), (
+            "set 0 3.3V: OPERATION is B0h, by which another source may decide the voltage, AVSBus: order OPERATION first, as by `turn_on`", 0xB0,
+            [0x20, 0x01]))
 
     def test_volts_are_set_and_the_rail_is_told(self):
         pmbus = rails()
@@ -250,16 +384,31 @@ class Applies(unittest.TestCase):
         pmbus.order(0, "OPERATION", 0xA8)
         margin = pmbus.set_voltage(0, "3.25V")
         self.assertEqual((margin.band, pmbus.bus.part.voltage(0)), (Band(Voltage("3375000uV"), Voltage("3375000uV")), Decimal("3.375")))
-        with self.assertRaises(PlanRefused):
+        with self.assertRaises(pmhost.LimitRefused):
             pmbus.set_voltage(0, "3.6V")
         lossy = rails(Faulty, passes=1)
-        lossy.bus.fates = ["ok"] * 7 + ["acked", "ok", "acked"]
+        lossy.bus.fates = ["ok"] * 6 + ["acked", "ok", "acked"]
         with self.assertRaises(Differs) as it:
             lossy.set_voltage(0, "3.25V")
         self.assertEqual((it.exception.word, it.exception.possible), (0x34CD, (0x34CD,)))
         lossy.bus.fates = ["deaf"] * 999
         with self.assertRaises(Unknown):
             lossy.set_voltage(0, "3.25V")
+
+
+class Answers:
+    """A bus whose part answers these bytes by their codes, and keeps which were asked for."""
+
+    def __init__(self, bytes_by_code):
+        self.bytes, self.asked = bytes_by_code, []
+
+    def write(self, frame):
+        raise AssertionError("nothing is written")
+
+    def read(self, request, count):
+        self.asked.append(request[-1])
+        answer = bytes([0x01, self.bytes[request[-1]]])
+        return answer + bytes([pmhost.pec(request + b"\xB1" + answer)])
 
 
 class Exchanged(Recorded):
@@ -286,20 +435,9 @@ class Formats(unittest.TestCase):
                 rail = pmbus.set_voltage(0, "3.25V")
                 self.assertEqual((rail.band, pmbus.bus.part.voltage(0)), (Band(Voltage("3250000uV"), Voltage("3250000uV")), Decimal("3.25")))
                 self.assertLess(pmbus.bus.reads, 0)
-                # The survey's own learn is the second read: no word of the format before is ordered behind it.
+                # The learn is the first read: no word of the format before is ordered behind it.
                 self.assertIn([frame[5:-1] for frame in pmbus.bus.frames if frame[1] == 0x05], (
-                    [[b"\x00\x1A"]] if reads < 2 else [[b"\x00\x34", b"\x00\x1A"], [b"\x00\x34", b"\x00\x34", b"\x00\x1A"]]))
-
-    def test_a_word_of_another_format_is_not_ordered(self):
-        pmbus = rails(Exchanged, limits=None)
-        form = pmbus.host.format(0)
-        pmbus.bus.frames.clear()
-        pmbus.bus.reads = 0
-        self.assertEqual(pmbus.host.run_apply(0, VOLTS, pmbus.bus, form=form), RailEnd("format"))
-        self.assertEqual(codes(pmbus.bus.frames), [])
-        again = Tries(40)
-        self.assertEqual(pmbus.host.run_apply(0, VOLTS, pmbus.bus, again, form=pmbus.host.format(0)), REACHED)
-        self.assertLess(again.left, 40)
+                    [[b"\x00\x1A"]] if reads < 1 else [[b"\x00\x34", b"\x00\x1A"], [b"\x00\x34", b"\x00\x34", b"\x00\x1A"]]))
 
 
 class Bounds(unittest.TestCase):
@@ -308,6 +446,15 @@ class Bounds(unittest.TestCase):
         self.assertEqual((form.told(None), form.told(0xFFFF), form.told(1)), (None, None, 32768 * 10**6))
         self.assertEqual(cuts(form, {"VOUT_MARGIN_HIGH": 0xFFFF, "VOUT_MARGIN_LOW": None}, 1, 2), [])
         self.assertEqual([it.to for it in cuts(form, {"VOUT_MARGIN_HIGH": 3}, 1, 2)], [form.told(2)])
+
+    def test_a_word_that_is_taken_is_meant_by_its_microvolts(self):
+        """A course makes just this word of them, of a bound too."""
+        for form in (pmhost.Format("ULINEAR16", -12), pmhost.Format("ULINEAR16", -9), pmhost.Format("DIRECT", 3, -1000, 7)):
+            for word in (0x0001, 0x0D9A, 0x34C8, 0x7FFF):
+                for register, made in (("VOUT_COMMAND", form.nearest), ("VOUT_MAX", form.at_most), ("VOUT_MIN", form.at_least)):
+                    with self.subTest(form=form, word=word, register=register):
+                        self.assertEqual(made(meaning(form, register, word)), word)
+        self.assertIsNone(meaning(pmhost.Format("ULINEAR16", 15), "VOUT_COMMAND", 0xFFFF))
 
     def test_numbers_are_of_64_bits(self):
         form = pmhost.Format("ULINEAR16", -12)

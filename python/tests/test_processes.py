@@ -19,8 +19,8 @@ from pmhost import cli
 sys.exit(cli.main(sys.argv[3:], kernel.FakeKernel(kernel.Part(), sys.argv[2].split())))
 """
 PART = "-b 7 -a 58 --outputs 2 --no-limit"
-ORDER = f"{PART} word 0 OPERATION 80"
-DONE = "word 0: OPERATION 80 on confirmed; what the output commands isn't known, since its format wasn't learned\n"
+ORDER = f"{PART} word 0 OPERATION 40"
+DONE = "word 0: OPERATION 40 off confirmed; what the output commands isn't known, since its format wasn't learned\n"
 READ = "read 1: OPERATION 80 on confirmed\n"
 PROBING = "pmhost: probe: the part may note in STATUS_CML that it was asked for what it lacks, and pull SMBALERT#\n"
 PROBED = """probe: PEC yes, PAGE_PLUS yes, 1 output: 0 ULINEAR16 -12
@@ -35,13 +35,13 @@ pmhost -b 7 -a 58 --outputs 1 --limit 0:LEAST:MOST
 """
 PROBE = "-b 7 -a 58 --outputs 1 probe"
 UNSAID = f"unsaid: {DONE}"
-# Words, redirections of a shell, mishaps; standard output, standard error, status. The transfers of an order: the check of OPERATION
-# before it, the write, the question whether the part is ready, the read.
+# Words, redirections of a shell, mishaps; standard output, standard error, status. The transfers of an order that turns an output off:
+# the write, the question whether the part is ready, the read.
 ROWS = [
     (ORDER, "", "", DONE, "", 0),
-    (f"{ORDER} + read 1 OPERATION", "", "ok group", "",
-     "pmhost: interrupted during word 0 OPERATION 80: output 0 OPERATION may hold the old or the ordered word\n", 130),
-    (f"{ORDER} + read 1 OPERATION", "", "ok ok ok ok group", DONE,
+    (f"{ORDER} + read 1 OPERATION", "", "group", "",
+     "pmhost: interrupted during word 0 OPERATION 40: output 0 OPERATION may hold the old or the ordered word\n", 130),
+    (f"{ORDER} + read 1 OPERATION", "", "ok ok ok group", DONE,
      "pmhost: interrupted during read 1 OPERATION: nothing was written\n", 130),
     (f"{ORDER} + read 1 OPERATION", "> /dev/full", "", "", f"pmhost: standard output: No space left on device; {UNSAID}", 2),
     (f"{ORDER} + read 1 OPERATION", ">&-", "", "", "pmhost: standard output is closed: nothing was sent\n", 2),
@@ -83,10 +83,10 @@ class Processes(unittest.TestCase):
         """Four signals while a transfer is under way: one line, and one status."""
         twice = RUNNER.replace("from pmhost import cli\n", "from pmhost import cli\nimport os, signal\nkernel.SIGNALS['twice_int'] = "
                                "lambda: [os.kill(os.getpid(), each) for each in (signal.SIGINT, signal.SIGTERM, signal.SIGHUP, signal.SIGQUIT)]\n")
-        ran = subprocess.run([sys.executable, "-c", twice, os.path.dirname(HERE), "ok twice_int", *ORDER.split()], capture_output=True,
+        ran = subprocess.run([sys.executable, "-c", twice, os.path.dirname(HERE), "twice_int", *ORDER.split()], capture_output=True,
                              text=True, check=False, preexec_fn=with_signals)
         self.assertEqual((ran.returncode, ran.stdout, ran.stderr), (
-            130, "", "pmhost: interrupted during word 0 OPERATION 80: output 0 OPERATION may hold the old or the ordered word\n"))
+            130, "", "pmhost: interrupted during word 0 OPERATION 40: output 0 OPERATION may hold the old or the ordered word\n"))
 
     def test_both_names_of_the_command(self):
         script = "import sys; from pmhost.cli import main; sys.exit(main())"

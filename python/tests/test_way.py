@@ -174,7 +174,7 @@ class Ways(unittest.TestCase):
 
     def test_it_is_drawn_where_a_stop_comes_half_way(self):
         """No answer behind the first write is good."""
-        said, rails, status, why = self.drawn(UP, fates=["ok"] + ["bit"] * 99)
+        said, rails, status, why = self.drawn(UP, fates=["ok"] + ["bit"] * 300)
         self.assertEqual((status, said[0]), (1, "apply rails.toml: stopped"))
         self.assertEqual(" ".join(said[2:]), why)
         self.assertEqual(why, "core.max: 3800 3.5V isn't confirmed: no good answer: 3 answers weren't good: F4 WrongCount; stays "
@@ -182,7 +182,7 @@ class Ways(unittest.TestCase):
         self.assertEqual(rails["core"].rows, [START, ("VOUT_MAX 3.5V", "no good answer", ["max not known"], [1.0], [])])
         self.assertEqual(rails["io"].rows, [IO_START])
         self.assertEqual([(rail.end, rail.colour) for rail in rails.values()],
-                         [("VOUT_MODE gave no good answer; VOUT_COMMAND differs; VOUT_MAX unknown", drawing.FAULT),
+                         [("VOUT_MAX gave no good answer; VOUT_COMMAND differs; VOUT_MAX unknown", drawing.FAULT),
                           ("the output is off, and would command 1V, within 0.9V to 1.6V; VOUT_COMMAND differs", drawing.FAULT)])
 
     def test_what_may_be_either_is_a_shade_until_a_survey_tells(self):

@@ -2,7 +2,7 @@
 from decimal import Decimal
 from fractions import Fraction
 
-from pmhost import Device, Format, HostRefused, LimitRefused, LINEAR11, MemoryRefused, ModelPart, ModelPartBus, NumberRefused, Output, Packet, Voltage
+from pmhost import Course, Device, Format, HostRefused, LimitRefused, LINEAR11, MemoryRefused, ModelPart, ModelPartBus, NumberRefused, Output, Packet, Voltage
 from pmhost import Host, pec, read_answer, read_request, read_write
 from pmhost import FrameRefused, SetupRefused, Smbus2Bus
 
@@ -73,9 +73,21 @@ CALLS = [
     (lambda p: p.order(1, "OPERATION", 0xFF), HostRefused, "H5 BadWord"),
     (lambda p: p.order(1, "WRITE_PROTECT", 5), HostRefused, "H5 BadWord"),
     (lambda p: p.order(1, "PAGE", 5), ValueError, "isn't one of OPERATION"),
-    (lambda p: p.turn_on(0), LimitRefused, "L5 NotKnownWithin"),
+    (lambda p: p.order(0, "OPERATION", 0x80), LimitRefused, "L5 NotKnownWithin"),
+    (lambda p: p.margin(0, "up"), ValueError, "side: 'up' isn't high or low"),
+    (lambda p: Course.survey(8), ValueError, "output: 8 isn't 0 to 7"),
+    (lambda p: Course.survey(0, -1), ValueError, "tries: -1 isn't 0 to 65535"),
+    (lambda p: Course.words(0, {"OPERATION": 0x80}), ValueError, "wanted: OPERATION is no voltage of an output"),
+    (lambda p: Course.voltage(0, 3.3), TypeError, "voltage: give a text with its unit"),
+    (lambda p: Course.voltage(0, "3.3V", "OPERATION"), HostRefused, "H5 BadWord"),
+    (lambda p: Course.power(0, 0x180), ValueError, "byte: 384 isn't 0 to 255"),
+    (lambda p: Course.survey(0).want("VOUT_MAX", "3.3V"), MemoryRefused, "NoCourse"),
+    (lambda p: Course.words(0, {}).want("WRITE_PROTECT", "3.3V"), HostRefused, "H5 BadWord"),
+    (lambda p: Course.survey(0).end(), ValueError, "end: the course goes on: send its frame first"),
+    (lambda p: Course.survey(0).write_ended(p.host, 1), TypeError, "acked: True or False is wanted"),
+    (lambda p: Course.survey(0).read_ended(p.host, b""), MemoryRefused, "OtherFrame"),
     (lambda p: p.order(0, "OPERATION", 0xA8), LimitRefused, "L5 NotKnownWithin"),
-    (lambda p: p.turn_on(2), ValueError, "output: 2 isn't 0 to 1"),
+    (lambda p: p.turn_on(2), HostRefused, "H4 UnknownOutput: the host has no such output"),
     (lambda p: p.turn_off("1"), TypeError, "output: a whole number is wanted"),
     (lambda p: p.check(0, "VOUT"), ValueError, "isn't one of OPERATION"),
     (lambda p: p.check(9), ValueError, "output: 9 isn't 0 to 1"),

@@ -47,17 +47,6 @@ impl<E> From<Refusal> for NotDone<E> {
     }
 }
 
-/// What is said where a learn's good answers name no format.
-pub(crate) const NO_FORMAT: &str = "the output's voltages have a format that this host doesn't have";
-
-/// Goes on with what was wrong with an answer, and whether a transfer failed.
-pub(crate) fn write_why(to: &mut fmt::Formatter<'_>, answer: &str, fault: Option<Refusal>, has_failed: bool) -> fmt::Result {
-    if let Some(fault) = fault {
-        write!(to, "; {answer}: {fault}")?;
-    }
-    to.write_str(if has_failed { "; a transfer failed" } else { "" })
-}
-
 impl<E> fmt::Display for NotDone<E> {
     /// One line, without what the bus said, which is the source.
     fn fmt(&self, to: &mut fmt::Formatter<'_>) -> fmt::Result {
@@ -68,9 +57,12 @@ impl<E> fmt::Display for NotDone<E> {
             }
             NotDone::Unknown { error, fault } => {
                 to.write_str("it isn't known what became of the job: no good answer or acknowledgement came")?;
-                write_why(to, "the last answer", *fault, error.is_some())
+                if let Some(fault) = fault {
+                    write!(to, "; the last answer: {fault}")?;
+                }
+                to.write_str(if error.is_some() { "; a transfer failed" } else { "" })
             }
-            NotDone::NoFormat => to.write_str(NO_FORMAT),
+            NotDone::NoFormat => to.write_str("the output's voltages have a format that this host doesn't have"),
         }
     }
 }

@@ -4,8 +4,8 @@
 pub const VERSION: u16 = 0x0001;
 pub const HOST_VERSION: u16 = 6;
 pub const HOST_SIZE: usize = 2064;
-pub const SURVEY_VERSION: u16 = 1;
-pub const SURVEY_SIZE: usize = 40;
+pub const COURSE_VERSION: u16 = 1;
+pub const COURSE_SIZE: usize = 104;
 pub const CELLS: usize = 49;
 pub const PART_SIZE: usize = 372;
 
@@ -100,7 +100,8 @@ pub struct RailImage {
     pub power: u8,
     pub within: u8,
     pub band: u8,
-    pub unused: [u8; 5],
+    pub selected: u8,
+    pub unused: [u8; 4],
     pub ends: BandImage,
 }
 
@@ -123,16 +124,27 @@ pub struct WantedImage {
 
 #[repr(C)]
 #[derive(Clone, Copy, Default)]
-pub struct PlanOrderImage {
-    pub code: u8,
-    pub unused: u8,
-    pub word: u16,
+pub struct CourseImage {
+    pub held: [u64; COURSE_SIZE / 8],
 }
 
 #[repr(C)]
 #[derive(Clone, Copy, Default)]
-pub struct SurveyImage {
-    pub held: [u64; SURVEY_SIZE / 8],
+pub struct CourseEndImage {
+    pub kind: u8,
+    pub number: u8,
+    pub code: u8,
+    pub unused: u8,
+    pub word: u16,
+    pub fault: u16,
+}
+
+#[repr(C)]
+#[derive(Clone, Copy, Default)]
+pub struct CourseJobImage {
+    pub kind: u8,
+    pub code: u8,
+    pub word: u16,
 }
 
 #[repr(C)]
@@ -210,7 +222,7 @@ pub struct ReplyImage {
 }
 
 const _: () = assert!(size_of::<HostImage>() == HOST_SIZE && size_of::<PartImage>() == PART_SIZE);
-const _: () = assert!(size_of::<SurveyImage>() == SURVEY_SIZE);
+const _: () = assert!(size_of::<CourseImage>() == COURSE_SIZE);
 
 extern "C" {
     pub fn pm_version() -> u16;
@@ -239,14 +251,19 @@ extern "C" {
     pub fn pm_host_known_cells(host: &HostImage, known: &mut KnownImage) -> u8;
     pub fn pm_host_restart_seen(host: &HostImage) -> u8;
     pub fn pm_host_rail(host: &HostImage, output: u8, rail: &mut RailImage) -> u8;
-    pub fn pm_host_plan(host: &HostImage, output: u8, wanted: &WantedImage, next: &mut PlanOrderImage) -> u8;
-    pub fn pm_host_next(host: &mut HostImage, output: u8, wanted: &WantedImage, next: &mut PlanOrderImage) -> u8;
-    pub fn pm_survey_size() -> u64;
-    pub fn pm_survey_version() -> u16;
-    pub fn pm_survey_new(survey: &mut SurveyImage, output: u8, tries: u16) -> u8;
-    pub fn pm_survey_for(survey: &mut SurveyImage, output: u8, wanted: &WantedImage, tries: u16) -> u8;
-    pub fn pm_host_survey(host: &mut HostImage, survey: &mut SurveyImage) -> u8;
-    pub fn pm_survey_told(survey: &mut SurveyImage, kind: u16) -> u8;
+    pub fn pm_course_size() -> u64;
+    pub fn pm_course_version() -> u16;
+    pub fn pm_course_survey(course: &mut CourseImage, output: u8, tries: u16) -> u8;
+    pub fn pm_course_words(course: &mut CourseImage, output: u8, wanted: &WantedImage, tries: u16) -> u8;
+    pub fn pm_course_microvolts(course: &mut CourseImage, output: u8, code: u8, microvolts: i64, tries: u16) -> u8;
+    pub fn pm_course_power(course: &mut CourseImage, output: u8, byte: u8, tries: u16) -> u8;
+    pub fn pm_course_want(course: &mut CourseImage, code: u8, microvolts: i64) -> u8;
+    pub fn pm_course_frame(course: &mut CourseImage, host: &mut HostImage, sending: &mut SendingImage) -> u8;
+    pub fn pm_course_write_ended(course: &mut CourseImage, host: &mut HostImage, acked: u8) -> StepImage;
+    pub fn pm_course_read_ended(course: &mut CourseImage, host: &mut HostImage, bytes: *const u8, count: u64) -> StepImage;
+    pub fn pm_course_ended(course: &CourseImage, end: &mut CourseEndImage) -> u8;
+    pub fn pm_course_next(course: &CourseImage, host: &HostImage, next: &mut CourseJobImage) -> u8;
+    pub fn pm_course_job_now(course: &CourseImage, now: &mut CourseJobImage) -> u8;
     pub fn pm_refusal_name(number: u8, name: &mut NameImage) -> u8;
     pub fn pm_end_name(kind: u16, name: &mut NameImage) -> u8;
     pub fn pm_microvolts(format: &FormatImage, word: u16, microvolts: &mut i64) -> u8;

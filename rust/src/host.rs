@@ -169,6 +169,17 @@ pub struct Possible {
     words: [u16; 16],
 }
 
+impl Sending {
+    pub(crate) fn of(found: ffi::SendingImage) -> Sending {
+        let frame = Bytes::of(found.length, found.bytes);
+        match found.kind {
+            1 => Sending::Write(frame),
+            2 => Sending::Request { frame, answer: usize::from(found.answer) },
+            _ => Sending::Nothing,
+        }
+    }
+}
+
 impl Possible {
     fn of(image: ffi::WordsImage) -> Possible {
         Possible { count: image.count.min(16), words: image.words }
@@ -404,12 +415,7 @@ impl Host {
     pub fn frame(&self) -> Sending {
         let mut found = ffi::SendingImage::default();
         unsafe { ffi::pm_host_frame(&self.image, &mut found) };
-        let frame = Bytes::of(found.length, found.bytes);
-        match found.kind {
-            1 => Sending::Write(frame),
-            2 => Sending::Request { frame, answer: usize::from(found.answer) },
-            _ => Sending::Nothing,
-        }
+        Sending::of(found)
     }
 
     /// A write was sent, and acknowledged or not. OtherFrame where none is to be sent.
@@ -480,7 +486,7 @@ fn confirmed(standing: ffi::StandingImage) -> Option<u16> {
     (standing.is_confirmed == 1).then_some(standing.word)
 }
 
-fn step_of(step: ffi::StepImage) -> Result<Step, Refusal> {
+pub(crate) fn step_of(step: ffi::StepImage) -> Result<Step, Refusal> {
     match step.kind {
         0 => Ok(Step::Next),
         1 => Ok(Step::Done),

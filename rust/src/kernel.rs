@@ -50,6 +50,12 @@ impl<'a> Message<'a> {
         Some(Message { address: address.into(), flags, length, bytes, kept: PhantomData })
     }
 
+    /// The address that it goes to.
+    #[cfg(test)]
+    pub(crate) fn address(&self) -> u16 {
+        self.address
+    }
+
     /// Answers a read with nothing but this byte, in place of the kernel.
     #[cfg(test)]
     pub(crate) fn fill(&mut self, byte: u8) {

@@ -3,6 +3,7 @@
 #![warn(missing_docs)]
 
 mod bus;
+mod course;
 mod done;
 mod ffi;
 mod host;
@@ -20,15 +21,15 @@ mod rail;
 mod refusal;
 
 pub use bus::{Bus, Operation};
+pub use course::{AnswerFault, Course, NotReached, COURSE_TRIES};
 pub use done::{Done, NotDone};
 pub use host::{Band, Cell, Host, Known, Limits, LimitsState, Possible, Register, Sending, Step};
 pub use jobs::Job;
 #[cfg(feature = "linux")]
 pub use linux::{LinuxBus, NoBus, NoTransfer, SystemClock};
-pub use loops::{NotReached, APPLY_TRIES, SURVEY_TRIES};
 pub use number::Format;
 pub use packet::{pec, Block, Bytes, Data, Packet};
 pub use part::{Heard, NoAnswer, Output, Part, Reading};
 pub use patient::{Clock, NotHeard, Patient, Unheard};
-pub use rail::{NotPlanned, PlanOrder, Power, Rail, Survey, Surveyed, Wanted};
+pub use rail::{Power, Rail, Selected, Wanted};
 pub use refusal::Refusal;

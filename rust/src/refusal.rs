@@ -111,10 +111,6 @@ refusals! {
     K7ReadOnly = 0x47,
     /// P1: the format of the output's voltages isn't known.
     P1FormatUnknown = 0x61,
-    /// P2: a wanted word is below the output's limits.
-    P2BelowLimit = 0x62,
-    /// P3: a wanted word is above the output's limits.
-    P3AboveLimit = 0x63,
     /// P4: what a register or WRITE_PROTECT holds isn't known.
     P4NotKnown = 0x64,
     /// P5: a word will be below VOUT_MIN.
@@ -152,10 +148,9 @@ refusals! {
     NoName = 0xE7,
     /// The command code is no reading's.
     NoReading = 0xE8,
-    /// The memory holds no survey.
-    NoSurvey = 0xE9,
-    /// The step is no end of a job.
-    NoEnd = 0xEA,
+    /// The memory holds no course, or none to which a voltage can be added. Of a course that is made: the linked library's have another
+    /// layout than this crate's.
+    NoCourse = 0xE9,
     /// OPERATION may be a byte that hands the output's voltage to AVSBus.
     NoBand = 0xEB,
 }

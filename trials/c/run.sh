@@ -295,14 +295,13 @@ pm_host_clear(&host, 0)
 pm_host_store(&host)
 pm_host_restore(&host)
 pm_host_run(&host, 0, 0, 0).kind
-pm_host_plan(&host, 0, &wanted, &next)
-pm_host_next(&host, 0, &wanted, &next)
-pm_survey_new(&survey, 0, 8)
-pm_survey_for(&survey, 0, &wanted, 8)
-pm_host_survey(&host, &survey)
-pm_host_run_survey(&host, &survey, 0, 0, 0).kind
-pm_host_run_apply(&host, 0, &wanted, 8, 0, 0, 0).kind
-pm_host_run_set(&host, 0, PM_VOUT_COMMAND, 3300000, 8, 0, 0, 0).kind
+pm_course_survey(&course, 0, 8)
+pm_course_words(&course, 0, &wanted, 8)
+pm_course_microvolts(&course, 0, PM_VOUT_COMMAND, 3300000, 8)
+pm_course_power(&course, 0, 0x80, 8)
+pm_course_want(&course, PM_VOUT_MAX, 3500000)
+pm_course_frame(&course, &host, &sending)
+pm_host_run_course(&host, &course, 0, 0, 0).kind
 END
 }
 
@@ -311,9 +310,9 @@ dropped() {
     local call before='#include "pmhost.h"
 static pm_host host;
 static pm_wanted wanted;
-static pm_plan_order next;
-static pm_survey survey;
-int main(void) { (void)wanted; (void)next; (void)survey;' row=0
+static pm_course course;
+static pm_sending sending;
+int main(void) { (void)wanted; (void)course; (void)sending;' row=0
     while read -r call; do
         row=$((row + 1))
         echo "$before return $call; }" > "$folder/asks.c"
@@ -388,6 +387,7 @@ for each in $compilers; do
         program "$name order" examples/c/order.expected "$compiler $strict" examples/c/order.c $rest --
         program "$name part" examples/c/part.expected "$compiler $strict" examples/c/part.c $rest --
         program "$name pm_host_run" trials/c/rows/run_rows.expected "$compiler $strict" trials/c/rows/run_rows.c $rest --
+        program "$name courses" trials/course/rows.expected "$compiler $strict" trials/course/rows.c $rest -- trials/course/rows.txt
         program "$name pm_patient_run" trials/c/rows/patient_rows.expected "$compiler $strict" trials/c/rows/patient_rows.c $rest --
         program "$name both ends" examples/c/faults.expected "$compiler $strict" examples/c/faults.c $rest --
         program "$name HAL" examples/c/hal_bus.expected "$compiler $strict" examples/c/hal_bus.c $rest --

@@ -42,7 +42,7 @@ uint32_t wide_word(const pm_format *format, int64_t microvolts, uint16_t *word) 
 #define wide_word pm_nearest_word
 #endif
 
-enum { HOSTS = 4, HALVES = PM_HOST_SIZE / 2, GUARD = 4, ROOM = 320, EXPORTS = 59 };
+enum { HOSTS = 4, HALVES = PM_HOST_SIZE / 2, GUARD = 4, ROOM = 320, EXPORTS = 64 };
 
 /* Hosts at addresses that eight divides, with guards around them: the last is damaged. */
 static uint64_t memory[HOSTS][(GUARD + HALVES + GUARD) / 4];
@@ -54,11 +54,11 @@ static struct {
     uint8_t a[3]; pm_sending sending; uint8_t b; pm_part_reply reply; uint16_t c; pm_words words; uint16_t d; pm_standing standing;
     uint16_t e; pm_format format; uint16_t f; pm_packet packet; uint16_t g; uint16_t word; uint16_t h[4]; int64_t microvolts;
     uint16_t i[4]; pm_limits limits; uint16_t j[4]; pm_band band; uint16_t k[4]; pm_name name; pm_payload payload; uint16_t l[4];
-    pm_rail rail; uint16_t m[4]; pm_plan_order order; uint16_t n[2];
+    pm_rail rail; uint16_t m[4]; pm_course_end end; uint16_t n[2]; pm_course_job job; uint16_t o[2];
 } out;
 
-/* A survey, with guards around it. */
-static struct { uint16_t before[4]; pm_survey survey; uint16_t after[4]; } asked;
+/* A course, with guards around it. */
+static struct { uint16_t before[4]; pm_course course; uint16_t after[4]; } asked;
 
 /* What is known of all cells, which is large: with guards of its own. */
 static struct { uint16_t before[3]; pm_known known; uint16_t after[3]; } cells;
@@ -245,18 +245,25 @@ static void told(unsigned which, pm_step step) {
     ends += step.kind > PM_NEXT && step.kind <= PM_LEARNED;
 }
 
-/* What is to be sent goes to the converter, and what comes of it to the host. */
-static void exchange(pm_host *host) {
+/* What is to be sent goes to the converter, and what comes of it to the host, or to the course. */
+static void exchange(pm_host *host, int is_course) {
     unsigned fate = draw(10);
     memset(&out.sending, (int)draw(256), sizeof out.sending);
-    heard(9, pm_host_frame(host, &out.sending), 255);
+    if (is_course)
+        heard(61, pm_course_frame(&asked.course, host, &out.sending), 255);
+    else
+        heard(9, pm_host_frame(host, &out.sending), 255);
     wrote(&out.sending, sizeof out.sending);
     unsigned count = out.sending.length % (sizeof out.sending.bytes + 1), is_request = out.sending.kind == PM_REQUEST;
     if (fate == 0)
         is_request = !is_request;
     unsigned answer = fate == 1 ? 0 : hear(out.sending.bytes, count, is_request);
     if (!is_request) {
-        told(10, pm_host_write_ended(host, (uint8_t)(fate == 2 ? draw(256) : answer == PM_HEARD_TAKEN ? 1 + draw(255) : 0)));
+        uint8_t acked = (uint8_t)(fate == 2 ? draw(256) : answer == PM_HEARD_TAKEN ? 1 + draw(255) : 0);
+        if (is_course)
+            told(62, pm_course_write_ended(&asked.course, host, acked));
+        else
+            told(10, pm_host_write_ended(host, acked));
         return;
     }
     uint8_t *at = room + draw(4);
@@ -266,7 +273,10 @@ static void exchange(pm_host *host) {
         damage(at, count);
     if (fate == 4)
         count = draw(ROOM - 4);
-    told(11, pm_host_read_ended(host, at, fate == 5 ? 0 : count));
+    if (is_course)
+        told(63, pm_course_read_ended(&asked.course, host, at, fate == 5 ? 0 : count));
+    else
+        told(11, pm_host_read_ended(host, at, fate == 5 ? 0 : count));
 }
 
 /* Limits of an output, near those that an order is drawn from; the names of numbers. */
@@ -318,26 +328,34 @@ static pm_wanted draw_wanted(void) {
     return wanted;
 }
 
-/* What an output commands, a plan's next order, and a survey's next job. */
+/* What an output commands, and a course. */
 static void rails(pm_host *host) {
-    uint8_t output = draw_output();
-    uint16_t tries = (uint16_t)(draw(8) ? draw(12) : draw(65536));
+    uint8_t output = draw_output(), code = draw_code(), byte = (uint8_t)draw_word();
+    uint16_t tries = (uint16_t)(draw(8) ? 12 + draw(40) : draw(65536));
+    int64_t microvolts = draw_microvolts();
     pm_wanted wanted = draw_wanted();
+    pm_course *course = &asked.course;
     memset(&out, (int)draw(256), sizeof out);
     switch (draw(12)) {
     case 0: heard(48, pm_host_rail(host, output, &out.rail), 255); break;
-    case 1: case 2: heard(49, pm_host_plan(host, output, &wanted, &out.order), 255); break;
-    case 3: heard(50, pm_host_next(host, output, &wanted, &out.order), 255); break;
-    case 4: heard(51, pm_survey_new(&asked.survey, output, tries), 255); break;
-    case 5: heard(52, pm_survey_for(&asked.survey, output, &wanted, tries), 255); break;
-    case 6: heard(54, pm_survey_told(&asked.survey, (uint16_t)(draw(8) ? draw(6) : draw(65536))), 255); break;
-    case 7: heard(55, (uint32_t)pm_survey_size() ^ (uint32_t)(pm_survey_size() >> 32), UINT32_MAX);
-        heard(56, pm_survey_version(), 65535); break;
-    case 8:
+    case 1: heard(49, pm_course_survey(course, output, tries), 255); break;
+    case 2: heard(50, pm_course_words(course, output, &wanted, tries), 255); break;
+    case 3: heard(51, pm_course_microvolts(course, output, code, microvolts, tries), 255); break;
+    case 4: heard(52, pm_course_power(course, output, byte, tries), 255); break;
+    case 5: heard(53, pm_course_want(course, code, microvolts), 255); break;
+    case 6: heard(54, pm_course_next(course, host, &out.job), 255); break;
+    case 7: heard(55, (uint32_t)pm_course_size() ^ (uint32_t)(pm_course_size() >> 32), UINT32_MAX);
+        heard(56, pm_course_version(), 65535); break;
+    case 8: heard(59, pm_course_ended(course, &out.end), 255); break;
+    case 9: heard(60, pm_course_job_now(course, &out.job), 255); break;
+    case 10:
         if (draw(8) == 0)
-            damage((uint8_t *)&asked.survey, sizeof asked.survey);
+            damage((uint8_t *)course, sizeof *course);
         break;
-    default: heard(53, pm_host_survey(host, &asked.survey), 255); break;
+    default: /* frame after frame: it mostly ends */
+        for (unsigned frames = draw(40); frames; frames--)
+            exchange(host, 1);
+        heard(59, pm_course_ended(course, &out.end), 255); break;
     }
     add_bytes(&out, sizeof out);
     add_halves((const uint16_t *)&asked, sizeof asked / 2);
@@ -449,7 +467,7 @@ static void step(void) {
     else if (kind < 21)
         begin(host);
     else if (kind < 56)
-        exchange(host);
+        exchange(host, 0);
     else if (kind < 64)
         rails(host);
     else if (kind < 70)

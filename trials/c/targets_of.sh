@@ -103,7 +103,8 @@ link_wasm() {
             -o "$program.library" "$program.both.a" || return 1
         words=(--import-memory --initial-memory=$size --max-memory=$size --global-base=$((size / 2)) --no-stack-first --import-undefined)
     fi
-    [ "$name" = wasm32 ] && steps="-Dpm_host_finished=step_of_finished -Dpm_host_got=step_of_got"
+    [ "$name" = wasm32 ] && steps="-Dpm_host_write_ended=step_of_write -Dpm_host_read_ended=step_of_read"
+    [ "$name" = wasm32 ] && steps="$steps -Dpm_course_write_ended=step_of_course_write -Dpm_course_read_ended=step_of_course_read"
     for each in "$@" $bare/bare.c $bare/wasm.c; do
         objects+=("$program.$(basename "$each").o")
         case $each in */wasm.c) steps= ;; esac

@@ -30,11 +30,11 @@ from tally import Tally  # noqa: E402
 ORDINARY = 65534
 LIBRARIES, PROGRAMS = ("pm_host_c", "pm_device_c"), ("pmb",)
 # What a machine or a bus of its own is wanted for.
-NOT_RUN = re.compile(r"sigrok-cli|capture i2ctransfer 1 --run|trials/linux/|echo .*/sys/")
+NOT_RUN = re.compile(r"sigrok-cli|^i2ctransfer|capture i2ctransfer 1 --run|trials/linux/|echo .*/sys/")
 RT = re.compile(r"\(cd crates/(\w+) && rt (lib|check|run|try)\b[^)]*\)")
 # What wants a part as the commands before it left it: each call has a fresh model part, so that the status may be 1. The tests of the
-# package have these commands on one part, with what they print.
-UNLIKE = re.compile(r" verify | survey | margin | on |VOUT_MARGIN")
+# package have these commands on one part, with what they print. The bench for any host ends so where it finds a fault.
+UNLIKE = re.compile(r" verify | survey | torture | margin | on |VOUT_MARGIN")
 SECONDS = 600
 
 
@@ -100,8 +100,8 @@ class Place:
 
 
 def over_a_model(line):
-    """A command for a board, on the model part."""
-    return line.replace("-b 1 -a 58", "-b model").replace("bus.trace", "model.trace")
+    """A command for a board, on the model part; what the bench for any host runs has a bus of its own."""
+    return line if " torture " in line else line.replace("-b 1 -a 58", "-b model").replace("bus.trace", "model.trace")
 
 
 def parsed(place, line, has_minutes):

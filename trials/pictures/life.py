@@ -7,7 +7,7 @@ from dataclasses import dataclass
 
 import paths  # noqa: F401
 from pmhost.errors import NumberRefused, PartRefused, PmhostError, Refused as LibraryRefused
-from pmhost.host import Known, Sending, Step
+from pmhost.states import Known, Sending, Step
 from pmhost.packets import read_answer, read_request
 from pmhost.part import ModelPart, Output
 from pmhost.values import NAMES

@@ -1,5 +1,6 @@
 #!/usr/bin/env python3
-"""Makes each allocation of each test of `pm_text_engine_tests` fail in turn.
+"""Makes each allocation of each test of engines and commands fail in turn: of `pm_text_tests` engines, and of `pm_tool_tests`
+memory and long_words.
 
     trials/programs/refuse_test_allocations.py
 
@@ -11,8 +12,8 @@ each test counts.
 Of a test outside memory.rt with more than 2,000 allocations the first 500 are refused, and then every so many-th, about
 1,500 of them; its line says which.
 
-It has the tests proved and built first, by `rt test` in crates/pm_text_engine_tests, or runs those that the environment
-variable ENGINE_TESTS names, and needs a C compiler and glibc. It takes some minutes.
+It has the tests proved and built first, by `rt test` in both crates, or runs those that the environment variables ENGINE_TESTS
+and COMMAND_TESTS name, and needs a C compiler and glibc. It takes some minutes.
 """
 import os
 import re
@@ -28,7 +29,11 @@ import refuser  # noqa: E402
 from program import ROOT, no_words  # noqa: E402
 from tally import Tally  # noqa: E402
 
-CRATE = os.path.join(ROOT, "crates/pm_text_engine_tests")
+# Each crate of tests, the environment variable that names its program, and how the names of these tests begin.
+CRATES = (
+    ("crates/pm_text_tests", "ENGINE_TESTS", ("engines::",)),
+    ("crates/pm_tool_tests", "COMMAND_TESTS", ("memory::", "long_words::")),
+)
 MOST, FIRST = 2000, 500
 SECONDS = 60
 # How a test ends that gives a refusal back, and one that stops at an assertion.
@@ -37,21 +42,25 @@ STOPPED = re.compile(rb"^test stopped at (src/\S+\.rt):\d+:\d+$", re.M)
 GIVES, STOPS = 101, -6
 
 
-def built():
-    """The program of the tests."""
-    if os.environ.get("ENGINE_TESTS"):
-        return os.path.abspath(os.environ["ENGINE_TESTS"])
-    words = ["rt", "test"]
-    ran = subprocess.run(words, cwd=CRATE, stdout=subprocess.PIPE, stderr=subprocess.STDOUT, text=True)
+def built(crate, variable):
+    """The program of a crate's tests."""
+    if os.environ.get(variable):
+        return os.path.abspath(os.environ[variable])
+    words, home = ["rt", "test"], os.path.join(ROOT, crate)
+    ran = subprocess.run(words, cwd=home, stdout=subprocess.PIPE, stderr=subprocess.STDOUT, text=True)
     if ran.returncode:
-        sys.exit(f"{' '.join(words)} in {CRATE} failed:\n{ran.stdout[-1000:]}")
-    return os.path.join(CRATE, "out", os.path.basename(CRATE) + "_tests")
+        sys.exit(f"{' '.join(words)} in {home} failed:\n{ran.stdout[-1000:]}")
+    return os.path.join(home, "out", os.path.basename(home) + "_tests")
 
 
-def tests_of(tests):
-    """The full name of each test of the program."""
+def tests_of(tests, begins):
+    """The full name of each test of the program that begins so."""
     told = subprocess.run([tests, "--list"], capture_output=True, text=True, check=True).stdout
-    return re.findall(r"^(\S+): test$", told, re.M)
+    return [name for name in re.findall(r"^(\S+): test$", told, re.M) if name.startswith(begins)]
+
+
+def is_of_memory(name):
+    return "memory" in name.split("::")
 
 
 def has_passed(found):
@@ -63,12 +72,13 @@ def is_refusal(found):
     if found.status == GIVES:
         return GIVEN in found.told
     stopped = STOPPED.search(found.written)
-    return found.status == STOPS and bool(stopped) and os.path.exists(os.path.join(CRATE, stopped.group(1).decode()))
+    return found.status == STOPS and bool(stopped) and any(
+        os.path.exists(os.path.join(ROOT, crate, stopped.group(1).decode())) for crate, _, _ in CRATES)
 
 
 def step_of(name, made):
     """Every so many-th allocation is refused after the first ones."""
-    is_short = name.startswith("memory::") or made <= MOST
+    is_short = is_of_memory(name) or made <= MOST
     return 1 if is_short else -(-(made - FIRST) // (MOST - FIRST))
 
 
@@ -88,7 +98,7 @@ def tried(shared, tests, name):
         found = refuser.ended(shared, [tests, name], number, timeout=SECONDS)
         if has_passed(found):
             passed += 1
-        elif is_refusal(found) and not name.startswith("memory::"):
+        elif is_refusal(found) and not is_of_memory(name):
             refused += 1
         else:
             faults += 1
@@ -101,13 +111,13 @@ def tried(shared, tests, name):
 
 def main():
     no_words(__doc__)
-    tests, tally = built(), Tally()
+    programs, tally = [(built(crate, variable), begins) for crate, variable, begins in CRATES], Tally()
     with tempfile.TemporaryDirectory() as folder:
         shared = refuser.built_in(folder)
-        names = tests_of(tests)
-        for name in names:
-            faults = tried(shared, tests, name)
-            tally.tell(name, [f"{faults} faults"] if faults else [])
+        for tests, begins in programs:
+            for name in tests_of(tests, begins):
+                faults = tried(shared, tests, name)
+                tally.tell(name, [f"{faults} faults"] if faults else [])
     return tally.end()
 
 

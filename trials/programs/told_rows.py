@@ -1403,6 +1403,92 @@ B2 03                                     X1 Syntax
 """),
 ]
 
+# Captures as an engineer has them: what is told of the page, of a mark and of a value.
+TRACES = [("--all --pages --values", """
+# A poller without PEC, and two outputs of different formats.
+B0 00 00                                  58 PAGE write 00, no PEC
+B0 20 / B1 14                             58 page 0? VOUT_MODE read 14 ULINEAR16 -12, no PEC
+B0 8B / B1 00 10                          58 page 0? READ_VOUT read 1000 1 V, no PEC
+B0 00 01                                  58 PAGE write 01, no PEC
+B0 20 / B1 17                             58 page 1? VOUT_MODE read 17 ULINEAR16 -9, no PEC
+B0 8B / B1 00 10                          58 page 1? READ_VOUT read 1000 8 V, no PEC
+B0 7B / B1 80                             58 page 1? code 7B STATUS_IOUT read 80 IOUT_OC_FAULT, no PEC
+B0 96 / B1 34 12                          58 page 1? code 96 READ_POUT read 34 12, no PEC
+
+# A byte of PAGE isn't acknowledged, and an order follows.
+B0 00 00 *                                58 PAGE write 00
+# byte 2 wasn't acknowledged
+B0 00 01                                  58 PAGE write 01, no PEC
+B0 21 00 10 *                             58 VOUT_COMMAND write 1000 WRONG PAGE? lines 4 and 5
+
+# The same as the kernel shows it.
+B0 00 00 *                                58 PAGE write 00
+# failed (-121): B0 00 01 ED
+B0 21 00 10 *                             58 VOUT_COMMAND write 1000 WRONG PAGE? lines 3 and 4
+
+# A restart, which a read of PAGE shows.
+B0 00 01 *                                58 PAGE write 01
+B0 21 00 10 *                             58 page 1? VOUT_COMMAND write 1000
+B0 00 / B1 00 *                           58 PAGE read 00 WRONG PAGE? lines 2 and 4
+B0 21 00 10 *                             58 page 0? VOUT_COMMAND write 1000
+
+# The PAGE of a second master, which the trace shows.
+B0 00 01 *                                58 PAGE write 01
+B0 21 00 10 *                             58 page 1? VOUT_COMMAND write 1000
+B0 00 00 *                                58 PAGE write 00
+B0 21 00 10 *                             58 page 0? VOUT_COMMAND write 1000
+
+# A host that keeps its page, as the kernel's driver does.
+B0 00 00 *                                58 PAGE write 00
+B0 21 00 10 *                             58 page 0? VOUT_COMMAND write 1000
+B0 79 / B1 40 08 *                        58 page 0? STATUS_WORD read 0840 POWER_GOOD#, OFF
+B0 00 01 *                                58 PAGE write 01
+B0 21 00 10 *                             58 page 1? VOUT_COMMAND write 1000
+
+# All outputs, read back with PEC.
+B0 00 FF *                                58 PAGE write FF
+B0 00 / B1 FF *                           58 PAGE read FF
+B0 03 *                                   58 page 255? CLEAR_FAULTS send
+
+# A wrong PEC of PAGE.
+B0 00 01 !                                58 write F5 WrongPec 3 bytes B0 00 01 !
+B0 21 00 10 *                             58 VOUT_COMMAND write 1000 WRONG PAGE? lines 2 and 3
+B0 8B / B1 00 10 *                        58 READ_VOUT read 1000 WRONG PAGE? lines 2 and 4
+B0 40 00 02 *                             58 code 40 VOUT_OV_FAULT_LIMIT write 00 02, PEC right WRONG PAGE? lines 2 and 5
+
+# A device that stores isn't there, and the order is repeated.
+B0 00 01 *                                58 PAGE write 01
+B0 15 *                                   58 STORE_USER_ALL send
+# no device acknowledged the address: B0
+B0 21 00 10 *                             58 page 1? VOUT_COMMAND write 1000
+
+# A read of PAGE that nobody answers changes no page.
+B0 00 01 *                                58 PAGE write 01
+B0 00 / B1                                58 code 00 PAGE read, no PEC
+B0 21 00 10 *                             58 page 1? VOUT_COMMAND write 1000 WRONG PAGE? lines 3 and 4
+
+# An EEPROM that isn't ready.
+B0 00 01 *                                58 PAGE write 01
+# no device acknowledged the address: A0
+B0 21 00 10 *                             58 page 1? VOUT_COMMAND write 1000
+
+# PAGE isn't acknowledged, and a limit and a trim follow.
+B0 00 00 *                                58 PAGE write 00
+# byte 1 wasn't acknowledged
+B0 00                                     58 code 00 PAGE send, no PEC
+B0 40 00 02 *                             58 code 40 VOUT_OV_FAULT_LIMIT write 00 02, PEC right WRONG PAGE? lines 4 and 5
+B0 22 10 00 *                             58 code 22 VOUT_TRIM write 10 00, PEC right WRONG PAGE? lines 4 and 6
+
+# VOUT_MODE is written.
+B0 00 00 *                                58 PAGE write 00
+B0 20 / B1 14 *                           58 page 0? VOUT_MODE read 14 ULINEAR16 -12
+B0 21 00 10 *                             58 page 0? VOUT_COMMAND write 1000 1 V
+B0 20 17 *                                58 page 0? code 20 VOUT_MODE write 17, PEC right
+B0 21 00 10 *                             58 page 0? VOUT_COMMAND write 1000
+B0 20 / B1 17 *                           58 page 0? VOUT_MODE read 17 ULINEAR16 -9
+B0 21 00 10 *                             58 page 0? VOUT_COMMAND write 1000 8 V
+""")]
+
 # One trace under each option alone, and under all of them.
 EACH = [
     ("--values", """
@@ -1473,7 +1559,7 @@ B0 96 / B1 34 12                          58 write F6 UnknownCode 1
 ]
 
 GROUPS = [("--values", VALUES), ("--values", TAUGHT), *VOUT, *READINGS, ("--values", FAULTS), ("--all", ALL),
-          ("--all --values", WORDS), ("--times", TIMES), *JSON, *PAGES, *EACH]
+          ("--all --values", WORDS), ("--times", TIMES), *JSON, *PAGES, *TRACES, *EACH]
 
 # Texts as bytes, the options, and the whole answer: ends of lines, skipped lines, the longest parts.
 NO_PACKET = "no line is a good packet: where lines begin with times, give --times"

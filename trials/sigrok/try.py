@@ -96,10 +96,13 @@ def random_faults(decode, seed, texts):
     print(f"  {count} random packets")
 
 
-def sigrok(path, options="", row="packets"):
+def sigrok(drawn, options="", row="packets"):
     """What sigrok-cli says of a waveform by the decoder."""
-    words = ["sigrok-cli", "-I", "vcd", "-i", path, "-P", f"i2c:scl=SCL:sda=SDA,pmbus{options}", "-A", f"pmbus={row}"]
-    ran = subprocess.run(words, capture_output=True, text=True, env={**os.environ, "SIGROKDECODE_DIR": FOLDER})
+    with tempfile.NamedTemporaryFile("w", suffix=".vcd") as file:
+        file.write(drawn)
+        file.flush()
+        words = ["sigrok-cli", "-I", "vcd", "-i", file.name, "-P", f"i2c:scl=SCL:sda=SDA,pmbus{options}", "-A", f"pmbus={row}"]
+        ran = subprocess.run(words, capture_output=True, text=True, env={**os.environ, "SIGROKDECODE_DIR": FOLDER})
     return [line.partition(": ")[2] for line in ran.stdout.splitlines()], ran.stderr
 
 
@@ -122,7 +125,7 @@ def waveform_faults(decode, name):
     # A packet that the capture's end cuts isn't told.
     if wanted and wanted[-1].startswith("no stop"):
         wanted.pop()
-    found, errors = sigrok(os.path.join(CAPTURES, f"{name}.vcd"), ":address=58")
+    found, errors = sigrok(waveform(stored("faults.bus")) if name == "faults" else stored(f"{name}.vcd"), ":address=58")
     if found != wanted:
         yield f"it tells {found} {errors!r}, and not {wanted}"
 
@@ -155,11 +158,9 @@ def drawn_fault(options, rows):
         else:
             lines[int(number) - 1] = "# not drawn"
     given = re.findall(r"--(vout|readings)[= ](\S+)", options)
-    with tempfile.NamedTemporaryFile("w", suffix=".vcd") as file:
-        file.write(waveform("\n".join(lines)))
-        file.flush()
-        # Colons part options of sigrok-cli, and commas decoders.
-        found, errors = sigrok(file.name, "".join(f":{name}={it.replace(':', '/').replace(',', '+')}" for name, it in given))
+    # Colons part options of sigrok-cli, and commas decoders.
+    formats = "".join(f":{name}={it.replace(':', '/').replace(',', '+')}" for name, it in given)
+    found, errors = sigrok(waveform("\n".join(lines)), formats)
     if found != wanted:
         yield f"{options} {rows[0]}: it tells {found} {errors!r}, and not {wanted}"
 
@@ -174,10 +175,7 @@ def random_wave_faults(decode, seed):
             lines.append(" / ".join(" ".join(part) for part in words))
     told = decode("\n".join(lines).encode(), ["--all", "--values", "--vout=ulinear16:-12"])[1].splitlines()
     wanted = [wanted_words(said.partition(" ")[2] + " ", line.split("/")[0].split()).rstrip(" ") for said, line in zip(told, lines)]
-    with tempfile.NamedTemporaryFile("w", suffix=".vcd") as file:
-        file.write(waveform("\n".join(lines)))
-        file.flush()
-        found, errors = sigrok(file.name, ":vout=ulinear16/-12")
+    found, errors = sigrok(waveform("\n".join(lines)), ":vout=ulinear16/-12")
     for line, one, other in zip(lines, found, wanted):
         if one != other:
             yield f"{line} is told as {one!r}, and not {other!r}"
@@ -187,15 +185,15 @@ def random_wave_faults(decode, seed):
 
 def byte_faults():
     """What stands below the bytes of a packet, and what is said of a bad option."""
-    path = os.path.join(CAPTURES, "bus.vcd")
-    found = [line for line in sigrok(path, row="bytes")[0] if not line.startswith("PEC")]
-    pecs = [line for line in sigrok(path, row="bytes")[0] if line.startswith("PEC")]
+    drawn = stored("bus.vcd")
+    found = [line for line in sigrok(drawn, row="bytes")[0] if not line.startswith("PEC")]
+    pecs = [line for line in sigrok(drawn, row="bytes")[0] if line.startswith("PEC")]
     if found[:7] != BYTES or found[16:23] != THIRD or pecs != PECS:
         yield f"the bytes are {found[:23]} and {pecs}"
     for options, said in ((":address=B0", "address: give two hexadecimal digits, as 58"),
                           (":vout=linear16", "vout: give linear11, ulinear16/N or direct/M/B/R"),
                           (":readings=ulinear16/1", "readings: give linear11 or direct/M/B/R")):
-        found, errors = sigrok(path, options)
+        found, errors = sigrok(drawn, options)
         if found or said not in errors:
             yield f"{options} gives {found[:3]}, {errors!r}"
 

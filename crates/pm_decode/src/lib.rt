@@ -21,6 +21,8 @@
 //!     Ok(sink.into_inner())
 //! }
 //! ```
+//!
+//! Tests: crates/pm_tool_tests
 #![tactic(auto)]
 
 mod capture;

@@ -39,6 +39,8 @@
 //!     Ok(converter.word(Cell::Out(0, Reg::VoutCommand))) // 34CDh
 //! }
 //! ```
+//!
+//! Tests: crates/pm_device_tests
 #![tactic(auto)]
 
 mod act;

@@ -19,6 +19,8 @@
 //!     [made, taken, told]
 //! }
 //! ```
+//!
+//! Tests: crates/pm_device_c/src/tests.rt, trials/c
 #![tactic(auto)]
 
 mod asked;

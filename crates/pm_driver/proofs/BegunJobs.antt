@@ -6,7 +6,7 @@ use Rattle.std.specs.Prelude.{IsSomeAnd}
 use Rattle.pm_device.specs.declared.config.Config.{Config}
 use Rattle.pm_model.specs.Commanded.{commanded}
 use Rattle.pm_model.specs.Settings.{word_at}
-use Rattle.pm_device.specs.Held.{CmlFaults, Held, value_for}
+use Rattle.pm_device.specs.Held.{Held, value_for}
 use Rattle.pm_device.specs.History.{start_of}
 use Rattle.pm_device.specs.Start.{IsSound}
 use Rattle.pm_host.specs.declared.command.Command.TheVariants.{ClearFaults, StoreUserAll, RestoreUserAll}
@@ -14,7 +14,6 @@ use Rattle.pm_host.specs.declared.job.Job.{Job}
 use Rattle.pm_host.specs.declared.job.JobEnd.{JobEnd}
 use Rattle.pm_host.specs.declared.job.JobEnd.TheVariants.{Differs, Done, Learned}
 use Rattle.pm_host.specs.Jobs.{accepted_job}
-use Rattle.pm_host.specs.Now.{now as host_now}
 use Rattle.pm_host.specs.Refusals.{IsSetup, is_busy, job_fault}
 use Rattle.pm_table.specs.declared.cell.Cell.{Cell}
 use Rattle.pm_table.specs.Cell.{IsCell}
@@ -24,23 +23,30 @@ use Rattle.pm_host.specs.Summary.{Summary, possible_at, standing_at, next as hos
 use Rattle.pm_host.specs.Transcript as host
 use Rattle.pm_world.specs.declared.event.Event.{Event}
 use Rattle.pm_world.specs.declared.event.Event.TheVariants.{Check, Clear, Learn, Order, RestartHost, Restore, Store}
-use Rattle.pm_world.specs.Life.{life, now, state_of}
+use Rattle.pm_world.specs.Life.{life, now}
 use Rattle.pm_world.specs.Retelling.{CommandsOwn, IsOwnWord}
 use Rattle.pm_world.specs.Setup.{setup_of, start}
 use Rattle.pm_world.specs.State.{State, refused, tells}
 use Rattle.pm_world.specs.Uncertainty.{job_event}
 use Rattle.pm_driver.specs.Acts.{Act, Began, Call, Called, Looked, Read, Renewed, Wrote, asked_in, told_all}
 use Rattle.pm_limits.specs.Bounds.{Bounds, IsWithin}
-use Rattle.pm_driver.specs.Driven.{HasLife, HasLifeWithin, HasNoRestartSince, IsTrueOf, MayBegin}
+use Rattle.pm_driver.specs.Driven.{HasLife, HasLifeWithin, HasNoRestartSince, IsTrueOf}
 use Rattle.pm_driver.specs.Bus.{restarts_in}
 use Rattle.pm_driver.specs.Ends.{EndSays}
-use Rattle.pm_driver.specs.Laws.{EndsAreTrue, LawsOfLives, LeadsCompose, NewConvertersMayBegin}
+use Rattle.pm_driver.specs.Laws.{EndsAreTrue, LawsOfLives, LeadsCompose}
 use Rattle.pm_driver.specs.Lives.{Driven, Goes, IsLife, Leads}
 use Rattle.pm_driver.specs.Steps.{JobsLead, RenewalsLead}
 use Rattle.pm_world.specs.Lemmas.{now-config}
 use Rattle.pm_driver.proofs.Composed.{tells-append}
-use Rattle.pm_driver.proofs.Grown.{IsGrown, grown, of-life}
-use Rattle.pm_driver.proofs.Latched.{same-of}
+use Rattle.pm_driver.proofs.Grown.{IsGrown, grown, life-setup, of-life}
+use Rattle.pm_driver.proofs.Latched.{same-of, shape-same}
+use Rattle.pm_num.specs.AnyFormat.{Shape, shape_value}
+use Rattle.pm_model.specs.Settings.{Words}
+use Rattle.pm_device.specs.Held.{shape_for}
+use Rattle.pm_host.specs.Summary.{format_at}
+use Rattle.pm_host.specs.declared.job.JobEnd.TheVariants.{Unknown}
+use Rattle.pm_driver.specs.Ends.{Stands}
+use Rattle.pm_driver.specs.Lives.{HaveSameSettings}
 
 -- a job that the host accepted
 begun : {config : Config} {passes : ℕ} {before : List Event} {event : Event} {summary : Summary} {held : Held} (job : host.Job) →
@@ -55,22 +61,22 @@ pub job-goes : LawsOfLives → {config : Config} {passes : ℕ} {before : List E
     Goes config passes before (job_event job ∷ []) (Began job ∷ []) None (host_next summary (host.Accepted job)) held
 job-goes laws (host.Order cell word) free is = begun (host.Order cell word)
     (grown laws (Order cell word) (tells (host.Accepted (host.Order cell word))) is
-    (ap (λ f. option_or (refused f) None) (of-life (λ h. job_fault h (host.Order cell word) ≡ None) is free)) tt refl)
+    (ap (λ f. option_or (refused f) None) (of-life (λ h. job_fault h (host.Order cell word) ≡ None) is free)) tt refl tt)
 job-goes laws (host.Check cell) free is = begun (host.Check cell)
     (grown laws (Check cell) (tells (host.Accepted (host.Check cell))) is
-    (ap (λ f. option_or (refused f) None) (of-life (λ h. job_fault h (host.Check cell) ≡ None) is free)) tt refl)
+    (ap (λ f. option_or (refused f) None) (of-life (λ h. job_fault h (host.Check cell) ≡ None) is free)) tt refl tt)
 job-goes laws (host.Learn output) free is = begun (host.Learn output)
     (grown laws (Learn output) (tells (host.Accepted (host.Learn output))) is
-    (ap (λ f. option_or (refused f) None) (of-life (λ h. job_fault h (host.Learn output) ≡ None) is free)) tt refl)
+    (ap (λ f. option_or (refused f) None) (of-life (λ h. job_fault h (host.Learn output) ≡ None) is free)) tt refl tt)
 job-goes laws (host.Send (ClearFaults output)) free is = begun (host.Send (ClearFaults output))
     (grown laws (Clear output) (tells (host.Accepted (host.Send (ClearFaults output)))) is
-    (ap (λ f. option_or (refused f) None) (of-life (λ h. job_fault h (host.Send (ClearFaults output)) ≡ None) is free)) tt refl)
+    (ap (λ f. option_or (refused f) None) (of-life (λ h. job_fault h (host.Send (ClearFaults output)) ≡ None) is free)) tt refl tt)
 job-goes laws (host.Send StoreUserAll) free is = begun (host.Send StoreUserAll)
     (grown laws Store (tells (host.Accepted (host.Send StoreUserAll))) is
-    (ap (λ f. option_or (refused f) None) (of-life (λ h. job_fault h (host.Send StoreUserAll) ≡ None) is free)) tt refl)
+    (ap (λ f. option_or (refused f) None) (of-life (λ h. job_fault h (host.Send StoreUserAll) ≡ None) is free)) tt refl tt)
 job-goes laws (host.Send RestoreUserAll) free is = begun (host.Send RestoreUserAll)
     (grown laws Restore (tells (host.Accepted (host.Send RestoreUserAll))) is
-    (ap (λ f. option_or (refused f) None) (of-life (λ h. job_fault h (host.Send RestoreUserAll) ≡ None) is free)) tt refl)
+    (ap (λ f. option_or (refused f) None) (of-life (λ h. job_fault h (host.Send RestoreUserAll) ≡ None) is free)) tt refl tt)
 
 -- the event of a job doesn't restart the converter
 job-quiet : (job : host.Job) → restarts_in (job_event job ∷ []) ≡ 0
@@ -114,35 +120,14 @@ renewals-lead laws gives held restarts summary bus = record {
   count = none-more (restarts bus);
   orders = refl;
   lives = λ config passes before life.
-      let one = grown laws RestartHost (tells host.Restarted) life refl tt refl in
+      let one = grown laws RestartHost (tells host.Restarted) life refl tt refl tt in
       record { is_life = one.is_life; told = one.told; ended = tt };
 }
-
--- the host of a life was made for it
-pub life-setup : {config : Config} {passes : ℕ} {events : List Event} {summary : Summary} {held : Held} →
-    IsLife config passes events summary held → summary.setup ≡ setup_of config passes
-unfolding now state_of host_now
-life-setup is = ap (λ (s : Summary). s.setup) (sym is.host_is)
 
 -- a restarted host is new
 pub renewed-new : (summary : Summary) → host_next summary host.Restarted ≡ host_start summary.setup
 unfolding host_next
 renewed-new summary = refl
-
--- a driver begins with a life
-pub begins-lived : LawsOfLives → (summary : Summary) (held : Held) → MayBegin summary held → HasLife summary held
-begins-lived laws summary held may =
-    let has = may.has in
-    let one = grown laws RestartHost (tells host.Restarted) has.life refl tt refl in
-    let same : host_next may.was host.Restarted ≡ summary =
-    renewed-new may.was ∙ (ap host_start (life-setup has.life) ∙ sym may.made) in
-    record {
-      config = has.config;
-      passes = has.passes;
-      events = RestartHost ∷ has.events;
-      spelled = has.spelled;
-      life = subst (λ h. IsLife has.config has.passes (RestartHost ∷ has.events) h held) same one.is_life;
-    }
 
 -- a converter as it was made has a life of no event
 pub new-lived : LawsOfLives → (config : Config) (passes : ℕ) → IsSound config → IsSetup (setup_of config passes) →
@@ -156,32 +141,25 @@ new-lived laws config passes sound made =
       held_is = same-of (ap (λ (s : State). s.device) none);
     }
 
--- a driver may begin with a new host beside a converter as it was made
-pub new-begins : LawsOfLives → NewConvertersMayBegin
-new-begins laws config passes sound spelled made = record {
-  was = host_start (setup_of config passes);
-  has = record {
-    config = config;
-    passes = passes;
-    events = [];
-    spelled = spelled;
-    life = new-lived laws config passes sound made;
-  };
-  made = refl;
-}
+-- the format of an output of a life is that of its converter
+pub life-shape : {config : Config} {passes : ℕ} {events : List Event} {summary : Summary} {held : Held} →
+    IsLife config passes events summary held → (output : ℕ) → shape_for config output ≡ shape_for held.config output
+life-shape {config = config} {passes = passes} {events = events} {held = held} is output =
+    ap (λ (c : Config). shape_for c output) (sym (now-config config passes events))
+    ∙ shape-same (now config passes events).device held is.held_is output
 
 -- an output whose words lie within limits commands a voltage within them
 limited-of : LawsOfLives → (output : ℕ) (bounds : Bounds) (summary : Summary) (held : Held) →
-    (lived : HasLifeWithin output bounds summary held) → output < lived.has.config.count →
+    HasLifeWithin output bounds summary held → output < summary.setup.outputs →
     IsWithin bounds (commanded (value_for held.config output) held.words output)
 limited-of laws output bounds summary held lived there =
     let has = lived.has in
     let is = has.life in
     let stays = laws.limited has.config has.passes has.events has.spelled is.lived in
-    subst (λ (d : Held). IsWithin bounds (commanded (value_for d.config output) d.words output)) is.held_is
-    (subst (λ (c : Config). IsWithin bounds (commanded (value_for c output) (now has.config has.passes has.events).device.words output))
-    (sym (now-config has.config has.passes has.events))
-    (stays.limited output bounds [] has.events there refl lived.within))
+    subst (λ (w : Words). IsWithin bounds (commanded (value_for held.config output) w output)) (ap (λ (d : Held). d.words) is.held_is.same)
+    (subst (λ (s : Shape). IsWithin bounds (commanded (shape_value s) (now has.config has.passes has.events).device.words output))
+    (life-shape is output)
+    (stays.limited output bounds [] has.events (subst (λ (s : host.Setup). output < s.outputs) (life-setup is) there) refl lived.within))
 
 -- a cell of a host's outputs is one of the converter's
 there-of : {config : Config} {passes : ℕ} {events : List Event} {summary : Summary} {held : Held} (cell : Cell) →
@@ -195,7 +173,7 @@ since-stands : LawsOfLives → (summary : Summary) (held : Held) (cell : Cell) (
 since-stands laws summary held cell word there is says =
     let has = is.has in
     let lived = has.life in
-    subst (λ (d : Held). word_at d.words cell ≡ word) lived.held_is
+    subst (λ (d : Held). word_at d.words cell ≡ word) lived.held_is.same
     ((laws.confirmed has.config has.passes has.events lived.lived).held cell word (there-of cell lived there)
     (subst (λ (h : Summary). standing_at h cell ≡ Confirmed word) (sym lived.host_is) says) is.since)
 
@@ -206,7 +184,7 @@ since-among : LawsOfLives → (summary : Summary) (held : Held) (cell : Cell) �
 since-among laws summary held cell there is =
     let has = is.has in
     let lived = has.life in
-    subst (λ (d : Held). is_possible (word_at d.words cell) (possible_at summary cell) ≡ true) lived.held_is
+    subst (λ (d : Held). is_possible (word_at d.words cell) (possible_at summary cell) ≡ true) lived.held_is.same
     (subst (λ (h : Summary). is_possible (word_at (now has.config has.passes has.events).device.words cell) (possible_at h cell) ≡ true)
     lived.host_is
     ((laws.possible.held has.config has.passes has.events lived.lived).held cell (there-of cell lived there) is.since))
@@ -221,11 +199,14 @@ true-of laws summary held has =
       possible = laws.possible.held has.config has.passes has.events is.lived;
       seen = laws.possible.seen has.config has.passes has.events is.lived;
       formats = laws.formats.agree has.config has.passes has.events has.spelled is.lived;
-      own = λ cell there. subst (λ (d : Held). IsOwnWord has.config has.passes has.events cell (word_at d.words cell)) is.held_is
+      own = λ cell there. subst (λ (d : Held). IsOwnWord has.config has.passes has.events cell (word_at d.words cell)) is.held_is.same
           (laws.orders.own has.config has.passes has.events cell is.lived there);
-      commanded = λ output there. subst (λ (d : Held). CommandsOwn has.config has.passes has.events output
-          (commanded (value_for d.config output) d.words output)) is.held_is
-          (laws.orders.commanded has.config has.passes has.events output is.lived there);
+      commanded = λ output there. subst (λ (w : Words). CommandsOwn has.config has.passes has.events output
+          (commanded (value_for held.config output) w output)) (ap (λ (d : Held). d.words) is.held_is.same)
+          (subst (λ (s : Shape). CommandsOwn has.config has.passes has.events output
+          (commanded (shape_value s) (now has.config has.passes has.events).device.words output))
+          (shape-same (now has.config has.passes has.events).device held is.held_is output)
+          (laws.orders.commanded has.config has.passes has.events output is.lived there));
       limited = λ output bounds lived there. limited-of laws output bounds summary held lived there;
       stands = since-stands laws summary held;
       among = since-among laws summary held;
@@ -255,14 +236,26 @@ last-begun job earlier (Began other ∷ acts) rest h =
 last-begun job earlier (Renewed ∷ acts) rest h = cc
 last-begun job earlier (Looked request room came ∷ acts) rest h = cc
 
--- what an end says doesn't ask for latched bits
-says-same : (job : host.Job) (end : JobEnd) (summary : Summary) (held : Held) (faults : CmlFaults) →
-    EndSays job summary (record held { faults = faults }) end → EndSays job summary held end
-says-same (host.Order cell word) Done summary held faults is = is
-says-same (host.Order cell word) (Differs read) summary held faults is = is
-says-same (host.Check cell) Done summary held faults is = is
-says-same (host.Learn output) Learned summary held faults is = is
-says-same job end summary held faults is = is
+-- what an end says asks for settings alone
+says-same : (job : host.Job) (end : JobEnd) (summary : Summary) (one other : Held) → HaveSameSettings one other →
+    EndSays job summary one end → EndSays job summary other end
+says-same (host.Order cell word) Done summary one other same is =
+    subst (λ (d : Held). Stands summary d cell word) same.same is
+says-same (host.Order cell word) (Differs read) summary one other same is =
+    subst (λ (d : Held). Stands summary d cell read) same.same is
+says-same (host.Check cell) Done summary one other same is =
+    subst (λ (d : Held). (word : ℕ) × Stands summary d cell word) same.same is
+says-same (host.Learn output) Learned summary one other same is =
+    subst (λ (s : Shape). IsSomeAnd (format_at summary output) (λ shape. shape ≡ s)) (shape-same one other same output) is
+says-same (host.Order cell word) Unknown summary one other same is = tt
+says-same (host.Order cell word) Learned summary one other same is = tt
+says-same (host.Check cell) (Differs read) summary one other same is = tt
+says-same (host.Check cell) Unknown summary one other same is = tt
+says-same (host.Check cell) Learned summary one other same is = tt
+says-same (host.Learn output) Done summary one other same is = tt
+says-same (host.Learn output) (Differs read) summary one other same is = tt
+says-same (host.Learn output) Unknown summary one other same is = tt
+says-same (host.Send command) end summary one other same is = tt
 
 -- the end of the job that a driver carried out says what it is worth
 pub leads-say : EndsAreTrue → {B : Type 0} (gives : B → Call → B → Type 0) (held : B → Held) (restarts : B → ℕ) (job : host.Job)
@@ -275,11 +268,10 @@ leads-say law gives held restarts job end old new has leads =
     let events = leads.events ++ has.events in
     let last = ap host.last_job goes.told
     ∙ last-begun job [] leads.acts (life has.config has.passes has.events).entries leads.asks in
-    says-same job end new.host (held new.bus) (now has.config has.passes events).device.faults
-    (subst (λ d. EndSays job new.host d end) is.held_is
+    says-same job end new.host (now has.config has.passes events).device (held new.bus) is.held_is
     (subst (λ h. EndSays job h (now has.config has.passes events).device end) is.host_is
     (law has.config has.passes events job end has.spelled is.lived
-    (tells-append leads.events has.events leads.newest) last goes.ended).says))
+    (tells-append leads.events has.events leads.newest) last goes.ended).says)
 
 -- a host began a job that it didn't refuse
 pub record IsBegun (old : Summary) (asked : Job) (middle : Summary) : Type 0 where

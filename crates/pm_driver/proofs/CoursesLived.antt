@@ -320,7 +320,7 @@ keep-rails gives held restarts laws = λ output wanted tries old new course runs
     (laws.words config passes (events_of runs ++ before) spelled went.lived.lived).held old.guard.registers output wanted tries course
     rest newer later before (ap (λ (l : List Event). l ++ before) split)
     (subst (λ (l : List Event). Begins config passes old.guard.registers (course_of output wanted tries) course l before) split b)
-    (subst (λ (h : Converter). HoldsMissing old.guard.registers config h.words output) (sym lived.held_is) holds))
+    (subst (λ (h : Converter). HoldsMissing old.guard.registers config h.words output) (sym lived.held_is.same) holds))
 
 pub come-true : {B : Type 0} (gives : B → Call → B → Type 0) (held : B → Converter) (restarts : B → ℕ) → CoursesHoldInLives →
     AppliedPlansComeTrue gives held restarts
@@ -334,10 +334,10 @@ come-true gives held restarts laws = λ output wanted tries old new course runs 
     let own : course.survey.output ≡ output = own-kept runs in
     let says : next_of old.guard.registers (limits_at new.guard course.survey.output) new.guard.host course ≡ said.Ended Reached =
     ap (λ (p : PartRegisters). next_of p (limits_at new.guard course.survey.output) new.guard.host course) (sym went.registers) ∙ reached in
-    ap (λ (h : Converter). word_at h.words (Out output register)) (sym went.lived.held_is)
+    ap (λ (h : Converter). word_at h.words (Out output register)) (sym went.lived.held_is.same)
     ∙ (laws.words config passes (events_of runs ++ before) spelled went.lived.lived).come_true old.guard.registers
     (limits_at new.guard course.survey.output) output wanted tries course register word (events_of runs) before refl b
-    (subst (λ (h : Converter). HoldsMissing old.guard.registers config h.words output) (sym lived.held_is) holds)
+    (subst (λ (h : Converter). HoldsMissing old.guard.registers config h.words output) (sym lived.held_is.same) holds)
     (ap (λ (s : Summary). next_of old.guard.registers (limits_at new.guard course.survey.output) s course) went.lived.host_is ∙ says)
     wants)
 
@@ -351,10 +351,10 @@ commands-goal gives held restarts laws = λ output wanted tries old new course r
     let b = begun-so gives held restarts output wanted tries old config passes before here lived untold idle course new runs same in
     let says : next_of old.guard.registers (limits_at new.guard course.survey.output) new.guard.host course ≡ said.Ended Reached =
     ap (λ (p : PartRegisters). next_of p (limits_at new.guard course.survey.output) new.guard.host course) (sym went.registers) ∙ reached in
-    ap (λ (h : Converter). commanded_in config h output) (sym went.lived.held_is)
+    ap (λ (h : Converter). commanded_in config h output) (sym went.lived.held_is.same)
     ∙ (laws.words config passes (events_of runs ++ before) spelled went.lived.lived).commanded old.guard.registers
     (limits_at new.guard course.survey.output) output wanted tries course (events_of runs) before refl b
-    (subst (λ (h : Converter). HoldsMissing old.guard.registers config h.words output) (sym lived.held_is) holds)
+    (subst (λ (h : Converter). HoldsMissing old.guard.registers config h.words output) (sym lived.held_is.same) holds)
     (ap (λ (s : Summary). next_of old.guard.registers (limits_at new.guard course.survey.output) s course) went.lived.host_is ∙ says))
 
 -- ---- A plan that is carried out ----

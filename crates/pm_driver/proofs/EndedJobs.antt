@@ -250,7 +250,7 @@ ends-are-true apart host laws config passes [] job end spelled lived tells last 
 ends-are-true apart host laws config passes (event ∷ before) job end spelled lived tells last ended =
     go job end last (sym (now-end config passes (event ∷ before)) ∙ ended) where
       is : IsLife config passes (event ∷ before) (now config passes (event ∷ before)).host (now config passes (event ∷ before)).device
-      is = record { lived = lived; host_is = refl; held_is = refl }
+      is = record { lived = lived; host_is = refl; held_is = record { same = refl; modes = refl } }
 
       go : (j : Job) (e : JobEnd) → last_job (life config passes (event ∷ before)).entries ≡ Some j →
           end_of (setup_of config passes) (life config passes (event ∷ before)).entries ≡ Some e →

@@ -8,17 +8,19 @@ use Rattle.pm_device.specs.History.{next as device_next}
 use Rattle.pm_host.specs.declared.job.JobEnd.{JobEnd}
 use Rattle.pm_host.specs.Summary.{Summary}
 use Rattle.pm_host.specs.Transcript.{Entry}
-use Rattle.pm_world.specs.Lemmas.{entries-more}
+use Rattle.pm_host.specs.Now.{now as host_now}
+use Rattle.pm_world.specs.Lemmas.{entries-more, now-config}
 use Rattle.pm_world.specs.declared.event.Event.{Event}
 use Rattle.pm_world.specs.declared.event.Event.TheVariants.{RestartDevice, Reading}
-use Rattle.pm_world.specs.Life.{life, now}
+use Rattle.pm_world.specs.Life.{life, now, state_of}
+use Rattle.pm_world.specs.Setup.{setup_of}
 use Rattle.pm_world.specs.Lived.{IsLived}
 use Rattle.pm_world.specs.State.{State, Share, HasWord, device_after, end_after, event_cause, hears, host_after, next, share_of}
 use Rattle.pm_driver.specs.Acts.{Act, told_all, told_by}
 use Rattle.pm_driver.specs.Bus.{AreAll, held_after, held_by, is_beside}
 use Rattle.pm_driver.specs.Laws.{LawsOfLives}
-use Rattle.pm_driver.specs.Lives.{EndsSo, Goes, IsLife, IsSameButFaults}
-use Rattle.pm_driver.proofs.Latched.{after-same}
+use Rattle.pm_driver.specs.Lives.{EndsSo, Goes, HaveSameSettings, IsLife}
+use Rattle.pm_driver.proofs.Latched.{IsHeardPageless, after-same}
 
 -- what one more event makes of a life, which tells the ends this
 pub record IsGrown (config : Config) (passes : ℕ) (before : List Event) (event : Event) (share : Share) (host : Summary)
@@ -28,13 +30,14 @@ pub record IsGrown (config : Config) (passes : ℕ) (before : List Event) (event
       ≡ option_to_list share.told ++ (life config passes before).entries
   pub ended : (now config passes (event ∷ before)).end ≡ end_after host (now config passes before).end share.told
 
--- an event without a cause against it
+-- an event without a cause against it, by which the converter hears nothing that depends on PAGE
 pub grown : LawsOfLives → {config : Config} {passes : ℕ} {before : List Event} {host : Summary} {held : Held} →
     (event : Event) (share : Share) → IsLife config passes before host held →
     event_cause (now config passes before) event ≡ None → HasWord (now config passes before) event →
-    share_of (now config passes before) event ≡ share → IsGrown config passes before event share host held
+    share_of (now config passes before) event ≡ share → IsHeardPageless held.config.addr share.heard →
+    IsGrown config passes before event share host held
 unfolding next
-grown laws {config = config} {passes = passes} {before = before} {held = held} event share is free word tells =
+grown laws {config = config} {passes = passes} {before = before} {held = held} event share is free word tells pageless =
     let lived : IsLived config passes (event ∷ before) = record {
       sound = is.lived.sound;
       made = is.lived.made;
@@ -47,9 +50,9 @@ grown laws {config = config} {passes = passes} {before = before} {held = held} e
         lived = lived;
         host_is = ap (λ (t : State). t.host) more ∙ (ap (λ (w : Share). host_after s.host w.told) tells
             ∙ ap (λ h. host_after h share.told) is.host_is);
-        held_is = subst (λ (d : Held). IsSameButFaults d (device_after held share.heard))
+        held_is = subst (λ (d : Held). HaveSameSettings d (device_after held share.heard))
             (sym (ap (λ (t : State). t.device) more ∙ ap (λ (w : Share). device_after s.device w.heard) tells))
-            (after-same s.device held share.heard is.held_is);
+            (after-same laws.reach s.device held share.heard pageless is.held_is);
       };
       told = entries-more config passes before event
           ∙ ap (λ (w : Share). option_to_list w.told ++ (life config passes before).entries) tells;
@@ -61,6 +64,19 @@ grown laws {config = config} {passes = passes} {before = before} {held = held} e
 pub of-life : {config : Config} {passes : ℕ} {events : List Event} {host : Summary} {held : Held} →
     (P : Summary → Type 0) → (is : IsLife config passes events host held) → P host → P (now config passes events).host
 of-life P is here = subst P (sym is.host_is) here
+
+-- the host of a life was made for it
+pub life-setup : {config : Config} {passes : ℕ} {events : List Event} {summary : Summary} {held : Held} →
+    IsLife config passes events summary held → summary.setup ≡ setup_of config passes
+unfolding now state_of host_now
+life-setup is = ap (λ (s : Summary). s.setup) (sym is.host_is)
+
+-- the host of a life sends to its converter's address
+pub own-address : {config : Config} {passes : ℕ} {events : List Event} {host : Summary} {held : Held} →
+    IsLife config passes events host held → host.setup.addr ≡ held.config.addr
+own-address {config = config} {passes = passes} {events = events} is =
+    ap (λ s. s.addr) (life-setup is)
+    ∙ (ap (λ (c : Config). c.addr) (sym (now-config config passes events)) ∙ ap (λ (d : Held). d.config.addr) is.held_is.same)
 
 -- no event
 pub stays : {config : Config} {passes : ℕ} {before : List Event} {host : Summary} {held : Held} →
@@ -114,7 +130,7 @@ quiet {before = before} {held = held} frame may one (event ∷ earlier) (here, a
 pub beside-one : LawsOfLives → {config : Config} {passes : ℕ} {host : Summary} (frame : List ℕ) →
     (earlier : List Event) (event : Event) (then : Held) → IsLife config passes earlier host then → is_beside event ≡ true →
     Goes config passes earlier (event ∷ []) [] None host (held_by frame then event)
-beside-one laws frame earlier RestartDevice then is so = heard-one (grown laws RestartDevice (hears device.Restarted) is refl tt refl)
+beside-one laws frame earlier RestartDevice then is so = heard-one (grown laws RestartDevice (hears device.Restarted) is refl tt refl tt)
 beside-one laws frame earlier (Reading output code word) then is so =
-    heard-one (grown laws (Reading output code word) (hears (device.Reading output code.0 word)) is refl tt refl)
+    heard-one (grown laws (Reading output code word) (hears (device.Reading output code.0 word)) is refl tt refl tt)
 beside-one laws frame earlier event then is so = cc

@@ -3,6 +3,9 @@ mod Composed
 mod EndedJobs
 mod Grown
 mod Latched
+mod AsItIs
+mod OwnSince
+mod RailKeeps
 mod Looked
 mod OpenJobs
 mod ReadBack
@@ -27,3 +30,5 @@ mod PlanEnds
 mod Surprises
 mod ReadJobs
 mod FewChecks
+mod Standing
+mod StandingSurvey

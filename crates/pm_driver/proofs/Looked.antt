@@ -32,23 +32,14 @@ use Rattle.pm_driver.specs.Acts.{Call, IsNoWrite, Looked, Read}
 use Rattle.pm_driver.specs.Bus.{AreAll, IsAsked, held_after, is_beside, restarts_in}
 use Rattle.pm_driver.specs.Driven.{Driving, HasLife, driven}
 use Rattle.pm_driver.specs.Laws.{LawsOfLives}
-use Rattle.pm_driver.specs.Lives.{Driven, Goes, IsLife, IsSameButFaults, Leads}
+use Rattle.pm_driver.specs.Lives.{Driven, Goes, IsLife, Leads}
 use Rattle.pm_driver.specs.Looks.{Looks, RequestsAreNoWrites}
 use Rattle.pm_driver.specs.Steps.{LooksLead}
-use Rattle.pm_driver.proofs.BegunJobs.{life-setup}
-use Rattle.pm_world.specs.Lemmas.{now-config}
-use Rattle.pm_driver.proofs.Grown.{beside-one, quiet}
-use Rattle.pm_driver.proofs.Latched.{hears-same, same-on}
+use Rattle.pm_driver.proofs.Grown.{beside-one, own-address, quiet}
+use Rattle.pm_driver.proofs.Latched.{IsSameButFaults, hears-same, same-by-faults, same-on}
 use Rattle.pm_driver.proofs.NoRestarts.{leads-since}
 use Rattle.pm_driver.proofs.SentFrames.{beside-none, none-asked}
 use Rattle.pm_driver.proofs.WithinLimits.{jobless-within}
-
--- the host of a life sends to its converter's address
-own-address : {config : Config} {passes : ℕ} {events : List Event} {host : Summary} {held : Held} →
-    IsLife config passes events host held → host.setup.addr ≡ held.config.addr
-own-address {config = config} {passes = passes} {events = events} is =
-    ap (λ s. s.addr) (life-setup is)
-    ∙ ap (λ (c : Config). c.addr) (sym (now-config config passes events) ∙ ap (λ (d : Held). d.config) is.held_is)
 
 -- the converter then holds what it held behind the events beside the bus, but for latched bits
 look-latches : LawsOfLives → (request room came : List ℕ) (host : Summary) (old : Held) (was : ℕ) (new : Held) (count : ℕ) →
@@ -74,7 +65,7 @@ look-goes laws request room came host old was new count plain is config passes b
         lived = lived.lived;
         host_is = lived.host_is;
         held_is = same-on (now config passes (is.before ++ before)).device (held_after request old is.before) new lived.held_is
-            (look-latches laws request room came host old was new count plain is lived);
+            (same-by-faults new (held_after request old is.before) (look-latches laws request room came host old was new count plain is lived));
       };
       told = beside.told;
       ended = tt;

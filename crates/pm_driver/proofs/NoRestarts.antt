@@ -7,23 +7,19 @@ use Rattle.pm_device.specs.declared.config.Config.{Config}
 use Rattle.pm_device.specs.Held.{Held}
 use Rattle.pm_host.specs.declared.job.JobEnd.{JobEnd}
 use Rattle.pm_host.specs.Jobs.{accepted_job}
-use Rattle.pm_host.specs.Summary.{Summary, next as host_next, start as host_start}
 use Rattle.pm_host.specs.Transcript as host
 use Rattle.pm_world.specs.declared.event.Event.{Event}
-use Rattle.pm_world.specs.declared.event.Event.TheVariants.{RestartHost}
 use Rattle.pm_world.specs.Confirmed.{reads_cell, restarted_since, restarts_converter}
 use Rattle.pm_world.specs.Life.{life}
-use Rattle.pm_world.specs.State.{tells}
 use Rattle.pm_driver.specs.Acts.{Act, AreCalls, Began, Call, Called, Looked, Read, Renewed}
 use Rattle.pm_driver.specs.Bus.{restarts_in}
-use Rattle.pm_driver.specs.Driven.{Driving, HasLife, HasNoRestartSince, MayBegin, driven}
+use Rattle.pm_driver.specs.Driven.{Driving, HasLife, HasNoRestartSince, driven}
 use Rattle.pm_driver.specs.Ends.{cell_read}
 use Rattle.pm_driver.specs.Laws.{EndsAreTrue, LawsOfLives, NewConvertersHaveNoRestart, RestartsAreCounted}
-use Rattle.pm_driver.specs.Lives.{Driven, IsLife, Leads}
+use Rattle.pm_driver.specs.Lives.{Driven, Leads}
 use Rattle.pm_driver.specs.Undisturbed.{AreWithoutRestart, JobsRestartNothing, ReadsRestartNothing}
-use Rattle.pm_driver.proofs.BegunJobs.{last-begun, new-lived, renewed-new}
+use Rattle.pm_driver.proofs.BegunJobs.{last-begun, new-lived}
 use Rattle.pm_driver.proofs.Composed.{tells-append}
-use Rattle.pm_driver.proofs.Grown.{grown}
 
 -- no restart among events is none of the newest and none of the earlier
 none-of : (restarts : Bool) (earlier : ℕ) → cond restarts 1 0 + earlier ≡ 0 → (restarts ≡ false) × (earlier ≡ 0)
@@ -36,7 +32,7 @@ no-more true restarts earlier one two = refl
 no-more false restarts earlier one two = ap₂ (λ x y. x || y) one two
 
 -- further events without a restart
-quiet-since : (config : Config) (passes : ℕ) (cell : Cell) (events before : List Event) → restarts_in events ≡ 0 →
+pub quiet-since : (config : Config) (passes : ℕ) (cell : Cell) (events before : List Event) → restarts_in events ≡ 0 →
     restarted_since config passes cell before ≡ false → restarted_since config passes cell (events ++ before) ≡ false
 unfolding restarted_since
 quiet-since config passes cell [] before none since = since
@@ -47,7 +43,7 @@ quiet-since config passes cell (event ∷ events) before none since =
     (quiet-since config passes cell events before both.1 since)
 
 -- a count that didn't rise counted nothing
-none-counted : (n was is : ℕ) → n + was ≡ is → is ≡ was → n ≡ 0
+pub none-counted : (n was is : ℕ) → n + was ≡ is → is ≡ was → n ≡ 0
 none-counted n was is rose same = omega arith
 
 -- no restart is counted where something led and the count stayed
@@ -95,26 +91,6 @@ leads-read law gives held restarts job end old new has leads =
         IfSome o (λ cell. HasNoRestartSince cell new.host (held new.bus))
     go all None since = tt
     go all (Some cell) since = record { has = all; since = since }
-
--- a new host was told of no answer since: the converter didn't restart since a cell was read, if it didn't beside the host of before
-pub begins-since : LawsOfLives → (was summary : Summary) (held : Held) → MayBegin summary held → was.setup ≡ summary.setup →
-    (cell : Cell) → HasNoRestartSince cell was held → HasNoRestartSince cell summary held
-begins-since laws was summary held may same cell is =
-    let has = is.has in
-    let one = grown laws RestartHost (tells host.Restarted) has.life refl tt refl in
-    let made : summary ≡ host_start summary.setup = may.made
-    ∙ ap host_start (ap (λ (s : Summary). s.setup) (sym may.made)) in
-    let new_is : host_next was host.Restarted ≡ summary = renewed-new was ∙ (ap host_start same ∙ sym made) in
-    record {
-      has = record {
-        config = has.config;
-        passes = has.passes;
-        events = RestartHost ∷ has.events;
-        spelled = has.spelled;
-        life = subst (λ (h : Summary). IsLife has.config has.passes (RestartHost ∷ has.events) h held) new_is one.is_life;
-      };
-      since = quiet-since has.config has.passes cell (RestartHost ∷ []) has.events refl is.since;
-    }
 
 -- no event is no restart
 none-since : (config : Config) (passes : ℕ) (cell : Cell) → restarted_since config passes cell [] ≡ false

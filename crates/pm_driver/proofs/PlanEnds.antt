@@ -107,7 +107,7 @@ asks-so legal left request room came old new so (inr (inr (count, tried))) =
       end-stays old new so tried.turn,
     )
 
-both-so : (a b : Bool) → (a && b) ≡ true → (a ≡ true) × (b ≡ true)
+pub both-so : (a b : Bool) → (a && b) ≡ true → (a ≡ true) × (b ≡ true)
 both-so true true is = (refl, refl)
 both-so true false is = cc
 both-so false b is = cc

@@ -34,8 +34,8 @@ use Rattle.pm_driver.specs.Bus.{AreAll, answer_of, restarts_in, held_by, is_besi
 use Rattle.pm_driver.specs.Lives.{EndsSo, EndsTold, Goes, IsLife, Leads, jobs_asked, newest_tells, with_job}
 use Rattle.pm_driver.specs.Laws.{LawsOfLives}
 use Rattle.pm_driver.specs.Steps.{CallsGo, FramesLead, IsCalled, StaysOpen, back_of}
-use Rattle.pm_driver.proofs.Grown.{beside-one, goes-on, grown, heard-one, of-life, quiet}
-use Rattle.pm_driver.proofs.Latched.{ComesBack, comes-same, own-same}
+use Rattle.pm_driver.proofs.Grown.{beside-one, goes-on, grown, heard-one, of-life, own-address, quiet}
+use Rattle.pm_driver.proofs.Latched.{ComesBack, IsHeardPageless, comes-same, own-same, request-pageless, write-pageless}
 use Rattle.pm_driver.proofs.OpenJobs.{stays-open}
 
 -- the room for the whole answer to a message that is being sent
@@ -116,11 +116,14 @@ deliver-tells s frame arrival sends =
 hear-one : LawsOfLives → {config : Config} {passes : ℕ} {host : Summary} (frame : List ℕ) → SendsWrite host frame →
     (earlier : List Event) (event : Event) (then : Held) → IsLife config passes earlier host then → may_hear frame event ≡ true →
     Goes config passes earlier (event ∷ []) [] None host (held_by frame then event)
-hear-one laws {config = config} {passes = passes} frame sends earlier (Deliver arrival) then is so =
+hear-one laws {config = config} {passes = passes} {host = host} frame sends earlier (Deliver arrival) then is so =
     let shown = of-life (λ h. SendsWrite h frame) is sends in
     let s = now config passes earlier in
     heard-one (grown laws (Deliver arrival) (hears (device.Hearing (heard_bytes frame arrival) (ending_of Stop arrival))) is
-    (deliver-free s frame arrival shown so) tt (deliver-tells s frame arrival shown))
+    (deliver-free s frame arrival shown so) tt (deliver-tells s frame arrival shown)
+    (subst (λ a. IsHeardPageless a (Some (device.Hearing (heard_bytes frame arrival) (ending_of Stop arrival)))) (own-address is)
+    (write-pageless laws.writes laws.damage laws.betrayal host sends.message frame (heard_bytes frame arrival) (ending_of Stop arrival)
+    sends.sending sends.is so)))
 hear-one laws frame sends earlier RestartDevice then is so = beside-one laws frame earlier RestartDevice then is refl
 hear-one laws frame sends earlier (Reading output code word) then is so =
     beside-one laws frame earlier (Reading output code word) then is refl
@@ -147,7 +150,7 @@ finished : LawsOfLives → {config : Config} {passes : ℕ} {before : List Event
     (host_next host (Finished acked)) held
 finished laws {config = config} {passes = passes} {before = before} {host = host} frame acked sends is =
     let one = grown laws (Finish acked) (tells (Finished acked)) is
-    (finish-free (now config passes before) frame acked (of-life (λ h. SendsWrite h frame) is sends)) tt refl in
+    (finish-free (now config passes before) frame acked (of-life (λ h. SendsWrite h frame) is sends)) tt refl tt in
     record { is_life = one.is_life; told = one.told; ended = ends-so (end_by (step_of host (Finished acked))) _ one.ended }
 
 -- what an exchange of this request is, of a life
@@ -207,7 +210,10 @@ answered laws {config = config} {passes = passes} {before = before} {host = host
     let told : share_of s (Exchange arrival so) ≡ share = exchange-tells s request needed arrival so shown
     ∙ ap (λ (b : List ℕ). record { heard = Some hears_so; told = Some (Got b) }) same.came_is in
     let one = grown laws (Exchange arrival so) share is
-    (exchange-free s request needed arrival so shown legal same.returned) tt told in
+    (exchange-free s request needed arrival so shown legal same.returned) tt told
+    (subst (λ a. IsHeardPageless a (Some hears_so)) (own-address is)
+    (request-pageless laws.requests laws.damage laws.betrayal host.setup.addr sends.message request (heard_bytes request arrival)
+    (ending_of Restart arrival) sends.is legal)) in
     record {
       is_life = subst (λ d. IsLife config passes (Exchange arrival so ∷ before) (host_next host (Got came)) d) after one.is_life;
       told = one.told;

@@ -61,7 +61,7 @@ use Rattle.pm_driver.proofs.Surveyed.{asked-output}
 pub words-now : (config : Config) (passes : ℕ) (events : List Event) (host : Summary) (held : Converter)
     → IsLife config passes events host held →
     (now config passes events).device.words ≡ held.words
-words-now config passes events host held lived = ap (λ (h : Converter). h.words) lived.held_is
+words-now config passes events host held lived = ap (λ (h : Converter). h.words) lived.held_is.same
 
 module _ (laws : LawsOfRails) (config : Config) (passes : ℕ) (part : PartRegisters) (output : ℕ) (later before : List Event)
     (here : output < config.count) where

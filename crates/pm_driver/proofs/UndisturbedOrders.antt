@@ -46,7 +46,8 @@ use Rattle.pm_driver.specs.Laws.{LawsOfLives}
 use Rattle.pm_driver.specs.Steps.{CallsGo}
 use Rattle.pm_driver.specs.Undisturbed.{AreUndisturbed, IsUndisturbed, UndisturbedOrdersAreDone, WholeFramesAreLegal, asked_whole}
 use Rattle.pm_driver.specs.Undisturbed.{wrote_whole}
-use Rattle.pm_driver.proofs.BegunJobs.{job-goes, life-setup}
+use Rattle.pm_driver.proofs.BegunJobs.{job-goes}
+use Rattle.pm_driver.proofs.Grown.{life-setup}
 use Rattle.pm_driver.proofs.EndedJobs.{now-end}
 use Rattle.pm_driver.proofs.OpenJobs.{busy-host}
 use Rattle.pm_driver.proofs.WithinLimits.{first-none, guard-free, later-none}
@@ -158,7 +159,7 @@ through laws host held cell word has free allowed frame request room writes read
     let is = two.is_life in
     let went = (laws.good config passes after is.lived).order [] before middle after
     cell word 0 true refl (ap (λ (h : Summary). h.stage) begun.is_life.host_is)
-    (subst (λ (d : Held). is_allowed (word_at d.words Protect) (cell_code cell) ≡ true) (sym begun.is_life.held_is) allowed)
+    (subst (λ (d : Held). is_allowed (word_at d.words Protect) (cell_code cell) ≡ true) (sym begun.is_life.held_is.same) allowed)
     (laws.whole.written _ true before) (laws.whole.cell config passes cell middle) in
     let told : (life config passes after).entries
     ≡ Got answer ∷ Finished true ∷ Accepted (Order cell word) ∷ (life config passes has.events).entries =
@@ -172,7 +173,7 @@ through laws host held cell word has free allowed frame request room writes read
       fits = good-long config.addr cell word answer good;
       over = over-so host cell word answer (subst (λ (s : Setup). good_word s.addr cell answer ≡ Some word)
           (sym (life-setup has.life)) good);
-      held_is = subst (λ (d : Held). word_at d.words cell ≡ word) is.held_is went.held;
+      held_is = subst (λ (d : Held). word_at d.words cell ≡ word) is.held_is.same went.held;
       done = ap (end_of (setup_of config passes)) (sym told) ∙ (sym (now-end config passes after) ∙ went.done);
     }
 

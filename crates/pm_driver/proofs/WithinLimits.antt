@@ -1,6 +1,6 @@
 -- The words of an output stay within limits while a driver orders no other, and what a call of it does.
 use Rattle.std.proofs.Common.{◌≡◌, ◌||◌, ℕ, Bool, true, false, List, [], ◌∷◌, ◌++◌, Option, Some, None, Ok, inl, inr, refl}
-use Rattle.std.proofs.Common.{sym, ◌∙◌, ap, subst, arith, int_lt}
+use Rattle.std.proofs.Common.{ℤ, sym, ◌∙◌, ap, subst, arith, int_lt}
 use Rattle.std.specs.Prelude.{IfSome, IsSomeAnd, option_map, option_and_then}
 use Rattle.std.proofs.lemmas.Bool.Decides.{nat_tests}
 use Rattle.std.proofs.lemmas.Int.{ints}
@@ -38,7 +38,7 @@ use Rattle.pm_world.specs.Limited.{OrdersWithin, OwnWithin, StartsWithin, WordWi
 use Rattle.pm_world.specs.State.{asked, tells}
 use Rattle.pm_world.specs.Uncertainty.{job_event}
 use Rattle.pm_driver.specs.Acts.{Act, Began, Call, Called, Looked, Renewed, asked_in}
-use Rattle.pm_driver.specs.Driven.{AreAsNarrow, Driving, HasLife, HasLifeWithin, HasNoRestartSince, MayBegin, Runs, driven}
+use Rattle.pm_driver.specs.Driven.{AreAsNarrow, OrdersFor, StaysWithin, Driving, HasLife, HasLifeWithin, HasNoRestartSince, MayBegin, Runs, driven}
 use Rattle.pm_driver.specs.Ends.{EndSays, cell_read}
 use Rattle.pm_driver.specs.Laws.{EndsAreTrue, LawsOfLives, LeadsCompose, NewConvertersAreWithin}
 use Rattle.pm_driver.specs.Lives.{Driven, IsLife, Leads, jobs_asked, jobs_begun, with_job}
@@ -214,13 +214,38 @@ begun-within config output bounds (host.Send (ClearFaults o)) within = (λ s reg
 begun-within config output bounds (host.Send StoreUserAll) within = (λ s register other voltage is. cc, tt)
 begun-within config output bounds (host.Send RestoreUserAll) within = (λ s register other voltage is. cc, tt)
 
+-- a job that its host takes as an order of a voltage of the output is one for it
+voltage-for : (output : ℕ) (register : Reg) (cell : Cell) (word : ℕ) → cell ≡ Out output register → is_voltage register ≡ true →
+    OrdersFor output (job.Order cell word)
+voltage-for output register cell word same voltage =
+    subst (λ (c : Cell). OrdersFor output (job.Order c word)) (sym same) (refl, voltage)
+
+micro-for : (output : ℕ) (register : Reg) (cell : Cell) (x : ℤ) → cell ≡ Out output register → is_voltage register ≡ true →
+    OrdersFor output (job.OrderMicro cell x)
+micro-for output register cell x same voltage =
+    subst (λ (c : Cell). OrdersFor output (job.OrderMicro c x)) (sym same) (refl, voltage)
+
+orders-for : (s : Summary) (asked : Job) (begun : host.Job) (output : ℕ) (register : Reg) (word : ℕ) → accepted_job s asked ≡ Some begun →
+    begun ≡ host.Order (Out output register) word → is_voltage register ≡ true → OrdersFor output asked
+orders-for s (job.Order cell w) begun output register word is same voltage =
+    voltage-for output register cell w (let one : host.Order cell w ≡ host.Order (Out output register) word = cc in
+    let cells : cell ≡ Out output register = cc in cells) voltage
+orders-for s (job.OrderMicro cell x) begun output register word is same voltage = go (micro_word s cell x) is where
+  go : (found : Option ℕ) → option_map (λ n. host.Order cell n) found ≡ Some begun → OrdersFor output (job.OrderMicro cell x)
+  go None at = cc
+  go (Some n) at = micro-for output register cell x (let one : host.Order cell n ≡ host.Order (Out output register) word = cc in
+      let cells : cell ≡ Out output register = cc in cells) voltage
+orders-for s (job.Check cell) begun output register word is same voltage = cc
+orders-for s (job.Learn o) begun output register word is same voltage = cc
+orders-for s (job.Send command) begun output register word is same voltage = cc
+
 -- words stay within limits where a driver carries out a job that its guard let begin
 job-within : LawsOfLives → {B : Type 0} (gives : B → Call → B → Type 0) (held : B → Held) (restarts : B → ℕ) (g : Guarded) (asked : Job)
     (begun : host.Job) (end : JobEnd) (bus : B) (new : Driven B) → guard_fault g asked ≡ None →
     accepted_job g.host asked ≡ Some begun →
     (leads : Leads gives held restarts (Began begun ∷ []) (Some end) (record { host = g.host; bus = bus }) new) →
-    (output : ℕ) (bounds : Bounds) → AreAsNarrow (limits_at g output) bounds → HasLifeWithin output bounds g.host (held bus) →
-    HasLifeWithin output bounds new.host (held new.bus)
+    (output : ℕ) (bounds : Bounds) → (OrdersFor output asked → AreAsNarrow (limits_at g output) bounds) →
+    HasLifeWithin output bounds g.host (held bus) → HasLifeWithin output bounds new.host (held new.bus)
 job-within laws gives held restarts g asked begun end bus new free is leads output bounds narrow lived =
     let has = lived.has in
     let life = has.life in
@@ -229,7 +254,8 @@ job-within laws gives held restarts g asked begun end bus new free is leads outp
     let all = begun-within has.config output bounds begun (λ register word voltage same.
     in-format (format_at g.host output) (shape_for has.config output) word bounds
     (λ shape known. agree.held output shape (ap (λ (h : Summary). format_at h output) life.host_is ∙ known))
-    (all-narrower (limits_at g output) bounds (format_at g.host output) word narrow
+    (all-narrower (limits_at g output) bounds (format_at g.host output) word
+    (narrow (orders-for g.host asked begun output register word is same voltage))
     (λ own own_is. guarded-voltage g asked output register word own free (is ∙ ap (λ j. Some j) same) voltage own_is))) in
     led-within laws gives held restarts (Began begun ∷ []) (Some end) (record { host = g.host; bus = bus }) new output bounds lived leads
     (subst (JobsWithin has.config output bounds) (sym (leads.orders ∙ (asked-begun leads.acts ∙ jobs))) all)
@@ -273,8 +299,7 @@ runs-by laws law gives held restarts jobs compose asked end old new middle has f
 
       stays : (o : Option host.Job) → accepted_job old.guard.host asked ≡ o →
           IsSomeAnd o (λ begun. Leads gives held restarts (Began begun ∷ []) (Some end) (driven old) (driven new)) →
-          (output : ℕ) (bounds : Bounds) → AreAsNarrow (limits_at old.guard output) bounds →
-          HasLifeWithin output bounds old.guard.host (held old.bus) → HasLifeWithin output bounds new.guard.host (held new.bus)
+          StaysWithin held (λ output. OrdersFor output asked) old new
       stays None e is output bounds narrow lived = absurd is
       stays (Some begun) e is output bounds narrow lived =
           job-within laws gives held restarts old.guard asked begun end old.bus (driven new) free e is output bounds narrow lived
@@ -291,12 +316,12 @@ jobless-within laws gives held restarts asked old new none leads output bounds l
 
 -- ---- the beginning
 
--- a new host beside a converter whose words are within
-pub begins-within : LawsOfLives → (was summary : Summary) (held : Held) → MayBegin summary held → was.setup ≡ summary.setup →
+-- a new host, made as the one before, beside a converter whose words were within
+pub renewed-within : LawsOfLives → (was summary : Summary) (held : Held) → MayBegin summary held → was.setup ≡ summary.setup →
     (output : ℕ) (bounds : Bounds) → HasLifeWithin output bounds was held → HasLifeWithin output bounds summary held
-begins-within laws was summary held may same output bounds lived =
+renewed-within laws was summary held may same output bounds lived =
     let has = lived.has in
-    let one = grown laws RestartHost (tells host.Restarted) has.life refl tt refl in
+    let one = grown laws RestartHost (tells host.Restarted) has.life refl tt refl tt in
     let made : summary ≡ host_start summary.setup = may.made
     ∙ ap host_start (ap (λ (s : Summary). s.setup) (sym may.made)) in
     let new_is : host_next was host.Restarted ≡ summary = renewed-new was ∙ (ap host_start same ∙ sym made) in

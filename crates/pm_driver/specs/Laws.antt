@@ -1,28 +1,29 @@
 -- The laws of a driver, over the definitions alone.
-use Rattle.std.specs.Prelude.{◌≡◌, ℕ, true, false, IfSome, List, ◌++◌, Option, Some}
-use Rattle.pm_frame.specs.Laws.{BetrayalIsRefused, RequestsAreExact}
+use Rattle.std.specs.Prelude.{◌≡◌, ◌<◌, ℕ, true, false, IfSome, List, ◌++◌, length, Option, Some}
+use Rattle.pm_frame.specs.Laws.{BetrayalIsRefused, DamageIsRefused, RequestsAreExact, WritesAreExact}
 use Rattle.pm_limits.specs.Bounds.{Bounds}
 use Rattle.pm_device.specs.declared.config.Config.{Config}
 use Rattle.pm_device.specs.Held.{Held}
 use Rattle.pm_device.specs.Start.{IsSound}
 use Rattle.pm_device.specs.History as history
-use Rattle.pm_device.specs.Laws.{RequestsLatchAtMost}
+use Rattle.pm_device.specs.Laws.{RequestsLatchAtMost, WritesReachOneCell}
 use Rattle.pm_host.specs.declared.job.JobEnd.{JobEnd}
 use Rattle.pm_host.specs.Refusals.{IsSetup}
-use Rattle.pm_host.specs.Summary.{start}
+use Rattle.pm_host.specs.Summary.{Summary, start}
 use Rattle.pm_host.specs.Transcript.{Job, last_job}
 use Rattle.pm_world.specs.declared.event.Event.{Event}
 use Rattle.pm_table.specs.declared.cell.Cell.{Cell}
 use Rattle.pm_world.specs.Confirmed.{restarted_since}
 use Rattle.pm_world.specs.Honest.{IsSpelled}
-use Rattle.pm_world.specs.Laws.{ConfirmedSettingsAreHeld, LearnedFormatsAreTrue, LivesAreFollowed, LivesAreOrders, PossibleWordsAreHeld}
+use Rattle.pm_world.specs.Laws.{ConfirmedSettingsAreHeld, LearnedFormatsAreTrue, ListsSayEnough, LivesAreFollowed, LivesAreOrders, PossibleWordsAreHeld}
+use Rattle.pm_world.specs.Parts.{LivesLeaveParts, PartsAreReached, StartsAreParts, StoredConfigsStartSo}
 use Rattle.pm_world.specs.Life.{life, now}
 use Rattle.pm_world.specs.Lived.{IsLived}
 use Rattle.pm_world.specs.Limited.{StartsWithin}
 use Rattle.pm_world.specs.LimitLaws.{LivesStayLimited}
 use Rattle.pm_world.specs.Setup.{setup_of}
 use Rattle.pm_driver.specs.Acts.{Act, Call}
-use Rattle.pm_driver.specs.Driven.{HasLifeWithin, HasNoRestartSince, MayBegin}
+use Rattle.pm_driver.specs.Driven.{HasLife, HasLifeWithin, HasNoRestartSince, IsAsItIs, MayBegin, PartWithin}
 use Rattle.pm_driver.specs.Ends.{EndSays, cell_read}
 use Rattle.pm_driver.specs.Lives.{Driven, Leads, newest_tells}
 
@@ -35,8 +36,16 @@ pub record LawsOfLives : Type 0 where
   pub possible : PossibleWordsAreHeld
   pub limited : LivesStayLimited
   pub requests : RequestsAreExact
+  pub writes : WritesAreExact
+  pub damage : DamageIsRefused
   pub betrayal : BetrayalIsRefused
   pub latch : RequestsLatchAtMost
+  pub reach : WritesReachOneCell
+  pub parts : PartsAreReached
+  pub left : LivesLeaveParts
+  pub starts : StartsAreParts
+  pub stored : StoredConfigsStartSo
+  pub lists : ListsSayEnough
 
 -- What leads on from where something led is one that leads from its beginning: calls compose.
 abbrev pub LeadsCompose : {B : Type 0} → (B → Call → B → Type 0) → (B → Held) → (B → ℕ) → Type 0
@@ -66,7 +75,7 @@ EndsAreTrue = (config : Config) (passes : ℕ) (events : List Event) (job : Job)
 -- A new host may begin beside a converter as it was made.
 abbrev pub NewConvertersMayBegin : Type 0
 NewConvertersMayBegin = (config : Config) (passes : ℕ) →
-    IsSound config → IsSpelled config → IsSetup (setup_of config passes) →
+    length config.starts ≡ 8 → IsSound config → IsSpelled config → IsSetup (setup_of config passes) →
     MayBegin (start (setup_of config passes)) (history.start_of config)
 
 -- Beside one the converter didn't restart since a cell was read.
@@ -80,3 +89,17 @@ abbrev pub NewConvertersAreWithin : Type 0
 NewConvertersAreWithin = (config : Config) (passes output : ℕ) (bounds : Bounds) →
     IsSound config → IsSpelled config → IsSetup (setup_of config passes) → StartsWithin config output bounds →
     HasLifeWithin output bounds (start (setup_of config passes)) (history.start_of config)
+
+-- What any life left is a part beside which a new host may begin, whatever the passes of the earlier one were.
+abbrev pub LivesLeadOn : Type 0
+LivesLeadOn = (was : Summary) (held : Held) → HasLife was held → length held.config.starts ≡ 8 → IsAsItIs held
+
+-- A new host beside a part as it is was told of no answer yet: the part didn't restart since any cell was read.
+abbrev pub PartsHaveNoRestart : Type 0
+PartsHaveNoRestart = (held : Held) (passes : ℕ) (cell : Cell) → IsAsItIs held → IsSetup (setup_of held.config passes) →
+    HasNoRestartSince cell (start (setup_of held.config passes)) held
+
+-- All words of an output lie within limits that allow those of its voltages which the part holds and has stored.
+abbrev pub PartsAreWithin : Type 0
+PartsAreWithin = (held : Held) (passes output : ℕ) (bounds : Bounds) → IsAsItIs held → IsSetup (setup_of held.config passes) →
+    output < held.config.count → PartWithin held output bounds → HasLifeWithin output bounds (start (setup_of held.config passes)) held

@@ -1,7 +1,8 @@
 -- What a driver's acts come to, over every life that may have led to where they began: this project's own choice.
 -- Lists are newest first.
-use Rattle.std.specs.Prelude.{◌≡◌, ◌+◌, ℕ, Bool, true, false, List, [], ◌∷◌, ◌++◌, Option, Some, None}
+use Rattle.std.specs.Prelude.{◌≡◌, ◌+◌, ℕ, Bool, true, false, List, [], ◌∷◌, ◌++◌, map, Option, Some, None}
 use Rattle.pm_device.specs.declared.config.Config.{Config}
+use Rattle.pm_device.specs.declared.output_start.OutputStart.{OutputStart}
 use Rattle.pm_device.specs.Held.{Held}
 use Rattle.pm_host.specs.declared.job.Job.{Job}
 use Rattle.pm_host.specs.declared.job.JobEnd.{JobEnd}
@@ -20,17 +21,32 @@ pub record Driven (B : Type 0) : Type 0 where
   pub host : Summary
   pub bus : B
 
--- The converters hold the same, but for the latched bits of STATUS_CML.
-abbrev pub IsSameButFaults : Held → Held → Type 0
-IsSameButFaults one other = one ≡ record other { faults = one.faults }
+-- a converter that starts with the words of another, and has the other's PAGE, readings and latched status bits
+abbrev pub moved : Held → Held → Held
+moved held other = record held {
+  config = record held.config { starts = other.config.starts; protect = other.config.protect };
+  page = other.page;
+  readings = other.readings;
+  cut = other.cut;
+  faults = other.faults;
+}
 
--- Events that were lived through, and lead to this host and to this converter, but for its latched bits of STATUS_CML: a
--- read that is no job may have latched some, and is none of the events. Words, store, PAGE, readings and the latches of
--- STATUS_VOUT are those that the events lead to.
+-- the VOUT_MODE bytes of a configuration's outputs
+abbrev pub modes_of : Config → List ℕ
+modes_of config = map (λ (start : OutputStart). start.mode) config.starts
+
+-- The converters are made alike, hold the same words and have the same stored. The words that they start with, PAGE, the
+-- readings and the latched status bits may differ: no frame of a host depends on any of them.
+pub record HaveSameSettings (one other : Held) : Type 0 where
+  pub same : one ≡ moved other one
+  pub modes : modes_of one.config ≡ modes_of other.config
+
+-- Events that were lived through, and lead to this host and to this converter's words and store. The converter's PAGE and
+-- readings may be any that something before the host left, and so may the status bits that are latched.
 pub record IsLife (config : Config) (passes : ℕ) (events : List Event) (host : Summary) (held : Held) : Type 0 where
   pub lived : IsLived config passes events
   pub host_is : (now config passes events).host ≡ host
-  pub held_is : IsSameButFaults (now config passes events).device held
+  pub held_is : HaveSameSettings (now config passes events).device held
 
 -- the newest event is one that the host was told of, so nothing happened after it
 abbrev pub newest_tells : List Event → Bool

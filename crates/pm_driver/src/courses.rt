@@ -3,6 +3,7 @@
 ghost use Rattle.std.specs.Prelude.{◌≡◌, ◌<◌, true};
 ghost use Rattle.pm_host.specs.Refusals.{is_busy as spec_is_busy};
 ghost use Rattle.pm_driver.specs.Courses.{Completes, Finishes};
+ghost use Rattle.pm_driver.specs.Driven.{OfOne, StaysRead, StaysWithin};
 
 use crate::bus::Bus;
 use crate::driver::Driver;
@@ -28,6 +29,8 @@ impl<B: Bus> Driver<B> {
         requires { output < self.old.guard.host.setup.outputs }
         ensures finishes { Finishes B.gives B.held B.restarts output wanted.now tries self.old result self.new }
         ensures busy { spec_is_busy self.old.guard.host ≡ true → self.new ≡ self.old }
+        ensures within { StaysWithin B.held (OfOne output) self.old self.new }
+        ensures stays { StaysRead B.held B.restarts self.old self.new }
         ensures limits { self.new.guard.limits ≡ self.old.guard.limits }
         ensures registers { self.new.guard.registers ≡ self.old.guard.registers }
         ensures kept { self.new.guard.host.setup ≡ self.old.guard.host.setup }
@@ -51,6 +54,8 @@ impl<B: Bus> Driver<B> {
     pub fn complete(&mut self, course: &mut Course) -> Result<ApplyEnd, LimitFault>
         requires { course.old.survey.output < self.old.guard.host.setup.outputs }
         ensures completes { Completes B.gives B.held B.restarts course.old self.old result course.new self.new }
+        ensures within { StaysWithin B.held (OfOne course.old.survey.output) self.old self.new }
+        ensures stays { StaysRead B.held B.restarts self.old self.new }
         ensures limits { self.new.guard.limits ≡ self.old.guard.limits }
         ensures registers { self.new.guard.registers ≡ self.old.guard.registers }
         ensures kept { self.new.guard.host.setup ≡ self.old.guard.host.setup }

@@ -9,7 +9,7 @@ ghost use Rattle.pm_limits.specs.Bounds.{Bounds};
 ghost use Rattle.pm_limits.specs.Guard.{narrow_fault, narrowed};
 ghost use Rattle.pm_limits.specs.Part.{all_registers};
 ghost use Rattle.pm_driver.specs.Acts.{IsNoWrite, Renewed};
-ghost use Rattle.pm_driver.specs.Driven.{HasLifeWithin, HasNoRestartSince, IsTrueOf, MayBegin, Runs, driven};
+ghost use Rattle.pm_driver.specs.Driven.{HasLifeWithin, HasNoRestartSince, IsTrueOf, MayBegin, PartWithin, Runs, driven};
 ghost use Rattle.pm_driver.specs.Lives.{Leads};
 ghost use Rattle.pm_driver.specs.Looks.{Looks};
 
@@ -52,27 +52,34 @@ impl<B: Bus> Driver<B> {
         ensures bus { result.bus ≡ bus }
         ensures within { (was : Summary) (output : ℕ) (bounds : Bounds) → was.setup ≡ host.setup →
             HasLifeWithin output bounds was (B.held bus) → HasLifeWithin output bounds host (B.held bus) }
-        ensures since { (was : Summary) (cell : Place) → was.setup ≡ host.setup →
-            HasNoRestartSince cell was (B.held bus) → HasNoRestartSince cell host (B.held bus) }
+        ensures begun { (output : ℕ) (bounds : Bounds) → output < host.setup.outputs → PartWithin (B.held bus) output bounds →
+            HasLifeWithin output bounds result.guard.host (B.held result.bus) }
+        ensures earlier { (was : Summary) (output : ℕ) (bounds : Bounds) → output < host.setup.outputs →
+            HasLifeWithin output bounds was (B.held bus) → HasLifeWithin output bounds result.guard.host (B.held result.bus) }
+        ensures since { (cell : Place) → HasNoRestartSince cell result.guard.host (B.held result.bus) }
     {
         Driver::guarded(Guard::over(host), bus)
     }
 
-    /// A driver of a new host with its limits, made for the address, the outputs and the passes of a life that led to
-    /// the converter: one as it was made ([`new_converters_may_begin`](crate::new_converters_may_begin)), or one that
-    /// runs, with whatever host it had.
+    /// A driver of a new host with its limits, made for the address and the outputs of a part as it is
+    /// (`MayBegin`): any words that its cells accept, held and stored, any PAGE, readings and latched status bits, whatever was
+    /// there before. A converter as it was made is one ([`new_converters_may_begin`](crate::new_converters_may_begin)), and so is
+    /// what any life left ([`lives_lead_on`](crate::lives_lead_on)).
     ///
-    /// Where all words of that life lie within an output's limits (of a new converter:
-    /// [`new_converters_are_within`](crate::new_converters_are_within)), they do here (`within`) and after each
-    /// call, and the output commands a voltage within them: [`laws`](Driver::laws), `limited`.
+    /// Where an output's limits allow the words that the part holds and has stored, all its words lie within them
+    /// here (`begun`) and after each call, and the output commands a voltage within them: [`laws`](Driver::laws), `limited`.
+    /// So they do where they did with an earlier host, with the same passes (`within`) or others (`earlier`). The part didn't restart since any cell was read (`since`).
     pub fn guarded(guard: Guard, bus: B) -> Driver<B>
         requires { MayBegin guard.host (B.held bus) }
         ensures guard { result.guard ≡ guard }
         ensures bus { result.bus ≡ bus }
         ensures within { (was : Summary) (output : ℕ) (bounds : Bounds) → was.setup ≡ guard.host.setup →
             HasLifeWithin output bounds was (B.held bus) → HasLifeWithin output bounds guard.host (B.held bus) }
-        ensures since { (was : Summary) (cell : Place) → was.setup ≡ guard.host.setup →
-            HasNoRestartSince cell was (B.held bus) → HasNoRestartSince cell guard.host (B.held bus) }
+        ensures begun { (output : ℕ) (bounds : Bounds) → output < guard.host.setup.outputs → PartWithin (B.held bus) output bounds →
+            HasLifeWithin output bounds result.guard.host (B.held result.bus) }
+        ensures earlier { (was : Summary) (output : ℕ) (bounds : Bounds) → output < guard.host.setup.outputs →
+            HasLifeWithin output bounds was (B.held bus) → HasLifeWithin output bounds result.guard.host (B.held result.bus) }
+        ensures since { (cell : Place) → HasNoRestartSince cell result.guard.host (B.held result.bus) }
     {
         laws_of_lives();
         Driver { guard, bus }

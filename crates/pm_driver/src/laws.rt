@@ -1,20 +1,22 @@
 //! The laws of a driver: each is the contract of a function that does nothing when it runs.
 
 ghost use Rattle.pm_driver.specs.Laws.{EndsAreTrue, LeadsCompose, NewConvertersAreWithin, NewConvertersHaveNoRestart, NewConvertersMayBegin};
-ghost use Rattle.pm_driver.specs.Laws.{LawsOfLives, RestartsAreCounted};
+ghost use Rattle.pm_driver.specs.Laws.{LawsOfLives, LivesLeadOn, PartsAreWithin, PartsHaveNoRestart, RestartsAreCounted};
 ghost use Rattle.pm_driver.specs.Looks.{RequestsAreNoWrites};
+ghost use Rattle.pm_driver.specs.Since.{PartsCommandTheirOwn};
 ghost use Rattle.pm_driver.specs.Surprises.{OneSurpriseAtMost};
 ghost use Rattle.pm_driver.specs.Steps.{CallsGo, FramesLead, JobsLead, LooksLead, RenewalsLead};
 ghost use Rattle.pm_driver.specs.Undisturbed.{JobsRestartNothing, ReadsRestartNothing, UndisturbedOrdersAreDone, WholeFramesAreLegal};
 
 use crate::bus::Bus;
-use pm_device::requests_latch_at_most;
-use pm_frame::{betrayal_is_refused, damage_is_refused, requests_are_exact};
+use pm_device::{requests_latch_at_most, writes_reach_one_cell};
+use pm_frame::{betrayal_is_refused, damage_is_refused, requests_are_exact, writes_are_exact};
 use pm_host::{possible_words_are_followed, transcripts_are_followed};
 use pm_table::cells_are_told_apart;
 use pm_world::{
     confirmed_settings_are_held, events_are_lived, good_frames_end_jobs, learned_formats_are_true,
-    lives_are_followed, lives_are_orders, lives_stay_limited, possible_words_are_held,
+    lists_say_enough, lives_are_followed, lives_are_orders, lives_leave_parts, lives_stay_limited,
+    parts_are_reached, possible_words_are_held, starts_are_parts, stored_configs_start_so,
     whole_frames_are_undisturbed,
 };
 
@@ -29,8 +31,16 @@ pub(crate) fn laws_of_lives()
     possible_words_are_held();
     lives_stay_limited();
     requests_are_exact();
+    writes_are_exact();
+    damage_is_refused();
     betrayal_is_refused();
     requests_latch_at_most();
+    writes_reach_one_cell();
+    parts_are_reached();
+    lives_leave_parts();
+    starts_are_parts();
+    stored_configs_start_so();
+    lists_say_enough();
 }
 
 /// What leads on from where something led is one that leads from its beginning: calls compose.
@@ -93,6 +103,36 @@ pub fn new_converters_have_no_restart()
 /// there.
 pub fn new_converters_are_within()
     ensures { NewConvertersAreWithin }
+{
+    laws_of_lives();
+}
+
+/// What any life left is a part beside which a new host may begin, whatever the passes of the earlier one were.
+pub fn lives_lead_on()
+    ensures { LivesLeadOn }
+{
+    laws_of_lives();
+}
+
+/// A new host beside a part as it is was told of no answer yet: the part didn't restart since any cell was read.
+pub fn parts_have_no_restart()
+    ensures { PartsHaveNoRestart }
+{
+    laws_of_lives();
+}
+
+/// All words of an output lie within limits that allow those of its voltages which a part holds and has stored.
+pub fn parts_are_within()
+    ensures { PartsAreWithin }
+{
+    laws_of_lives();
+}
+
+/// Whatever a driver was asked for since it began beside a part as it is, and whatever its bus lost, cut, damaged, repeated or
+/// restarted: each output commands a value of words that the part held or had stored as the driver began, or that were
+/// ordered since for that same output; and each of its registers holds such a word, and has one stored.
+pub fn parts_command_their_own<B: Bus>()
+    ensures { PartsCommandTheirOwn B.gives B.held B.restarts }
 {
     laws_of_lives();
 }

@@ -52,6 +52,8 @@
 //!     Some(driver.apply(0, &wanted, 60)) // Reached: unless it restarted, the converter holds both words
 //! }
 //! ```
+//!
+//! Tests: crates/pm_host_tests, crates/pm_law_tests
 #![tactic(auto)]
 
 mod adapter;
@@ -76,12 +78,14 @@ pub use buses::{
 pub use driver::Driver;
 pub use frames::carry_out;
 pub use laws::{
-    ends_are_true, jobs_restart_nothing, leads_compose, new_converters_are_within,
+    ends_are_true, jobs_restart_nothing, leads_compose, lives_lead_on, new_converters_are_within,
     new_converters_have_no_restart, new_converters_may_begin, one_surprise_at_most,
-    reads_restart_nothing, requests_are_no_writes, restarts_are_counted,
-    undisturbed_orders_are_done, whole_frames_are_legal,
+    parts_are_within, parts_command_their_own, parts_have_no_restart, reads_restart_nothing,
+    requests_are_no_writes, restarts_are_counted, undisturbed_orders_are_done,
+    whole_frames_are_legal,
 };
 pub use rail_laws::{
-    applied_plans_come_true, applied_plans_keep_rails, courses_are_lived, rails_lead,
-    reached_plans_are_commanded, surveys_are_true, surveys_take_few_checks,
+    applied_plans_come_true, applied_plans_keep_rails, bands_are_kept, bands_stand,
+    courses_are_lived, rails_lead, reached_plans_are_commanded, surveys_are_true,
+    surveys_take_few_checks,
 };

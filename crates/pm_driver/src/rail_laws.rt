@@ -1,6 +1,7 @@
 //! What a survey and a plan are worth that a driver carries out: each law is the contract of a function that does nothing
 //! when it runs.
 
+ghost use Rattle.pm_driver.specs.Bands.{BandsAreKept, BandsStand};
 ghost use Rattle.pm_driver.specs.Courses.{CoursesAreLived};
 ghost use Rattle.pm_driver.specs.FewChecks.{SurveysTakeFewChecks};
 ghost use Rattle.pm_driver.specs.RailLaws.{AppliedPlansComeTrue, AppliedPlansKeepRails, LawsOfRails};
@@ -9,14 +10,14 @@ ghost use Rattle.pm_driver.specs.Reached.{ReachedPlansAreCommanded};
 ghost use Rattle.pm_driver.specs.SurveyLaws.{SurveysAreTrue};
 
 use crate::bus::Bus;
-use crate::laws::one_surprise_at_most;
+use crate::laws::{ends_are_true, laws_of_lives, one_surprise_at_most};
 use pm_device::words_have_an_origin;
 use pm_host::{ends_are_told, transcripts_are_followed};
 use pm_rail::{surveys_are_short, surveys_end_known};
 use pm_table::cells_are_told_apart;
 use pm_world::{
-    courses_hold_in_lives, events_are_lived, lives_are_followed, settings_move_by_the_open_job,
-    surveys_hold_in_lives,
+    bands_are_held, courses_hold_in_lives, events_are_lived, lives_are_followed,
+    settings_move_by_the_open_job, surveys_hold_in_lives,
 };
 
 // What the crates below say, which the laws here are had from.
@@ -93,3 +94,22 @@ pub fn surveys_take_few_checks<B: Bus>()
 pub fn rails_lead<B: Bus>()
     ensures { RailsLead B.gives B.held B.restarts }
 {}
+
+/// What an output commands lies in its band, and within its limits where the guard says so, where the converter didn't restart
+/// since the host's last good answer for any of the registers that the band rests on.
+pub fn bands_stand()
+    ensures { BandsStand }
+{
+    laws_of_lives();
+    bands_are_held();
+}
+
+/// While the bus counts no restart, registers since whose reading the converter didn't restart stay such, whatever is done. A
+/// job that reads one more adds it, and a survey that has ended by its own rule has all that a band rests on.
+pub fn bands_are_kept<B: Bus>()
+    ensures { BandsAreKept B.gives B.held B.restarts }
+{
+    ends_are_true();
+    laws_of_lives();
+    laws_of_rails();
+}

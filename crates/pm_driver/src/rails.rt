@@ -6,7 +6,7 @@ ghost use Rattle.pm_host.specs.Frames.{frames_left};
 ghost use Rattle.pm_host.specs.Refusals.{is_busy as spec_is_busy};
 ghost use Rattle.pm_host.specs.Summary.{possible_at};
 ghost use Rattle.pm_rail.specs.Known.{known_word};
-ghost use Rattle.pm_driver.specs.Driven.{Runs};
+ghost use Rattle.pm_driver.specs.Driven.{OfNone, Runs, StaysRead, StaysWithin};
 ghost use Rattle.pm_driver.specs.Rails.{SurveysTo, asks_in};
 
 use crate::bus::Bus;
@@ -25,6 +25,8 @@ impl<B: Bus> Driver<B> {
     pub fn survey(&mut self, survey: &mut Survey) -> Result<bool, HostFault>
         requires { survey.old.output < self.old.guard.host.setup.outputs }
         ensures surveys { SurveysTo B.gives B.held B.restarts survey.old self.old result survey.new self.new }
+        ensures within { StaysWithin B.held OfNone self.old self.new }
+        ensures stays { StaysRead B.held B.restarts self.old self.new }
         ensures limits { self.new.guard.limits ≡ self.old.guard.limits }
         ensures registers { self.new.guard.registers ≡ self.old.guard.registers }
         ensures kept { self.new.guard.host.setup ≡ self.old.guard.host.setup }

@@ -29,6 +29,8 @@
 //!     Ok(view.message()) // what was written
 //! }
 //! ```
+//!
+//! Tests: crates/pm_frame_tests
 #![tactic(auto)]
 
 mod block_read;

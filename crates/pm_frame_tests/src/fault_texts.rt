@@ -2,9 +2,10 @@
 
 use crate::checks::prints;
 use pm_frame::FrameFault;
+use pm_table::TableFault;
 use std::alloc::AllocError;
 
-static ROWS: [(FrameFault, &str); 8] = [
+static FRAMES: [(FrameFault, &str); 8] = [
     (FrameFault::NotOurs, "F1 NotOurs"),
     (FrameFault::Short(7), "F2 Short 7"),
     (FrameFault::Long(8), "F3 Long 8"),
@@ -17,7 +18,22 @@ static ROWS: [(FrameFault, &str); 8] = [
 
 #[test]
 fn each_fault_shows_its_words_and_its_place(rt: HostRuntime) -> Result<(), AllocError> {
-    for (row, (fault, wanted)) in ROWS.iter().enumerate() {
+    for (row, (fault, wanted)) in FRAMES.iter().enumerate() {
+        prints(&rt, row, fault, wanted)?;
+    }
+    Ok(())
+}
+
+static TABLES: [(TableFault, &str); 4] = [
+    (TableFault::VidMode, "C1 VidMode"),
+    (TableFault::HalfMode, "C2 HalfMode"),
+    (TableFault::RelativeMode, "C3 RelativeMode"),
+    (TableFault::BadParameter, "C4 BadParameter"),
+];
+
+#[test]
+fn each_fault_shows_its_words(rt: HostRuntime) -> Result<(), AllocError> {
+    for (row, (fault, wanted)) in TABLES.iter().enumerate() {
         prints(&rt, row, fault, wanted)?;
     }
     Ok(())

@@ -1,7 +1,6 @@
 //! The formats of numbers at known words and numbers.
 
 mod bounds;
-mod example;
 mod search;
 
 use crate::checks::agrees;
@@ -299,4 +298,18 @@ fn a_value_is_sent_in_the_preferred_spelling(rt: HostRuntime) {
     sends(&rt, 5, &unsigned, 0xFFFF, 0xFFFF);
     let slope = AnyFormat::Direct(slope(&rt, 7, 1, 2));
     sends(&rt, 6, &slope, 0x1234, 0x1234);
+}
+
+// The example of the root of `pm_num`, word for word.
+fn nearest(microvolts: i64) -> Result<(u16, i128), NumFault> {
+    let coefficients = Direct::new(1, 0, 3)?; // a word for each millivolt
+    let volts = micro(microvolts)?; // N5 beyond 10^15
+    let word = coefficients.nearest(volts)?; // N3 below the least value, N4 above the greatest
+    Ok((word, coefficients.value_of(word).floor_micro()))
+}
+
+#[test]
+fn the_example_of_the_root_runs(rt: HostRuntime) {
+    assert_eq!(rt; nearest(3_300_400), Ok((3300, 3_300_000)));
+    assert_eq!(rt; nearest(32_768_000), Err(NumFault::AboveGreatest));
 }

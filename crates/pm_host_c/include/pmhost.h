@@ -50,21 +50,20 @@ extern "C" {
 /* The version of the library, the greater part in the upper byte; pm_version answers that of the one that was linked. */
 #define PM_VERSION 0x0001
 
-/* The versions of a host's layout and a survey's, their sizes in bytes, and the stack that a call takes at most: PM_STACK, and PM_NAME_STACK
- * of pm_refusal_name, in which a loader may bind memmove. docs/c.md has what calls take on each processor, and an
- * archive says its own bound as stack-bytes in its section .comment. */
+/* The versions of the layouts of a host and a course, their sizes in bytes, and the stack that a call takes at most:
+ * PM_STACK, and PM_NAME_STACK of pm_refusal_name, in which a loader may bind memmove. docs/c.md has what calls take on each
+ * processor, and an archive says its own bound as stack-bytes in its section .comment. */
 #define PM_HOST_VERSION 6
 #define PM_HOST_SIZE 2064
-#define PM_SURVEY_VERSION 1
-#define PM_SURVEY_SIZE 40
+#define PM_COURSE_VERSION 1
+#define PM_COURSE_SIZE 104
 #define PM_STACK 2048
 #define PM_NAME_STACK 4096
 
-/* What a call answers: 0, or why it is refused. A refused call changes nothing, but for three: pm_host_frame then
- * writes PM_NOTHING, pm_host_plan and pm_host_next the code of the register that the refusal is about. pm_pec,
- * pm_host_restart_seen and pm_host_limits_state answer something else: each says what, and what the last answers is no number
- * of these; nor are PM_PLAN_DONE, PM_SURVEY_DONE, PM_SURVEY_SPENT and PM_SURVEY_STUCK, which refuse nothing.
- * pm_refusal_name gives the name of each, and of those of pmpart.h. */
+/* What a call answers: 0, or why it is refused. A refused call changes nothing, but for two: pm_host_frame and pm_course_frame then
+ * write PM_NOTHING. pm_pec, pm_host_restart_seen and pm_host_limits_state answer something else: each says what, and what the last
+ * answers is no number of these; nor is PM_ENDED, which refuses nothing. pm_refusal_name gives the name of each, and of those of
+ * pmpart.h. */
 enum {
     PM_OK = 0,
     PM_H1_OUTPUT_COUNT = 0x01,    /* a number of outputs other than 1 to 8 */
@@ -86,9 +85,7 @@ enum {
     PM_L5_NOT_KNOWN_WITHIN = 0x25, /* this byte leaves the output on, and it isn't known to be within its limits */
     PM_L6_LIMITS_WIDENED = 0x26,  /* the new limits let through what the old ones don't */
     PM_L7_MISSING_REGISTER = 0x27, /* the part doesn't have the register, or the margin that a byte of OPERATION selects */
-    PM_P1_FORMAT_UNKNOWN = 0x61,  /* P1 to P7: why a plan gives no order. The output's format isn't learned */
-    PM_P2_BELOW_LIMIT = 0x62,     /* a wanted word is below the output's limits */
-    PM_P3_ABOVE_LIMIT = 0x63,     /* a wanted word is above the output's limits */
+    PM_P1_FORMAT_UNKNOWN = 0x61,  /* P1, P4 to P7: why a course or a plan gives no order. The output's format isn't learned */
     PM_P4_NOT_KNOWN = 0x64,       /* what a register or WRITE_PROTECT holds isn't known: check it */
     PM_P5_BELOW_MIN = 0x65,       /* a word will be below VOUT_MIN as that will be */
     PM_P6_ABOVE_MAX = 0x66,       /* a word will be above VOUT_MAX as that will be */
@@ -100,8 +97,7 @@ enum {
     PM_NO_PACKET = 0xE4,          /* no packet has these numbers */
     PM_NO_LIMITS = 0xE6,          /* the output has no limits */
     PM_NO_NAME = 0xE7,            /* the number has no name */
-    PM_NO_SURVEY = 0xE9,          /* the memory holds no survey of this version */
-    PM_NO_END = 0xEA,             /* the number is no end of a job */
+    PM_NO_COURSE = 0xE9,          /* the memory holds no course of this version, or none to which a voltage can be added */
     PM_NO_BAND = 0xEB,            /* OPERATION may be a byte that hands the output's voltage to AVSBus */
     PM_F1_NOT_OURS = 0x31,        /* F1 to F8: what is wrong with the bytes of a packet */
     PM_F2_SHORT = 0x32,
@@ -113,8 +109,8 @@ enum {
     PM_F8_NESTED = 0x38
 };
 
-/* What pm_host_plan, pm_host_next and pm_host_survey answer beside 0 where nothing is refused. */
-enum { PM_PLAN_DONE = 0x94, PM_SURVEY_DONE = 0x95, PM_SURVEY_SPENT = 0x96, PM_SURVEY_STUCK = 0x97 };
+/* What pm_course_frame and pm_course_next answer where the course has ended. */
+enum { PM_ENDED = 0x95 };
 
 /* The cells: an output and one of these command codes; with WRITE_PROTECT, which is the device's, the
  * output isn't looked at. */
@@ -186,11 +182,14 @@ typedef struct { int64_t least, greatest; } pm_band;
 /* What an output commands, by what is known. An output that is off has its band too, of the register that OPERATION
  * selects then. */
 enum { PM_POWER_ANY = 0, PM_POWER_ON = 1, PM_POWER_OFF = 2 };
+enum { PM_SELECTED_ANY = 0, PM_SELECTED_AVSBUS = 0xFF };
 typedef struct {
     uint8_t power;     /* PM_POWER_ON or PM_POWER_OFF where each byte that OPERATION may hold has it so, or PM_POWER_ANY */
     uint8_t within;    /* PM_WITHIN, PM_OUTSIDE or PM_NOT_KNOWN, as pm_host_limits_state answers */
     uint8_t band;      /* 0 where the band is told in `ends`; otherwise why it isn't: H7, PM_NO_BAND, N5 */
-    uint8_t unused[5];
+    uint8_t selected;  /* which register has its voltage: PM_VOUT_COMMAND or a margin where each byte that OPERATION may hold selects
+                        * it, PM_SELECTED_AVSBUS where each hands it to AVSBus, or PM_SELECTED_ANY; VOUT_COMMAND of one that is off */
+    uint8_t unused[4];
     pm_band ends;      /* zeros where it isn't told */
 } pm_rail;
 
@@ -199,20 +198,48 @@ typedef struct {
 typedef struct { uint16_t has; uint16_t word; } pm_wish;
 typedef struct { pm_wish command, max, margin_high, margin_low, min; } pm_wanted;
 
-/* An order of a plan: a register, by its command code, and its wanted word. Of a refusal: the code of the register that it
- * is about, or of WRITE_PROTECT, 0 where it is about none, and word 0. */
+/* A course, in memory of yours: one way of an output to what is wanted of it. Nothing in it is for callers. Any bytes may stand
+ * there: each call but those that make one asks first for its mark, its version and fields that a course has, and answers
+ * PM_NO_COURSE where one lacks. It holds no host and no pointer, it may be copied, and what stands in it is a function of what it
+ * means. */
+typedef struct { uint64_t held[PM_COURSE_SIZE / 8]; } pm_course;
+
+typedef char pm_course_has_its_size[sizeof(pm_course) == PM_COURSE_SIZE ? 1 : -1];
+
+/* How a course ended; kind 0 where it goes on. */
+enum {
+    PM_REACHED = 1,       /* each wanted word is held and the output commands what it is to, by answers that all came after the last
+                           * order; of a survey: all that decides what the output commands is known; of a byte that turns the output
+                           * off: its order was read back. Each unless the part restarted since the course began */
+    PM_REFUSED = 2,       /* `number` says why, and `code` of which register, or 0. Nothing more is ordered, and before the first
+                           * order nothing was written */
+    PM_STILL_DIFFERS = 3, /* an order of the register `code` was read back as another word a second time, now as `word` */
+    PM_SPENT = 4,         /* no try is left for what comes next, which is about the register `code`, or VOUT_MODE (20h) of a learn;
+                           * `fault` says what was wrong with the last answer of this course */
+    PM_OTHER_FORMAT = 5,  /* VOUT_MODE was read as `word`, which names no format whose words are known, as 21h (VID); or coefficients
+                           * came with 40h that make no format */
+    PM_OTHER_SOURCE = 6   /* OPERATION holds the byte `word`, which its cell doesn't take, as B0h, which hands the voltage to AVSBus:
+                           * pm_course_power orders another byte over it */
+};
+
+/* `fault` beside PM_F1_NOT_OURS to PM_F5_WRONG_PEC; 0 where the last answer was good. */
+enum { PM_NO_ANSWER = 1, PM_NO_ACKNOWLEDGEMENT = 2 };
 typedef struct {
-    uint8_t code;
+    uint8_t kind;
+    uint8_t number; /* of PM_REFUSED; otherwise 0 */
+    uint8_t code;   /* a register's command code, or 0 */
     uint8_t unused;
-    uint16_t word;
-} pm_plan_order;
+    uint16_t word;  /* of PM_STILL_DIFFERS, PM_OTHER_FORMAT and PM_OTHER_SOURCE; otherwise 0 */
+    uint16_t fault; /* of PM_SPENT; otherwise 0 */
+} pm_course_end;
 
-/* A survey, in memory of yours. Nothing in it is for callers. Any bytes may stand there: each call but pm_survey_new and
- * pm_survey_for, which make one, asks first for its mark, its version and an output from 0 to 7, and answers PM_NO_SURVEY
- * where one lacks. It may be copied, and what stands in it is a function of what it means. */
-typedef struct { uint64_t held[PM_SURVEY_SIZE / 8]; } pm_survey;
-
-typedef char pm_survey_has_its_size[sizeof(pm_survey) == PM_SURVEY_SIZE ? 1 : -1];
+/* A job of a course: a learn of its output, a check of a register, or an order of one. */
+enum { PM_JOB_NONE = 0, PM_JOB_LEARN = 1, PM_JOB_CHECK = 2, PM_JOB_ORDER = 3 };
+typedef struct {
+    uint8_t kind;
+    uint8_t code;  /* the register's command code, VOUT_MODE (20h) of a learn, 0 of none */
+    uint16_t word; /* the word that is ordered; otherwise 0 */
+} pm_course_job;
 
 /* The format of an output's voltages, or of a reading: LINEAR11, which READ_VIN, READ_IOUT and READ_TEMPERATURE_1
  * have, and which no host learns of an output. Microvolts are then millionths of a volt, an ampere or a degree. */
@@ -227,12 +254,12 @@ typedef struct {
 /* The version of this library: compare it at start with PM_VERSION, of which the upper byte has to be the same. */
 uint16_t pm_version(void);
 
-/* The sizes and the versions of a pm_host and a pm_survey: compare them at start with PM_HOST_SIZE, PM_HOST_VERSION,
- * PM_SURVEY_SIZE and PM_SURVEY_VERSION. */
+/* The sizes and the versions of a pm_host and a pm_course: compare them at start with PM_HOST_SIZE, PM_HOST_VERSION, PM_COURSE_SIZE
+ * and PM_COURSE_VERSION. */
 uint64_t pm_host_size(void);
 uint16_t pm_host_version(void);
-uint64_t pm_survey_size(void);
-uint16_t pm_survey_version(void);
+uint64_t pm_course_size(void);
+uint16_t pm_course_version(void);
 
 /* Makes a host, whatever stood in the memory, for the device at this address, 08h to 77h, which has this
  * many outputs, 1 to 8; a job has at most this many passes or tries, 1 to 15. Nothing is known, and no output has
@@ -339,39 +366,62 @@ uint8_t pm_host_restart_seen(const pm_host *host);
 /* What an output commands, by what is known. PM_NO_HOST, H4; then nothing is written. */
 uint8_t pm_host_rail(const pm_host *host, uint8_t output, pm_rail *rail);
 
-/* The next order on the way from what an output's registers hold to what is wanted, by what is known: 0, and `next` has it;
- * PM_PLAN_DONE where each has its wanted word, with zeros; or a refusal with its register. No list is kept: after each order
- * ask again. Each order leaves what the output commands or makes it what it is to be, whatever stood before, and five are the
- * most. OPERATION is no part of a plan, and has to be known; so have VOUT_MAX, VOUT_MIN, the register that OPERATION selects,
- * each of which a word is wanted, and WRITE_PROTECT where an order is due: a pm_survey_for reads them. A register is known
- * where one word alone is possible. PM_NO_HOST, H3, H4, L7 where a word is wanted of a register that the part doesn't have,
- * P1 to P7, of several the first; of several registers the first in the order of OPERATION, VOUT_COMMAND, VOUT_MAX,
- * VOUT_MARGIN_HIGH, VOUT_MARGIN_LOW, VOUT_MIN. All of `next` is written in any case. */
-PM_MUST_USE
-uint8_t pm_host_plan(const pm_host *host, uint8_t output, const pm_wanted *wanted, pm_plan_order *next);
+/* ---- A course ---- */
 
-/* The same, and the order begins in the same call, as by pm_host_order: 0, and it has begun. Otherwise nothing has. */
-PM_MUST_USE
-uint8_t pm_host_next(pm_host *host, uint8_t output, const pm_wanted *wanted, pm_plan_order *next);
+/* Makes a course, whatever stood in the memory. It has at most this many jobs, each a learn, a check or an order; and each job at
+ * most as many passes as its host has. H4 for an output above 7; then nothing is written. Give a course its output alone: no other
+ * job of that output begins, and no restore, until it has ended. */
 
-/* Makes a survey, whatever stood in the memory: of what decides what an output commands (OPERATION, the register that it
- * selects, VOUT_MAX and VOUT_MIN), or of all that a plan for these words needs. It asks for at most this many jobs. H4 for
- * an output above 7; then nothing is written. */
+/* To nothing: it learns the format and reads all that decides what the output commands, OPERATION, the register that it selects,
+ * VOUT_MAX and VOUT_MIN, and orders nothing. pm_host_rail says then what it commands. */
 PM_MUST_USE
-uint8_t pm_survey_new(pm_survey *survey, uint8_t output, uint16_t tries);
-PM_MUST_USE
-uint8_t pm_survey_for(pm_survey *survey, uint8_t output, const pm_wanted *wanted, uint16_t tries);
+uint8_t pm_course_survey(pm_course *course, uint8_t output, uint16_t tries);
 
-/* Begins the next job of a survey, a learn of its output or a check: 0, and it has begun. Carry it out, and tell the survey
- * how it ended. PM_SURVEY_DONE where all that it is for is known by good answers that came since it began; PM_SURVEY_SPENT
- * where it isn't, and no try is left; PM_SURVEY_STUCK where it needs a register that isn't known and that the part doesn't
- * have, as the margin that OPERATION selects: then nothing begins. PM_NO_HOST, PM_NO_SURVEY, H3, H4. */
+/* To these words. It surveys all that its plan needs, orders register after register, and surveys once more where something was
+ * ordered. Where nothing is due nothing is written. */
 PM_MUST_USE
-uint8_t pm_host_survey(pm_host *host, pm_survey *survey);
+uint8_t pm_course_words(pm_course *course, uint8_t output, const pm_wanted *wanted, uint16_t tries);
 
-/* How that job ended, by the `kind` of its last step: PM_DONE, PM_DIFFERS, PM_UNKNOWN or PM_LEARNED. PM_NO_SURVEY, PM_NO_END
- * for another number. */
-uint8_t pm_survey_told(pm_survey *survey, uint16_t kind);
+/* To a voltage of VOUT_COMMAND, a margin, VOUT_MAX or VOUT_MIN: the same to its word, which is formed anew before each job by the
+ * format that the host knows then. It is the nearest word of VOUT_COMMAND and of a margin, the word of the greatest value that isn't
+ * above so many microvolts of VOUT_MAX, and of the least that isn't below them of VOUT_MIN. Where the format has none the course ends
+ * as PM_REFUSED with N3, N4 or N5. H4; H5 of a code that is no voltage's. */
+PM_MUST_USE
+uint8_t pm_course_microvolts(pm_course *course, uint8_t output, uint8_t code, int64_t microvolts, uint16_t tries);
+
+/* To a byte of OPERATION. One that turns the output off is ordered at once, whatever is known: that is the first frame, nothing is
+ * read before it, and neither format, limits nor WRITE_PROTECT stand in its way. One that leaves it on is ordered after a survey
+ * and reads of WRITE_PROTECT and of the register that it selects, by its limits (L5). */
+PM_MUST_USE
+uint8_t pm_course_power(pm_course *course, uint8_t output, uint8_t byte, uint16_t tries);
+
+/* A voltage is wanted of one more register, by a course to words or to a voltage: say so before its first frame. PM_NO_COURSE also of
+ * a course to a byte or to nothing, H5 of a code that is no voltage's. */
+PM_MUST_USE
+uint8_t pm_course_want(pm_course *course, uint8_t code, int64_t microvolts);
+
+/* What is to be sent now: the frame of the course's job, which stays the same until it is told what became of it; where none is
+ * open, the course begins its next job first. 0, or PM_ENDED, and then PM_NOTHING, where it has ended: pm_course_ended says how. It
+ * ends with H3 where another job is open, and goes on once that is over, and with H4 where the host has no such output. PM_NO_HOST,
+ * PM_NO_COURSE, and then PM_NOTHING. */
+PM_MUST_USE
+uint8_t pm_course_frame(pm_course *course, pm_host *host, pm_sending *sending);
+
+/* What became of that frame, which the host is told too: the host's step, as pm_host_write_ended and pm_host_read_ended answer it.
+ * PM_NO_HOST, PM_NO_COURSE, PM_OTHER_FRAME. */
+pm_step pm_course_write_ended(pm_course *course, pm_host *host, uint8_t acked);
+pm_step pm_course_read_ended(pm_course *course, pm_host *host, const uint8_t *bytes, uint64_t count);
+
+/* How it ended, or kind 0 where it goes on. PM_NO_COURSE; then nothing is written. */
+uint8_t pm_course_ended(const pm_course *course, pm_course_end *end);
+
+/* Which job it would begin now: 0, or PM_ENDED with PM_JOB_NONE where it would end. Nothing begins, and nothing changes. PM_NO_HOST,
+ * PM_NO_COURSE; then nothing is written. */
+uint8_t pm_course_next(const pm_course *course, const pm_host *host, pm_course_job *next);
+
+/* Which of its jobs is under way: the last that it began, and PM_JOB_NONE once that one's end was told. PM_NO_COURSE; then nothing is
+ * written. */
+uint8_t pm_course_job_now(const pm_course *course, pm_course_job *job);
 
 /* ---- Names ---- */
 
@@ -464,207 +514,51 @@ enum {
 typedef uint8_t (*pm_write)(void *context, const uint8_t *bytes, uint64_t count);
 typedef uint64_t (*pm_read)(void *context, const uint8_t *request, uint64_t count, uint8_t *answer, uint64_t room);
 
-/* Carries the open job out, and says how it ended: PM_UNKNOWN where none was open, PM_NO_HOST where the memory holds no
- * host. A `read` that says that more bytes came than there was room for counts as one to which none came. It ends since a
- * job has at most twice as many frames as passes, which is proved; this loop is C of the header, was tried under rows
- * of each kind of fault (trials/c/rows/run_rows.c) and under random ones (faults.c), and isn't proved. */
-PM_MUST_USE
-static inline pm_step pm_host_run(pm_host *host, pm_write write, pm_read read, void *context) {
+/* Carries a course out, or the host's open job where `course` is NULL, frame after frame, and answers the last step; PM_ENDED of a
+ * course; or why a call was refused. A `read` that says that more bytes came than there was room for counts as one to which none
+ * came. The loop ends since a job has at most twice as many frames as passes and a course at most its tries of jobs, which is
+ * proved; it is C of this header, tried under rows of each kind of fault (trials/c/rows/run_rows.c, trials/course) and under
+ * random ones (examples/c/faults.c, examples/c/rail.c), and isn't proved. */
+static inline pm_step pm_carry_out(pm_host *host, pm_course *course, pm_write write, pm_read read, void *context) {
     pm_step step = {PM_UNKNOWN, 0};
     pm_sending frame;
-    uint8_t number = pm_host_frame(host, &frame);
-    while (number == PM_OK && frame.kind != PM_NOTHING) {
+    uint8_t number;
+    while ((number = course ? pm_course_frame(course, host, &frame) : pm_host_frame(host, &frame)) == PM_OK &&
+           frame.kind != PM_NOTHING) {
         if (frame.kind == PM_WRITE) {
-            step = pm_host_write_ended(host, write(context, frame.bytes, frame.length) == PM_ACKED);
+            uint8_t acked = write(context, frame.bytes, frame.length) == PM_ACKED;
+            step = course ? pm_course_write_ended(course, host, acked) : pm_host_write_ended(host, acked);
         } else {
             uint8_t answer[8] = {0, 0, 0, 0, 0, 0, 0, 0};
             uint64_t room = (uint64_t)frame.answer - 1;
             uint64_t came = read(context, frame.bytes, frame.length, answer + 1, room);
+            uint64_t count = came == 0 || came > room ? 0 : came + 1;
             answer[0] = (uint8_t)(frame.bytes[0] | 1);
-            step = pm_host_read_ended(host, answer, came == 0 || came > room ? 0 : came + 1);
+            step = course ? pm_course_read_ended(course, host, answer, count) : pm_host_read_ended(host, answer, count);
         }
-        number = pm_host_frame(host, &frame);
     }
     if (number != PM_OK)
         step.kind = number;
     return step;
 }
 
-/* How the loops below end. */
-enum {
-    PM_REACHED = 1,       /* a survey: all that it is for is known; an apply: each wanted word is held, as its last survey says */
-    PM_REFUSED = 2,       /* a call was refused: `number` says why, and `code` which register that is about, or 0 */
-    PM_STILL_DIFFERS = 3, /* the order of the register `code` was given twice, and `word` was read back last in place of its own */
-    PM_SPENT = 4          /* no try is left: `word` says what was wrong with the last answer of the last job that ended as
-                             PM_UNKNOWN, as PM_F5_WRONG_PEC, and is 0 where none came, or no job ended so */
-};
-typedef struct {
-    uint8_t kind;
-    uint8_t number;
-    uint8_t code;
-    uint8_t unused;
-    uint16_t word;
-} pm_rail_end;
+/* Carries the open job out, and says how it ended: PM_UNKNOWN where none was open, PM_NO_HOST where the memory holds no host. */
+PM_MUST_USE
+static inline pm_step pm_host_run(pm_host *host, pm_write write, pm_read read, void *context) {
+    return pm_carry_out(host, NULL, write, read, context);
+}
 
-static inline pm_rail_end pm_ended(uint8_t kind, uint8_t number, uint8_t code, uint16_t word) {
-    pm_rail_end end = {0, 0, 0, 0, 0};
-    end.kind = kind;
-    end.number = number;
-    end.code = code;
-    end.word = word;
+/* Carries a course out, and says how it ended: PM_REFUSED also where the memory holds no host (PM_NO_HOST) or no course
+ * (PM_NO_COURSE). */
+PM_MUST_USE
+static inline pm_course_end pm_host_run_course(pm_host *host, pm_course *course, pm_write write, pm_read read, void *context) {
+    pm_course_end end = {0, 0, 0, 0, 0, 0};
+    pm_step step = pm_carry_out(host, course, write, read, context);
+    if (pm_course_ended(course, &end) != PM_OK || end.kind == 0) {
+        end.kind = PM_REFUSED;
+        end.number = (uint8_t)step.kind;
+    }
     return end;
-}
-
-/* Carries a survey out, and takes a try of `left` for each of its jobs. `fault` is what was wrong last. */
-static inline pm_rail_end pm_run_jobs_of(pm_host *host, pm_survey *survey, uint16_t *left, uint16_t *fault, pm_write write,
-                                         pm_read read, void *context) {
-    for (;;) {
-        pm_step step;
-        uint8_t number = pm_host_survey(host, survey);
-        if (number == PM_SURVEY_DONE)
-            return pm_ended(PM_REACHED, 0, 0, 0);
-        if (number == PM_SURVEY_SPENT)
-            return pm_ended(PM_SPENT, 0, 0, *fault);
-        if (number == PM_SURVEY_STUCK)
-            return pm_ended(PM_REFUSED, PM_L7_MISSING_REGISTER, 0, 0);
-        if (number != PM_OK)
-            return pm_ended(PM_REFUSED, number, 0, 0);
-        *left = (uint16_t)(*left - 1);
-        step = pm_host_run(host, write, read, context);
-        if (step.kind > PM_LEARNED)
-            return pm_ended(PM_REFUSED, (uint8_t)step.kind, 0, 0);
-        if (step.kind == PM_UNKNOWN)
-            *fault = step.word;
-        number = pm_survey_told(survey, step.kind);
-        if (number != PM_OK)
-            return pm_ended(PM_REFUSED, number, 0, 0);
-    }
-}
-
-/* Carries a survey out, job after job, until it ends by its own rule, has no tries left or is refused. This loop and the
- * next ones are C of the header too: tried under faults (examples/c/rail.c), and not proved. Which job, order or end comes next
- * is what the library says. */
-PM_MUST_USE
-static inline pm_rail_end pm_host_run_survey(pm_host *host, pm_survey *survey, pm_write write, pm_read read, void *context) {
-    uint16_t left = 0xFFFF, fault = 0;
-    return pm_run_jobs_of(host, survey, &left, &fault, write, read, context);
-}
-
-/* Whether the format of an output is another one than this, or isn't known. */
-static inline int pm_is_other_format(const pm_host *host, uint8_t output, const pm_format *form) {
-    pm_format now = {0, 0, 0, 0};
-    return pm_host_format(host, output, &now) == PM_OK &&
-           (now.kind != form->kind || now.exponent != form->exponent || now.m != form->m || now.b != form->b);
-}
-
-/* pm_host_run_apply, whose tries and last fault are the caller's. Where the words were made by a format, and a survey learns
- * another one, the end is of the kind 0, and nothing more is ordered. */
-static inline pm_rail_end pm_run_plan(pm_host *host, uint8_t output, const pm_wanted *wanted, const pm_format *form, uint16_t *left,
-                                      uint16_t *fault, pm_write write, pm_read read, void *context) {
-    unsigned differed = 0; /* a bit for each register whose order has differed, by the lower digit of its code */
-    for (;;) {
-        int has_ordered = 0;
-        pm_survey survey;
-        pm_plan_order next;
-        pm_rail_end end;
-        uint8_t number = pm_survey_for(&survey, output, wanted, *left);
-        if (number != PM_OK)
-            return pm_ended(PM_REFUSED, number, 0, 0);
-        end = pm_run_jobs_of(host, &survey, left, fault, write, read, context);
-        if (end.number == PM_L7_MISSING_REGISTER) { /* the plan says which */
-            number = pm_host_plan(host, output, wanted, &next);
-            return pm_ended(PM_REFUSED, number == PM_OK || number == PM_PLAN_DONE ? end.number : number, next.code, 0);
-        }
-        if (end.kind != PM_REACHED)
-            return end;
-        if (form != NULL && pm_is_other_format(host, output, form))
-            return pm_ended(0, 0, 0, 0);
-        for (;;) {
-            pm_step step;
-            unsigned bit;
-            number = *left == 0 ? pm_host_plan(host, output, wanted, &next) : pm_host_next(host, output, wanted, &next);
-            if (number == PM_PLAN_DONE)
-                break;
-            if (number != PM_OK && number != PM_P4_NOT_KNOWN)
-                return pm_ended(PM_REFUSED, number, next.code, 0);
-            if (*left == 0)
-                return pm_ended(PM_SPENT, 0, next.code, *fault);
-            if (number == PM_OK)
-                has_ordered = 1;
-            else if ((number = pm_host_check(host, output, next.code)) != PM_OK)
-                return pm_ended(PM_REFUSED, number, next.code, 0);
-            *left = (uint16_t)(*left - 1);
-            step = pm_host_run(host, write, read, context);
-            if (step.kind > PM_LEARNED)
-                return pm_ended(PM_REFUSED, (uint8_t)step.kind, 0, 0);
-            if (step.kind == PM_UNKNOWN)
-                *fault = step.word;
-            if (step.kind != PM_DIFFERS)
-                continue;
-            bit = 1u << (next.code & 15);
-            if (differed & bit)
-                return pm_ended(PM_STILL_DIFFERS, 0, next.code, step.word);
-            differed |= bit;
-        }
-        if (!has_ordered)
-            return pm_ended(PM_REACHED, 0, 0, 0);
-    }
-}
-
-/* Brings an output's registers to the wanted words by at most this many jobs: a survey for the plan, then order after order,
- * and a survey again where something was ordered. Where nothing is due nothing is written, and what is refused before the
- * first order has written nothing. An order that differs is given once again, and PM_STILL_DIFFERS at the second time; a
- * register that isn't known behind an order is checked first. */
-PM_MUST_USE
-static inline pm_rail_end pm_host_run_apply(pm_host *host, uint8_t output, const pm_wanted *wanted, uint16_t tries,
-                                            pm_write write, pm_read read, void *context) {
-    uint16_t left = tries, fault = 0;
-    return pm_run_plan(host, output, wanted, NULL, &left, &fault, write, read, context);
-}
-
-/* The wish of a voltage's register, NULL of another one. */
-static inline pm_wish *pm_wish_of(pm_wanted *wanted, uint8_t code) {
-    return code == PM_VOUT_COMMAND ? &wanted->command : code == PM_VOUT_MAX ? &wanted->max
-           : code == PM_VOUT_MARGIN_HIGH ? &wanted->margin_high : code == PM_VOUT_MARGIN_LOW ? &wanted->margin_low
-           : code == PM_VOUT_MIN ? &wanted->min : NULL;
-}
-
-/* Brings a voltage of an output to the word nearest to microvolts by at most this many jobs: it learns the output's format,
- * makes the word in it, and goes on as pm_host_run_apply. Where a survey learns another format, as of a part that was exchanged,
- * it begins again. PM_REFUSED with `code` where it is no voltage (H5) or the format has no such word (N3, N4, N5), too. */
-PM_MUST_USE
-static inline pm_rail_end pm_host_run_set(pm_host *host, uint8_t output, uint8_t code, int64_t microvolts, uint16_t tries,
-                                          pm_write write, pm_read read, void *context) {
-    uint16_t left = tries, fault = 0;
-    for (;;) {
-        pm_wanted wanted = {{0, 0}, {0, 0}, {0, 0}, {0, 0}, {0, 0}};
-        pm_wish *wish = pm_wish_of(&wanted, code);
-        pm_format form;
-        pm_step step;
-        pm_rail_end end;
-        uint8_t number = wish == NULL ? (uint8_t)PM_H5_BAD_WORD : left == 0 ? (uint8_t)PM_OK : pm_host_learn(host, output);
-        if (number != PM_OK)
-            return pm_ended(PM_REFUSED, number, code, 0);
-        if (left == 0)
-            return pm_ended(PM_SPENT, 0, 0, fault);
-        left = (uint16_t)(left - 1);
-        step = pm_host_run(host, write, read, context);
-        if (step.kind > PM_LEARNED)
-            return pm_ended(PM_REFUSED, (uint8_t)step.kind, 0, 0);
-        if (step.kind != PM_LEARNED) {
-            fault = step.word;
-            continue;
-        }
-        number = pm_host_format(host, output, &form);
-        if (number == PM_OK)
-            number = pm_nearest_word(&form, microvolts, &wish->word);
-        if (number != PM_OK)
-            return pm_ended(PM_REFUSED, number, code, 0);
-        wish->has = 1;
-        end = pm_run_plan(host, output, &wanted, &form, &left, &fault, write, read, context);
-        if (end.kind != 0)
-            return end;
-    }
 }
 #endif
 

@@ -1,6 +1,6 @@
 mod Tells
 mod Named
 mod Ceils
-mod Plans
-mod Surveys
+mod Kept
+mod Courses
 mod Narrows

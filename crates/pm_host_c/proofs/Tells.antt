@@ -1,7 +1,13 @@
 -- What became of a frame is told where it is of the frame's kind.
-use Rattle.std.proofs.Common.{◌≡◌, true, Some}
+use Rattle.std.proofs.Common.{◌≡◌, ◌∙◌, true, false, Option, Some, None, ap, refl, sym}
 use Rattle.pm_host.specs.declared.stage.Stage.{Stage}
 use Rattle.pm_host.specs.declared.state.State.{State}
+use Rattle.pm_course.specs.declared.frame_course.FrameCourse.{FrameCourse}
+use Rattle.pm_course.specs.Heard.{heard_by}
+use Rattle.pm_host_c.specs.declared.course_image.CourseImage.{CourseImage}
+use Rattle.pm_host_c.specs.Course.{heard_at, TellsCourse}
+use Rattle.pm_host_c.specs.CourseImage.{course_image, course_in}
+use Rattle.pm_host_c.specs.Numbers.{other_frame}
 use Rattle.pm_host.specs.declared.host.Told.{Told}
 use Rattle.pm_host.specs.declared.host.Told.TheVariants.{Finished, Got}
 use Rattle.pm_host.specs.Image.{held, host_of}
@@ -11,7 +17,7 @@ use Rattle.pm_host.specs.Told.{entry_told, is_awaited}
 use Rattle.pm_host.specs.Transcript.{Entry}
 use Rattle.pm_host_c.specs.declared.guard_image.GuardImage.{GuardImage}
 use Rattle.pm_host_c.specs.declared.host_step.HostStep.{HostStep}
-use Rattle.pm_host_c.specs.Host.{fault_in, host_step, TellsHost}
+use Rattle.pm_host_c.specs.Host.{fault_in, host_step, refused_step, told_answer, TellsHost}
 use Rattle.pm_host_c.specs.Memory.{IsMemory}
 
 -- what is of the kind of the open stage's frame may come
@@ -31,4 +37,45 @@ tells old new s e result found may became answered limits registers written = re
   registers = registers;
   written = written;
   refused = λ is. let never = rw found at is in cc;
+}
+
+-- what is of the other kind may not come, and nothing may where no job is open
+pub not_awaited : (stage : Stage) (state : State) (told : Told) → is_awaited stage told ≡ false
+    → may_come (held (Some stage) state) (entry_told told) ≡ false
+not_awaited stage state (Finished acked) is = is
+not_awaited stage state (Got bytes) is = is
+
+pub idle : (state : State) (told : Told) → may_come (held None state) (entry_told told) ≡ false
+idle state (Finished acked) = refl
+idle state (Got bytes) = refl
+
+-- a course hears what its host is told
+pub tells-course : (old new : GuardImage) (was is : CourseImage) (s : Summary) (c : FrameCourse) (stage : Stage) (e : Entry)
+    (result : HostStep) → host_of old.host ≡ Some s → course_in was ≡ Some c → s.stage ≡ Some stage → may_come s e ≡ true
+    → is ≡ course_image (heard_by c s.setup.addr stage e (step_of s e)) → TellsHost old e result new
+    → TellsCourse old was e result new is
+tells-course old new was is s c stage e result found kept at_stage may became host = record {
+  answer = rw (found, kept) (host.answer ∙ ap (λ (h : Option Summary). told_answer h e) found);
+  told = λ heard. host.told (rw found may);
+  heard = λ heard. rw (found, kept) (became ∙ ap (λ (at_now : Option Stage). course_image (heard_at s c e at_now)) (sym at_stage));
+  limits = host.limits;
+  registers = host.registers;
+  written = host.written;
+  refused = λ unheard. let never = rw (found, kept) at unheard in cc;
+  refused_course = λ unheard. let never = rw (found, kept) at unheard in cc;
+}
+
+-- neither changes where it is no frame of this kind
+pub refuses-course : (old : GuardImage) (was : CourseImage) (s : Summary) (c : FrameCourse) (e : Entry) (result : HostStep)
+    → host_of old.host ≡ Some s → course_in was ≡ Some c → may_come s e ≡ false → result ≡ refused_step other_frame
+    → TellsCourse old was e result old was
+refuses-course old was s c e result found kept unheard is = record {
+  answer = rw (found, kept, unheard) is;
+  told = λ yes. let never = rw (found, kept) at yes in cc;
+  heard = λ yes. let never = rw (found, kept) at yes in cc;
+  limits = refl;
+  registers = refl;
+  written = λ memory. memory;
+  refused = λ never. refl;
+  refused_course = λ never. refl;
 }

@@ -1,4 +1,7 @@
 -- What the crate promises.
+pub mod Course
+pub mod CourseEnd
+pub mod CourseImage
 pub mod Guard
 pub mod Host
 pub mod Known
@@ -7,9 +10,7 @@ pub mod Memory
 pub mod Names
 pub mod Numbers
 pub mod Packets
-pub mod Plan
 pub mod Rail
 pub mod Sizes
-pub mod Survey
 pub mod Voltages
 pub mod Wanted

@@ -57,11 +57,10 @@ config_faults =
     config.OutputCount ∷ config.BadStart Protect ∷ config.Address ∷ config.BadMode 0 VidMode
     ∷ config.BadCoefficients ZeroSlope ∷ []
 
--- every refusal of a plan, P2 to P7 for some cell; H3 is the host's, L7 the limits'
+-- every refusal of a plan of its own, P4 to P7 for some cell; H3 is the host's, L3, L4 and L7 the limits'
 abbrev pub plan_faults : List PlanFault
 plan_faults =
-    plan.FormatUnknown ∷ plan.BelowLimit VoutCommand ∷ plan.AboveLimit VoutCommand ∷ plan.NotKnown Protect
-    ∷ plan.BelowMin VoutCommand ∷ plan.AboveMax VoutCommand ∷ plan.Protected VoutCommand ∷ []
+    plan.FormatUnknown ∷ plan.NotKnown Protect ∷ plan.BelowMin VoutCommand ∷ plan.AboveMax VoutCommand ∷ plan.Protected VoutCommand ∷ []
 
 -- the words of the fault that has a number
 abbrev pub limit_words : ℕ → Option (List ℕ)
@@ -79,7 +78,7 @@ config_words n = option_map config_fault_words (find (λ fault. config_fault_num
 abbrev pub plan_words : ℕ → Option (List ℕ)
 plan_words n = option_map plan_fault_words (find (λ fault. plan_fault_number fault == n) plan_faults)
 
--- what only a caller in C can ask wrongly, of a host, a survey or a part
+-- what only a caller in C can ask wrongly, of a host, a course or a part
 abbrev pub own_words : ℕ → Option (List ℕ)
 own_words n =
     if n == 0xE0 then Some (codes "NoHost")
@@ -91,9 +90,8 @@ own_words n =
     else (if n == 0xE6 then Some (codes "NoLimits")
     else (if n == 0xE7 then Some (codes "NoName")
     else (if n == 0xE8 then Some (codes "NoReading")
-    else (if n == 0xE9 then Some (codes "NoSurvey")
-    else (if n == 0xEA then Some (codes "NoEnd")
-    else (if n == 0xEB then Some (codes "NoBand") else None)))))))))))
+    else (if n == 0xE9 then Some (codes "NoCourse")
+    else (if n == 0xEB then Some (codes "NoBand") else None))))))))))
 
 -- the words of a refusal, of which each kind has numbers that begin with a digit of its own
 abbrev pub refusal_words : ℕ → Option (List ℕ)

@@ -1,6 +1,6 @@
 -- The numbers that calls answer, of which no two mean two things: 0 where nothing is refused; a refusal's own,
--- which stands beside its words; E0h to E4h, E6h, E7h and E9h to EBh for what only a caller in C can ask wrongly; 91h
--- to 93h for where a voltage lies; and 94h to 97h for what has ended. This project's own choice.
+-- which stands beside its words; E0h to E4h, E6h, E7h, E9h and EBh for what only a caller in C can ask wrongly; 91h
+-- to 93h for where a voltage lies; and 95h for a course that has ended. This project's own choice.
 use Rattle.std.specs.Prelude.{ℕ, Bool, if◌then◌else◌, Option, Some, None}
 use Rattle.pm_host.specs.declared.fault.HostFault.{HostFault}
 use Rattle.pm_host.specs.FaultWords.{host_fault_number}
@@ -39,13 +39,9 @@ no_limits_there = 0xE6
 abbrev pub no_name : ℕ
 no_name = 0xE7
 
--- the memory holds no survey
-abbrev pub no_survey : ℕ
-no_survey = 0xE9
-
--- the number is no end of a job
-abbrev pub no_end : ℕ
-no_end = 0xEA
+-- the memory holds no course
+abbrev pub no_course : ℕ
+no_course = 0xE9
 
 -- another than the output's registers may decide its voltage
 abbrev pub no_band_there : ℕ
@@ -61,19 +57,9 @@ within_no = 0x92
 abbrev pub within_not_known : ℕ
 within_not_known = 0x93
 
--- the plan of an output is done, a survey has ended by its own rule, has no tries left, or needs a register that the
--- part doesn't have
-abbrev pub plan_done : ℕ
-plan_done = 0x94
-
-abbrev pub survey_done : ℕ
-survey_done = 0x95
-
-abbrev pub survey_spent : ℕ
-survey_spent = 0x96
-
-abbrev pub survey_stuck : ℕ
-survey_stuck = 0x97
+-- a course has ended
+abbrev pub ended : ℕ
+ended = 0x95
 
 -- a flag is 1 or 0
 abbrev pub flag : Bool → ℕ

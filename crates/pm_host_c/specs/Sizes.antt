@@ -34,6 +34,8 @@ host_size = 2 * word_size + 4 + stage_size + 8 * format_size + places * cell_siz
 abbrev pub library_version : ℕ
 library_version = 0x0001
 
--- a survey: the mark, the version and the tries left; six bytes, eight of what was read, and five wishes of a flag and a word
-abbrev pub survey_size : ℕ
-survey_size = 3 * word_size + 6 + 8 + 5 * (2 * word_size)
+-- a course: the mark, the version, the tries left and three words; five wishes of a flag and a word, five voltages of eight bytes, and
+-- 32 bytes: eight of its survey and its way, seven of what was read, six of what differed, five of which voltages are wanted, and six
+-- of its last answer and its end
+abbrev pub course_size : ℕ
+course_size = 6 * word_size + 5 * (2 * word_size) + 5 * 8 + 8 + 7 + 6 + 5 + 6

@@ -1,11 +1,10 @@
 //! What is said of the numbers alone: the contract of a function that does nothing.
 
+ghost use Rattle.pm_host_c.specs.CourseImage.{CoursesAreKept};
 ghost use Rattle.pm_host_c.specs.Memory.{MemoriesAreMeanings};
 ghost use Rattle.pm_host_c.specs.Names.{RefusalsAreNamed};
-ghost use Rattle.pm_host_c.specs.Survey.{SurveysAreKept};
 
 use pm_host::images_are_meanings;
-use pm_table::registers_are_in_the_table;
 
 /// No fault is without its name: each type's own words stand under its number.
 pub fn refusals_are_named()
@@ -21,10 +20,7 @@ pub fn memories_are_meanings()
     images_are_meanings();
 }
 
-/// What the calls of a survey leave in its memory reads as the survey that they speak of.
-pub fn surveys_are_kept()
-    ensures { SurveysAreKept }
-{
-    // law: the code of a register leads back to it
-    registers_are_in_the_table();
-}
+/// What the calls of a course leave in its memory reads as the course that they speak of.
+pub fn courses_are_kept()
+    ensures { CoursesAreKept }
+{}

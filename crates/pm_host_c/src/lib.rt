@@ -18,9 +18,14 @@
 //!     pm_host_read_ended(host, &[0xB1, 0x02, 0xCD, 0x34, 0xB9]) // kind 1 Done
 //! }
 //! ```
+//!
+//! Tests: crates/pm_host_c/src/tests.rt, trials/c
 #![tactic(auto)]
 
 mod answer;
+mod course;
+mod course_end_image;
+mod course_image;
 mod format_numbers;
 mod guard_image;
 mod host;
@@ -33,11 +38,8 @@ mod names;
 mod numbers;
 mod other_read;
 mod packet;
-mod plan;
 mod rail;
 mod sending_image;
-mod survey;
-mod survey_image;
 #[cfg(test)]
 mod tests;
 mod told;

@@ -192,8 +192,6 @@ fn words_of_plan(number: u8) -> Option<&'static str>
 {
     let fault = match number {
         0x61 => PlanFault::FormatUnknown,
-        0x62 => PlanFault::BelowLimit(Reg::VoutCommand),
-        0x63 => PlanFault::AboveLimit(Reg::VoutCommand),
         0x64 => PlanFault::NotKnown(Cell::Protect),
         0x65 => PlanFault::BelowMin(Reg::VoutCommand),
         0x66 => PlanFault::AboveMax(Reg::VoutCommand),
@@ -203,7 +201,7 @@ fn words_of_plan(number: u8) -> Option<&'static str>
     Some(fault.words())
 }
 
-// The words of what only a caller in C can ask wrongly, of a host, a survey or a part.
+// The words of what only a caller in C can ask wrongly, of a host, a course or a part.
 #[inline(never)]
 fn words_of_own(number: u8) -> Option<&'static str>
     ensures words { option_map (λ words. words.now) result ≡ own_words number }
@@ -219,8 +217,7 @@ fn words_of_own(number: u8) -> Option<&'static str>
         0xE6 => Some("NoLimits"),
         0xE7 => Some("NoName"),
         0xE8 => Some("NoReading"),
-        0xE9 => Some("NoSurvey"),
-        0xEA => Some("NoEnd"),
+        0xE9 => Some("NoCourse"),
         0xEB => Some("NoBand"),
         _ => None,
     }

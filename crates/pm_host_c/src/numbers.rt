@@ -24,11 +24,8 @@ pub const NO_LIMITS: u8 = 0xE6;
 /// The number has no name.
 pub const NO_NAME: u8 = 0xE7;
 
-/// The memory holds no survey.
-pub const NO_SURVEY: u8 = 0xE9;
-
-/// The number is no end of a job.
-pub const NO_END: u8 = 0xEA;
+/// The memory holds no course.
+pub const NO_COURSE: u8 = 0xE9;
 
 /// Another than the output's registers may decide its voltage.
 pub const NO_BAND: u8 = 0xEB;
@@ -42,14 +39,5 @@ pub const WITHIN_NO: u8 = 0x92;
 /// It isn't known.
 pub const WITHIN_NOT_KNOWN: u8 = 0x93;
 
-/// The plan of an output is done: no order is left.
-pub const PLAN_DONE: u8 = 0x94;
-
-/// A survey has ended by its own rule.
-pub const SURVEY_DONE: u8 = 0x95;
-
-/// A survey has no tries left.
-pub const SURVEY_SPENT: u8 = 0x96;
-
-/// A survey needs a register that isn't known and that the part doesn't have.
-pub const SURVEY_STUCK: u8 = 0x97;
+/// A course has ended.
+pub const ENDED: u8 = 0x95;

@@ -3,7 +3,7 @@
 ghost use Rattle.std.specs.Prelude.{◌≡◌, ◌≢◌, ◌<◌, None, IsSomeAnd};
 ghost use Rattle.pm_host.specs.Image.{held, host_of};
 ghost use Rattle.pm_host_c.specs.Guard.{guard_of, limits_kept, registers_held};
-ghost use Rattle.pm_host_c.specs.Rail.{power_word, IsRail};
+ghost use Rattle.pm_host_c.specs.Rail.{power_word, selected_word, IsRail};
 ghost use Rattle.pm_host_c.specs.Voltages.{output_number};
 
 use crate::guard_image::GuardImage;
@@ -11,7 +11,7 @@ use crate::limits::{BandImage, of_within, put_known};
 use crate::numbers::{ACCEPTED, NO_HOST};
 use pm_host::HostFault;
 use pm_limits::{band_in, within_limits};
-use pm_rail::{Power, power_in};
+use pm_rail::{Power, Selected, power_in, selected_in};
 
 /// What an output commands, by what is known, as plain numbers. It has no padding.
 #[repr(C)]
@@ -23,13 +23,16 @@ pub struct RailImage {
     pub within: u8,
     /// 0 where its band is told; otherwise why it isn't, H7, EBh or N5.
     pub band: u8,
+    /// The command code of the register that has its voltage, FFh of AVSBus, 0 where that isn't known.
+    pub selected: u8,
     /// No meaning.
-    pub unused: [u8; 5],
+    pub unused: [u8; 4],
     /// The ends of its band; zeros where it isn't told.
     pub ends: BandImage,
 }
 
-/// What an output commands, by what is known: whether it is on, its band and whether that lies within its limits. E0h, H4.
+/// What an output commands, by what is known: whether it is on, its band and whether that lies within its limits, and which
+/// register has its voltage. E0h, H4.
 #[unsafe(no_mangle)]
 pub extern "C" fn pm_host_rail(host: &GuardImage, output: u8, rail: &mut RailImage) -> u8
     ensures number { result ≡ output_number (host_of host.now.host) output }
@@ -62,7 +65,8 @@ fn rail_in(host: &GuardImage, output: u8) -> RailImage
         power: of_power(power_in(&host.host.state, output)),
         within: of_within(within_limits(host.limits(output), known)),
         band,
-        unused: [0; 5],
+        selected: of_selected(selected_in(&host.host.state, output)),
+        unused: [0; 4],
         ends,
     }
 }
@@ -75,5 +79,16 @@ fn of_power(power: Power) -> u8
         Power::On => 1,
         Power::Off => 2,
         Power::NotKnown => 0,
+    }
+}
+
+// The number of a register that has a voltage.
+fn of_selected(selected: Selected) -> u8
+    ensures { result ≡ selected_word selected }
+{
+    match selected {
+        Selected::Register(register) => register.code().0,
+        Selected::AvsBus => 0xFF,
+        Selected::NotKnown => 0,
     }
 }

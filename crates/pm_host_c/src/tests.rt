@@ -1,5 +1,6 @@
 mod calls;
 mod checks;
+mod courses;
 mod example;
 mod limits;
 mod packets;
@@ -14,15 +15,12 @@ use self::checks::{equal, is_true};
 use crate::format_numbers::FormatNumbers;
 use crate::guard_image::GuardImage;
 use crate::host::{pm_host_size, pm_host_version, pm_version};
-use crate::survey::{pm_survey_size, pm_survey_version};
 use pm_host::WordsImage;
 
 #[test]
 fn sizes_are_those_of_the_header(rt: HostRuntime) {
     equal(&rt, &pm_host_size(), &2064, &1);
     equal(&rt, &(pm_version(), pm_host_version()), &(0x0001, 6), &2);
-    equal(&rt, &pm_survey_size(), &40, &3);
-    equal(&rt, &pm_survey_version(), &1, &4);
 }
 
 #[test]

@@ -1,5 +1,6 @@
 //! Jobs over buses with faults: how they end, what the host says, and what the converter holds.
 
+mod beginnings;
 mod example;
 mod rails;
 

@@ -5,7 +5,7 @@ mod refusals;
 use crate::checks::{equal, is_true};
 use pm_device_tests::{FIRST, SECOND};
 use pm_frame::{Frame, Message, answer, fits, pec};
-use pm_host::{Host, HostFault, JobEnd, Possible, Standing, Step, Told};
+use pm_host::{Host, HostFault, JobEnd, Possible, Standing, Step, Told, Turn};
 use pm_table::{Cell, Reg};
 use std::process::Abort;
 
@@ -362,4 +362,24 @@ fn a_job_has_as_many_passes_as_were_asked_for(rt: HostRuntime) {
         equal(&rt, &host.clear(7), &Ok(()), &7);
         equal(&rt, &frames_in_vain(&mut host), &passes, &8);
     }
+}
+
+// The example of the root of `pm_host`, word for word.
+fn ordered() -> Result<Standing, HostFault> {
+    let mut host = Host::new(0x58, 2, 2)?;
+    host.order(Cell::Out(0, Reg::VoutCommand), 0x34CD)?;
+    if let Turn::Write(_) = host.turn() {
+        // B0 05 04 00 21 CD 34 5A, and then a stop
+        host.told(Told::Finished { acked: false });
+    }
+    if let Turn::Request { .. } = host.turn() {
+        // B0 06 02 00 21, then a repeated start, and what came back
+        host.told(Told::Got(&[0xB1, 0x02, 0xCD, 0x34, 0xB9]));
+    }
+    Ok(host.standing(Cell::Out(0, Reg::VoutCommand))) // Standing::Confirmed(0x34CD)
+}
+
+#[test]
+fn the_example_of_the_root_runs(rt: HostRuntime) {
+    equal(&rt, &ordered(), &Ok(Standing::Confirmed(0x34CD)), &1);
 }

@@ -2,15 +2,39 @@
 //! and a rail, by rows written by hand; and of the driver and the buses beside it. There is nothing here to use.
 #![tactic(auto)]
 
+ghost use Rattle.std.specs.Prelude.{IsTrue};
+
 #[cfg(test)]
 mod buses;
 #[cfg(test)]
-mod checks;
+mod courses;
 #[cfg(test)]
 mod driver;
-#[cfg(test)]
-mod example;
 #[cfg(test)]
 mod host;
 #[cfg(test)]
 mod limits;
+
+#[cfg(test)]
+mod checks {
+    //! What every test asks, as two calls: a macro that words its message is proved anew wherever it stands.
+    use std::fmt::Debug;
+    use std::process::Abort;
+
+    /// Fails where what is found isn't what is wanted, and says both and where that was.
+    pub(crate) fn equal<T: PartialEq + Debug>(
+        rt: &impl Abort,
+        found: &T,
+        wanted: &T,
+        at: &impl Debug,
+    ) {
+        is_true(rt, found == wanted, &(found, wanted, at));
+    }
+
+    /// Fails where this doesn't hold, and says where that was.
+    pub(crate) fn is_true(rt: &impl Abort, holds: bool, at: &impl Debug)
+        ensures { IsTrue holds }
+    {
+        assert!(rt; holds, "{at:?}");
+    }
+}

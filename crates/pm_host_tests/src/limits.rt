@@ -1,7 +1,6 @@
 //! Limits by themselves, and how they are narrowed; a guard, its band and its rails below.
 
 mod bands;
-mod faults;
 mod guards;
 mod orders;
 mod parts;
@@ -15,6 +14,7 @@ use pm_host::{HostFault, Job};
 use pm_limits::{Guard, LimitFault, Limits};
 use pm_num::NumFault;
 use pm_table::Reg;
+use std::alloc::AllocError;
 
 const TOO_LARGE: Option<LimitFault> = Some(LimitFault::Host(HostFault::Num(NumFault::TooLarge)));
 
@@ -120,4 +120,24 @@ fn the_example_of_the_root_runs(rt: HostRuntime) {
         Err(_) => None,
     };
     equal(&rt, &limits, &Some((3_200_000, 3_465_000)), &1);
+}
+
+static LIMITS: [(LimitFault, &str); 8] = [
+    (LimitFault::LimitsInverted, "L1 LimitsInverted"),
+    (LimitFault::FormatUnknown, "L2 FormatUnknown"),
+    (LimitFault::BelowLimit, "L3 BelowLimit"),
+    (LimitFault::AboveLimit, "L4 AboveLimit"),
+    (LimitFault::NotKnownWithin, "L5 NotKnownWithin"),
+    (LimitFault::LimitsWidened, "L6 LimitsWidened"),
+    (LimitFault::MissingRegister, "L7 MissingRegister"),
+    (LimitFault::Host(HostFault::Busy), "H3 Busy"),
+];
+
+#[test]
+fn each_refusal_shows_its_words(rt: HostRuntime) -> Result<(), AllocError> {
+    for (row, (fault, words)) in LIMITS.iter().enumerate() {
+        let shown = format!(in rt.alloc(); "{fault}")?;
+        equal(&rt, &shown.as_str(), words, &row);
+    }
+    Ok(())
 }

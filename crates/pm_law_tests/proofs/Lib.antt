@@ -1,2 +1,3 @@
 mod Found
 mod WholeParts
+mod Since

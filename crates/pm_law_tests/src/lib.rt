@@ -23,15 +23,17 @@
 //! - `good`: what frames that come whole make of an open job, and how it ends once all of them do.
 //! - `whole`: a job that is open after a run ends by frames that come whole.
 //! - `moves`: what moves a setting or the store.
-//! - `plans`: what plans and surveys of rails are worth.
-//! - `surprises`: between two answers that surprise the converter restarted.
+//! - `plans`: what plans and surveys of rails are worth, and that between two answers that surprise the converter restarted.
 //! - `boards`: hosts and converters in pairs on one bus, each as if it were alone.
 //! - `own_loop`: events that a caller's own loop lets happen.
 //! - `rails`: what a survey and a plan over any bus are worth.
+//! - `beginnings`: what limits and an output's own words are worth to a host that begins beside a part as it is.
+//! - `standing`: what the band of a driver's output is worth, after a survey and at any moment at which it stands.
 //! - `drivers`: what a driver over a simulated bus, or over a patient one, makes of orders.
 #![tactic(auto)]
 
 pub mod bands;
+pub mod beginnings;
 pub mod boards;
 pub mod damage;
 pub mod drivers;
@@ -52,7 +54,7 @@ pub mod packets;
 pub mod parts;
 pub mod plans;
 pub mod rails;
-pub mod surprises;
+pub mod standing;
 pub mod whole;
 
 pub use laws::laws_by_name;

@@ -1,11 +1,13 @@
-//! What plans and surveys of rails are worth after a run and a step that follows it.
+//! What plans and surveys of rails are worth after a run and a step that follows it, and what restart two answers that surprise show.
 
 ghost use Rattle.std.specs.Prelude.{◌∷◌, IfOk, OnSome, reverse};
 ghost use Rattle.pm_world.specs.Plans.{KeepsPlans};
 ghost use Rattle.pm_world.specs.Surveys.{FollowsSurveys, KeepsSurveys};
+ghost use Rattle.pm_driver.specs.Surprises.{SurprisesShowRestarts};
 
 use crate::further::run_and_step;
 use pm_device::Config;
+use pm_driver::one_surprise_at_most;
 use pm_world::{Event, SetupFault, World, plans_hold_in_lives, surveys_hold_in_lives};
 
 /// After a run and a step each plan that its orders followed has kept its rail.
@@ -32,5 +34,18 @@ pub fn surveys_after_a_step(
     ensures keeps { IfOk result (λ found. OnSome found (KeepsSurveys c passes (more.now ∷ reverse events.now))) }
 {
     surveys_hold_in_lives();
+    run_and_step(c, passes, events, more)
+}
+
+/// After a run and a step, between any two answers that surprised, the converter restarted.
+pub fn surprises_after_a_step(
+    c: Config,
+    passes: u8,
+    events: &[Event],
+    more: &Event,
+) -> Result<Option<World>, SetupFault>
+    ensures { IfOk result (λ found. OnSome found (SurprisesShowRestarts c passes (more.now ∷ reverse events.now))) }
+{
+    one_surprise_at_most();
     run_and_step(c, passes, events, more)
 }

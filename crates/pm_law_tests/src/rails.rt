@@ -1,10 +1,13 @@
 //! What a survey and a plan over any bus are worth, where the bus counted no restart meanwhile and the part has every register.
 
-ghost use Rattle.std.specs.Prelude.{◌≡◌, ◌<◌};
+ghost use Rattle.std.specs.Prelude.{◌≡◌, ◌<◌, IfSome};
 ghost use Rattle.pm_limits.specs.Part.{all_registers};
-ghost use Rattle.pm_law_tests.specs.Rails.{CommandsTheOne, CommandsWanted};
+ghost use Rattle.pm_law_tests.specs.Rails.{CommandsOldOrWanted, CommandsTheOne, CommandsWanted, HoldsWanted, LeadsByItsJobs, TakesFewChecks};
 
-use pm_driver::{Bus, Driver, reached_plans_are_commanded, surveys_are_true};
+use pm_driver::{
+    Bus, Driver, applied_plans_come_true, applied_plans_keep_rails, courses_are_lived, rails_lead,
+    reached_plans_are_commanded, surveys_are_true, surveys_take_few_checks,
+};
 use pm_limits::whole_parts_miss_nothing;
 use pm_rail::{ApplyEnd, Survey, Wanted};
 use pm_world::{plans_hold_in_lives, surveys_hold_in_lives};
@@ -42,5 +45,67 @@ pub fn applied_rail<B: Bus>(
     reached_plans_are_commanded::<B>();
     plans_hold_in_lives();
     whole_parts_miss_nothing();
+    driver.apply(output, wanted, tries)
+}
+
+/// Carries a plan out. However it ended, the output commands what it did before, or what is wanted.
+pub fn kept_rail<B: Bus>(
+    driver: &mut Driver<B>,
+    output: u8,
+    wanted: &Wanted,
+    tries: u16,
+) -> ApplyEnd
+    requires there { output < driver.old.guard.host.setup.outputs }
+    requires whole { driver.old.guard.registers ≡ all_registers }
+    ensures { CommandsOldOrWanted B.held B.restarts output wanted.now driver.old driver.new }
+{
+    courses_are_lived::<B>();
+    applied_plans_keep_rails::<B>();
+    plans_hold_in_lives();
+    whole_parts_miss_nothing();
+    driver.apply(output, wanted, tries)
+}
+
+/// Carries a plan out. Where all is reached, the converter holds each wanted word.
+pub fn held_words<B: Bus>(
+    driver: &mut Driver<B>,
+    output: u8,
+    wanted: &Wanted,
+    tries: u16,
+) -> ApplyEnd
+    requires there { output < driver.old.guard.host.setup.outputs }
+    requires whole { driver.old.guard.registers ≡ all_registers }
+    ensures { HoldsWanted B.held B.restarts output wanted.now driver.old result driver.new }
+{
+    applied_plans_come_true::<B>();
+    plans_hold_in_lives();
+    whole_parts_miss_nothing();
+    driver.apply(output, wanted, tries)
+}
+
+/// Surveys a rail. It takes few checks if each of them is answered.
+pub fn short_survey<B: Bus>(driver: &mut Driver<B>, output: u8, tries: u16) -> Option<bool>
+    requires { output < driver.old.guard.host.setup.outputs }
+    ensures { IfSome result (λ done. TakesFewChecks B.gives B.held B.restarts output tries driver.old driver.new) }
+{
+    surveys_take_few_checks::<B>();
+    let mut survey = Survey::new(output, None, tries);
+    match driver.survey(&mut survey) {
+        Ok(done) => Some(done),
+        Err(_) => None,
+    }
+}
+
+/// Carries a plan out. The driver was asked for the plan's jobs, and for nothing else.
+pub fn asked_rail<B: Bus>(
+    driver: &mut Driver<B>,
+    output: u8,
+    wanted: &Wanted,
+    tries: u16,
+) -> ApplyEnd
+    requires { output < driver.old.guard.host.setup.outputs }
+    ensures { LeadsByItsJobs B.gives B.held B.restarts output wanted.now tries driver.old driver.new }
+{
+    rails_lead::<B>();
     driver.apply(output, wanted, tries)
 }

@@ -146,8 +146,8 @@ fn is_untaken(byte: u16) -> bool
     !Cell::Out(0, Reg::Operation).accepts(byte)
 }
 
-// Whether OPERATION doesn't take a byte, and its bits 5 and 4 hand the voltage to AVSBus.
-fn selects_avsbus(byte: u16) -> bool
+/// Whether a byte is one that OPERATION doesn't take, and hands the voltage to AVSBus: its bits 5 and 4 are 11.
+pub fn selects_avsbus(byte: u16) -> bool
     ensures { result ≡ spec_selects_avsbus byte }
 {
     is_untaken(byte) && (byte / 16) % 4 == 0b11

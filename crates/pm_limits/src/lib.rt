@@ -21,6 +21,8 @@
 //!     Ok(guard)
 //! }
 //! ```
+//!
+//! Tests: crates/pm_host_tests
 #![tactic(auto)]
 
 mod band;
@@ -32,7 +34,7 @@ mod laws;
 mod limits;
 mod part_registers;
 
-pub use band::{Band, band_in, band_of};
+pub use band::{Band, band_in, band_of, selects_avsbus};
 pub use ends::Side;
 pub use fault::LimitFault;
 pub use guard::{Guard, Within};

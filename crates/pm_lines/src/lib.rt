@@ -13,6 +13,8 @@
 //!     read_word(Words::new(line).next_word()?)
 //! }
 //! ```
+//!
+//! Tests: crates/pm_text_tests
 #![tactic(auto)]
 
 mod bytes;

@@ -24,6 +24,8 @@
 //!     Some((volts.num(), volts.den(), plain.is_cut(&formats, 0))) // 8192 / 4096 V, true
 //! }
 //! ```
+//!
+//! Tests: crates/pm_device_tests
 #![tactic(auto)]
 
 mod laws;

@@ -17,6 +17,8 @@
 //!     Ok((word, coefficients.value_of(word).floor_micro()))
 //! }
 //! ```
+//!
+//! Tests: crates/pm_frame_tests
 #![tactic(auto)]
 
 mod any_format;

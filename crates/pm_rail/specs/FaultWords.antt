@@ -9,25 +9,25 @@ use Rattle.pm_rail.specs.declared.fault.PlanFault.{PlanFault}
 use Rattle.pm_rail.specs.declared.fault.PlanFault.TheVariants.{Busy, MissingRegister, FormatUnknown, BelowLimit, AboveLimit, NotKnown}
 use Rattle.pm_rail.specs.declared.fault.PlanFault.TheVariants.{BelowMin, AboveMax, Protected}
 
--- an open job is told as by the host, and a register that the part doesn't have as by a guard
+-- an open job is told as by the host; a register that the part doesn't have, and a word beyond the limits, as by a guard
 abbrev pub plan_fault_words : PlanFault → List ℕ
 plan_fault_words Busy = host_fault_words host.Busy
 plan_fault_words (MissingRegister register) = limit_fault_words limit.MissingRegister
 plan_fault_words FormatUnknown = codes "P1 FormatUnknown"
-plan_fault_words (BelowLimit register) = codes "P2 BelowLimit"
-plan_fault_words (AboveLimit register) = codes "P3 AboveLimit"
+plan_fault_words (BelowLimit register) = limit_fault_words limit.BelowLimit
+plan_fault_words (AboveLimit register) = limit_fault_words limit.AboveLimit
 plan_fault_words (NotKnown cell) = codes "P4 NotKnown"
 plan_fault_words (BelowMin register) = codes "P5 BelowMin"
 plan_fault_words (AboveMax register) = codes "P6 AboveMax"
 plan_fault_words (Protected register) = codes "P7 Protected"
 
--- the number of a fault as `pmhost.h` has it, which no other fault has
+-- the number of a fault as `pmhost.h` has it, which no fault of another meaning has
 abbrev pub plan_fault_number : PlanFault → ℕ
 plan_fault_number Busy = host_fault_number host.Busy
 plan_fault_number (MissingRegister register) = limit_fault_number limit.MissingRegister
 plan_fault_number FormatUnknown = 0x61
-plan_fault_number (BelowLimit register) = 0x62
-plan_fault_number (AboveLimit register) = 0x63
+plan_fault_number (BelowLimit register) = limit_fault_number limit.BelowLimit
+plan_fault_number (AboveLimit register) = limit_fault_number limit.AboveLimit
 plan_fault_number (NotKnown cell) = 0x64
 plan_fault_number (BelowMin register) = 0x65
 plan_fault_number (AboveMax register) = 0x66

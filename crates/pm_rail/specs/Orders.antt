@@ -57,7 +57,7 @@ is_wanted_below least value wants register = option_map_or (λ word. is_above le
 abbrev pub is_wanted_above : Ratio → Scale → Wants → Reg → Bool
 is_wanted_above most value wants register = option_map_or (λ word. is_above (value word) most) (wants register) false
 
--- P2 for a wanted word below the output's limits, P3 for one above
+-- L3 for a wanted word below the output's limits, L4 for one above
 abbrev pub below_fault : Ratio → Scale → Wants → Option PlanFault
 below_fault least value wants = first_of voltages (λ register. BelowLimit register) (is_wanted_below least value wants)
 
@@ -116,7 +116,7 @@ answer (Some fault) x = Err fault
 abbrev pub order_of : Held → Wants → Reg → PlanOrder
 order_of held wants register = record { register = register; word = goal_of held wants register }
 
--- P2 and P3 by what is wanted alone, then P4, P5, P6 and P7
+-- L3 and L4 by what is wanted alone, then P4, P5, P6 and P7
 abbrev pub planned_fault : Cells → Option Bounds → ℕ → Held → Wants → Scale → Option PlanFault
 planned_fault cells limits output held wants value = first (
     limits_fault limits value wants ∷

@@ -16,9 +16,9 @@ pub enum PlanFault {
     MissingRegister(Reg),
     /// P1: the format of the output's voltages wasn't learned since the host started. Learn it.
     FormatUnknown,
-    /// P2: the word that is wanted of this register is below the output's limits.
+    /// L3: the word that is wanted of this register is below the output's limits.
     BelowLimit(Reg),
-    /// P3: the word that is wanted of this register is above the output's limits.
+    /// L4: the word that is wanted of this register is above the output's limits.
     AboveLimit(Reg),
     /// P4: what this cell holds isn't known: it may hold more than one word, or one that it doesn't take. Check it.
     NotKnown(Cell),
@@ -42,8 +42,8 @@ impl PlanFault {
             PlanFault::Busy => HostFault::Busy.words(),
             PlanFault::MissingRegister(_) => LimitFault::MissingRegister.words(),
             PlanFault::FormatUnknown => "P1 FormatUnknown",
-            PlanFault::BelowLimit(_) => "P2 BelowLimit",
-            PlanFault::AboveLimit(_) => "P3 AboveLimit",
+            PlanFault::BelowLimit(_) => LimitFault::BelowLimit.words(),
+            PlanFault::AboveLimit(_) => LimitFault::AboveLimit.words(),
             PlanFault::NotKnown(_) => "P4 NotKnown",
             PlanFault::BelowMin(_) => "P5 BelowMin",
             PlanFault::AboveMax(_) => "P6 AboveMax",
@@ -51,7 +51,7 @@ impl PlanFault {
         }
     }
 
-    /// The number of the fault as `pmhost.h` has it, 61h to 67h; H3 and L7 have their own.
+    /// The number of the fault as `pmhost.h` has it, 61h and 64h to 67h; H3, L3, L4 and L7 have their own.
     pub fn number(self) -> u8
         ensures number { result ≡ plan_fault_number self }
         ensures some { result ≢ 0 }
@@ -60,8 +60,8 @@ impl PlanFault {
             PlanFault::Busy => HostFault::Busy.number(),
             PlanFault::MissingRegister(_) => LimitFault::MissingRegister.number(),
             PlanFault::FormatUnknown => 0x61,
-            PlanFault::BelowLimit(_) => 0x62,
-            PlanFault::AboveLimit(_) => 0x63,
+            PlanFault::BelowLimit(_) => LimitFault::BelowLimit.number(),
+            PlanFault::AboveLimit(_) => LimitFault::AboveLimit.number(),
             PlanFault::NotKnown(_) => 0x64,
             PlanFault::BelowMin(_) => 0x65,
             PlanFault::AboveMax(_) => 0x66,

@@ -1,8 +1,8 @@
 //! A rail: what an output commands by what is known, and the way from the settings that it has to those that are
 //! wanted, without a glitch.
 //!
-//! [`rail_of`] says whether an output is on, between which voltages it commands, and whether these lie within its
-//! limits. [`next_order`] is the next order of a plan, by what is known and what is wanted: no list is stored, and nothing
+//! [`rail_of`] says whether an output is on, which register has its voltage, between which voltages it commands, and whether
+//! these lie within its limits. [`next_order`] is the next order of a plan, by what is known and what is wanted: no list is stored, and nothing
 //! is resumed. [`begin_next`] begins it. Each order leaves what the output commands or makes it what it is to be, from
 //! settings that a limit cuts too (`plans_are_without_glitch`), and after five orders at most each register has its
 //! wanted word (`plans_end`). A [`Survey`] says which cells to read until all that this rests on is known. A [`Course`] is
@@ -29,6 +29,8 @@
 //!     Ok((fault, survey.next(&guard))) // Job::Learn(0), and then a check of OPERATION
 //! }
 //! ```
+//!
+//! Tests: crates/pm_host_tests
 #![tactic(auto)]
 
 mod apply_end;
@@ -56,7 +58,7 @@ pub use laws::{
 pub use next::Next;
 pub use orders::{PlanOrder, begin_next, next_order, next_order_in};
 pub use plan::next_register;
-pub use power::{Power, Rail, power_in, rail_of};
+pub use power::{Power, Rail, Selected, power_in, rail_of, selected_in};
 pub use registers::Registers;
 pub use survey::{Reads, Survey};
 pub use wanted::Wanted;

@@ -32,7 +32,7 @@ pub struct PlanOrder {
 /// register has its wanted word. The output is there.
 ///
 /// Refused, of several the first: H3 where a job is open; L7 where a word is wanted of a register that the part doesn't
-/// have; P1 where the output's format isn't learned; P2 and P3 where
+/// have; P1 where the output's format isn't learned; L3 and L4 where
 /// a wanted word lies below or above the output's limits; P4 where OPERATION, the register that it selects, VOUT_MAX,
 /// VOUT_MIN or one of which a word is wanted isn't known, and WRITE_PROTECT where an order is due; P5 and P6 where a
 /// wanted word or the selected one will be below VOUT_MIN or above VOUT_MAX; P7 where WRITE_PROTECT doesn't allow each

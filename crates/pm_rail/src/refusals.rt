@@ -21,7 +21,7 @@ use pm_num::{AnyFormat, Frac, NumFormat, micro};
 use pm_table::{Cell, Operation, Reg, is_allowed};
 use std::cmp::Ordering;
 
-/// P2 to P7, by the words that are known to be held and the register that is next.
+/// L3, L4 and P4 to P7, by the words that are known to be held and the register that is next.
 pub(crate) fn refuse(
     host: &State,
     part: PartRegisters,
@@ -52,7 +52,7 @@ pub(crate) fn refuse(
     refuse_protected(known_or(host, part, format, Cell::Protect), held, wanted)
 }
 
-// P2 and P3.
+// L3 and L4.
 fn refuse_limits(limits: &Option<Limits>, format: &AnyFormat, wanted: &Wanted) -> Option<PlanFault>
     ensures { result ≡ limits_fault limits.now (any_value format.now) (wants_of wanted.now) }
 {
@@ -65,7 +65,7 @@ fn refuse_limits(limits: &Option<Limits>, format: &AnyFormat, wanted: &Wanted) -
     }
 }
 
-// P2: the first register of which a lower word is wanted.
+// L3: the first register of which a lower word is wanted.
 fn refuse_below(least: &Frac, format: &AnyFormat, wanted: &Wanted) -> Option<PlanFault>
     ensures { result ≡ below_fault least.now (any_value format.now) (wants_of wanted.now) }
 {
@@ -84,7 +84,7 @@ fn refuse_below(least: &Frac, format: &AnyFormat, wanted: &Wanted) -> Option<Pla
     }
 }
 
-// P3: the first register of which a higher word is wanted.
+// L4: the first register of which a higher word is wanted.
 fn refuse_above(most: &Frac, format: &AnyFormat, wanted: &Wanted) -> Option<PlanFault>
     ensures { result ≡ above_fault most.now (any_value format.now) (wants_of wanted.now) }
 {

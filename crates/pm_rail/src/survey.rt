@@ -51,8 +51,8 @@ impl Reads {
         }
     }
 
-    // Whether a register was read.
-    pub(crate) fn has(&self, register: Reg) -> bool
+    /// Whether a register was read.
+    pub fn has(&self, register: Reg) -> bool
         ensures { result ≡ has_read self.now register }
     {
         match register {

@@ -12,6 +12,8 @@
 //!     Ok((converter, host))
 //! }
 //! ```
+//!
+//! Tests: crates/pm_world_tests
 #![tactic(auto)]
 
 mod setup_fault;

@@ -15,6 +15,8 @@
 //!     Some((code, code.payload_length(), mode)) // a word of two bytes
 //! }
 //! ```
+//!
+//! Tests: crates/pm_frame_tests
 #![tactic(auto)]
 
 mod address;

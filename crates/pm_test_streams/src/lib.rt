@@ -4,8 +4,10 @@
 
 mod engine;
 mod fakes;
+mod long_text;
 mod worked;
 
 pub use engine::{Ended, Engine, Engines};
 pub use fakes::{Endless, Failure, Halves, KINDS, Paper, Pieces, Sheet, blank_paper, in_pieces};
+pub use long_text::{Long, text_of};
 pub use worked::{CODES, CODES_SAID, FRAME, LINES, REPORT, SCENARIO, TAKEN, TRACE};

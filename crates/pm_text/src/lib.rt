@@ -20,6 +20,8 @@
 //!
 //! Traces and streams are told in crates of their own; their types and calls are named here too, so
 //! that a caller needs this crate alone. What a world does is not here.
+//!
+//! Tests: crates/pm_text_tests
 #![tactic(auto)]
 
 mod base;

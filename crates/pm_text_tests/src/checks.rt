@@ -2,7 +2,7 @@
 ghost use Rattle.std.specs.Prelude.{IsTrue};
 
 use std::alloc::{AllocError, Global};
-use std::fmt::Debug;
+use std::fmt::{Debug, Display};
 use std::process::Abort;
 
 /// Texts one after the other.
@@ -13,6 +13,15 @@ pub(crate) fn joined(alloc: Global, texts: &[&str]) -> Result<String, AllocError
 /// A value as it is printed to debug.
 pub(crate) fn shown(alloc: Global, value: &impl Debug) -> Result<String, AllocError> {
     format!(in alloc; "{value:?}")
+}
+
+/// A value as it is printed, with a text behind it.
+pub(crate) fn printed(
+    alloc: Global,
+    value: &impl Display,
+    more: &str,
+) -> Result<String, AllocError> {
+    format!(in alloc; "{value}{more}")
 }
 
 /// Fails where what is found isn't what is wanted, and says both and where that was.

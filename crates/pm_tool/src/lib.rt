@@ -16,6 +16,8 @@
 //!     (status, output.into_inner()) // word 87FF value -1/65536 micro -16
 //! }
 //! ```
+//!
+//! Tests: crates/pm_tool_tests
 #![tactic(auto)]
 
 mod arguments;

@@ -1,5 +1,6 @@
 //! Tests over the public calls of `pm_tool`, `pm_decode` and `pm_values`: the texts of `hear` and `number`, the command line, `decode`
-//! with options, and whole runs. There is nothing here to use.
+//! with options, and whole runs. Its functions hand on laws, and
+//! do nothing that another crate could use.
 #![tactic(auto)]
 
 #[cfg(test)]
@@ -16,6 +17,11 @@ mod facts;
 mod hear;
 #[cfg(test)]
 mod hints;
+pub mod law_uses;
+#[cfg(test)]
+mod long_words;
+#[cfg(test)]
+mod memory;
 #[cfg(test)]
 mod numbers;
 #[cfg(test)]

@@ -1,10 +1,11 @@
 //! Lines and refusals of `number`, over a writer with little room.
-use crate::checks::{equal, is_true};
+use crate::checks::{equal, is_true, printed};
 use pm_num::NumFault;
 use pm_test_streams::Sheet;
 use pm_tool::{NumberFault, Sink, TextFault, number};
 use std::alloc::Global;
 use std::process::Abort;
+use std::test::Fail;
 
 fn asked(
     alloc: Global,
@@ -309,4 +310,49 @@ fn a_full_writer_has_a_front_of_the_line(rt: HostRuntime) {
         equal(&rt, &result, &wanted, &room);
         is_true(&rt, sheet.text() == &line[..room.min(line.len())], &room);
     }
+}
+
+// A refusal's words, which it shows, and its status.
+fn is_refused(
+    rt: &(impl Abort + AllocGlobal),
+    fault: NumberFault,
+    words: &str,
+    status: u8,
+) -> Result<(), Fail> {
+    equal(rt, &fault.words(), &words, &1);
+    equal(rt, &fault.status(), &status, &words);
+    let shown = printed(rt.alloc(), &fault, "")?;
+    equal(rt, &shown.as_str(), &words, &2);
+    Ok(())
+}
+
+/// A refusal, its words and its status.
+static NUMBER_FAULTS: [(NumberFault, &str, u8); 11] = [
+    (NumberFault::OneOf, "give one of --word and --micro", 2),
+    (NumberFault::Format, "bad format", 2),
+    (NumberFault::Word, "bad word", 2),
+    (NumberFault::Micro, "bad micro", 2),
+    (NumberFault::Num(NumFault::ZeroSlope), "N1 ZeroSlope", 1),
+    (
+        NumberFault::Num(NumFault::ExponentRange),
+        "N2 ExponentRange",
+        1,
+    ),
+    (NumberFault::Num(NumFault::BelowLeast), "N3 BelowLeast", 1),
+    (
+        NumberFault::Num(NumFault::AboveGreatest),
+        "N4 AboveGreatest",
+        1,
+    ),
+    (NumberFault::Num(NumFault::TooLarge), "N5 TooLarge", 1),
+    (NumberFault::Text(TextFault::Write), "X5 Write", 1),
+    (NumberFault::Text(TextFault::Memory), "X6 Memory", 1),
+];
+
+#[test]
+fn each_refusal_of_a_number_has_its_words_and_status(rt: HostRuntime) -> Result<(), Fail> {
+    for &(fault, words, status) in &NUMBER_FAULTS {
+        is_refused(&rt, fault, words, status)?;
+    }
+    Ok(())
 }

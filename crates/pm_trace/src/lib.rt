@@ -11,6 +11,8 @@
 //!     render_line(alloc, number, &parts)
 //! }
 //! ```
+//!
+//! Tests: crates/pm_text_tests, crates/pm_tool_tests
 #![tactic(auto)]
 
 mod byte_list;

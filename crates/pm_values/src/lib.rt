@@ -13,6 +13,8 @@
 //!     Ok(text)
 //! }
 //! ```
+//!
+//! Tests: crates/pm_tool_tests
 #![tactic(auto)]
 
 mod code_names;

@@ -36,7 +36,7 @@ use Rattle.pm_world.specs.State.{Share, State, answer_to, asked, share_of}
 use Rattle.pm_world.specs.Uncertainty.{AreOfBytes, since_restart}
 use Rattle.pm_world.proofs.AnswerBytes.{HoldsBytes, Replies, reply-bytes}
 use Rattle.pm_world.proofs.FirstWords.{first-bytes}
-use Rattle.pm_world.proofs.LimitedLives.{told-asked}
+use Rattle.pm_world.specs.Lemmas.Orders.{told-asked}
 use Rattle.pm_world.proofs.Lives.{IsLived, earlier}
 use Rattle.pm_world.proofs.OwnWords.{life-own}
 use Rattle.pm_world.proofs.Shares.{IsShare, exchanges, measures, share-is}

@@ -44,6 +44,7 @@ use Rattle.pm_num.specs.Lemmas.Order.{above-at-most}
 use Rattle.pm_num.specs.Lemmas.Over.{at_most-trans}
 use Rattle.pm_limits.specs.Lemmas.Selected.{each-selected}
 use Rattle.pm_world.specs.Below.{Below}
+use Rattle.pm_world.specs.Lemmas.Orders.{told-asked}
 use Rattle.pm_world.specs.declared.event.Event.{Event}
 use Rattle.pm_world.specs.declared.event.Event.TheVariants.{Deliver, Exchange, Finish, RestartHost, RestartDevice}
 use Rattle.pm_world.specs.Honest.{IsSpelled}
@@ -195,52 +196,6 @@ stays-above laws {config = config} lived output least later before here is all =
     (at_most-trans least (value own.least) (limited (value own.selected) (value own.least) (value own.most))
     (sound-dens config output lived.sound here own.least) (all.above own.least own.own_least)
     (cut-least cut (all.below own.least own.most own.own_least own.own_most)))
-
--- an event that asks for no job is told as no order
-not-beside : (config : Config) (passes : ℕ) (before : List Event) (cell : Cell) (word : ℕ) (event : Event) →
-    told_beside config passes before event ≡ Accept (pending.Order cell word) ∷ [] → ⊥
-unfolding told_beside
-not-beside config passes before cell word (Exchange arrival back) h =
-    ends (is_some (open_pending config passes before) && is_none (open_pending config passes (Exchange arrival back ∷ before))) h
-  where
-    ends : (b : Bool) → cond b (End ∷ []) [] ≡ Accept (pending.Order cell word) ∷ [] → ⊥
-    ends true e = cc
-    ends false e = cc
-not-beside config passes before cell word (Finish acked) h =
-    ends (is_some (open_pending config passes before) && is_none (open_pending config passes (Finish acked ∷ before))) h
-  where
-    ends : (b : Bool) → cond b (End ∷ []) [] ≡ Accept (pending.Order cell word) ∷ [] → ⊥
-    ends true e = cc
-    ends false e = cc
-not-beside config passes before cell word (Deliver arrival) h = go (taken_at config passes before (Deliver arrival)) h where
-  go : (o : Option PendingJob) → takes o ≡ Accept (pending.Order cell word) ∷ [] → ⊥
-  go (Some job) e = cc
-  go None e = cc
-not-beside config passes before cell word RestartHost h = cc
-not-beside config passes before cell word RestartDevice h = cc
-not-beside config passes before cell word event h = cc
-
--- only an order is told as that
-accepts-order : (cell : Cell) (word : ℕ) (job : host.Job) → accepts (pending_of job) ≡ Accept (pending.Order cell word) ∷ [] →
-    job ≡ host.Order cell word
-accepts-order cell word (host.Order c w) h =
-    let same_cell : c ≡ cell = cc in
-    let same_word : w ≡ word = cc in cc
-accepts-order cell word (host.Send StoreUserAll) h = cc
-accepts-order cell word (host.Send RestoreUserAll) h = cc
-accepts-order cell word job h = cc
-
--- an event that is told as an order asked for it
-pub told-asked : (config : Config) (passes : ℕ) (before : List Event) (event : Event) (cell : Cell) (word : ℕ) →
-    told config passes before event ≡ Accept (pending.Order cell word) ∷ [] →
-    asked (now config passes before) event ≡ Some (host.Order cell word)
-unfolding told
-told-asked config passes before event cell word is = go (asked (now config passes before) event) is where
-  go : (o : Option host.Job) →
-      option_map_or (λ job. accepts (pending_of job)) o (told_beside config passes before event) ≡ Accept (pending.Order cell word) ∷ [] →
-      o ≡ Some (host.Order cell word)
-  go (Some job) h = ap (λ (j : host.Job). Some j) (accepts-order cell word job h)
-  go None h = absurd (not-beside config passes before cell word event h)
 
 -- An own word after one more event is one of before, or lies within limits that each word which it orders lies within.
 one-newer : (config : Config) (passes : ℕ) (event : Event) (before : List Event) (output : ℕ) (bounds : Bounds) →

@@ -43,8 +43,8 @@ use Rattle.pm_world.proofs.Undisturbed.{now-are}
 
 -- the cells have the words in the store, which stay there
 pub record CameBack (old new : Held) : Type 0 where
-  words : new.words ≡ old.store
-  store : new.store ≡ old.store
+  pub words : new.words ≡ old.store
+  pub store : new.store ≡ old.store
 
 -- what an event makes of a converter: it restarted, or a job took, or none
 abbrev pub Went : Config → ℕ → List Event → Event → Held → Held → Type 0

@@ -133,7 +133,7 @@ pending-restore job h = cc
 -- ---- The words, event by event ----
 
 -- The open job is an order of the word that moved at an event, if the converter didn't restart and no restore was open.
-by-move : {config : Config} {passes : ℕ} {before : List Event} {cell : Cell} {word : ℕ} {event : Event} →
+pub by-move : {config : Config} {passes : ℕ} {before : List Event} {cell : Cell} {word : ℕ} {event : Event} →
     MovesBy config passes before cell word event → restarts_converter event ≡ false →
     (open_pending config passes before ≡ Some pending.Restore → ⊥) →
     open_pending config passes before ≡ Some (pending.Order cell word)

@@ -75,7 +75,7 @@ delivered-took laws config passes before arrival lived free =
     (delivered-takes laws s arrival (sending_in s.host) (sends laws config passes before lived) refl free)
 
 -- an event that asks for a job is told as the order, store or restore that it is
-asked-told : (config : Config) (passes : ℕ) (before : List Event) (event : Event) (job : host.Job) →
+pub asked-told : (config : Config) (passes : ℕ) (before : List Event) (event : Event) (job : host.Job) →
     asked (now config passes before) event ≡ Some job → told config passes before event ≡ accepts (pending_of job)
 unfolding told
 asked-told config passes before event job is =

@@ -26,6 +26,8 @@
 //!     Ok(world.last_end()) // JobEnd::Done: the host calls 34CDh confirmed, and the converter holds it
 //! }
 //! ```
+//!
+//! Tests: crates/pm_world_tests, crates/pm_world_knowledge_tests, crates/pm_law_tests
 #![tactic(auto)]
 
 mod board_laws;
@@ -34,6 +36,7 @@ mod event;
 mod laws;
 mod legal;
 mod openness;
+mod part_laws;
 mod rail_laws;
 mod short;
 mod watch;
@@ -60,9 +63,13 @@ pub use legal::{
     is_legal_return,
 };
 pub use openness::run_open;
+pub use part_laws::{
+    lives_leave_parts, parts_are_reached, starts_are_parts, stored_configs_start_so,
+};
 pub use pm_setup::SetupFault;
 pub use rail_laws::{
-    courses_hold_in_lives, plans_hold_in_lives, surveys_hold_in_lives, within_stays_within,
+    courses_hold_in_lives, mixtures_lie_between, plans_hold_in_lives, restarts_keep_between,
+    surveys_hold_in_lives, within_stays_within,
 };
 pub use short::words_are_short;
 pub use way::{Way, run_way};

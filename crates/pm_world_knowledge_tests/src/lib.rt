@@ -3,8 +3,8 @@
 //! here to use.
 #![tactic(auto)]
 
-#[cfg(test)]
-mod checks;
+ghost use Rattle.std.specs.Prelude.{IsTrue};
+
 #[cfg(test)]
 mod confirmed;
 #[cfg(test)]
@@ -19,3 +19,27 @@ mod stores;
 mod uncertain;
 #[cfg(test)]
 mod watch;
+
+#[cfg(test)]
+mod checks {
+    //! What every test asks, as two calls: a macro that words its message is proved anew wherever it stands.
+    use std::fmt::Debug;
+    use std::process::Abort;
+
+    /// Fails where what is found isn't what is wanted, and says both and where that was.
+    pub(crate) fn equal<T: PartialEq + Debug>(
+        rt: &impl Abort,
+        found: &T,
+        wanted: &T,
+        at: &impl Debug,
+    ) {
+        is_true(rt, found == wanted, &(found, wanted, at));
+    }
+
+    /// Fails where this doesn't hold, and says where that was.
+    pub(crate) fn is_true(rt: &impl Abort, holds: bool, at: &impl Debug)
+        ensures { IsTrue holds }
+    {
+        assert!(rt; holds, "{at:?}");
+    }
+}

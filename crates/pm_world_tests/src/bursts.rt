@@ -1,9 +1,9 @@
 //! Each change within eight neighbouring bits of an order's frame.
 
 use crate::checks::{equal, is_true};
-use crate::events::{ORDER, WHOLE};
 use crate::fixtures::{after, takes};
 use crate::look::Look;
+use crate::{ORDER, WHOLE};
 use pm_device::{Ending, Heard};
 use pm_device_tests::{CELLS, FIRST};
 use pm_frame::Frame;

@@ -1,9 +1,9 @@
 //! Why an event isn't taken, and which bytes are a legal hearing or a legal return.
 
 use crate::checks::{equal, is_true};
-use crate::events::{CHECK, ORDER};
 use crate::fixtures::{after, arrival, back, sends};
 use crate::look::Look;
+use crate::{CHECK, ORDER};
 use pm_device::{Config, ConfigFault, OutputStart};
 use pm_device_tests::{CELLS, FIRST, OUTPUT};
 use pm_host::{HostFault, JobEnd, Standing};

@@ -1,9 +1,9 @@
 //! Which of the host's refusals comes first, where a call can have two.
 
 use crate::checks::equal;
-use crate::events::{ACKED, CHECK, NOT_ACKED, READ, READ_LOST};
 use crate::fixtures::{after, takes};
 use crate::look::Look;
+use crate::{ACKED, CHECK, NOT_ACKED, READ, READ_LOST};
 use pm_device_tests::{FIRST, SECOND};
 use pm_host::HostFault;
 use pm_num::NumFault;

@@ -2,9 +2,9 @@
 //! damage that the PEC doesn't betray.
 
 use crate::checks::{equal, is_true};
-use crate::events::{ACKED, CHECK, LOST, NOT_ACKED, ORDER, READ, READ_LOST, WHOLE};
 use crate::fixtures::{after, arrival, frame, takes};
 use crate::look::Look;
+use crate::{ACKED, CHECK, LOST, NOT_ACKED, ORDER, READ, READ_LOST, WHOLE};
 use pm_device::{Config, Ending, Heard};
 use pm_device_tests::{FIRST, SECOND};
 use pm_host::{JobEnd, Standing};

@@ -4,9 +4,9 @@ mod eight;
 mod whole;
 
 use crate::checks::{equal, is_true};
-use crate::events::{ACKED, CHECK, LOST, NOT_ACKED, ORDER, READ, READ_LOST, WHOLE};
 use crate::fixtures::{after, sends, takes};
 use crate::look::Look;
+use crate::{ACKED, CHECK, LOST, NOT_ACKED, ORDER, READ, READ_LOST, WHOLE};
 use pm_device::{Config, OutputStart};
 use pm_device_tests::{FIRST, OUTPUT, SECOND};
 use pm_host::{JobEnd, Standing, Turn};

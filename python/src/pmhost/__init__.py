@@ -10,21 +10,23 @@ What the library's calls answer is proved (docs/c.md says of what); this package
 from . import _started
 from ._version import __version__
 from .bus import LinuxBus, ModelBus, NoBus, NoTransfer, PatientBus, Smbus2Bus
+from .course import Course, CourseEnd, Job, Wanted
 from .device import Device
-from .errors import (Differs, FrameRefused, HostRefused, LimitRefused, MemoryRefused, NotDone, NumberRefused, PartRefused,
-                     PlanRefused, PmhostError, Refused, SetupRefused, Unknown)
-from .host import Bus, Host, Known, Limits, Sending, Step
+from .errors import (Differs, FrameRefused, HostRefused, LimitRefused, MemoryRefused, NoFormat, NotDone, NumberRefused, OtherSource,
+                     PartRefused, PlanRefused, PmhostError, Refused, SetupRefused, Spent, Unknown)
+from .host import Host
 from .packets import Packet, code_request, pec, read_answer, read_block, read_plain, read_request, read_write
 from .part import ModelPart, ModelPartBus, Output
-from .plans import Band, PlanOrder, RailEnd, RailState, Survey, Wanted
+from .states import Band, Bus, Known, Limits, RailState, Sending, Step
 from .transfers import Transfers
 from .values import CODES, LINEAR11, Format
 from .voltages import Voltage
 
 __all__ = [
-    "Band", "Bus", "CODES", "Device", "Differs", "Format", "FrameRefused", "Host", "HostRefused", "Known", "LINEAR11",
-    "LimitRefused", "Limits", "LinuxBus", "MemoryRefused", "ModelBus", "ModelPart", "ModelPartBus", "NoBus", "NoTransfer",
-    "NotDone", "NumberRefused", "Output", "Packet", "PartRefused", "PatientBus", "PlanOrder", "PlanRefused", "PmhostError",
-    "RailEnd", "RailState", "Refused", "Sending", "SetupRefused", "Smbus2Bus", "Step", "Survey", "Transfers", "Unknown", "Voltage",
-    "Wanted", "__version__", "code_request", "pec", "read_answer", "read_block", "read_plain", "read_request", "read_write",
+    "Band", "Bus", "CODES", "Course", "CourseEnd", "Device", "Differs", "Format", "FrameRefused", "Host", "HostRefused", "Job",
+    "Known", "LINEAR11", "LimitRefused", "Limits", "LinuxBus", "MemoryRefused", "ModelBus", "ModelPart", "ModelPartBus", "NoBus",
+    "NoFormat", "NoTransfer", "NotDone", "NumberRefused", "OtherSource", "Output", "Packet", "PartRefused", "PatientBus",
+    "PlanRefused", "PmhostError", "RailState", "Refused", "Sending", "SetupRefused", "Smbus2Bus", "Spent", "Step", "Transfers",
+    "Unknown", "Voltage", "Wanted", "__version__", "code_request", "pec", "read_answer", "read_block", "read_plain",
+    "read_request", "read_write",
 ]

@@ -11,8 +11,8 @@ PATH = os.environ.get("PMHOST_LIBRARY") or os.path.join(os.path.dirname(os.path.
 VERSION = 0x0001
 HOST_VERSION = 6
 HOST_SIZE = 2064
-SURVEY_VERSION = 1
-SURVEY_SIZE = 40
+COURSE_VERSION = 1
+COURSE_SIZE = 104
 CELLS = 49
 
 
@@ -82,7 +82,8 @@ class BandImage(c.Structure):
 
 
 class RailImage(c.Structure):
-    _fields_ = [("power", c.c_uint8), ("within", c.c_uint8), ("band", c.c_uint8), ("unused", c.c_uint8 * 5), ("ends", BandImage)]
+    _fields_ = [("power", c.c_uint8), ("within", c.c_uint8), ("band", c.c_uint8), ("selected", c.c_uint8), ("unused", c.c_uint8 * 4),
+                ("ends", BandImage)]
 
 
 class WishImage(c.Structure):
@@ -93,12 +94,17 @@ class WantedImage(c.Structure):
     _fields_ = [("command", WishImage), ("max", WishImage), ("margin_high", WishImage), ("margin_low", WishImage), ("min", WishImage)]
 
 
-class PlanOrderImage(c.Structure):
-    _fields_ = [("code", c.c_uint8), ("unused", c.c_uint8), ("word", c.c_uint16)]
+class CourseImage(c.Structure):
+    _fields_ = [("held", c.c_uint64 * (COURSE_SIZE // 8))]
 
 
-class SurveyImage(c.Structure):
-    _fields_ = [("held", c.c_uint64 * (SURVEY_SIZE // 8))]
+class CourseEndImage(c.Structure):
+    _fields_ = [("kind", c.c_uint8), ("number", c.c_uint8), ("code", c.c_uint8), ("unused", c.c_uint8), ("word", c.c_uint16),
+                ("fault", c.c_uint16)]
+
+
+class CourseJobImage(c.Structure):
+    _fields_ = [("kind", c.c_uint8), ("code", c.c_uint8), ("word", c.c_uint16)]
 
 
 class NameImage(c.Structure):
@@ -139,7 +145,7 @@ class ReplyImage(c.Structure):
 
 _u8, _u16, _u64, _i64, _at = c.c_uint8, c.c_uint16, c.c_uint64, c.c_int64, c.POINTER
 _host, _part, _bytes = _at(HostImage), _at(PartImage), c.c_char_p
-_survey, _wanted = _at(SurveyImage), _at(WantedImage)
+_wanted, _course = _at(WantedImage), _at(CourseImage)
 
 # Each call: what it answers, and what it takes.
 CALLS = {
@@ -169,14 +175,19 @@ CALLS = {
     "pm_host_known_cells": (_u8, [_host, _at(KnownImage)]),
     "pm_host_restart_seen": (_u8, [_host]),
     "pm_host_rail": (_u8, [_host, _u8, _at(RailImage)]),
-    "pm_host_plan": (_u8, [_host, _u8, _wanted, _at(PlanOrderImage)]),
-    "pm_host_next": (_u8, [_host, _u8, _wanted, _at(PlanOrderImage)]),
-    "pm_survey_size": (_u64, []),
-    "pm_survey_version": (_u16, []),
-    "pm_survey_new": (_u8, [_survey, _u8, _u16]),
-    "pm_survey_for": (_u8, [_survey, _u8, _wanted, _u16]),
-    "pm_host_survey": (_u8, [_host, _survey]),
-    "pm_survey_told": (_u8, [_survey, _u16]),
+    "pm_course_size": (_u64, []),
+    "pm_course_version": (_u16, []),
+    "pm_course_survey": (_u8, [_course, _u8, _u16]),
+    "pm_course_words": (_u8, [_course, _u8, _wanted, _u16]),
+    "pm_course_microvolts": (_u8, [_course, _u8, _u8, _i64, _u16]),
+    "pm_course_power": (_u8, [_course, _u8, _u8, _u16]),
+    "pm_course_want": (_u8, [_course, _u8, _i64]),
+    "pm_course_next": (_u8, [_course, _host, _at(CourseJobImage)]),
+    "pm_course_frame": (_u8, [_course, _host, _at(SendingImage)]),
+    "pm_course_job_now": (_u8, [_course, _at(CourseJobImage)]),
+    "pm_course_write_ended": (StepImage, [_course, _host, _u8]),
+    "pm_course_read_ended": (StepImage, [_course, _host, _bytes, _u64]),
+    "pm_course_ended": (_u8, [_course, _at(CourseEndImage)]),
     "pm_refusal_name": (_u8, [_u8, _at(NameImage)]),
     "pm_end_name": (_u8, [_u16, _at(NameImage)]),
     "pm_microvolts": (_u8, [_at(FormatImage), _u16, _at(_i64)]),
@@ -214,8 +225,8 @@ def _library() -> c.CDLL:
         call = getattr(_loaded, name)
         call.restype, call.argtypes = answers, takes
     found = (_loaded.pm_version() >> 8, _loaded.pm_host_version(), _loaded.pm_host_size(),
-             _loaded.pm_survey_version(), _loaded.pm_survey_size())
-    wanted = VERSION >> 8, HOST_VERSION, c.sizeof(HostImage), SURVEY_VERSION, c.sizeof(SurveyImage)
+             _loaded.pm_course_version(), _loaded.pm_course_size())
+    wanted = VERSION >> 8, HOST_VERSION, c.sizeof(HostImage), COURSE_VERSION, c.sizeof(CourseImage)
     if found != wanted:
         _stop(f"{PATH} is another library than this package is for: it says {found}, and not {wanted}")
     return _loaded

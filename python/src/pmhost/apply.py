@@ -1,9 +1,9 @@
 """Brings the parts of a board to the settings of a file of rails, and tells rail by rail what became of it.
 
 Everything is read and judged before the first write: each part of a board file has to answer and to be the model that the file says,
-each rail is surveyed, its margins are read, and its plan is asked whether it goes. Then order after order is taken from the plan, rail by rail in the file's
-order, and each rail ends by a survey. What comes next, and what isn't ordered at all, is said by the library alone: no rail commands
-anything on its way but what it commanded and what is wanted.
+each rail's course goes up to its first order, and its margins are read. Then the courses go on to their ends, rail by rail in the file's
+order. What comes next, and what isn't ordered at all, is said by the library alone: no rail commands anything on its way but what it
+commanded and what is wanted.
 """
 from __future__ import annotations
 
@@ -11,52 +11,20 @@ from dataclasses import dataclass, field
 from typing import Callable
 
 from . import probe, voltages
+from .course import Wanted
 from .cuts import Cut, cuts
-from .errors import PlanRefused, Refused
-from .host import Step
-from .parts import BoardPart
-from .plans import PlanOrder, Wanted
 from .device import Device
+from .errors import SAYINGS, Refused, refusal
+from .parts import BoardPart
+from .rail_course import PROTECT, RailCourse, Setting, Stopped
 from .rails import BOUNDS, MARGINS, SETTINGS, WORDS, Rail
 from .reads import Reads
-from .rounded import is_near
-from .survey import Commanded, commanded, only_word, read, survey
+from .states import Step
+from .survey import Commanded, commanded, only_word, read
 from .values import Format
 
-PROTECT = "WRITE_PROTECT"
-# The orders of a rail at most: a plan has five, each may be given twice, and one whose end isn't known is given again.
-MOST_ORDERS = 16
 # The states of a setting that holds what is wanted.
 AS_WANTED = ("confirmed", "accepted")
-
-
-class Stopped(Exception):
-    """Why no further frame is sent; behind a job that ended badly with the part, and the output where the job was about one."""
-
-    def __init__(self, why: str, part: str | None = None, output: int | None = None) -> None:
-        super().__init__(why)
-        self.part, self.output = part, output
-
-
-@dataclass(eq=False)
-class Setting:
-    """A register of a rail: the word of the file, the one that is wanted of the plan, and what was known of it last."""
-
-    rail: Rail
-    key: str
-    asked: int
-    wanted: int
-    last: int | None = None
-    state: str = "not read"
-    is_ordered: bool = False
-
-    @property
-    def register(self) -> str:
-        return SETTINGS[self.key]
-
-    @property
-    def name(self) -> str:
-        return f"{self.rail.name}.{self.key}"
 
 
 @dataclass
@@ -64,7 +32,7 @@ class Board:
     """The rails of a file, and the parts that have them, by their names. `described` has what a board file says of its parts; why a
     part doesn't answer is said by `ask_operation`, with nothing where it answers. `accept` is how near a word has to be that a part makes
     of an ordered one, in microvolts; `before_order` is told of each order before its first frame, `after_order` behind its last
-    one whether it is confirmed, and `seen` of a rail behind each survey, and behind each order how that ended."""
+    one whether it is confirmed, and `seen` of a rail behind what was read, and behind each order how that ended."""
 
     parts: dict[str, Device]
     rails: list[Rail]
@@ -78,12 +46,14 @@ class Board:
     settings: list[Setting] = field(default_factory=list)
     # The format of each rail, which stands here since a host may forget it.
     formats: dict[str, Format] = field(default_factory=dict)
+    # The course of each rail, and what was known behind it last.
+    courses: dict[str, RailCourse] = field(default_factory=dict)
     surveys: dict[str, Commanded] = field(default_factory=dict)
+    orders: int = 0
+    # How many orders there had been when a rail was read last.
+    read_at: dict[str, int] = field(default_factory=dict)
     # By rail the words of the margins that its file doesn't have, as they were read before the first order.
     margins: dict[str, dict[str, int]] = field(default_factory=dict)
-    orders: int = 0
-    # How many orders there had been when a rail was surveyed last.
-    surveyed_at: dict[str, int] = field(default_factory=dict)
     # The parts of which a restart had been seen before, or is looked for no more.
     had_restarted: set[str] = field(default_factory=set)
 
@@ -166,16 +136,14 @@ class Board:
 
     # ---- Frames ----
 
-    def survey(self, rail: Rail) -> None:
-        """Surveys a rail for its plan. Stops where a register gives no good answer, or a restart was seen."""
-        found = self.surveys[rail.name] = survey(self.on(rail), rail.output, self.wanted(rail))
-        self.surveyed_at[rail.name] = self.orders
-        self.seen(rail, None, None)
-        self.look(rail)
-        for register, why in found.missing.items():
-            raise Stopped(f"{self.name_of(rail, register)}: no good answer{': ' * bool(why)}{why}", rail.part, rail.output)
-        if found.unended:
-            raise Stopped(f"{rail.name}: {found.unended}", rail.part, rail.output)
+    def look_at(self, rail: Rail) -> None:
+        """Reads all that a rail's course needs before its first order."""
+        self.courses[rail.name] = RailCourse(self, rail)
+        self.courses[rail.name].go(False)
+
+    def setting(self, rail: Rail, register: str) -> Setting:
+        """The setting of a rail that has this register."""
+        return next(each for each in self.of(rail) if each.register == register)
 
     def read_margins(self, rail: Rail) -> None:
         """Reads each margin of a rail that isn't in the file, nor selected, whatever comes: bounds may cut it. Stops where a restart
@@ -203,76 +171,11 @@ class Board:
         if self.has_restarted(rail):
             raise Stopped(f"{rail.part or 'the part'} restarted meanwhile: nothing that was read before holds: run this again")
 
-    def judge(self, rail: Rail) -> None:
-        """Stops where the plan of a rail refuses."""
-        try:
-            self.on(rail).host.plan(rail.output, self.wanted(rail))
-        except PlanRefused as fault:
-            raise self.refused(rail, fault) from None
-
-    def next_order(self, rail: Rail) -> PlanOrder | None:
-        """Begins the next order of a rail's plan. What isn't known any more, as behind a word that the part rounded, is surveyed
-        first. Stops where the plan refuses."""
-        for has_surveyed in (False, True):
-            try:
-                return self.on(rail).host.next(rail.output, self.wanted(rail))
-            except PlanRefused as fault:
-                if fault.letter != "P4" or has_surveyed:
-                    raise self.refused(rail, fault) from None
-                self.survey(rail)
-        return None
-
-    def bring(self, rail: Rail) -> None:
-        """Gives the orders of a rail's plan, one after another, and surveys it behind them."""
-        part, differed = self.on(rail), set[str]()
-        for _ in range(MOST_ORDERS):
-            held = {it.register: part.host.possible_words(rail.output, it.register) for it in self.of(rail)}
-            order = self.next_order(rail)
-            if order is None:
-                break
-            it = next(each for each in self.of(rail) if each.register == order.register)
-            self.before_order(it)
-            it.is_ordered, self.orders = True, self.orders + 1
-            step = part.run()
-            self.seen(rail, it, step)
-            self.after_order(it, step.kind == "done")
-            if step.kind == "differs":
-                self.differs(it, step.word, held[it.register], differed)
-            elif step.kind != "done":
-                self.survey_behind(it)
-        else:
-            raise Stopped(f"{rail.name}: after {MOST_ORDERS} orders it isn't as wanted")
-        if self.surveyed_at[rail.name] != self.orders:
-            self.survey(rail)
-
-    def differs(self, it: Setting, word: int | None, held: tuple[int, ...] | None, differed: set[str]) -> None:
-        """Another word was read back than was ordered. One that is near enough, and that the part made of the ordered one, takes
-        its place in the plan; otherwise the order is given once more. `differed` has the registers of which it was."""
-        part = self.on(it.rail)
-        is_taken = self.accept is not None and is_near(part, it.rail.output, it.register, it.rail.settings[it.key], self.accept, held, word)
-        if is_taken and word is not None:
-            # What wasn't possible before looks like a restart: what was read before isn't known any more.
-            it.wanted = word
-            self.had_restarted.add(it.rail.part)
-            self.survey(it.rail)
-            return
-        seen = self.has_restarted(it.rail)
-        if not seen and it.register not in differed:
-            differed.add(it.register)
-            return
-        why = "it restarted, or rounds: --accept takes a word that is near" if seen else part.transfers.why()
-        raise Stopped(f"{it.name}: {self.shown(it, it.wanted)} isn't confirmed: the part holds {word:04X}{': ' * bool(why)}{why}",
-                      it.rail.part, it.rail.output)
-
-    def survey_behind(self, it: Setting) -> None:
-        """Surveys a rail behind an order of which no good answer came."""
-        why = self.on(it.rail).transfers.why()
-        try:
-            self.survey(it.rail)
-        except Stopped:
-            self.look(it.rail)
-            raise Stopped(f"{it.name}: {self.shown(it, it.wanted)} isn't confirmed: no good answer{': ' * bool(why)}{why}",
-                          it.rail.part, it.rail.output) from None
+    def judge_refused(self, rail: Rail) -> None:
+        """Stops where the course of a rail is refused."""
+        end = self.courses[rail.name].course.ended
+        if end is not None and end.kind == "refused":
+            raise self.refused(rail, refusal(end.number, end.register))
 
     # ---- The whole ----
 
@@ -281,14 +184,14 @@ class Board:
         self.identify()
         self.learn()
         for rail in self.rails:
-            self.survey(rail)
+            self.look_at(rail)
             self.read_margins(rail)
 
     def prepare(self) -> None:
         """Reads and judges everything, and writes nothing."""
         self.read()
         for rail in self.rails:
-            self.judge(rail)
+            self.judge_refused(rail)
         if self.wants_store:
             self.judge_store()
 
@@ -301,17 +204,19 @@ class Board:
                 raise Stopped(f"{f'{name}: ' * bool(name)}{PROTECT} is {held}: a store wants 00: order it by word - {PROTECT} 00")
 
     def apply(self) -> None:
-        """Orders what differs, and surveys each rail. Stopped."""
+        """Orders what differs. Stopped."""
         self.prepare()
         for rail in self.rails:
-            self.bring(rail)
+            if self.courses[rail.name].course.ended is None:
+                self.courses[rail.name].go(True)
+                self.judge_refused(rail)
         for rail in self.rails:
-            if self.surveyed_at[rail.name] != self.orders:
-                self.survey(rail)
+            if self.read_at[rail.name] != self.orders:
+                self.look_at(rail)
         self.finish()
 
     def verify(self) -> None:
-        """Surveys each rail, and orders nothing. Stopped."""
+        """Reads each rail, and orders nothing. Stopped."""
         self.read()
         self.finish()
 
@@ -378,21 +283,21 @@ class Board:
             else:
                 it.state = "confirmed" if it.wanted == it.asked else "accepted"
 
-    def refused(self, rail: Rail, fault: PlanRefused) -> Stopped:
-        """A plan is refused."""
+    def refused(self, rail: Rail, fault: Refused) -> Stopped:
+        """A course is refused."""
         return Stopped(f"{self.why_refused(rail, fault)}: {fault.letter} {fault.name}")
 
-    def why_refused(self, rail: Rail, fault: PlanRefused) -> str:
-        """Why a plan is refused, in words."""
+    def why_refused(self, rail: Rail, fault: Refused) -> str:
+        """Why a course is refused, in words."""
         name = self.name_of(rail, fault.register)
-        if fault.letter in ("P1", "P4"):
-            return f"{name if fault.register else rail.name}: what it holds isn't known"
         if fault.letter == "P7":
             return f"{name}: {PROTECT} is {only_word(self.on(rail), 0, PROTECT):02X}, and the part refuses to write it"
+        if fault.letter not in ("L3", "L4", "P5", "P6"):
+            return f"{name if fault.register else rail.name}: {SAYINGS.get(fault.letter, fault.name)}"
         wanted = self.wanted(rail)
         said = voltages.shown(self.value(rail, wanted, fault.register))
-        if fault.letter in ("P2", "P3"):
-            return f"{name}: {said} is {'below' if fault.letter == 'P2' else 'above'} the rail's limits"
+        if fault.letter in ("L3", "L4"):
+            return f"{name}: {said} is {'below' if fault.letter == 'L3' else 'above'} the rail's limits"
         bound = "VOUT_MIN" if fault.letter == "P5" else "VOUT_MAX"
         held = voltages.shown(self.value(rail, wanted, bound))
         return (f"{name}: {said} is {'below' if bound == 'VOUT_MIN' else 'above'} {bound}, which is "

@@ -3,12 +3,17 @@ from __future__ import annotations
 
 from typing import Callable, Iterable, Mapping
 
-from .errors import Differs, Refused, Unknown
-from .host import Bus, Host, Known, Step
-from .plans import APPLY_TRIES, SURVEY_TRIES, PlanOrder, RailEnd, RailState, Survey, Tries, Wanted
+from .course import SURVEY_TRIES, TRIES, Course, Job, Wanted
+from .errors import Differs, NotDone, Refused, Unknown
+from .host import Host
+from .states import Bus, Known, RailState, Step
 from .transfers import Transfers
-from .values import NAMES, code_of, whole
+from .values import CODES, NAMES, code_of
 from .voltages import GivenVoltage, Voltage
+
+
+# Bytes of OPERATION.
+ON, OFF, MARGINS = 0x80, 0x00, {"high": 0xA8, "low": 0x94}
 
 
 class Device:
@@ -48,8 +53,8 @@ class Device:
         return None if found is None else (found.least, found.most)
 
     def limits_state(self, output: int) -> str:
-        """How the output lies to its limits, by what is known: `within`, which it is where it has none, `outside`, or `not known`
-        where that doesn't tell."""
+        """How the output lies to its limits, by what is known: `within`, `outside`, `not known` where that doesn't tell, or `no limits`
+        where it has none."""
         return self.host.limits_state(output)
 
     def band(self, output: int) -> tuple[Voltage, Voltage] | None:
@@ -141,50 +146,53 @@ class Device:
                 if register != "WRITE_PROTECT" and register not in self.lacks:
                     self.check(output, register)
 
-    def turn_on(self, output: int) -> None:
-        """Orders OPERATION 80h. L2 where the output has limits and its format isn't known, L5 where it isn't known to lie within
-        them."""
-        self.order(output, "OPERATION", 0x80)
+    # ---- Courses ----
 
-    def turn_off(self, output: int) -> None:
-        """Orders OPERATION 00h. No limit refuses it."""
-        self.order(output, "OPERATION", 0x00)
-
-    def survey(self, output: int, wanted: Wanted | None = None, tries: int = SURVEY_TRIES) -> RailEnd:
-        """Reads all that decides what the output commands, or all that a plan for the wanted words needs."""
+    def complete(self, course: Course, before_order: Callable[[Job], None] | None = None,
+                 after_order: Callable[[Job, Step], None] | None = None, job: str = "") -> RailState:
+        """Carries a course out, as `Host.run_course` does, and says what the output commands then. Raises how it ended where it has not
+        reached what is wanted: a Refused, Differs, NoFormat, OtherSource or Spent, behind the words of a job."""
         self.transfers = Transfers()
-        return self.host.run_survey(Survey(output, wanted, tries), self.bus, self.transfers)
+        self.host.run_course(course, self.bus, self.transfers, before_order, after_order)
+        try:
+            course.end()
+        except NotDone as fault:
+            cell, why = fault.register, self.transfers.why()
+            possible = self.host.possible_words(course.output, cell) if cell in CODES else None
+            raise type(fault)(f"{f'{job}: ' * bool(job)}{fault}{'; ' * bool(why)}{why}", fault.kind, fault.word, possible, cell) \
+                from self.transfers.error
+        return self.rail(course.output)
 
-    def apply(self, output: int, wanted: Wanted, tries: int = APPLY_TRIES,
-              before_order: Callable[[PlanOrder], None] = lambda order: None,
-              after_order: Callable[[PlanOrder, Step], None] = lambda order, step: None) -> RailEnd:
-        """Brings the output's registers to the wanted words, as `Host.run_apply` does."""
-        self.transfers = Transfers()
-        return self.host.run_apply(output, wanted, self.bus, tries, self.transfers, before_order, after_order)
+    def survey(self, output: int, tries: int = SURVEY_TRIES) -> RailState:
+        """Reads all that decides what the output commands, and says it."""
+        return self.complete(Course.survey(output, tries), job=f"survey {output}")
 
-    def set_voltage(self, output: int, voltage: GivenVoltage, register: str | int = "VOUT_COMMAND",
-                    tries: int = APPLY_TRIES) -> RailState:
-        """Learns the output's format, applies the word nearest to a voltage in it, and says what the output commands then. Where
-        a survey meanwhile learns another format, as of a part that was exchanged, the word is made anew. Raises what refused it,
-        and Differs or Unknown where the word isn't known to be held."""
-        voltage, name, left = Voltage(voltage), NAMES[code_of(register)], Tries(whole(tries, 0, 0xFFFF, "tries"))
-        end = RailEnd("format")
-        while end.kind == "format":
-            self.learn(output)
-            form = self.host.format(output)
-            assert form is not None
-            self.transfers = Transfers()
-            end = self.host.run_apply(output, {name: form.word(voltage)}, self.bus, left, self.transfers, form=form)
-        if end.refused is not None:
-            raise end.refused
-        cell = end.register or name
-        if end.kind == "spent":
-            why = self.transfers.why()
-            raise Unknown(f"set {output} {voltage}: {cell}: none of {tries} tries is left{': ' * bool(why)}{why}", "unknown", None,
-                          self.host.possible_words(output, cell)) from self.transfers.error
-        if end.kind == "differs":
-            self._ended(Step("differs", end.word), f"set {output} {voltage}: {cell}", (output, cell))
-        return self.rail(output)
+    def set_voltage(self, output: int, voltage: GivenVoltage, register: str | int = "VOUT_COMMAND", tries: int = TRIES) -> RailState:
+        """Brings a register of the output to the word of a voltage: the nearest one, of VOUT_MAX and VOUT_MIN the one that keeps the
+        bound. Says what the output commands then."""
+        wanted = Voltage(voltage)
+        return self.complete(Course.voltage(output, wanted, register, tries), job=f"set {output} {wanted}")
+
+    def apply(self, output: int, wanted: Wanted, tries: int = TRIES, before_order: Callable[[Job], None] | None = None,
+              after_order: Callable[[Job, Step], None] | None = None) -> RailState:
+        """Brings the output's registers to the wanted words, and says what it commands then."""
+        return self.complete(Course.words(output, wanted, tries), before_order, after_order, f"apply {output}")
+
+    def turn_on(self, output: int, tries: int = TRIES) -> RailState:
+        """Brings OPERATION to 80h, once what the output will command then is known. L2, L5 by its limits, P7 by WRITE_PROTECT."""
+        return self.complete(Course.power(output, ON, tries), job=f"on {output}")
+
+    def turn_off(self, output: int, tries: int = TRIES) -> RailState:
+        """Orders OPERATION 00h at once, before anything is read. No limit refuses it."""
+        return self.complete(Course.power(output, OFF, tries), job=f"off {output}")
+
+    def margin(self, output: int, side: str, tries: int = TRIES) -> RailState:
+        """Brings OPERATION to A8h or 94h, by which the output commands its margin `high` or `low`. It is refused as `turn_on` is."""
+        if side not in MARGINS:
+            raise ValueError(f"side: {side!r} isn't high or low")
+        return self.complete(Course.power(output, MARGINS[side], tries), job=f"margin {output} {side}")
+
+    # ---- Commands ----
 
     def clear(self, output: int) -> None:
         """Clears the latched faults of an output: acknowledged, and no more than that."""

@@ -15,23 +15,21 @@ SAYINGS = {
     "H7": "the output's format isn't known: learn it first",
     "N1": "m of DIRECT is 0",
     "N2": "R of DIRECT is outside -12 to 12",
-    "N3": "below all values of the output's format",
-    "N4": "above all values of the output's format",
+    "N3": "below all values of the output's format: give a greater one",
+    "N4": "above all values of the output's format: give a smaller one",
     "N5": "beyond 10^15 microvolts",
     "L1": "the least is above the most",
     "L2": "the output has limits, and its format isn't known: learn it first",
-    "L3": "below the output's limits",
-    "L4": "above the output's limits",
-    "L5": "the output isn't known to be within its limits: check its registers first",
+    "L3": "below the output's limits: give a voltage within them",
+    "L4": "above the output's limits: give a voltage within them",
+    "L5": "the output isn't known to be within its limits then: check or order what OPERATION selects first",
     "L6": "limits are narrowed, never widened",
-    "L7": "the part doesn't have this register, or the margin that OPERATION selects",
+    "L7": "the part doesn't have this register, or the margin that OPERATION selects: leave it out, or correct what it lacks",
     "P1": "the output's format isn't known: learn it first",
-    "P2": "a wanted word is below the output's limits",
-    "P3": "a wanted word is above the output's limits",
     "P4": "what the register holds isn't known: check it first",
-    "P5": "the word would be below VOUT_MIN",
-    "P6": "the word would be above VOUT_MAX",
-    "P7": "WRITE_PROTECT doesn't allow an order that is still to come",
+    "P5": "it would be below VOUT_MIN: order VOUT_MIN first",
+    "P6": "it would be above VOUT_MAX: order VOUT_MAX first",
+    "P7": "WRITE_PROTECT doesn't allow an order that is still to come: order WRITE_PROTECT 00 first",
     "F1": "bytes of another device, or none",
     "F2": "too few bytes",
     "F3": "too many bytes",
@@ -61,16 +59,15 @@ class PmhostError(Exception):
 
 class Refused(PmhostError):
     """A call that the library refused: it changed nothing and sent nothing, but a part that refuses a frame (K) may set a bit of
-    STATUS_CML. A call of several jobs, as `set_voltage`, may have carried some out before one was refused. `register` is the one that
-    the refusal of a plan is about, where it is about one."""
+    STATUS_CML. A course, as of `set_voltage`, may have ordered something before it was refused. `register` is the one that the
+    refusal of a course is about, where it is about one."""
 
-    def __init__(self, number: int) -> None:
-        self.number = number
+    def __init__(self, number: int, register: str | None = None) -> None:
+        self.number, self.register = number, register
         letter, _, name = name_of(number).rpartition(" ")
         self.letter, self.name = letter, name
-        self.register: str | None = None
         saying = SAYINGS.get(letter)
-        super().__init__(f"{name_of(number)}: {saying}" if saying else name)
+        super().__init__(f"{f'{register}: ' if register else ''}{f'{name_of(number)}: {saying}' if saying else name}")
 
     def __reduce__(self) -> tuple[object, ...]:
         return type(self), (self.number,), {**self.__dict__, "args": self.args}
@@ -89,7 +86,7 @@ class LimitRefused(Refused):
 
 
 class PlanRefused(Refused):
-    """P1 to P7: why a plan gives no order."""
+    """P4 to P7: why a course orders nothing."""
 
 
 class FrameRefused(Refused):
@@ -108,7 +105,7 @@ class PartRefused(Refused):
 
 
 class MemoryRefused(Refused):
-    """What only a caller of the library can ask wrongly: no host, no cell, no survey, a frame of the other kind, a word in the
+    """What only a caller of the library can ask wrongly: no host, no cell, no course, a frame of the other kind, a word in the
     store of WRITE_PROTECT, which has none."""
 
 
@@ -117,22 +114,37 @@ FAMILIES: dict[str, type[Refused]] = {
 
 
 class NotDone(PmhostError):
-    """A job that didn't end well: `kind` says how, and `possible` which words the register may hold, None for any."""
+    """A job or a course that didn't end well: `kind` says how, `possible` which words the register may hold, None for any, and
+    `register` which register a course is about."""
 
-    def __init__(self, text: str, kind: str, word: int | None = None, possible: tuple[int, ...] | None = None) -> None:
+    def __init__(self, text: str, kind: str, word: int | None = None, possible: tuple[int, ...] | None = None,
+                 register: str | None = None) -> None:
         super().__init__(text)
-        self.kind, self.word, self.possible = kind, word, possible
+        self.kind, self.word, self.possible, self.register = kind, word, possible, register
 
     def __reduce__(self) -> tuple[object, ...]:
-        return type(self), (str(self), self.kind, self.word, self.possible)
+        return type(self), (str(self), self.kind, self.word, self.possible, self.register)
 
 
 class Differs(NotDone):
-    """An order whose word wasn't read back: another was."""
+    """An order whose word wasn't read back: another was, `word`. Of a course: at the second time that its register differed."""
 
 
 class Unknown(NotDone):
     """A job with no good answer in its last pass."""
+
+
+class Spent(Unknown):
+    """A course with no try left."""
+
+
+class NoFormat(NotDone):
+    """A course of an output whose VOUT_MODE, `word`, names no format that is spoken here."""
+
+
+class OtherSource(NotDone):
+    """A course of an output whose OPERATION holds a byte, `word`, that its register doesn't take: another source may decide the
+    voltage."""
 
 
 def name_of(number: int) -> str:
@@ -144,18 +156,9 @@ def name_of(number: int) -> str:
     return text.decode("ascii")
 
 
-def refusal(number: int) -> Refused:
-    """The exception of a refusal's number."""
-    return FAMILIES.get(name_of(number)[:1] if " " in name_of(number) else "", MemoryRefused)(number)
-
-
-def refusal_of_plan(number: int, register: str | None) -> Refused:
-    """The same of a plan, with the register that it is about."""
-    found = refusal(number)
-    found.register = register
-    if register is not None:
-        found.args = (f"{register}: {found.args[0]}",)
-    return found
+def refusal(number: int, register: str | None = None) -> Refused:
+    """The exception of a refusal's number, and of the register that it is about."""
+    return FAMILIES.get(name_of(number)[:1] if " " in name_of(number) else "", MemoryRefused)(number, register)
 
 
 def accepted(number: int) -> None:

@@ -2,77 +2,33 @@
 from __future__ import annotations
 
 import ctypes
-from dataclasses import dataclass
-from typing import Callable, Iterable, Protocol
+from typing import TYPE_CHECKING, Any, Callable, Iterable
 
 from . import _library as at
 from ._library import library
-from .errors import Refused, accepted, refusal, refusal_of_plan
-from .plans import APPLY_TRIES, ENDS, Band, PlanOrder, RailEnd, RailState, Survey, Tries, Wanted, wanted_image
+from .errors import accepted, refusal
+from .states import Band, Bus, Known, Limits, RailState, Sending, Step
 from .transfers import Transfers
 from .values import NAMES, Format, code_of, frame_bytes, whole
-from .voltages import GivenVoltage, Voltage, given_microvolts, of_microvolts
+from .voltages import GivenVoltage, given_microvolts, of_microvolts
+
+if TYPE_CHECKING:
+    from .course import Course, Job
 
 REFERENCE = ctypes.byref
+ENDS = ("next", "done", "differs", "unknown", "learned")
 STORE_USER_ALL = b"\x15"
 
 
-class Bus(Protocol):
-    """What a host needs of a bus. Neither call may try again by itself, nor hand over an older answer."""
-
-    def write(self, frame: bytes) -> bool:
-        """Puts a packet on the bus, the address byte first, and says whether every byte was acknowledged."""
-
-    def read(self, request: bytes, count: int) -> bytes:
-        """Sends a request and a repeated start, and answers what came after the read address: at most `count` bytes,
-        none where there was no answer."""
-
-
-@dataclass(frozen=True)
-class Sending:
-    """The frame that is to be sent now: a write, or a request whose whole answer has `answer` bytes behind the read
-    address."""
-
-    frame: bytes
-    is_request: bool
-    answer: int
-
-
-@dataclass(frozen=True)
-class Step:
-    """How a job stands: `next`, or how it ended, `done`, `differs` with the word that was read, `unknown`, `learned`."""
-
-    kind: str
-    word: int | None = None
-
-    @property
-    def is_over(self) -> bool:
-        return self.kind != "next"
-
-
-@dataclass(frozen=True)
-class Known:
-    """What is known of a register: its word, where that is confirmed, and the words that it may hold, None for any."""
-
-    output: int | None
-    register: str
-    confirmed: int | None
-    possible: tuple[int, ...] | None
-
-
-@dataclass(frozen=True)
-class Limits:
-    """The least and the most that an output may be commanded to."""
-
-    least: Voltage
-    most: Voltage
-
-
 LIMITS_STATES = {0x91: "within", 0x92: "outside", 0x93: "not known"}
+NO_LIMITS, NONE_GIVEN = 0xE6, "no limits"
 POWER = {0: None, 1: True, 2: False}
-PLAN_DONE = 0x94
-SURVEYS = {0: "begun", 0x95: "done", 0x96: "spent", 0x97: "stuck"}
-MISSING_REGISTER = 0x27
+SELECTED = {0xFF: "AVSBus", **NAMES}
+
+
+def state_of(number: int, limits: Limits | None) -> str:
+    """How an output lies to its limits, in words: the library calls one within that has none."""
+    return NONE_GIVEN if LIMITS_STATES[number] == "within" and limits is None else LIMITS_STATES[number]
 
 
 def registers_image(lacks: Iterable[str | int]) -> at.RegistersImage:
@@ -114,6 +70,11 @@ class Host:
         has = registers_image(lacks)
         accepted(library.pm_host_new_with(REFERENCE(self._image), address, outputs, passes, REFERENCE(has)))
 
+    @property
+    def reference(self) -> Any:
+        """Its memory, for the calls of the library."""
+        return REFERENCE(self._image)
+
     def __repr__(self) -> str:
         known = [f"{'' if it.output is None else f'{it.output} '}{it.register} {it.confirmed:04X}"
                  for it in self.known_cells() if it.confirmed is not None]
@@ -146,18 +107,18 @@ class Host:
         """The limits of an output, None where it has none."""
         found = at.LimitsImage()
         number = library.pm_host_limits(REFERENCE(self._image), self._there(output), REFERENCE(found))
-        if number == 0xE6:
+        if number == NO_LIMITS:
             return None
         accepted(number)
         return Limits(of_microvolts(found.least), of_microvolts(found.most))
 
     def limits_state(self, output: int) -> str:
-        """How an output's voltage lies to its limits, by what is known: `within`, which it is where it has none, `outside`, or
-        `not known` where that doesn't tell."""
+        """How an output's voltage lies to its limits, by what is known: `within`, `outside`, `not known` where that doesn't tell, or
+        `no limits` where it has none."""
         number = library.pm_host_limits_state(REFERENCE(self._image), self._there(output))
         if number not in LIMITS_STATES:
             raise refusal(number)
-        return LIMITS_STATES[number]
+        return state_of(number, self.limits(output))
 
     def band(self, output: int) -> Band:
         """Which voltages an output may be commanded to. H7 where its format isn't known, NoBand where OPERATION may hand its voltage
@@ -171,35 +132,8 @@ class Host:
         found = at.RailImage()
         accepted(library.pm_host_rail(REFERENCE(self._image), self._there(output), REFERENCE(found)))
         band = None if found.band else band_of(found.ends)
-        return RailState(POWER[found.power], band, LIMITS_STATES[found.within])
-
-    # ---- Plans and surveys ----
-
-    def plan(self, output: int, wanted: Wanted) -> PlanOrder | None:
-        """The next order on the way to the wanted words, by what is known; None where each register has its own. H3, L7, P1 to
-        P7."""
-        return self._planned(library.pm_host_plan, output, wanted)
-
-    def next(self, output: int, wanted: Wanted) -> PlanOrder | None:
-        """The same, and the order begins; None where nothing has begun. H3, L7, P1 to P7."""
-        return self._planned(library.pm_host_next, output, wanted)
-
-    def _planned(self, call: Callable[..., int], output: int, wanted: Wanted) -> PlanOrder | None:
-        found = at.PlanOrderImage()
-        number = call(REFERENCE(self._image), self._there(output), REFERENCE(wanted_image(wanted)), REFERENCE(found))
-        if number == PLAN_DONE:
-            return None
-        if number:
-            raise refusal_of_plan(number, NAMES.get(found.code))
-        return PlanOrder(NAMES[found.code], found.word)
-
-    def survey(self, survey: Survey) -> str:
-        """Begins a survey's next job: `begun`; or it has ended, `done` by its own rule, `spent` where it has no tries left, or
-        `stuck` where it needs a register that isn't known and that the part doesn't have. H3, H4."""
-        number = library.pm_host_survey(REFERENCE(self._image), REFERENCE(survey.image))
-        if number not in SURVEYS:
-            raise refusal(number)
-        return SURVEYS[number]
+        limits = self.limits(output)
+        return RailState(POWER[found.power], band, state_of(found.within, limits), limits, SELECTED.get(found.selected))
 
     # ---- Jobs ----
 
@@ -244,6 +178,11 @@ class Host:
         """What to send now, None where no job is open."""
         found = at.SendingImage()
         accepted(library.pm_host_frame(REFERENCE(self._image), REFERENCE(found)))
+        return self.sending_of(found)
+
+    @staticmethod
+    def sending_of(found: at.SendingImage) -> Sending | None:
+        """A frame as the library says it."""
         if found.kind == 0:
             return None
         is_request = found.kind == 2
@@ -253,15 +192,16 @@ class Host:
         """A write was sent, and acknowledged or not."""
         if not isinstance(acked, bool):
             raise TypeError(f"acked: True or False is wanted, and not {acked!r}")
-        return self._step(library.pm_host_write_ended(REFERENCE(self._image), acked))
+        return self.step_of(library.pm_host_write_ended(REFERENCE(self._image), acked))
 
     def read_ended(self, answer: bytes) -> Step:
         """A request was sent, and these bytes came back, the read address first; none where there was no answer."""
         taken = frame_bytes(answer, 2**16, "answer")
-        return self._step(library.pm_host_read_ended(REFERENCE(self._image), taken, len(taken)))
+        return self.step_of(library.pm_host_read_ended(REFERENCE(self._image), taken, len(taken)))
 
     @staticmethod
-    def _step(step: at.StepImage) -> Step:
+    def step_of(step: at.StepImage) -> Step:
+        """A step as the library says it."""
         if step.kind >= len(ENDS):
             raise refusal(step.kind)
         return Step(ENDS[step.kind], step.word if step.kind == 2 else None)
@@ -276,7 +216,8 @@ class Host:
         kept.has_stored = False
         try:
             while (sending := self.frame()) is not None:
-                step = self._ask(bus, sending, kept) if sending.is_request else self._write(bus, sending, kept)
+                step = self.read_ended(self._asked(bus, sending, kept)) if sending.is_request \
+                    else self.write_ended(self._written(bus, sending, kept))
         except BaseException:
             self.give_up()
             raise
@@ -284,141 +225,87 @@ class Host:
             raise ValueError("run: no job is open")
         return step
 
-    def run_survey(self, survey: Survey, bus: Bus, transfers: Transfers | None = None) -> RailEnd:
-        """Carries a survey out over a bus, job after job, as `run` does each."""
+    def run_course(self, course: Course, bus: Bus, transfers: Transfers | None = None, before_order: Callable[[Job], None] | None = None,
+                   after_order: Callable[[Job, Step], None] | None = None) -> None:
+        """Carries a course out over a bus, frame after frame, as `run` does a job; `course.end()` says how it ended.
+
+        `before_order` is told of each order before its first frame: where it raises, the order hasn't begun, and the host is free.
+        `after_order` is told of how it ended. Whatever is raised meanwhile goes on to the caller, with the job that was under way ended as
+        unknown; another call goes on from there. `transfers` has those of the last job."""
+        kept, order, is_open, has_hooks = Transfers() if transfers is None else transfers, None, False, before_order or after_order
         try:
-            return self._run_survey(survey, bus, transfers, Tries(survey.tries))
-        except (Refused, TypeError, ValueError):
-            raise
-        except BaseException:
-            self.give_up()
-            raise
-
-    def _run_survey(self, survey: Survey, bus: Bus, transfers: Transfers | None, tries: Tries) -> RailEnd:
-        while True:
-            try:
-                state = self.survey(survey)
-            except Refused as fault:
-                return RailEnd("refused", fault)
-            if state == "stuck":
-                return RailEnd("refused", refusal(MISSING_REGISTER))
-            if state != "begun":
-                return RailEnd("reached" if state == "done" else "spent")
-            tries.left -= 1
-            survey.told(self.run(bus, transfers))
-
-    def run_apply(self, output: int, wanted: Wanted, bus: Bus, tries: int | Tries = APPLY_TRIES, transfers: Transfers | None = None,
-                  before_order: Callable[[PlanOrder], None] = lambda order: None,
-                  after_order: Callable[[PlanOrder, Step], None] = lambda order, step: None, form: Format | None = None) -> RailEnd:
-        """Brings an output's registers to the wanted words over a bus, by at most so many jobs: a survey for the plan, then
-        order after order, and a survey again where something was ordered.
-
-        Where nothing is due nothing is written, and what is refused before the first order has written nothing. An order that
-        differs is given once again, and is the end at the second time; a register that isn't known behind an order is checked
-        first. `before_order` is told of each order before its first frame, `after_order` of how it ended. Where `before_order`
-        raises, the order isn't sent, and the host is free. `form` is the format by which the words were made, if one was: where a
-        survey learns another, nothing more is ordered. The tries that a `Tries` has left are taken from it."""
-        left = tries if isinstance(tries, Tries) else Tries(whole(tries, 0, 0xFFFF, "tries"))
-        try:
-            return self._run_apply(output, wanted, bus, left, transfers, before_order, after_order, form)
-        except (Refused, TypeError, ValueError):
-            raise
-        except BaseException:
-            self.give_up()
-            raise
-
-    def _run_apply(self, output: int, wanted: Wanted, bus: Bus, left: Tries, transfers: Transfers | None,
-                 before_order: Callable[[PlanOrder], None], after_order: Callable[[PlanOrder, Step], None],
-                 form: Format | None) -> RailEnd:
-        differed: set[str] = set()
-        while True:
-            end = self._run_survey(Survey(output, wanted, left.left), bus, transfers, left)
-            if end.refused is not None and end.refused.number == MISSING_REGISTER:
-                return self._stuck(output, wanted, end)
-            if end.kind != "reached":
-                return end
-            if form is not None and self.format(output) != form:
-                return RailEnd("format")
-            has_ordered = False
             while True:
-                try:
-                    order = self.next(output, wanted) if left.left else self.plan(output, wanted)
-                except Refused as fault:
-                    if fault.letter != "P4" or fault.register is None:
-                        return RailEnd("refused", fault, fault.register)
-                    if left.left == 0:
-                        return RailEnd("spent", None, fault.register)
-                    self.check(output, fault.register)
-                    left.left -= 1
-                    self.run(bus, transfers)
-                    continue
-                if order is None:
-                    break
-                if left.left == 0:
-                    return RailEnd("spent", None, order.register)
-                has_ordered = True
-                left.left -= 1
-                try:
-                    before_order(order)
-                except BaseException:
-                    self.give_up()
-                    raise
-                step = self.run(bus, transfers)
-                after_order(order, step)
-                if step.kind == "differs" and order.register in differed:
-                    return RailEnd("differs", None, order.register, step.word)
-                if step.kind == "differs":
-                    differed.add(order.register)
-            if not has_ordered:
-                return RailEnd("reached")
+                memory = (self.save(), course.save()) if before_order and not is_open else (b"", b"")
+                sending = course.frame(self)
+                if sending is None:
+                    return
+                if not is_open:
+                    kept.begin()
+                    order = None if sending.is_request or not has_hooks else course.job()
+                    if order and before_order:
+                        self._tell(before_order, order, course, *memory)
+                step = course.read_ended(self, self._asked(bus, sending, kept)) if sending.is_request \
+                    else course.write_ended(self, self._written(bus, sending, kept))
+                is_open = not step.is_over
+                if step.is_over and order and after_order:
+                    after_order(order, step)
+        except BaseException:
+            if course.job() is not None:
+                self.give_up(course)
+            raise
 
-    def _stuck(self, output: int, wanted: Wanted, end: RailEnd) -> RailEnd:
-        """The plan says which register is missing."""
+    def _tell(self, before_order: Callable[[Job], None], order: Job, course: Course, host: bytes, way: bytes) -> None:
+        """Tells of an order that has begun; where that raises, host and course hold what they did before it."""
         try:
-            self.plan(output, wanted)
-        except Refused as fault:
-            return RailEnd("refused", fault, fault.register)
-        return end
+            before_order(order)
+        except BaseException:
+            self._image = at.HostImage.from_buffer_copy(host)
+            course.load(way)
+            raise
 
-    def give_up(self) -> None:
-        """Ends the open job: its frames that are left aren't sent, and are told as failed."""
+    def give_up(self, course: Course | None = None) -> None:
+        """Ends the open job, which may be a course's: its frames that are left aren't sent, and are told as failed."""
         while (sending := self.frame()) is not None:
-            if sending.is_request:
+            if course is not None:
+                course.read_ended(self, b"") if sending.is_request else course.write_ended(self, False)
+            elif sending.is_request:
                 self.read_ended(b"")
             else:
                 self.write_ended(False)
 
-    def _write(self, bus: Bus, sending: Sending, transfers: Transfers) -> Step:
+    def _written(self, bus: Bus, sending: Sending, transfers: Transfers) -> bool:
+        """Sends a write: whether it was acknowledged."""
         if sending.frame[1:-1] == STORE_USER_ALL:
             if transfers.has_stored:
                 # A store may take a second and wears the memory: a later pass isn't sent.
-                return self.write_ended(False)
+                return False
             transfers.has_stored = True
         transfers.has_written = True
         try:
             acked = bus.write(sending.frame)
         except OSError as fault:
             transfers.fault(fault)
-            return self.write_ended(False)
+            return False
         if not isinstance(acked, bool):
             raise TypeError(f"write: True or False is wanted, and not {acked!r}")
         if not acked:
             transfers.unheard("no acknowledgement")
-        return self.write_ended(acked)
+        return acked
 
-    def _ask(self, bus: Bus, sending: Sending, transfers: Transfers) -> Step:
+    def _asked(self, bus: Bus, sending: Sending, transfers: Transfers) -> bytes:
+        """Sends a request: what came back, the read address first, or nothing."""
         try:
             came = bus.read(sending.frame, sending.answer)
         except OSError as fault:
             transfers.fault(fault)
-            return self.read_ended(b"")
+            return b""
         taken = frame_bytes(came, 2**16, "read")
         if not taken:
             transfers.unheard(getattr(came, "why", "no answer"))
-            return self.read_ended(b"")
+            return b""
         answer = bytes([self._address << 1 | 1]) + taken
         transfers.answered(self._address, sending.frame, answer)
-        return self.read_ended(answer)
+        return answer
 
     # ---- What is known ----
 

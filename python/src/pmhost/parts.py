@@ -15,6 +15,8 @@ import re
 from dataclasses import dataclass
 from typing import TypeGuard
 
+from .reserved import why_reserved
+
 ADDRESS = re.compile(r"(?:0[xX])?([0-9A-Fa-f]{2})[hH]?\Z")
 NAME = re.compile(r"[A-Za-z0-9_.+-]{1,32}\Z")
 MODEL_BUS = "model"
@@ -97,6 +99,8 @@ def part_of(name: str, table: object) -> BoardPart:
         found = address_of(address)
     except ValueError as fault:
         raise BadRails(f"{at}.address: {fault}") from None
+    if why := why_reserved(found):
+        raise BadRails(f"{at}.address: {why}")
     if not is_whole(outputs) or not 1 <= outputs <= MOST_OUTPUTS:
         raise BadRails(f"{at}.outputs: give a whole number from 1 to {MOST_OUTPUTS}")
     if "model" in table and (not isinstance(model, str) or not MODEL.match(model)):

@@ -3,10 +3,11 @@ from __future__ import annotations
 
 from dataclasses import dataclass, field
 
-from .host import Bus, Host
+from .host import Host
 from .packets import Packet
 from .device import Device
 from .reads import TRIES, Read, Reads
+from .states import Bus
 from .transfers import Transfers
 from .values import CODES, Format
 from .zeros import NotBelieved, guard

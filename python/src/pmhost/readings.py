@@ -8,8 +8,8 @@ from __future__ import annotations
 from dataclasses import dataclass, field
 from decimal import Decimal
 
-from .host import Bus
 from .reads import Read, Reads
+from .states import Bus
 from .status import BITS, names_of
 from .values import LINEAR11, Format, decimal_of
 

@@ -11,8 +11,8 @@ from typing import Callable
 from . import clock
 from .bus.ones import NOBODY, NoAnswer, is_ones
 from .errors import FrameRefused, Refused
-from .host import Bus
 from .packets import Packet, code_request, pec, read_answer, read_block, read_plain
+from .states import Bus
 
 TRIES = 3
 # Seconds before a request is sent again, since the part may be busy.

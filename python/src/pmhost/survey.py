@@ -1,44 +1,35 @@
-"""What an output commands: a survey of the library reads what decides, and the library says the rest."""
+"""What an output commands, by what is known, and courses of a part that may not be there."""
 from __future__ import annotations
 
 import contextlib
 from dataclasses import dataclass, field
-from functools import lru_cache
+from typing import Callable
 
 from . import probe
-from .errors import LimitRefused, SetupRefused
+from .course import Course, CourseEnd, Job, avsbus
+from .device import MARGINS, ON, Device
+from .errors import LimitRefused
 from .host import Host
-from .part import ModelPart, Output
-from .plans import Survey, Wanted
-from .device import Device
+from .states import Known, Step
 from .transfers import Transfers
-from .values import NAMES
-from .zeros import REGISTER, NotBelieved, guard
+from .values import CODES, Format
+from .zeros import ADDRESS, REGISTER, Believing
 
-# A model output whose three registers hold different words, by which word it commands.
-SELECTED = {3: "VOUT_COMMAND", 4: "VOUT_MARGIN_HIGH", 2: "VOUT_MARGIN_LOW"}
 # What stands among the registers that are missed for a format that isn't spoken here.
 FORMAT = "format"
 # A survey reads at most seven registers, each once, and but for one once more where an answer surprises; and the format.
-TRIES = 2 * 7
-
-
-@lru_cache(maxsize=None)
-def selection(operation: int) -> tuple[str, bool] | None:
-    """The register that a word of OPERATION selects, and whether it has the output on, as the model part says. None where
-    no part takes the word."""
-    try:
-        part = ModelPart(0x58, [Output(mode=0, operation=operation, command=3, high=4, low=2, max=5, min=1)])
-    except SetupRefused:
-        return None
-    return SELECTED[int(part.voltage(0))], part.is_on(0)
+SURVEY_TRIES = 2 * 7
+# A course to words reads them twice and has five orders.
+TRIES = 40
+# To turn an output off is tried so often: each has its passes, and each write waits for a part that doesn't answer.
+OFF_TRIES = 4
 
 
 @dataclass
 class Commanded:
     """What an output commands, by what is known. Voltages are in microvolts; what isn't known is None. `value` is that of the
-    selected register. Behind a survey `missing` has the register that gave no good answer, and why, and `unended` says why the
-    survey came to no end otherwise."""
+    selected register, `form` the format of its words, and `cells` has what is known of each register. Behind a course `missing` has the
+    register that gave no good answer, and why, and `unended` says why it came to no end otherwise."""
 
     selected: str | None = None
     value: int | None = None
@@ -49,6 +40,8 @@ class Commanded:
     limits_state: str | None = None
     missing: dict[str, str] = field(default_factory=dict)
     unended: str = ""
+    form: Format | None = None
+    cells: dict[str, Known] = field(default_factory=dict)
 
     @property
     def is_within(self) -> bool | None:
@@ -57,7 +50,7 @@ class Commanded:
 
     @property
     def is_well(self) -> bool:
-        """A survey came to its end, and the output is known to lie within its limits, or has none."""
+        """A course came to its end, and the output is known to lie within its limits, or has none."""
         is_known = not self.missing and not self.unended and self.selected is not None
         return is_known and (self.limits is None or self.limits_state == "within")
 
@@ -65,53 +58,118 @@ class Commanded:
         """Whether it commands just this value, which is rounded down."""
         return self.least == microvolts and self.greatest in (microvolts, microvolts + 1)
 
+    def only_word(self, register: str) -> int | None:
+        """The word of a register where no other is possible. One that is called confirmed may be stale behind a restart."""
+        found = self.cells[register].possible
+        return found[0] if found is not None and len(found) == 1 else None
+
+
+    def would(self, operation: int) -> int | None:
+        """What it would command by a byte of OPERATION, where that is known."""
+        selected = {ON: "VOUT_COMMAND", MARGINS["high"]: "VOUT_MARGIN_HIGH", MARGINS["low"]: "VOUT_MARGIN_LOW"}.get(operation)
+        words = [] if selected is None else [self.only_word(each) for each in (selected, "VOUT_MIN", "VOUT_MAX")]
+        values = [None if self.form is None else self.form.told(word) for word in words]
+        return None if not values or None in values else min(max(each for each in values[:2] if each is not None), values[2] or 0)
+
 
 def only_word(part: Device, output: int, register: str) -> int | None:
-    """The word of a register where no other is possible. One that is called confirmed may be stale behind a restart."""
+    """The same by what a part's host knows now."""
     found = part.host.possible_words(output, register)
     return found[0] if found is not None and len(found) == 1 else None
 
 
 def commanded(part: Device, output: int) -> Commanded:
     """What an output commands, by what is known now."""
-    state, limits, form = part.host.rail(output), part.host.limits(output), part.host.format(output)
-    operation = only_word(part, output, "OPERATION")
-    chosen = None if operation is None else selection(operation)
+    state, form = part.host.rail(output), part.host.format(output)
+    limits = state.limits
     found = Commanded(is_on=state.is_on, limits=None if limits is None else (limits.least.microvolts, limits.most.microvolts),
-                      limits_state=None if limits is None else state.limits_state)
+                      limits_state=None if limits is None else state.limits_state, form=form,
+                      cells={it.register: it for it in part.known_cells() if it.output in (None, output)})
     if state.band is not None:
         found.least, found.greatest = state.band.least.microvolts, state.band.greatest.microvolts
-    if chosen is not None:
-        found.selected, word = chosen[0], only_word(part, output, chosen[0])
-        found.value = None if form is None else form.told(word)
+    if state.is_on is not None and state.selected in CODES:
+        found.selected = state.selected
+        found.value = None if form is None else form.told(found.only_word(state.selected))
     return found
 
 
-def survey(part: Device, output: int, wanted: Wanted | None = None) -> Commanded:
-    """Surveys an output: its format, OPERATION, the register that this selects, VOUT_MAX and VOUT_MIN; for a plan each register
-    of which a word is wanted, and WRITE_PROTECT, too. It ends at the first one that gives no good answer; where that of WRITE_PROTECT
-    isn't believed nothing is known any more."""
-    it, missing, state = Survey(output, wanted, TRIES), dict[str, str](), "begun"
-    while not missing and (state := part.host.survey(it)) == "begun":
-        sending = part.host.frame()
-        assert sending is not None
-        # A request ends with its code: that of a learn is VOUT_MODE, which is no cell.
-        register = NAMES.get(sending.frame[-1], "VOUT_MODE")
-        try:
-            step = guard(part.host.address, register, lambda: ask_operation(part), part.run, lambda _: holds_zeros(part))
-        except NotBelieved as doubt:
-            part.restart()
-            missing[register] = str(doubt)
-            break
-        it.told(step)
-        if step.kind == "unknown":
-            why = part.transfers.why()
-            # With good answers alone it is the format.
-            missing[register if why else FORMAT] = why or probe.why_not_learned(part, output)
-    found = commanded(part, output)
-    found.missing = missing
-    found.unended = {"spent": "the part restarts again and again",
-                     "stuck": f"OPERATION selects {found.selected}, which the part doesn't have"}.get(state, "")
+# ---- Courses ----
+
+class Silent(Exception):
+    """Nothing was answered in a course's first job."""
+
+
+class Nobody(Exception):
+    """Why no part answers: nothing was ordered."""
+
+
+class Listening(Transfers):
+    """Those of a course to a part that may not be there: it is Silent where the first job's requests are all unanswered."""
+
+    def __init__(self, passes: int) -> None:
+        super().__init__()
+        self._silence: int | None = passes
+
+    def answered(self, address: int, request: bytes, answer: bytes) -> None:
+        self._silence = None
+        super().answered(address, request, answer)
+
+    def fault(self, error: OSError) -> None:
+        super().fault(error)
+        self._listen()
+
+    def unheard(self, what: str) -> None:
+        super().unheard(what)
+        self._listen()
+
+    def _listen(self) -> None:
+        if self.has_written:
+            self._silence = None
+        if self._silence is not None and len(self.failed) >= self._silence:
+            raise Silent
+
+
+def complete(part: Device, course: Course, before_order: Callable[[Job], None] | None = None,
+             after_order: Callable[[Job, Step], None] | None = None, ask: Callable[[], str] | None = None) -> None:
+    """Carries a course out, as `Host.run_course` does. Where nobody answers its first job `ask` says why, nothing where the part answers,
+    and it goes on: Nobody, and without `ask` at once. NotBelieved where zeros of WRITE_PROTECT aren't believed."""
+    bus = Believing(part.bus, lambda: ask_operation(part)) if part.host.address == ADDRESS else part.bus
+    part.transfers = Listening(part.host.passes)
+    try:
+        part.host.run_course(course, bus, part.transfers, before_order, after_order)
+    except Silent:
+        why = part.transfers.why() if ask is None else ask()
+        if why:
+            raise Nobody(why) from None
+        part.transfers = Transfers()
+        part.host.run_course(course, bus, part.transfers, before_order, after_order)
+
+
+def survey(part: Device, output: int) -> Commanded:
+    """Surveys an output: its format, OPERATION, the register that this selects, VOUT_MAX and VOUT_MIN."""
+    course = Course.survey(output, SURVEY_TRIES)
+    try:
+        complete(part, course)
+    except Nobody as nobody:
+        found = commanded(part, output)
+        found.missing = {"VOUT_MODE": str(nobody)}
+        return found
+    return behind(part, course)
+
+
+def behind(part: Device, course: Course, end: CourseEnd | None = None) -> Commanded:
+    """What an output commands behind a course, and what this has missed."""
+    found, end = commanded(part, course.output), end or course.ended or CourseEnd("")
+    if end.kind == "format":
+        found.missing = {FORMAT: probe.why_not_learned(part, course.output)}
+    elif end.kind == "source":
+        found.unended = f"OPERATION is {end.word:02X}, by which another source may decide the voltage{avsbus(end.word or 0)}: order OPERATION"
+    elif end.kind == "spent" and end.fault:
+        found.missing = {end.register or "": part.transfers.why() or end.fault}
+    elif end.kind == "spent":
+        found.unended = "the part restarts again and again"
+    elif end.kind == "refused" and end.register in part.lacks:
+        found.unended = f"OPERATION selects {end.register}, which the part doesn't have"
     return found
 
 

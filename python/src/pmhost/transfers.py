@@ -1,19 +1,25 @@
 """What became of the transfers of one job, and why it ended badly."""
 from __future__ import annotations
 
+from collections.abc import Iterator
+
 from .errors import FrameRefused
 from .packets import Packet, read_answer, read_request
 
 
 class Transfers:
-    """The transfers of a job: which failed and how, what was wrong with answers, and the payloads of the good ones."""
+    """The transfers of a job, of a course those of its last job: which failed and how, what was wrong with answers, and the payloads of
+    the good ones. What answers say is read once somebody asks for it."""
 
     def __init__(self) -> None:
         self.failed: list[str] = []
-        self.faults: list[str] = []
-        self.payloads: dict[Packet, bytes] = {}
         self.error: OSError | None = None
         self.has_written = self.has_stored = False
+        self._answers: list[tuple[int, bytes, bytes]] = []
+
+    def begin(self) -> None:
+        """A course's next job begins: nothing is told of the transfers before but whether there was a write."""
+        self.failed, self.error, self._answers = [], None, []
 
     def fault(self, error: OSError) -> None:
         """A transfer failed with an error."""
@@ -26,11 +32,26 @@ class Transfers:
 
     def answered(self, address: int, request: bytes, answer: bytes) -> None:
         """What came back, the read address first."""
-        asked = read_request(address, request)
-        try:
-            self.payloads[asked] = read_answer(address, asked, answer)
-        except FrameRefused as fault:
-            self.faults.append(f"{fault.letter} {fault.name}")
+        self._answers.append((address, request, answer))
+
+    @property
+    def faults(self) -> list[str]:
+        """What was wrong with answers, by letter and name."""
+        return [found for _, found in self._read() if isinstance(found, str)]
+
+    @property
+    def payloads(self) -> dict[Packet, bytes]:
+        """The payloads of good answers."""
+        return {asked: found for asked, found in self._read() if isinstance(found, bytes)}
+
+    def _read(self) -> Iterator[tuple[Packet, bytes | str]]:
+        """What was asked for, with the payload or what was wrong."""
+        for address, request, answer in self._answers:
+            asked = read_request(address, request)
+            try:
+                yield asked, read_answer(address, asked, answer)
+            except FrameRefused as fault:
+                yield asked, f"{fault.letter} {fault.name}"
 
     def why(self) -> str:
         """Why the job ended badly, as far as its transfers say it; nothing where they all went well."""

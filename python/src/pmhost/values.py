@@ -2,6 +2,7 @@
 from __future__ import annotations
 
 import ctypes
+import functools
 from dataclasses import dataclass
 from decimal import Decimal
 from typing import Callable
@@ -92,9 +93,7 @@ class Format:
 
     def microvolts(self, word: int) -> int:
         """The whole millionths of a word's value, rounded down."""
-        found = ctypes.c_int64()
-        accepted(library.pm_microvolts(self.image(), whole(word, 0, 0xFFFF, "word"), ctypes.byref(found)))
-        return found.value
+        return microvolts_of(self, whole(word, 0, 0xFFFF, "word"))
 
     def told(self, word: int | None) -> int | None:
         """The same; None of no word, and where the value is beyond the 10^15 microvolts that the library tells."""
@@ -132,6 +131,14 @@ class Format:
         taken = whole(microvolts, -(2**63), 2**63 - 1, "microvolts")
         accepted(call(self.image(), taken, ctypes.byref(found)))
         return found.value
+
+
+@functools.lru_cache(maxsize=1024)
+def microvolts_of(form: Format, word: int) -> int:
+    """The whole millionths of a word's value."""
+    found = ctypes.c_int64()
+    accepted(library.pm_microvolts(form.image(), word, ctypes.byref(found)))
+    return found.value
 
 
 LINEAR11 = Format("LINEAR11")

@@ -5,12 +5,14 @@ from dataclasses import dataclass
 from typing import Mapping
 
 from . import voltages
-from .apply import Board, Setting
-from .host import Step
+from .apply import Board
+from .course import Course
+from .device import Device
 from .packets import pec, read_write
 from .parts import BoardPart
-from .device import Device
+from .rail_course import Setting
 from .rails import SETTINGS, Rail
+from .states import Step
 from .survey import only_word
 
 # The settings that bound what an output commands.
@@ -97,14 +99,24 @@ class Way:
         self.rows[rail.name].append(WayRow(words, step.kind, f"given again: {end}" if is_again else end, self.known(rail, part)))
 
     def rehearse(self, rail: Rail) -> None:
-        """What the plan of a rail orders where each order is confirmed: a copy of the host is told so, and nothing is sent."""
-        host, wanted = self.board.on(rail).host.copy(), self.board.wanted(rail)
-        part = Device(Taking(host.address), host.address, host.outputs)
-        part.host = host
-        while (order := host.next(rail.output, wanted)) is not None:
-            it = next(each for each in self.board.of(rail) if each.register == order.register)
-            part.run()
-            self.rows[rail.name].append(WayRow(self.order_words(it), "", PLANNED, self.known(rail, part)))
+        """What the course of a rail orders where each order is confirmed: copies of the host and of the course are told so, and nothing is
+        sent."""
+        course, part = self.board.courses[rail.name].course.copy(), Device(Taking(self.board.on(rail).host.address), 0x58, 8)
+        part.host = self.board.on(rail).host.copy()
+        while (order := course.next(part.host)) is not None and order.word is not None:
+            self.take(course, part)
+            self.rows[rail.name].append(WayRow(self.order_words(self.board.setting(rail, order.register)), "", PLANNED, self.known(rail, part)))
+
+    @staticmethod
+    def take(course: Course, part: Device) -> None:
+        """The next order of a course is confirmed."""
+        is_over = False
+        while not is_over and (sending := course.frame(part.host)) is not None:
+            if sending.is_request:
+                step = course.read_ended(part.host, bytes([part.host.address << 1 | 1]) + part.bus.read(sending.frame, sending.answer))
+            else:
+                step = course.write_ended(part.host, part.bus.write(sending.frame))
+            is_over = step.is_over
 
     def known(self, rail: Rail, part: Device) -> Knowledge:
         return known_of(part, rail.output, self.parts[rail.part].lacks)

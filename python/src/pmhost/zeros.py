@@ -9,12 +9,36 @@ from __future__ import annotations
 
 from typing import Callable, TypeVar
 
+from .states import Bus
+from .values import CODES
+
 ADDRESS, REGISTER = 0x48, "WRITE_PROTECT"
+REQUEST, ZEROS = bytes([ADDRESS << 1, CODES[REGISTER]]), b"\0\0"
 T = TypeVar("T")
 
 
 class NotBelieved(Exception):
     """Why an answer of WRITE_PROTECT isn't taken for its word."""
+
+
+class Believing:
+    """A bus over which WRITE_PROTECT is read so at 48h; `ask_operation` is that of `guard`, and NotBelieved comes from a read."""
+
+    def __init__(self, bus: Bus, ask_operation: Callable[[], str]) -> None:
+        self.bus, self.ask_operation = bus, ask_operation
+
+    def write(self, frame: bytes) -> bool:
+        """As that of the bus below."""
+        return self.bus.write(frame)
+
+    def read(self, request: bytes, count: int) -> bytes:
+        """What the bus below gives, of WRITE_PROTECT where it is believed."""
+        def read() -> bytes:
+            return self.bus.read(request, count)
+
+        if request != REQUEST:
+            return read()
+        return guard(ADDRESS, REGISTER, self.ask_operation, read, lambda came: came != ZEROS or read() == ZEROS)
 
 
 def guard(address: int, register: str, ask_operation: Callable[[], str], read: Callable[[], T], is_held: Callable[[T], bool]) -> T:

@@ -5,12 +5,21 @@ OLD, NEW = "B1 02 00 10 68", "B1 02 CD 34 90"
 TAKEN = f"{WRITE}  ok: part taken, acknowledged"
 TOLD = f"{READ}  ok: part answer {NEW}, back {NEW}"
 STALE = f"{READ}  ok: part answer {OLD}, back {OLD}"
-CONFIRMED = "word 1: VOUT_COMMAND 34CD confirmed; what the output commands isn't known, since its format wasn't learned"
+CONFIRMED = "word 1: VOUT_COMMAND 34CD 3.300048V confirmed; the output commands 3.300048V, without limits"
+
+
+def reads(command):
+    """What is read before an order and behind it, where VOUT_COMMAND gives this answer."""
+    return [f"{asked}  ok: part answer {answer}, back {answer}" for asked, answer in (
+        ("B0 06 02 01 20 read 3", "B1 01 14 2C"), ("B0 06 02 01 01 read 3", "B1 01 80 11"), (READ, command),
+        ("B0 06 02 01 24 read 4", "B1 02 00 40 32"), ("B0 06 02 01 2B read 4", "B1 02 00 00 C5"), ("B0 10 read 2", "B1 00 60"))]
+
+
+BEFORE, BEHIND = reads(OLD), reads(NEW)
 DONE = [TAKEN, TOLD, CONFIRMED, "34CD"]
-NOTED = [f"{each}  ok: part answer {answer}, back {answer}" for each, answer in (
-    ("B0 7E read 2", "B1 00 89"), ("B0 06 02 01 7A read 3", "B1 01 00 20"))]
 PAGE, PLAIN = "B0 00 01 ED", "B0 21 CD 34 38"
-# Faults of an order of 34CD at output 1 by the proved host: what is told, the end, and what output 1 then holds.
+# Faults of an order of 34CD at output 1 by the proved host, behind what it reads before: what is told of the order, the end, and what
+# output 1 then holds.
 PROVED = [
     ("", DONE),
     ("lost", [f"{WRITE}  lost: part no, not acknowledged", STALE, *DONE]),
@@ -30,10 +39,8 @@ PROVED = [
     ("restart", [f"{WRITE}  restart: part taken, acknowledged", *DONE[1:]]),
     ("ok restart", [TAKEN, f"{READ}  restart: part answer {OLD}, back {OLD}", *DONE]),
     ("lost mute " * 3, [f"{WRITE}  lost: part no, not acknowledged", f"{READ}  mute: part answer {OLD}, back nothing"] * 3
-     + [*NOTED, "word 1: VOUT_COMMAND unknown, any word is possible", "1000"]),
+     + [STALE, *DONE]),
 ]
-# What it says where no good answer came.
-UNHEARD = "pmhost: word 1 VOUT_COMMAND 34CD: 6 transfers failed, the last: no answer; STATUS_CML 00, STATUS_VOUT 00\n"
 # The same of the plain host; then what output 0 holds, too.
 BELIEVES, DOUBTS = (f"word 1: VOUT_COMMAND 34CD {end}" for end in ("acknowledged", "not acknowledged"))
 BELIEVED = [
@@ -57,8 +64,11 @@ JOBS = [
      "- WRITE_PROTECT any\nrestart seen: no\n" + HELD, ""),
     ("learn 0 + band 0", 0,
      f"learn 0\n{FORMAT}learn 0: learned ULINEAR16 -12\nband 0\nband 0: commands 0V to 15.999756V, without limits\n" + HELD, ""),
-    ("set 0 5V --limit 0:3.2V:3.465V", 1, f"set 0 5V\n{FORMAT}set 0: refused L4 AboveLimit\n" + HELD,
-     "pmhost: set 0 5V: above the output's limits\n"),
+    ("set 0 5V --limit 0:3.2V:3.465V", 1, f"set 0 5V\n{FORMAT}" + "".join(f"  {asked}  ok: part answer {answer}, back {answer}\n"
+        for asked, answer in (("B0 06 02 00 01 read 3", "B1 01 80 73"), ("B0 06 02 00 21 read 4", "B1 02 00 10 41"),
+                              ("B0 06 02 00 24 read 4", "B1 02 00 40 1B"), ("B0 06 02 00 2B read 4", "B1 02 00 00 EC"),
+                              ("B0 10 read 2", "B1 00 60")))
+     + "set 0: refused L4 AboveLimit\n" + HELD, "pmhost: set 0 5V: VOUT_COMMAND: above the output's limits: give a voltage within them\n"),
     ("--plain-host word 0 OPERATION 00 + part B0 06 02 00 01 /", 0,
      "word 0 OPERATION 00\n  B0 00 00 EA  ok: part taken, acknowledged\n  B0 01 00 FF  ok: part taken, acknowledged\n"
      "word 0: OPERATION 00 acknowledged\npart B0 06 02 00 01 /\nanswer B1 01 00 FA\n" + HELD, ""),

@@ -54,7 +54,7 @@ fn a_voltage_is_set_in_the_format_that_the_part_has() {
     let (mut host, mut bus) = (Host::new(0x58, 1, 3).unwrap(), Exchanged::new(usize::MAX));
     for place in [0, 1] {
         // From the second call on another part is there.
-        assert!(host.set_microvolts(0, SET, MICROVOLTS, APPLY_TRIES, &mut bus).is_ok());
+        assert!(host.set_microvolts(0, SET, MICROVOLTS, COURSE_TRIES, &mut bus).is_ok());
         assert_eq!(
             (bus.parts[place].commanded_microvolts(0), bus.words[place].as_slice()),
             (COMMANDED[place], &WORDS[place..=place])
@@ -74,28 +74,24 @@ fn a_set_learns_whatever_is_known() {
         if is_lost {
             bus.fails = bus.count; // the first frame of the set
         }
-        assert!(host.set_microvolts(0, Register::VoutMax, 20_000_000, APPLY_TRIES, &mut bus).is_ok(), "{is_known} {is_lost}");
+        assert!(host.set_microvolts(0, Register::VoutMax, 20_000_000, COURSE_TRIES, &mut bus).is_ok(), "{is_known} {is_lost}");
         assert_eq!(bus.words, [vec![], vec![0xA000]], "{is_known} {is_lost}");
     }
 }
 
 #[test]
 fn a_part_that_is_exchanged_while_a_voltage_is_set() {
-    // Transaction 0 is the learn, 1 to 6 are the survey, whose first is a learn, 7 and 8 the order, and the survey goes on at 9.
-    for (at, sent) in [(1, 0), (9, 1)] {
+    // Transactions 0 to 5 are the survey, whose first is a learn, 6 and 7 the order, and the survey that comes then begins with 8.
+    // After the first learn the word of the other part may be sent; the next survey finds that.
+    for (at, sent) in [(0, [&[][..], &WORDS[1..]]), (6, [&[], &WORDS]), (8, [&WORDS[..1], &WORDS[1..]])] {
         let (mut host, mut bus) = (Host::new(0x58, 1, 3).unwrap(), Exchanged::new(at));
-        let rail = host.set_microvolts(0, SET, MICROVOLTS, APPLY_TRIES, &mut bus).unwrap();
+        let rail = host.set_microvolts(0, SET, MICROVOLTS, COURSE_TRIES, &mut bus).unwrap();
         assert_eq!(rail.band, Ok(Band { least: 3_299_804, greatest: 3_299_805 }), "{at}");
-        assert_eq!(
-            (bus.parts[1].commanded_microvolts(0), bus.words),
-            (COMMANDED[1], [WORDS[..sent].to_vec(), vec![WORDS[1]]]),
-            "{at}"
-        );
+        assert_eq!((bus.parts[1].commanded_microvolts(0), bus.words), (COMMANDED[1], sent.map(<[u16]>::to_vec)), "{at}");
     }
-    // Behind the learn of the first survey the word of the other part may be sent; the next survey finds that.
-    for at in 2..=8 {
+    for at in 1..=7 {
         let (mut host, mut bus) = (Host::new(0x58, 1, 3).unwrap(), Exchanged::new(at));
-        let rail = host.set_microvolts(0, SET, MICROVOLTS, APPLY_TRIES, &mut bus).unwrap();
+        let rail = host.set_microvolts(0, SET, MICROVOLTS, COURSE_TRIES, &mut bus).unwrap();
         assert_eq!(
             (rail.band, bus.parts[1].commanded_microvolts(0)),
             (Ok(Band { least: 3_299_804, greatest: 3_299_805 }), COMMANDED[1])
@@ -128,24 +124,24 @@ impl Bus for Vid {
 }
 
 #[test]
-fn a_format_that_no_host_has_ends_a_loop() {
+fn a_format_that_no_host_has_ends_a_course() {
     let [part, _] = parts();
     let mut host = Host::new(0x58, 1, 1).unwrap();
     let mut bus = Vid { part, from: 0, modes: 0, count: 0 };
-    let end = host.set_microvolts(0, SET, MICROVOLTS, APPLY_TRIES, &mut bus);
-    assert_eq!((end, bus.count), (Err(NotReached::NoFormat), 1));
-    assert_eq!(end.unwrap_err().to_string(), "the output's voltages have a format that this host doesn't have");
-    // The learn of a survey says it too, and what was learned before is no reason to go on.
+    let vid = Err(NotReached::NoFormat { mode: 0x21 });
+    assert_eq!((host.set_microvolts(0, SET, MICROVOLTS, COURSE_TRIES, &mut bus).map(|_| ()), bus.count), (vid, 1));
+    // The learn after an order says it too, and what was learned before is no reason to go on.
     (bus.from, bus.modes) = (1, 0);
-    let end = host.set_microvolts(0, SET, MICROVOLTS, APPLY_TRIES, &mut bus);
-    assert_eq!((end, bus.modes, bus.part.register(0, SET)), (Err(NotReached::NoFormat), 2, Ok(0x1000)));
+    let end = host.set_microvolts(0, SET, MICROVOLTS, COURSE_TRIES, &mut bus).map(|_| ());
+    assert_eq!((end, bus.modes, bus.part.register(0, SET)), (vid, 2, Ok(WORDS[0])));
     assert_eq!((host.frame(), host.format(0)), (Sending::Nothing, Ok(Some(Format::Ulinear16(-12)))));
-    // A survey that ended so may be run once more, and counts its jobs: a learn, and a second one with four checks.
-    let mut survey = Survey::new(0, 6).unwrap();
+    // A course that ended so stays ended; another one learns anew.
+    let mut course = Course::survey(0, 6).unwrap();
     (bus.from, bus.modes) = (0, 0);
-    assert_eq!((host.run_survey(&mut survey, &mut bus), bus.modes), (Err(NotReached::NoFormat), 1));
+    assert_eq!((host.run_course(&mut course, &mut bus), bus.modes), (vid, 1));
     bus.from = usize::MAX;
-    assert_eq!((host.run_survey(&mut survey, &mut bus), bus.modes), (Ok(()), 2));
+    assert_eq!((host.run_course(&mut course, &mut bus), bus.modes), (vid, 1));
+    assert_eq!((host.run_course(&mut Course::survey(0, 6).unwrap(), &mut bus), bus.modes), (Ok(()), 2));
 }
 
 /// A part whose transaction of this number from 0 fails, or has a wrong answer where it is a read.
@@ -177,28 +173,23 @@ impl Bus for Once {
 }
 
 #[test]
-fn spent_says_what_failed_in_any_job() {
-    // With one pass and with two, where the second one is good; the tries end in the last survey, and behind the order.
-    let mut told = [0; 2];
-    for (passes, tries) in [(1, 9), (2, 9), (2, 8)] {
-        for (at, is_damaged) in (0..20).flat_map(|at| [(at, false), (at, true)]) {
-            let [part, _] = parts();
-            let (mut host, mut bus) = (Host::new(0x58, 1, passes).unwrap(), Once { part, at, is_damaged, count: 0, met: false });
-            let end = host.set_microvolts(0, SET, MICROVOLTS, tries, &mut bus);
-            let (error, fault) = match (bus.met, is_damaged) {
-                (false, _) => (None, None),
-                (true, false) => (Some(at), None),
-                (true, true) => (None, Some(Refusal::F5WrongPec)),
-            };
-            assert_eq!(end, Err(NotReached::Spent { error, fault }), "{passes} {tries} {at} {is_damaged}");
-            told[usize::from(is_damaged)] += usize::from(bus.met);
-        }
+fn spent_says_what_the_last_answer_was_and_what_the_bus_said() {
+    // The tries end with the order, whose write is transaction 6 and whose answer is 7, or before it.
+    let command = Some(Cell::Output(0, SET));
+    let (none, pec) = (Some(AnswerFault::NoAnswer), Some(AnswerFault::Bad(Refusal::F5WrongPec)));
+    for (at, is_damaged, tries, cell, fault) in [
+        (0, false, 1, None, none),
+        (0, true, 1, None, pec),
+        (5, false, 6, Some(Cell::WriteProtect), none),
+        (5, true, 6, Some(Cell::WriteProtect), pec),
+        (7, false, 7, command, none),
+        (7, true, 7, command, pec),
+        (0, true, 3, Some(Cell::Output(0, Register::VoutCommand)), None), // a good answer came since
+    ] {
+        let [part, _] = parts();
+        let (mut host, mut bus) = (Host::new(0x58, 1, 1).unwrap(), Once { part, at, is_damaged, count: 0, met: false });
+        let end = host.set_microvolts(0, SET, MICROVOLTS, tries, &mut bus);
+        let error = (!is_damaged).then_some(at);
+        assert_eq!(end, Err(NotReached::Spent { cell, fault, error }), "{at} {is_damaged} {tries}");
     }
-    assert!(told.iter().all(|count| *count > 20), "{told:?}");
-    let spent = |error, fault| NotReached::<NoAnswer>::Spent { error, fault }.to_string();
-    assert_eq!(spent(None, None), "no try is left, and not all is known");
-    assert_eq!(
-        spent(Some(NoAnswer), Some(Refusal::F5WrongPec)),
-        "no try is left, and not all is known; the last bad answer: F5 WrongPec; a transfer failed"
-    );
 }

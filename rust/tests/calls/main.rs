@@ -1,5 +1,6 @@
 //! Each call on its good path, and refusals; over the model part, whole and with faults.
 
+mod course_rows;
 mod ends;
 mod formats;
 #[cfg(target_os = "linux")]
@@ -153,10 +154,14 @@ fn packets_stand_alone() {
         (Packet::PagePlusRead { page: 1, code: 0x20 }, 3),
         (Packet::PagePlusRead { page: 1, code: 0x21 }, 4),
         (Packet::Coefficients { code: 0x21, side: 0 }, 7),
+        (Packet::Coefficients { code: 0x21, side: 1 }, 7),
     ] {
         assert_eq!(Packet::read_request(0x58, &packet.bytes(0x58).unwrap()), Ok(packet));
         assert_eq!(packet.answer(), Ok(answer), "{packet:?}");
     }
+    // The side is the last byte: 0 of what is written, 1 of what is read.
+    let asked = |side| Packet::Coefficients { code: 0x21, side }.bytes(0x58).unwrap().to_vec();
+    assert_eq!((asked(0), asked(1)), (vec![0xB0, 0x30, 0x02, 0x21, 0x00], vec![0xB0, 0x30, 0x02, 0x21, 0x01]));
     assert_eq!(Packet::Read { code: 0x03 }.answer(), Err(Refusal::NoPacket));
     assert_eq!(Packet::WriteByte { code: 0x21, byte: 1 }.bytes(0x58), Err(Refusal::NoPacket));
     assert_eq!(write.read_answer(0x58, &[0xB1]), Err(Refusal::NoPacket));

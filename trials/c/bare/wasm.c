@@ -1,6 +1,6 @@
 /* Console for WebAssembly, and the three functions on 128 bits that the library wants there. C's convention returns a
  * struct of two numbers in memory, and the library rewritten to 32 bits in one number, as on the processor that it was
- * made for: a caller in C goes by the two functions here, one in JavaScript takes the number apart. */
+ * made for: a caller in C goes by the four functions here, one in JavaScript takes the number apart. */
 #include "console.h"
 #include "pmhost.h"
 
@@ -16,20 +16,30 @@ void console_end(int status) {
 }
 
 #ifdef __wasm32__
-uint32_t finished(pm_host *host, uint32_t acked) __asm__("pm_host_write_ended");
-uint32_t got(pm_host *host, const uint8_t *bytes, uint64_t count) __asm__("pm_host_read_ended");
+uint32_t told_write(pm_host *host, uint32_t acked) __asm__("pm_host_write_ended");
+uint32_t told_read(pm_host *host, const uint8_t *bytes, uint64_t count) __asm__("pm_host_read_ended");
+uint32_t told_course_write(pm_course *course, pm_host *host, uint32_t acked) __asm__("pm_course_write_ended");
+uint32_t told_course_read(pm_course *course, pm_host *host, const uint8_t *bytes, uint64_t count) __asm__("pm_course_read_ended");
 
 static pm_step step_of(uint32_t number) {
     pm_step step = {(uint16_t)number, (uint16_t)(number >> 16)};
     return step;
 }
 
-pm_step step_of_finished(pm_host *host, uint8_t acked) {
-    return step_of(finished(host, acked));
+pm_step step_of_write(pm_host *host, uint8_t acked) {
+    return step_of(told_write(host, acked));
 }
 
-pm_step step_of_got(pm_host *host, const uint8_t *bytes, uint64_t count) {
-    return step_of(got(host, bytes, count));
+pm_step step_of_read(pm_host *host, const uint8_t *bytes, uint64_t count) {
+    return step_of(told_read(host, bytes, count));
+}
+
+pm_step step_of_course_write(pm_course *course, pm_host *host, uint8_t acked) {
+    return step_of(told_course_write(course, host, acked));
+}
+
+pm_step step_of_course_read(pm_course *course, pm_host *host, const uint8_t *bytes, uint64_t count) {
+    return step_of(told_course_read(course, host, bytes, count));
 }
 #endif
 

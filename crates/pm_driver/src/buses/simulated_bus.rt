@@ -154,7 +154,6 @@ pub fn driver_over<'a>(c: Config, passes: u8, plan: &'a [Fault]) -> Option<Drive
     // law: a configuration's numbers fit into bytes
     spell(c);
     new_converters_may_begin();
-    new_converters_have_no_restart();
     let device = match Converter::new(c) {
         Ok(device) => device,
         Err(_) => return None,

@@ -16,14 +16,10 @@ use crate::limits::{
 use crate::names::{NameImage, pm_end_name, pm_refusal_name};
 use crate::other_read::{BlockImage, pm_read_block, pm_read_plain};
 use crate::packet::{PacketImage, pm_packet_read_request, pm_packet_read_write, pm_packet_write};
-use crate::plan::{PlanOrderImage, pm_host_next, pm_host_plan};
 use crate::rail::{RailImage, pm_host_rail};
 use crate::sending_image::SendingImage;
-use crate::survey::{pm_host_survey, pm_survey_for, pm_survey_new, pm_survey_told};
-use crate::survey_image::SurveyImage;
 use crate::told::{pm_host_frame, pm_host_read_ended, pm_host_write_ended};
 use crate::voltages::{pm_at_least, pm_at_most, pm_host_format, pm_microvolts, pm_nearest_word};
-use crate::wanted_image::WantedImage;
 use pm_host::{StandingImage, WordsImage};
 use pm_table::Cell;
 
@@ -304,53 +300,7 @@ pub(super) fn known(image: &GuardImage) -> (u8, KnownCells) {
     (number, known)
 }
 
-pub(super) type Order = (u8, u8, u16);
-
-fn order_of(order: &PlanOrderImage) -> Order {
-    (order.code, order.unused, order.word)
-}
-
-const SEVENS: PlanOrderImage = PlanOrderImage {
-    code: 7,
-    unused: 7,
-    word: 7,
-};
-
-// The number, and the code and the word that were written, with what stands between them.
-pub(super) fn plan(image: &GuardImage, output: u8, wanted: &WantedImage) -> (u8, Order) {
-    let mut order = SEVENS;
-    let number = pm_host_plan(image, output, wanted, &mut order);
-    (number, order_of(&order))
-}
-
-pub(super) fn next(image: &mut GuardImage, output: u8, wanted: &WantedImage) -> (u8, Order) {
-    let mut order = SEVENS;
-    let number = pm_host_next(image, output, wanted, &mut order);
-    (number, order_of(&order))
-}
-
-pub(super) fn survey_new(survey: &mut SurveyImage, output: u8, tries: u16) -> u8 {
-    pm_survey_new(survey, output, tries)
-}
-
-pub(super) fn survey_for(
-    survey: &mut SurveyImage,
-    output: u8,
-    wanted: &WantedImage,
-    tries: u16,
-) -> u8 {
-    pm_survey_for(survey, output, wanted, tries)
-}
-
-pub(super) fn survey(image: &mut GuardImage, survey: &mut SurveyImage) -> u8 {
-    pm_host_survey(image, survey)
-}
-
-pub(super) fn told(survey: &mut SurveyImage, kind: u16) -> u8 {
-    pm_survey_told(survey, kind)
-}
-
-pub(super) type Rail = (u8, u8, u8, [u8; 5], i64, i64);
+pub(super) type Rail = (u8, u8, u8, u8, [u8; 4], i64, i64);
 
 // The number, and what was said: 7 where nothing was.
 pub(super) fn rail(image: &GuardImage, output: u8) -> (u8, Rail) {
@@ -358,7 +308,8 @@ pub(super) fn rail(image: &GuardImage, output: u8) -> (u8, Rail) {
         power: 7,
         within: 7,
         band: 7,
-        unused: [7; 5],
+        selected: 7,
+        unused: [7; 4],
         ends: BandImage {
             least: 7,
             greatest: 7,
@@ -370,6 +321,7 @@ pub(super) fn rail(image: &GuardImage, output: u8) -> (u8, Rail) {
         rail.power,
         rail.within,
         rail.band,
+        rail.selected,
         rail.unused,
         ends.least,
         ends.greatest,

@@ -129,7 +129,7 @@ fn a_band_beyond_its_limits_is_outside(rt: HostRuntime) {
 
 // Each refusal that a caller in C alone gets and one of each other kind, with its name; an empty name for a number
 // that has none.
-static REFUSALS: [(u8, &[u8]); 26] = [
+static REFUSALS: [(u8, &[u8]); 25] = [
     (0x00, b""),
     (0x06, b"H6 TooUncertain\0\0"),
     (0x15, b"N5 TooLarge\0"),
@@ -153,8 +153,7 @@ static REFUSALS: [(u8, &[u8]); 26] = [
     (0xE6, b"NoLimits\0"),
     (0xE7, b"NoName\0"),
     (0xE8, b"NoReading\0"),
-    (0xE9, b"NoSurvey\0"),
-    (0xEA, b"NoEnd\0"),
+    (0xE9, b"NoCourse\0"),
     (0xEB, b"NoBand\0"),
 ];
 

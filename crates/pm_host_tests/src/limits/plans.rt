@@ -316,14 +316,14 @@ static LETTERS: [(PlanFault, &str, u8, Option<u8>); 8] = [
     (PlanFault::FormatUnknown, "P1 FormatUnknown", 0x61, None),
     (
         PlanFault::BelowLimit(Reg::VoutMax),
-        "P2 BelowLimit",
-        0x62,
+        "L3 BelowLimit",
+        0x23,
         Some(0x24),
     ),
     (
         PlanFault::AboveLimit(Reg::VoutCommand),
-        "P3 AboveLimit",
-        0x63,
+        "L4 AboveLimit",
+        0x24,
         Some(0x21),
     ),
     (

@@ -5,7 +5,9 @@ use crate::checks::{equal, is_true};
 use pm_frame::Message;
 use pm_host::{HostFault, Job};
 use pm_limits::{Guard, Within};
-use pm_rail::{PlanFault, PlanOrder, Power, Rail, Survey, Wanted, begin_next, next_order, rail_of};
+use pm_rail::{
+    PlanFault, PlanOrder, Power, Rail, Selected, Survey, Wanted, begin_next, next_order, rail_of,
+};
 use pm_table::{Cell, Reg};
 use std::process::Abort;
 
@@ -95,24 +97,66 @@ pub(crate) fn asks(rt: &impl Abort, survey: &mut Survey, guard: &Guard) -> Optio
     survey.next(guard)
 }
 
-// The byte that is read of OPERATION, what is told of it, and whether 1 V is within limits of 0.9 V to 1.1 V where
-// VOUT_MARGIN_HIGH is 1.2 V and VOUT_MARGIN_LOW 0.5 V.
-static POWERS: [(u16, Power, Within); 6] = [
-    (0x80, Power::On, Within::Yes),
-    (0xA8, Power::On, Within::No),
-    (0x94, Power::On, Within::No),
-    (0x00, Power::Off, Within::Yes),
-    (0x40, Power::Off, Within::Yes),
-    (0xA0, Power::NotKnown, Within::NotKnown),
+// The byte that is read of OPERATION, what is told of it, which register has the voltage, and whether 1 V is within limits of
+// 0.9 V to 1.1 V where VOUT_MARGIN_HIGH is 1.2 V and VOUT_MARGIN_LOW 0.5 V.
+static POWERS: [(u16, Power, Selected, Within); 6] = [
+    (0x80, Power::On, COMMAND, Within::Yes),
+    (0xA8, Power::On, HIGH, Within::No),
+    (0x94, Power::On, LOW, Within::No),
+    (0x00, Power::Off, COMMAND, Within::Yes),
+    (0x40, Power::Off, COMMAND, Within::Yes),
+    (0xA0, Power::NotKnown, Selected::NotKnown, Within::NotKnown),
+];
+
+const COMMAND: Selected = Selected::Register(Reg::VoutCommand);
+
+const HIGH: Selected = Selected::Register(Reg::MarginHigh);
+
+const LOW: Selected = Selected::Register(Reg::MarginLow);
+
+// The byte that is read of OPERATION, the one that is ordered then, whose answers are all lost, and which register has the
+// voltage, whichever of the two is held. A byte that OPERATION doesn't take isn't ordered.
+static SELECTIONS: [(u16, u16, Selected); 12] = [
+    (0x00, 0x80, COMMAND),
+    (0x8F, 0x40, COMMAND),
+    (0x80, 0xA8, Selected::NotKnown),
+    (0x3F, 0x94, Selected::NotKnown), // 00111111 is off, whatever its other bits are
+    (0xA4, 0xAB, HIGH),
+    (0xA8, 0x98, Selected::NotKnown),
+    (0x94, 0x9B, LOW),
+    (0xB0, 0xB0, Selected::AvsBus), // bits 5 and 4 are 11
+    (0xF8, 0xF8, Selected::AvsBus),
+    (0xB0, 0x80, Selected::NotKnown),
+    (0x90, 0x90, Selected::NotKnown),
+    (0xA0, 0x80, Selected::NotKnown),
 ];
 
 #[test]
+fn a_rail_says_which_register_has_its_voltage(rt: HostRuntime) {
+    for (held, ordered, selected) in &SELECTIONS {
+        let mut guard = knowing(0, false, &each(&[*held, 4096, 8192, 4915, 2048, 0]), None);
+        let operation = first(Reg::Operation);
+        let begun = guard.order(operation, *ordered).is_ok();
+        equal(&rt, &begun, &operation.accepts(*ordered), held);
+        give_up(&mut guard);
+        equal(&rt, &rail_at(&rt, &guard, 0).selected, selected, held);
+        equal(
+            &rt,
+            &rail_at(&rt, &guard, 1).selected,
+            &Selected::NotKnown,
+            held,
+        );
+    }
+}
+
+#[test]
 fn a_rail_is_told_by_what_is_known(rt: HostRuntime) {
-    for (byte, power, within) in &POWERS {
+    for (byte, power, selected, within) in &POWERS {
         let mut guard = knowing(0, false, &each(&[*byte, 4096, 8192, 4915, 2048, 0]), None);
         equal(&rt, &guard.narrow(0, 900_000, 1_100_000).err(), &None, byte);
         let rail = rail_at(&rt, &guard, 0);
         equal(&rt, &rail.power, power, byte);
+        equal(&rt, &rail.selected, selected, byte);
         equal(&rt, &rail.within, within, byte);
         equal(&rt, &rail.band.is_some(), &true, byte);
     }

@@ -2,9 +2,9 @@
 
 use super::goes;
 use crate::checks::equal;
-use crate::events::{NOT_ACKED, READ, READ_LOST};
 use crate::fixtures::takes;
 use crate::look::Look;
+use crate::{NOT_ACKED, READ, READ_LOST};
 use pm_device::{Config, OutputStart};
 use pm_device_tests::OUTPUT;
 use pm_host::{HostFault, JobEnd};

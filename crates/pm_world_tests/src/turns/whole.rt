@@ -1,9 +1,9 @@
 //! How an open job ends once its frames come whole, whatever went before: of each stage, with a pass left and in the last.
 
 use crate::checks::equal;
-use crate::events::{ACKED, CHECK, LOST, NOT_ACKED, ORDER, READ, READ_LOST, WHOLE};
 use crate::fixtures::takes;
 use crate::look::Look;
+use crate::{ACKED, CHECK, LOST, NOT_ACKED, ORDER, READ, READ_LOST, WHOLE};
 use pm_host::JobEnd;
 use pm_world::{Event, SetupFault, World};
 use std::process::Abort;

@@ -18,16 +18,16 @@ from .._version import __version__
 from ..bus import NoBus
 from ..bus.linux import Calls
 from ..errors import PmhostError
-from . import capture, faults, known, orders, probe, rails, streams
+from . import capture, faults, known, orders, probe, rails, streams, torture
 from .answer import Answer
 from .completion import bash
 from .call import Call, Interrupted, complain, interruptible
 from .parser import BadCall, Parser, bus_options, shown
 
 # The modules of the commands, in the order of the help.
-MODULES: list[ModuleType] = [probe, orders, known, rails, faults, capture]
+MODULES: list[ModuleType] = [probe, orders, known, rails, faults, torture, capture]
 # The commands that have jobs of their own, between which a + stands: the call has no other command.
-OWN_JOBS = ("faults",)
+OWN_JOBS = ("faults", "torture")
 
 ABOUT = """Supply voltages over PMBus, by a proved host.
 
@@ -127,7 +127,8 @@ def run_commands(call: Call) -> int:
         if status and not getattr(arguments, "is_question", False):
             continue
         call.begin(arguments)
-        status = max(status, call.no_part(arguments) or int(arguments.run(arguments)))
+        is_order = getattr(arguments, "is_order", False)
+        status = max(status, is_order and call.no_part(arguments) or int(arguments.run(arguments)))
     return status
 
 

@@ -5,14 +5,15 @@ import argparse
 import contextlib
 import signal
 import sys
-from typing import Any, Iterator
+from typing import Any, Callable, Iterator
 
-from ..bus import PatientBus, Trace
+from ..bus import LinuxBus, PatientBus, Trace
 from ..bus.linux import ENDING, BusTrace, Calls
 from ..part import ModelPartBus
 from ..parts import MODEL_BUS, BoardPart
 from ..device import Device
 from ..rails import ONLY, Rails
+from ..reserved import why_reserved
 from . import streams
 from .answer import Answer, coloured
 from .parser import BEHIND, OPTIONS, BadCall
@@ -78,8 +79,8 @@ class Call:
         self._trace: Trace | None = None
         self._rails: Rails | None = None
         self.under_way = self.maybe = self.unsaid = ""
-        self.settled = NOTHING
-        self._has_answered = False
+        self.settled: str | Callable[[], str] = NOTHING
+        self.has_answered = False
         self.bus: str | None = self._one("bus")
         self.address: int | None = self._one("address")
         self.outputs: int | None = self._one("outputs")
@@ -124,7 +125,7 @@ class Call:
             return
         if self.bus is None:
             raise BadCall("give a bus, as -b 1 for /dev/i2c-1, or -b model for a model part")
-        if self.bus != MODEL_BUS and self.address is None:
+        if self.bus != MODEL_BUS and self.address is None and not self._scans():
             raise BadCall("give the part's address, as -a 58")
         for output in self.limits:
             if self.outputs is not None and output >= self.outputs:
@@ -134,6 +135,10 @@ class Call:
             if named is not None and self.outputs is not None and named >= self.outputs:
                 counted = f"0 to {self.outputs - 1}" if self.outputs > 1 else "0"
                 raise BadCall(f"{said(each)}: output {named}: give {counted}, with --outputs {self.outputs}")
+
+    def _scans(self) -> bool:
+        """Whether the only command looks for parts at all addresses."""
+        return len(self.commands) == 1 and getattr(self.commands[0], "can_scan", False)
 
     def take_rails(self, arguments: argparse.Namespace, found: Rails) -> None:
         """What the parts have, and the limits, by a file of rails, is so of the whole call; a board file says where the parts are,
@@ -155,7 +160,9 @@ class Call:
         self._rails = found
 
     def judge_write(self, arguments: argparse.Namespace, more: str = "") -> None:
-        """What is written goes to a part of a known number of outputs. `more` is asked for beside it."""
+        """What is written goes to a part of a known number of outputs, at an address that a part may have. `more` is asked for beside it."""
+        if self.address is not None and (why := why_reserved(self.address)):
+            raise BadCall(f"{said(arguments)}: {why}")
         if self.outputs is None:
             raise BadCall(f"{said(arguments)}: give --outputs N, the number that `probe` counts{more}")
 
@@ -191,6 +198,10 @@ class Call:
         """The one part of a call that has no board file."""
         return self.places()[ONLY]
 
+    def bus_at(self, address: int) -> LinuxBus:
+        """The bus of the call, opened for an address. NoBus."""
+        return LinuxBus(self.bus or "", address, self.is_forced, None, self.kernel, self.is_shared)
+
     def part(self) -> Device:
         """The same, through the one host of the call."""
         return self.only().pmbus()
@@ -200,17 +211,21 @@ class Call:
         return self.only().patient(busy_timeout)
 
     def no_part(self, arguments: argparse.Namespace) -> int:
-        """Before the first command that orders something the part has to answer. 0, or the status where it doesn't: nothing was
-        ordered. Those of a board file are looked for by its own command."""
+        """Before the first command that writes something without a course the part has to answer. 0, or the status where it doesn't:
+        nothing was ordered. Those of a board file are looked for by its own command."""
         is_board = self._rails is not None and self._rails.is_board
-        if is_board or self._has_answered or not getattr(arguments, "is_order", False) or getattr(arguments, "dry_run", False):
+        if is_board or self.has_answered or getattr(arguments, "dry_run", False):
             return 0
         why = self.only().ask_operation()
         if why:
-            return self.say(Answer(said(arguments), "no part", "no part answers, nothing was ordered", 1, why,
-                                   getattr(arguments, "output", None)))
-        self._has_answered = True
+            return self.say(self.nobody(arguments, why))
+        self.has_answered = True
         return 0
+
+    @staticmethod
+    def nobody(arguments: argparse.Namespace, why: str) -> Answer:
+        """No part answers."""
+        return Answer(said(arguments), "no part", "no part answers, nothing was ordered", 1, why, getattr(arguments, "output", None))
 
     def close(self) -> None:
         """Closes the buses that were opened."""
@@ -245,7 +260,9 @@ class Call:
     def unsure(self) -> str:
         """What is unknown of the command under way."""
         has_written = any(each.has_written for each in self._places.values())
-        return self.maybe if self.maybe and has_written else self.settled
+        if self.maybe and has_written:
+            return self.maybe
+        return self.settled() if callable(self.settled) else self.settled
 
 
 def said(arguments: argparse.Namespace) -> str:

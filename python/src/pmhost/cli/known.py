@@ -5,8 +5,8 @@ import argparse
 from typing import Any
 
 from .. import voltages
-from ..host import Known
 from ..device import Device
+from ..states import Known
 from ..survey import commanded
 from .answer import Answer, between, in_digits, number
 from .call import Call, said

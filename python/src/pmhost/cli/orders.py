@@ -7,22 +7,22 @@ import re
 from typing import Any, Callable
 
 from .. import probe, voltages
+from ..course import Course, Job
+from ..device import MARGINS, OFF, ON, Device
 from ..errors import Refused
-from ..host import Step
-from ..device import Device
 from ..readings import KINDS
-from ..rounded import is_near
-from ..survey import holds_zeros, read as read_register, survey
+from ..rounded import Accepting
+from ..states import Step
+from ..survey import OFF_TRIES, TRIES, Nobody, complete, holds_zeros, survey
 from ..zeros import NotBelieved, guard
 from . import readings
 from .answer import Answer, in_digits
 from .call import Call, said
 from .completion import completed_by
-from .outcome import (DEVICE, REGISTERS, VOLTAGES, answer_of, cell_words, rail_words, read_notes_behind, refused, survey_order, tell_bad_end,
-                      why_not)
+from .outcome import (DEVICE, REGISTERS, VOLTAGES, answer_of, cell_words, confirmed_alone, course_answer, rail_words, read_notes_behind,
+                      refused, tell_bad_end, why_not)
 from .parser import BadCall, bus_options, shown, whole
 
-MARGIN_HIGH, MARGIN_LOW = 0xA8, 0x94
 # What each command sends beside reads, for an interruption to say.
 STORES = "the user store may hold the old or the new settings of every output"
 GO_OFF, MAY_GO_OFF = "--outputs-may-go-off", "on parts where it is a reset the outputs go off"
@@ -83,8 +83,7 @@ def add(commands: Any) -> None:
 
     def command(name: str, run: Any, help: str, judge: Any = None) -> Any:
         parser = commands.add_parser(name, help=help, description=help[0].upper() + help[1:] + ".")
-        parser.set_defaults(run=run, is_order=judge in (judge_write, judge_order, judge_word, judge_restore),
-                            **({} if judge is None else {"judge": judge}))
+        parser.set_defaults(run=run, is_order=run is send_command, **({} if judge is None else {"judge": judge}))
         return parser
 
     found = command("learn", learn, "learns the format of an output's voltages")
@@ -113,15 +112,15 @@ def add(commands: Any) -> None:
     bus_options(found)
     found = command("on", operate, "turns an output on, by OPERATION 80", judge_order)
     found.add_argument("output", **output)
-    found.set_defaults(digits="80")
+    found.set_defaults(byte=ON)
     bus_options(found)
     found = command("off", operate, "turns an output off at once, by OPERATION 00", judge_write)
     found.add_argument("output", **output)
-    found.set_defaults(digits="00")
+    found.set_defaults(byte=OFF)
     bus_options(found)
     found = command("margin", operate, "has an output command a margin", judge_order)
     found.add_argument("output", **output)
-    completed_by(found.add_argument("digits", metavar="high|low", type=margin_of), ("high", "low"))
+    completed_by(found.add_argument("byte", metavar="high|low", type=margin_of), ("high", "low"))
     bus_options(found)
     found = command("clear", send_command, "clears the latched faults of an output", judge_write)
     found.add_argument("output", **output)
@@ -134,11 +133,10 @@ def add(commands: Any) -> None:
         bus_options(found)
 
 
-def margin_of(word: str) -> str:
-    found = {"high": MARGIN_HIGH, "low": MARGIN_LOW}.get(word)
-    if found is None:
+def margin_of(word: str) -> int:
+    if word not in MARGINS:
         raise argparse.ArgumentTypeError(f"{shown(word)}: give high or low")
-    return f"{found:02X}"
+    return MARGINS[word]
 
 
 def judge_write(arguments: argparse.Namespace) -> None:
@@ -250,23 +248,10 @@ def not_told(arguments: argparse.Namespace, part: Device, doubt: NotBelieved) ->
     return answer_of(arguments, part, DEVICE, "unknown", status=1, text=f"{DEVICE} unknown, any word is possible", why=str(doubt))
 
 
-def carry_out(arguments: argparse.Namespace, register: str, begin: Callable[[], object], wanted: int | None = None) -> int:
-    """An order: what became of it, and what the output then commands. `wanted` has the microvolts of an order whose word may
-    be another one that is near: the register is read before it."""
+def carry_out(arguments: argparse.Namespace, register: str, begin: Callable[[], object]) -> int:
+    """One order alone: what became of it."""
     call: Call = arguments.call
     part, output = call.part(), arguments.output
-    held = None
-    if wanted is not None:
-        try:
-            part.host.check(output, register)
-        except Refused as fault:
-            return call.say(refused(arguments, part, register, fault))
-        step = part.run()
-        if step.kind != "done":
-            found = tell_bad_end(arguments, part, register, step)
-            found.text += "; nothing was ordered"
-            return call.say(found)
-        held = part.host.possible_words(output, register)
 
     def order() -> Step:
         begin()
@@ -279,53 +264,79 @@ def carry_out(arguments: argparse.Namespace, register: str, begin: Callable[[], 
         return call.say(refused(arguments, part, register, fault))
     except NotBelieved as doubt:
         return call.say(not_told(arguments, part, doubt))
-    if (step.kind == "differs" and wanted is not None
-            and is_near(part, output, register, wanted, int(arguments.accept), held, step.word)):
-        return call.say(survey_order(arguments, part, register, is_accepted=True))
     if step.kind != "done":
         return call.say(tell_bad_end(arguments, part, register, step))
-    return call.say(survey_order(arguments, part, register))
+    return call.say(confirmed_alone(arguments, part, register))
+
+
+def run_course(arguments: argparse.Namespace, register: str, course: Course, wanted: int | None = None) -> Accepting | int:
+    """Carries a course out that orders a register, near to these microvolts; the status where it came to no end."""
+    call: Call = arguments.call
+    part, output, accepting = call.part(), arguments.output, Accepting(call.part(), course, getattr(arguments, "accept", None))
+
+    def before(order: Job) -> None:
+        accepting.before(order)
+        call.maybe = f"output {output} {order.register} may hold the old or the ordered word"
+
+    def after(order: Job, step: Step) -> None:
+        is_held = accepting.after(order, step, wanted) or step.kind == "done"
+        if is_held and order.word is not None:
+            word = accepting.taken.get(order.register, order.word)
+            call.maybe, call.settled = "", lambda: (f"{cell_words(arguments, part, order.register, word)} confirmed; what the output commands "
+                                                    "wasn't read")
+
+    try:
+        complete(part, course, before, after, call.only().ask_operation)
+    except Nobody as nobody:
+        return call.say(call.nobody(arguments, str(nobody)))
+    except NotBelieved as doubt:
+        return call.say(not_told(arguments, part, doubt))
+    call.has_answered = True
+    return accepting
+
+
+def tell_course(arguments: argparse.Namespace, register: str, course: Course, wanted: int | None = None) -> int:
+    """Carries a course out that orders a register, and says what became of it and what the output then commands."""
+    ran, call = run_course(arguments, register, course, wanted), arguments.call
+    if isinstance(ran, int):
+        return ran
+    return int(call.say(course_answer(arguments, call.part(), register, course, register in ran.taken)))
 
 
 def set_voltage(arguments: argparse.Namespace) -> int:
     """Orders a voltage of a register."""
-    part: Device = arguments.call.part()
-    output, register = arguments.output, arguments.register
-    if not learn_once(part, output):
-        found = answer_of(arguments, part, register, "unknown", status=1, text="its format isn't known, nothing was ordered",
-                          why=probe.why_not_learned(part, output) + readings.read_notes(part, output))
-        return int(arguments.call.say(found))
-    return carry_out(arguments, register, lambda: part.host.order_voltage(output, register, voltages.of_microvolts(arguments.microvolts)),
-                       None if arguments.accept is None else arguments.microvolts)
+    wanted = voltages.of_microvolts(arguments.microvolts)
+    return tell_course(arguments, arguments.register, Course.voltage(arguments.output, wanted, arguments.register, TRIES), arguments.microvolts)
 
 
 def word(arguments: argparse.Namespace) -> int:
     """Orders a word of a register."""
-    part: Device = arguments.call.part()
-    register = arguments.register
-    if register != DEVICE and part.host.limits(arguments.output) is not None:
-        prepare(part, arguments.output, register)
-    wanted, word = None, int(arguments.digits, 16)
-    if arguments.accept is not None and learn_once(part, arguments.output):
-        form = part.host.format(arguments.output)
-        wanted = None if form is None else form.told(word)
-    return carry_out(arguments, register, lambda: part.host.order(arguments.output or 0, register, word), wanted)
-
-
-def prepare(part: Device, output: int, register: str) -> None:
-    """Limits judge an order of OPERATION by the registers that it may select, and each word by the output's format."""
-    if learn_once(part, output) and register == "OPERATION":
-        for each in VOLTAGES:
-            read_register(part, output, each)
+    call: Call = arguments.call
+    output, register, word = arguments.output, arguments.register, int(arguments.digits, 16)
+    if register == DEVICE:
+        return call.no_part(arguments) or carry_out(arguments, register, lambda: call.part().host.order(0, register, word))
+    if register == "OPERATION":
+        return turn(arguments, word)
+    course = Course.words(output, {register: word}, TRIES)
+    ran = run_course(arguments, register, course)
+    if isinstance(ran, int):
+        return ran
+    end = course.ended
+    if end is not None and end.kind == "format" and call.part().host.limits(output) is None:
+        # Its words are no voltages that this host knows of: the order goes alone.
+        return carry_out(arguments, register, lambda: call.part().host.order(output, register, word))
+    return call.say(course_answer(arguments, call.part(), register, course, register in ran.taken))
 
 
 def operate(arguments: argparse.Namespace) -> int:
     """Orders OPERATION."""
-    part: Device = arguments.call.part()
-    output = arguments.output
-    if arguments.command != "off":
-        prepare(part, output, "OPERATION")
-    return carry_out(arguments, "OPERATION", lambda: part.host.order(output, "OPERATION", int(arguments.digits, 16)))
+    return turn(arguments, arguments.byte)
+
+
+def turn(arguments: argparse.Namespace, byte: int) -> int:
+    """Brings OPERATION to a byte. One that turns the output off is the first frame."""
+    arguments.byte = byte
+    return tell_course(arguments, "OPERATION", Course.power(arguments.output, byte, TRIES if byte & 0x80 else OFF_TRIES))
 
 
 def send_command(arguments: argparse.Namespace) -> int:

@@ -5,11 +5,12 @@ import argparse
 from typing import Any
 
 from .. import voltages
-from ..errors import SAYINGS, Refused
-from ..host import Step
+from ..course import Course, CourseEnd, avsbus, in_hexadecimal
 from ..device import Device
-from ..survey import FORMAT, Commanded, commanded, selection, survey
-from ..values import CODES
+from ..errors import SAYINGS, Refused, refusal
+from ..states import Step
+from ..survey import FORMAT, Commanded, behind, commanded
+from ..values import CODES, Format
 from .answer import Answer, between, in_digits
 from .call import said
 from .readings import read_notes
@@ -19,42 +20,56 @@ REGISTERS = tuple(name for name in CODES if name != DEVICE)
 VOLTAGES = tuple(name for name in REGISTERS if name.startswith("VOUT_"))
 
 
-def cell_words(arguments: argparse.Namespace, part: Device, register: str, word: int) -> str:
-    """A register with its word, and its volts or meaning."""
+def cell_words(arguments: argparse.Namespace, part: Device, register: str, word: int, form: Format | None = None) -> str:
+    """A register with its word, and its volts or meaning; `form` is the format of the output, where the caller has it."""
     output = arguments.output
     words = f"{register} {in_digits(register, word)}"
     if register == "OPERATION":
-        chosen = selection(word)
-        if chosen is not None:
-            margin = {"VOUT_MARGIN_HIGH": ", margin high", "VOUT_MARGIN_LOW": ", margin low"}.get(chosen[0], "")
-            words += f" {'on' if chosen[1] else 'off'}{margin if chosen[1] else ''}"
+        state = part.host.rail(output)
+        margin = {"VOUT_MARGIN_HIGH": ", margin high", "VOUT_MARGIN_LOW": ", margin low"}.get(state.selected or "", "")
+        words += {True: f" on{margin}", False: " off", None: ""}[state.is_on]
     elif register != DEVICE:
-        form = part.host.format(output)
+        form = form or part.host.format(output)
         if form is not None:
             words += f" {voltages.shown(form.told(word))}"
     return words
 
 
-def answer_of(arguments: argparse.Namespace, part: Device, register: str | None, end: str, **named: Any) -> Answer:
+def answer_of(arguments: argparse.Namespace, part: Device, register: str | None, end: str, known: Commanded | None = None,
+              **named: Any) -> Answer:
     """An answer with what is known of a register."""
     found = Answer(said(arguments), end, output=arguments.output, register=register,
                    restart_seen=part.host.restart_seen, **named)
+    state = known or commanded(part, arguments.output or 0)
     if arguments.output is not None:
-        found.commanded = commanded(part, arguments.output)
+        found.commanded = state
     if register is not None:
-        cell = (arguments.output or 0, register)
-        found.word, found.possible = part.host.confirmed_word(*cell), part.host.possible_words(*cell)
-        form = None if arguments.output is None else part.host.format(arguments.output)
-        if found.word is not None and form is not None and register in VOLTAGES:
-            found.microvolts = form.told(found.word)
+        found.word, found.possible = state.cells[register].confirmed, state.cells[register].possible
+        if found.word is not None and state.form is not None and register in VOLTAGES:
+            found.microvolts = state.form.told(found.word)
     return found
 
 
 def refused(arguments: argparse.Namespace, part: Device, register: str | None, fault: Refused) -> Answer:
-    """The host refused a job: nothing was sent."""
-    refusal = f"{fault.letter} {fault.name}"
-    return answer_of(arguments, part, register, "refused", status=1, text=f"refused {refusal}", refusal=refusal,
-                     why=SAYINGS.get(fault.letter, fault.name))
+    """The host or a course refused a job: nothing more was sent."""
+    refusal, why = f"{fault.letter} {fault.name}", SAYINGS.get(fault.letter, fault.name)
+    if fault.register:
+        why = f"{fault.register}: {why_refused(arguments, commanded(part, arguments.output or 0), fault.letter) or why}"
+    return answer_of(arguments, part, register, "refused", status=1, text=f"refused {refusal}", refusal=refusal, why=why)
+
+
+def why_refused(arguments: argparse.Namespace, state: Commanded, letter: str) -> str:
+    """Why, with the voltage that is known of it; nothing where none is."""
+    bound = {"P5": "VOUT_MIN", "P6": "VOUT_MAX"}.get(letter)
+    word = None if bound is None else state.only_word(bound)
+    if word is not None and state.form is not None:
+        side = "below" if bound == "VOUT_MIN" else "above"
+        return f"it would be {side} {bound}, which is {voltages.shown(state.form.told(word))}: order {bound} first"
+    byte = getattr(arguments, "byte", None)
+    would = None if letter != "L5" or byte is None else state.would(byte)
+    if would is None or state.limits is None:
+        return ""
+    return f"the output would command {voltages.shown(would)}, outside {between(*state.limits)}: order what it selects first"
 
 
 def possible_words(answer: Answer) -> str:
@@ -86,7 +101,7 @@ def with_why(part: Device) -> str:
 def commanded_words(found: Commanded, register: str, microvolts: int | None) -> str:
     """What the output commands, behind an order of a register whose word has this value."""
     if found.missing:
-        return "; ".join("its format isn't known" if name == FORMAT else f"{name} gave no good answer" for name in found.missing)
+        return missed_words(found)
     if found.selected is None or found.least is None or found.greatest is None:
         return "what the output commands isn't known"
     band, wanted = between(found.least, found.greatest), wanted_of(found, register, microvolts)
@@ -135,38 +150,78 @@ def is_well(found: Commanded, register: str, microvolts: int | None) -> bool:
                               wanted is not None and found.is_value(wanted))
 
 
-def survey_order(arguments: argparse.Namespace, part: Device, register: str, is_accepted: bool = False) -> Answer:
-    """The answer to an order that is confirmed, or whose word is taken because it is near enough: a survey says what the output then
-    commands."""
-    output, end = arguments.output, "accepted" if is_accepted else "done"
-    found = answer_of(arguments, part, register, end)
+# What a course's end is called in the object of --json.
+ENDS = {"differs": "differs", "format": "no format", "source": "other source", "spent": "spent"}
+
+
+def course_answer(arguments: argparse.Namespace, part: Device, register: str, course: Course, is_accepted: bool = False) -> Answer:
+    """The answer to a course that orders a register, whose word may have been taken because it is near enough."""
+    end = course.ended or CourseEnd("")
+    state = behind(part, course, end)
+    if end.kind == "refused":
+        return refused(arguments, part, register, refusal(end.number, end.register))
+    if end.kind == "reached":
+        return reached(arguments, part, register, state, is_accepted)
+    found = answer_of(arguments, part, register, ENDS[end.kind], state, status=1)
+    has_written, cell = part.transfers.has_written, state.cells.get(end.register or "")
+    if end.kind == "differs" and end.word is not None:
+        found.text = f"{cell_words(arguments, part, end.register or register, end.word)} differs"
+        found.why = (f"{end.register}: the part holds {in_hexadecimal(end.register, end.word)}: the write was lost, refused, limited or "
+                     f"rounded{with_why(part)}")
+    elif end.kind == "source" and end.word is not None:
+        found.text = f"OPERATION {end.word:02X} may leave the voltage to another source{avsbus(end.word)}{unordered(has_written)}"
+        found.why = "order OPERATION first, as by `on`"
+    elif has_written and cell is not None and end.register == register:
+        found.text = possible_words(found) if found.word is None else f"{cell_words(arguments, part, register, found.word)} differs"
+        found.why = why_spent(part, end)
+    elif has_written and found.word is not None:
+        found.text, found.why = f"{cell_words(arguments, part, register, found.word)} confirmed; {missed_words(state)}", why_not(state)
+    else:
+        found.text, found.why = f"{missed_words(state)}{unordered(has_written)}", why_not(state)
+    found.why += read_notes(part, arguments.output)
+    return found
+
+
+def unordered(has_written: bool) -> str:
+    return "" if has_written else ", nothing was ordered"
+
+
+def why_spent(part: Device, end: CourseEnd) -> str:
+    """Why a course has no try left, as far as its last transfers say it."""
+    return part.transfers.why() or end.fault or "the part restarts again and again"
+
+
+def missed_words(found: Commanded) -> str:
+    """What a course has missed."""
+    return "; ".join("its format isn't known" if name == FORMAT else f"{name} gave no good answer" for name in found.missing) \
+        or "what the output commands isn't known"
+
+
+def reached(arguments: argparse.Namespace, part: Device, register: str, state: Commanded, is_accepted: bool) -> Answer:
+    """The answer to a course that has reached what is wanted: the register's word, and what the output commands."""
+    found = answer_of(arguments, part, register, "accepted" if is_accepted else "done", state)
     assert found.word is not None
-    cell = cell_words(arguments, part, register, found.word)
+    cell = cell_words(arguments, part, register, found.word, state.form)
     words = f"{register} accepted{cell.removeprefix(register)}" if is_accepted else f"{cell} confirmed"
-    arguments.call.maybe, arguments.call.settled = "", f"{words}; what the output commands wasn't read"
-    if output is None:
-        found.text = words
-        return found
-    if part.host.format(output) is None:
+    if state.form is None:
         found.text = f"{words}; what the output commands isn't known, since its format wasn't learned"
         return found
-    ordered, micro = found.word, found.microvolts
-    surveyed = survey(part, output)
-    found = answer_of(arguments, part, register, end)
-    found.commanded = surveyed
-    if found.word is not None and found.word != ordered:
-        found.status, found.end = 1, "differs"
-        found.text = f"{cell_words(arguments, part, register, found.word)} differs; " \
-            f"{commanded_words(surveyed, register, found.microvolts)}"
-        found.why = (f"{in_digits(register, ordered)} was read back, and then {in_digits(register, found.word)}: the part "
-                     "restarted, or another master wrote")
-    else:
-        found.text = f"{words}; {commanded_words(surveyed, register, micro)}"
-        if not is_well(surveyed, register, micro):
-            found.status, found.end, found.why = 1, "cut" if surveyed.is_well else "unsure", why_not(surveyed)
-    found.why += read_notes_behind(part, output, surveyed)
+    found.text = f"{words}; {commanded_words(state, register, found.microvolts)}"
+    # One that is turned off is off, whatever it would command.
+    if arguments.command != "off" and not is_well(state, register, found.microvolts):
+        found.status, found.end, found.why = 1, "cut" if state.is_well else "unsure", why_not(state)
     if found.restart_seen:
         found.text += "; restart seen, or the part rounds" if is_accepted else "; restart seen"
+    return found
+
+
+def confirmed_alone(arguments: argparse.Namespace, part: Device, register: str) -> Answer:
+    """The answer to an order that is confirmed, behind which nothing else was read."""
+    found = answer_of(arguments, part, register, "done")
+    assert found.word is not None
+    found.text = f"{cell_words(arguments, part, register, found.word)} confirmed"
+    if arguments.output is not None:
+        found.text += "; what the output commands isn't known, since its format wasn't learned"
     return found
 
 
@@ -179,10 +234,10 @@ def why_not(found: Commanded) -> str:
     """Why an order that was confirmed isn't success."""
     if found.missing:
         return "; ".join(why if name == FORMAT else f"{name}: {why or 'no good answer'}" for name, why in found.missing.items())
-    if found.selected is None:
-        return "OPERATION holds a word that selects no register"
     if found.unended:
         return found.unended
+    if found.selected is None:
+        return "OPERATION holds a word that selects no register"
     if found.limits is not None and found.limits_state != "within":
         return "the output isn't known to command a voltage within its limits" if found.limits_state != "outside" else \
             "the output commands a voltage outside its limits"

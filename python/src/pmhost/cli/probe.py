@@ -7,12 +7,14 @@ from typing import Any
 from ..parts import MISSABLE, MODEL_BUS
 from ..probe import REGISTERS, UNFIT, Found, FoundOutput, Probe, block_words, spaced, text_of
 from ..reads import Read
+from ..scan import LEFT_OUT, Seen, scan
 from .answer import Answer, in_digits
 from .call import MODEL_ADDRESS, Call, complain, said
-from .parser import bus_options
+from .parser import BadCall, bus_options
 
 MAY_NOTE = "the part may note in STATUS_CML that it was asked for what it lacks, and pull SMBALERT#"
 CLEARS = "--writes sends CLEAR_FAULTS, which clears the part's latched faults"
+MAY_BE_TAKEN = "a device that isn't a PMBus part may take the command byte for a register's number"
 MAY_BE_CLEARED = "the part's latched faults may be cleared, and no setting was written"
 
 
@@ -22,13 +24,27 @@ def add(commands: Any) -> None:
     found = commands.add_parser("probe", help=help)
     found.add_argument("--writes", action="store_true", help="sends CLEAR_FAULTS without and with a wrong PEC, too: "
                        "a part that takes one can't be driven. It clears faults")
-    found.set_defaults(run=run)
+    found.add_argument("--all-addresses", action="store_true", help="without an address: sends a command byte to 70 to 77, too, where multiplexers "
+                       "sit, which take it for their channels")
+    found.set_defaults(run=run, judge=judge, can_scan=True)
     bus_options(found)
+
+
+def judge(arguments: argparse.Namespace) -> None:
+    call: Call = arguments.call
+    is_scan = call.address is None and call.bus != MODEL_BUS
+    if arguments.all_addresses and not is_scan:
+        raise BadCall("probe: --all-addresses is for a look at a whole bus: leave the address out")
+    for name, is_given in (("--writes", arguments.writes), ("--trace", call.trace_path is not None)):
+        if is_given and is_scan:
+            raise BadCall(f"probe: {name}: give the part's address, as -a 58; probe without both finds the parts")
 
 
 def run(arguments: argparse.Namespace) -> int:
     """What the part has, and in the last line what to give to `pmhost` for it, or why it can't be driven."""
     call: Call = arguments.call
+    if call.address is None and call.bus != MODEL_BUS:
+        return look_around(arguments, call)
     # Its own tries wait for a busy part. A question behind a write could change STATUS_CML, which it reads.
     bus = call.patient(0)
     complain(f"{said(arguments)}: {MAY_NOTE}{f'; {CLEARS}' if arguments.writes else ''}")
@@ -42,6 +58,36 @@ def run(arguments: argparse.Namespace) -> int:
         call.say_lines([*(f"probe: {line}" for line in lines), *([give] if give else [])])
     told = [*(row_of(each) for each in found.outputs), device_row(found, lines, give)]
     return call.say(Answer(said(arguments), "fit" if found.is_fit else "unfit", status=0 if found.is_fit else 1, rows=told))
+
+
+def look_around(arguments: argparse.Namespace, call: Call) -> int:
+    """Which addresses of the bus answer, a line each, and the command line that probes each PMBus part. The status is 1 where there is none."""
+    complain(f"{said(arguments)}: {MAY_BE_TAKEN}; {MAY_NOTE}")
+    rows, lines = [], []
+    for seen in scan(call.bus_at, arguments.all_addresses):
+        line = seen_words(seen)
+        rows.append({"address": f"{seen.address:02X}", "part": seen.is_part, "asked": seen.is_asked, "says": line})
+        if not call.is_json:
+            call.say_lines([f"probe: {seen.address:02X}: {line}"])
+        if seen.is_part:
+            lines.append(f"pmhost -b {call.bus} -a {seen.address:02X} probe")
+    if not call.is_json:
+        call.say_lines([f"probe: {LEFT_OUT}", *lines])
+    why = "" if lines else "no PMBus part answers on this bus"
+    return call.say(Answer(said(arguments), "parts" if lines else "no part", status=0 if lines else 1, why=why, rows=rows))
+
+
+def seen_words(seen: Seen) -> str:
+    """What answers at an address."""
+    if seen.why:
+        return seen.why
+    if not seen.is_asked:
+        return "it answers, and wasn't asked who it is, since multiplexers sit at 70 to 77: --all-addresses asks"
+    if not seen.is_part:
+        return f"it answers, and is no PMBus part with packet error codes: no good CAPABILITY ({seen.capability.why})"
+    pec = "PEC yes" if seen.capability.payload is not None else f"no good CAPABILITY ({seen.capability.why})"
+    revision = None if seen.revision.payload is None else seen.revision.payload[0]
+    return ", ".join([pec, revision_words(revision), *(text_words(*each) for each in seen.identity.items())])
 
 
 def give_of(call: Call, found: Found) -> str:

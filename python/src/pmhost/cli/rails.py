@@ -5,8 +5,9 @@ import argparse
 from typing import Any
 
 from .. import rails, voltages
-from ..apply import AS_WANTED, Board, Setting, Stopped
+from ..apply import AS_WANTED, Board
 from ..parts import BadRails
+from ..rail_course import Setting, Stopped
 from ..rails import Rail
 from . import way
 from .answer import Answer, in_digits, number

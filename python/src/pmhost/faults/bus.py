@@ -11,6 +11,10 @@
     garbled:N:B   bit B of byte N of an answer is changed on the way
     false         nothing arrives, and somebody else acknowledges
     restart       the part restarts, and then hears the frame
+    restart:N     the part hears the first N bytes, restarts, and hears no more of the frame, which nobody acknowledges
+    restarted     the part hears the frame, answers, and then restarts
+    ones          of an answer each byte comes as FFh
+    late          in place of an answer that to the request before comes; none where there was no request
 
 N counts from 0, and begins again behind the last byte.
 """
@@ -25,12 +29,14 @@ from ..errors import PartRefused
 from ..part import ModelPart, ModelPartBus
 from ..texts import in_hexadecimal
 
-FAULT = re.compile(r"(ok|lost|twice|mute|false|restart)|(cut|short):(\d{1,3})|(damaged|garbled):(\d{1,3}):([0-7])")
-# What is drawn at random: what any bus does to any part. `false` and `restart` are for lists.
+FAULT = re.compile(r"(ok|lost|twice|mute|false|restart|restarted|ones|late)|(cut|short|restart):(\d{1,3})|(damaged|garbled):(\d{1,3}):([0-7])")
+# What is drawn at random: what any bus does to any part. The others are for lists.
 DRAWN = ("lost", "cut", "damaged", "twice", "mute", "short", "garbled")
 UNHEARD = "no"
 # Faults for which a write isn't acknowledged.
-UNACKNOWLEDGED = ("lost", "cut", "mute")
+UNACKNOWLEDGED = ("lost", "cut", "mute", "restarting")
+# Faults that strike answers alone.
+OF_ANSWERS = ("short", "garbled", "ones", "late")
 # Where a packet has its count.
 COUNT_AT = 2
 
@@ -120,6 +126,8 @@ class FaultyBus(ModelPartBus):
     def __init__(self, part: ModelPart, faults: Iterable[str], tell: Callable[[Struck], None]) -> None:
         super().__init__(part)
         self.faults, self.tell = list(faults), tell
+        # The answer to the last request, for one that comes late.
+        self._before = b""
 
     def write(self, frame: bytes) -> bool:
         """Whether it was acknowledged."""
@@ -134,8 +142,9 @@ class FaultyBus(ModelPartBus):
         """The bytes that come behind the read address; none where there is no answer, or another address answers."""
         fault, kind, numbers = self._next()
         # A request that is cut ends in a stop.
-        heard, answer = self._heard(arriving(request, kind, numbers), kind != "cut", kind)
-        back = returning(answer, kind, numbers)
+        heard, answer = self._heard(arriving(request, kind, numbers), kind not in ("cut", "restarting"), kind)
+        back = self._before if kind == "late" else returning(answer, kind, numbers)
+        self._before = answer
         self.tell(Struck(request, count, fault, heard, f"back {in_hexadecimal(back) or 'nothing'}"))
         return back[1:] if back[:1] == answer[:1] else b""
 
@@ -145,20 +154,23 @@ class FaultyBus(ModelPartBus):
             self.part.restart()
         if kind == "twice":
             heard_by(self.part, sent, is_request)
-        return heard_by(self.part, sent, is_request)
+        heard = heard_by(self.part, sent, is_request)
+        if kind in ("restarting", "restarted"):
+            self.part.restart()
+        return heard
 
     def _next(self) -> tuple[str, str, list[int]]:
         """The next fault, its kind and its numbers."""
         fault = self.faults.pop(0) if self.faults else "ok"
         kind, *numbers = fault.split(":")
-        return fault, kind, [int(number) for number in numbers]
+        return fault, "restarting" if kind == "restart" and numbers else kind, [int(number) for number in numbers]
 
 
 def arriving(frame: bytes, kind: str, numbers: list[int]) -> bytes:
     """What arrives of a frame."""
     if kind in ("lost", "false"):
         return b""
-    if kind == "cut":
+    if kind in ("cut", "restarting"):
         return frame[:numbers[0] % len(frame)]
     return changed(frame, *numbers) if kind == "damaged" else frame
 
@@ -169,4 +181,6 @@ def returning(back: bytes, kind: str, numbers: list[int]) -> bytes:
         return b""
     if kind == "short":
         return back[:numbers[0] % len(back)]
+    if kind == "ones":
+        return back[:1] + b"\xFF" * (len(back) - 1)
     return changed(back, *numbers) if kind == "garbled" else back

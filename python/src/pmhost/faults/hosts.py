@@ -4,8 +4,9 @@ from __future__ import annotations
 from typing import Protocol
 
 from ..errors import Refused
-from ..host import Bus, Host
+from ..host import Host
 from ..packets import Packet
+from ..states import Bus
 from ..values import CODES
 
 PAGE = 0x00

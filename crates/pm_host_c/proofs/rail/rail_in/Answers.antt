@@ -7,7 +7,7 @@ use Rattle.pm_host.specs.Summary.{format_at}
 use Rattle.pm_limits.specs.declared.part_registers.PartRegisters.{PartRegisters}
 use Rattle.pm_host_c.specs.Guard.{registers_held}
 use Rattle.pm_host_c.specs.Limits.{ends_in, within_word, IsEnds}
-use Rattle.pm_host_c.specs.Rail.{power_word}
+use Rattle.pm_host_c.specs.Rail.{power_word, selected_word}
 use Rattle.pm_host_c.proofs.rail.rail_in.Goals as goal
 
 pub returns : goal.returns
@@ -17,6 +17,7 @@ returns c =
     let known = c.band_in-known.ensures ∙ ap (λ (r : PartRegisters). band_at r s c.args.output) c.registers.ensures in
     record {
       power = c.of_power.ensures ∙ ap power_word c.power_in.ensures;
+      selected = c.of_selected.ensures ∙ ap selected_word c.selected_in.ensures;
       within = c.of_within.ensures ∙ ap within_word (c.within_limits.ensures
           ∙ ap (within_of c.limits.result) known
           ∙ ap (λ (l : Option Bounds). within_of l (band_at (registers_held c.args.host.now.registers) s c.args.output)) c.limits.ensures);

@@ -5,6 +5,7 @@ use Rattle.pm_rail.specs.declared.apply_end.ApplyEnd.{ApplyEnd}
 use Rattle.pm_rail.specs.declared.course.Course.{Course}
 use Rattle.pm_rail.specs.Course.{course_of}
 use Rattle.pm_driver.specs.Courses.{Completes}
+use Rattle.pm_driver.specs.Driven.{OfOne, StaysWithin}
 use Rattle.pm_driver.proofs.CoursesLived.{busy-finished, finished, never-refused}
 use Rattle.pm_driver.proofs.driver.Driver.apply.Goals as goal
 
@@ -27,3 +28,8 @@ returns-clause-finishes g c =
 
 pub returns-clause-busy : goal.returns-clause-busy
 returns-clause-busy g c = λ busy. busy-finished (returns-clause-finishes g c) busy
+
+pub returns-clause-within : goal.returns-clause-within
+returns-clause-within g c =
+    subst (λ (x : Course). StaysWithin g.B.Bus.held (OfOne x.survey.output) c.args.self.now c.complete.new.self)
+    c.new-course.ensures c.complete.ensures.within

@@ -9,7 +9,8 @@ use Rattle.pm_rail.specs.declared.next.Next.TheVariants.{Job, Ended}
 use Rattle.pm_rail.specs.Course.{after_by, next_by, told_of}
 use Rattle.pm_rail.specs.Lemmas.Says.{after-own, told-own}
 use Rattle.pm_driver.specs.Courses.{Completes, Courses, ends, no_job, one_more, refused}
-use Rattle.pm_driver.specs.Driven.{Driving, Runs}
+use Rattle.pm_driver.specs.Driven.{Driving, OfOne, Runs, StaysRead, StaysWithin}
+use Rattle.pm_driver.proofs.RailKeeps.{course-keeps}
 use Rattle.pm_driver.proofs.driver.Driver.complete.Goals as goal
 
 pub jobs-init : goal.jobs-init
@@ -72,3 +73,27 @@ jobs-preserved g c =
       registers = c.run.ensures.registers ∙ c.jobs.invariant.registers;
       kept = c.run.ensures.kept ∙ c.jobs.invariant.kept;
     }
+
+pub returns-in-Ended-clause-within : goal.returns-in-Ended-clause-within
+returns-in-Ended-clause-within g c =
+    (course-keeps g.B.Bus.gives g.B.Bus.held g.B.Bus.restarts c.args.course.now c.args.self.now c.jobs.course c.jobs.self
+    c.jobs.invariant.runs).within
+
+pub returns-in-Ended-clause-stays : goal.returns-in-Ended-clause-stays
+returns-in-Ended-clause-stays g c =
+    (course-keeps g.B.Bus.gives g.B.Bus.held g.B.Bus.restarts c.args.course.now c.args.self.now c.jobs.course c.jobs.self
+    c.jobs.invariant.runs).stays
+
+pub returns-in-Err-clause-within : goal.returns-in-Err-clause-within
+returns-in-Err-clause-within g c =
+    subst (λ (d : Driving g.row.B.Denot). StaysWithin g.B.Bus.held (OfOne c.args.course.now.survey.output) c.args.self.now d)
+    (sym c.in-Err.ensures.err)
+    (course-keeps g.B.Bus.gives g.B.Bus.held g.B.Bus.restarts c.args.course.now c.args.self.now c.jobs.course c.jobs.self
+    c.jobs.invariant.runs).within
+
+pub returns-in-Err-clause-stays : goal.returns-in-Err-clause-stays
+returns-in-Err-clause-stays g c =
+    subst (λ (d : Driving g.row.B.Denot). StaysRead g.B.Bus.held g.B.Bus.restarts c.args.self.now d)
+    (sym c.in-Err.ensures.err)
+    (course-keeps g.B.Bus.gives g.B.Bus.held g.B.Bus.restarts c.args.course.now c.args.self.now c.jobs.course c.jobs.self
+    c.jobs.invariant.runs).stays

@@ -1,0 +1,7 @@
+-- What the crate promises.
+pub mod AnswerFault
+pub mod Ends
+pub mod Wishes
+pub mod FrameCourse
+pub mod Heard
+pub mod Frames

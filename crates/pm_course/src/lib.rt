@@ -1,0 +1,29 @@
+//! One way to a voltage, frame after frame: the machine that users have of a course.
+//!
+//! A [`FrameCourse`] brings an output to what is wanted of it, to words or voltages in microvolts, to a byte of OPERATION, or
+//! to nothing, which is a survey. [`FrameCourse::frame`] hands out what is to be sent now, [`FrameCourse::write_ended`] and
+//! [`FrameCourse::read_ended`] hear what became of it; once it hands out nothing, [`FrameCourse::end`] says how the course ended. It asks a [`pm_rail::Course`] for
+//! each job, and orders nothing that this doesn't name but a byte of OPERATION over one that the cell doesn't take. What it adds: words of voltages by the format that the host knows
+//! at that moment, an end at once where VOUT_MODE names no format or where OPERATION holds a byte that its cell doesn't
+//! take, WRITE_PROTECT before an output is turned on, and what was wrong with the last answer.
+//!
+//! It sends nothing, waits for nothing and takes no memory.
+//!
+//! Tests: crates/pm_host_tests
+#![tactic(auto)]
+
+mod answer_fault;
+mod course_end;
+mod frame_course;
+mod frames;
+mod heard;
+mod voltages;
+mod wish;
+mod words;
+
+pub use answer_fault::AnswerFault;
+pub use course_end::{CourseEnd, CourseNext, Refusal};
+pub use frame_course::FrameCourse;
+pub use frames::Sending;
+pub use voltages::Voltages;
+pub use wish::{Wish, Wishes};

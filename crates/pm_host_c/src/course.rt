@@ -1,0 +1,336 @@
+//! A course of an output: it is made, hands out frames, and is told what became of them.
+
+ghost use Rattle.std.specs.Prelude.{◌≡◌, ◌≢◌, ◌<◌, not, ◌==◌};
+ghost use Rattle.pm_host.specs.Transcript.{Finished, Got};
+ghost use Rattle.pm_host.specs.Told.{entry_told};
+ghost use Rattle.pm_course.specs.FrameCourse.{to_byte, to_survey};
+ghost use Rattle.pm_host_c.specs.Course.{begun_number, guard_at, job_answer, kept_number, voltage_begun, voltage_number, voltage_register, want_number, wanted_more, words_course, HandsOut, SaysIn, TellsCourse, WouldBegin};
+ghost use Rattle.pm_host_c.specs.CourseEnd.{end_answer};
+ghost use Rattle.pm_host_c.specs.Guard.{guard_of};
+ghost use Rattle.pm_host_c.specs.CourseImage.{course_image, course_in, course_version, job_image};
+ghost use Rattle.pm_host_c.specs.Sizes.{course_size};
+
+use crate::course_end_image::CourseEndImage;
+use crate::course_image::{CourseImage, numbers_of};
+use crate::guard_image::GuardImage;
+use crate::host::begin;
+use crate::host_step::{HostStep, no_step, step_after};
+use crate::numbers::{ACCEPTED, ENDED, NO_COURSE, NO_HOST, OTHER_FRAME};
+use crate::sending_image::SendingImage;
+use crate::told::pm_host_frame;
+use crate::wanted_image::WantedImage;
+use pm_course::{CourseEnd, CourseNext, FrameCourse, Refusal, Wishes};
+use pm_host::{HostFault, Job, Stage, Told};
+use pm_table::{Cell, Code, Reg, cell_of};
+use std::mem::size_of;
+
+/// A job of a course, as plain numbers. It has no padding.
+#[repr(C)]
+#[derive(Clone, Copy, Debug)]
+pub struct CourseJobImage {
+    /// 0 none, 1 a learn, 2 a check, 3 an order.
+    pub kind: u8,
+    /// The command code of the cell of a check or an order, VOUT_MODE of a learn, otherwise 0.
+    pub code: u8,
+    /// The word of an order, otherwise 0.
+    pub word: u16,
+}
+
+impl CourseJobImage {
+    // This job, or none.
+    fn of(job: Option<Job>) -> CourseJobImage
+        ensures { result ≡ job_image job }
+    {
+        let (kind, code, word) = numbers_of(job);
+        CourseJobImage { kind, code, word }
+    }
+}
+
+/// How many bytes a course has.
+#[unsafe(no_mangle)]
+pub extern "C" fn pm_course_size() -> usize
+    ensures { result ≡ course_size }
+{
+    size_of::<CourseImage>()
+}
+
+/// The number of a course's layout.
+#[unsafe(no_mangle)]
+pub extern "C" fn pm_course_version() -> u16
+    ensures { result ≡ course_version }
+{
+    CourseImage::VERSION
+}
+
+/// Makes a course to nothing, which is a survey of what an output commands, by this many jobs at most. H4 for an output above 7.
+#[unsafe(no_mangle)]
+pub extern "C" fn pm_course_survey(course: &mut CourseImage, output: u8, tries: u16) -> u8
+    ensures number { result ≡ begun_number output }
+    ensures begun { result ≡ 0 → course.new ≡ course_image (to_survey output tries) }
+    ensures refused { result ≢ 0 → course.new ≡ course.old }
+{
+    if 8 <= output {
+        return HostFault::UnknownOutput.number();
+    }
+    *course = CourseImage::of(&FrameCourse::survey(output, tries));
+    ACCEPTED
+}
+
+/// Makes a course to wanted words. H4 for an output above 7.
+#[unsafe(no_mangle)]
+pub extern "C" fn pm_course_words(
+    course: &mut CourseImage,
+    output: u8,
+    wanted: &WantedImage,
+    tries: u16,
+) -> u8
+    ensures number { result ≡ begun_number output }
+    ensures begun { result ≡ 0 → course.new ≡ course_image (words_course output wanted.now tries) }
+    ensures refused { result ≢ 0 → course.new ≡ course.old }
+{
+    if 8 <= output {
+        return HostFault::UnknownOutput.number();
+    }
+    let mut words = FrameCourse::new(output, &Wishes::nothing(), tries);
+    words.course.survey.plan = Some(wanted.wanted());
+    *course = CourseImage::of(&words);
+    ACCEPTED
+}
+
+/// Makes a course to a voltage of one register: the nearest word of VOUT_COMMAND and of a margin, the highest that isn't above it of
+/// VOUT_MAX, the lowest that isn't below it of VOUT_MIN, in the format that the course learns. H4 for an output above 7, H5 for a code
+/// that is no voltage.
+#[unsafe(no_mangle)]
+pub extern "C" fn pm_course_microvolts(
+    course: &mut CourseImage,
+    output: u8,
+    code: u8,
+    microvolts: i64,
+    tries: u16,
+) -> u8
+    ensures number { result ≡ voltage_number output code }
+    ensures begun { result ≡ 0 → course.new ≡ voltage_begun course.old output code microvolts tries }
+    ensures refused { result ≢ 0 → course.new ≡ course.old }
+{
+    if 8 <= output {
+        return HostFault::UnknownOutput.number();
+    }
+    let Some(register) = voltage_of(code) else {
+        return HostFault::BadWord.number();
+    };
+    let mut to = FrameCourse::new(output, &Wishes::nothing(), tries);
+    to.want(register, microvolts);
+    *course = CourseImage::of(&to);
+    ACCEPTED
+}
+
+/// Makes a course to a byte of OPERATION. H4 for an output above 7.
+#[unsafe(no_mangle)]
+pub extern "C" fn pm_course_power(course: &mut CourseImage, output: u8, byte: u8, tries: u16) -> u8
+    ensures number { result ≡ begun_number output }
+    ensures begun { result ≡ 0 → course.new ≡ course_image (to_byte output byte tries) }
+    ensures refused { result ≢ 0 → course.new ≡ course.old }
+{
+    if 8 <= output {
+        return HostFault::UnknownOutput.number();
+    }
+    *course = CourseImage::of(&FrameCourse::power(output, u16::from(byte), tries));
+    ACCEPTED
+}
+
+/// One voltage more is wanted, by a course to words or voltages. E9h for every other memory, H5 for a code that is no voltage.
+#[unsafe(no_mangle)]
+pub extern "C" fn pm_course_want(course: &mut CourseImage, code: u8, microvolts: i64) -> u8
+    ensures number { result ≡ want_number (course_in course.old) code }
+    ensures wanted { result ≡ 0 → course.new ≡ wanted_more course.old code microvolts }
+    ensures refused { result ≢ 0 → course.new ≡ course.old }
+{
+    let Some(mut to) = course.course() else {
+        return NO_COURSE;
+    };
+    if to.course.survey.plan.is_none() {
+        return NO_COURSE;
+    }
+    let Some(register) = voltage_of(code) else {
+        return HostFault::BadWord.number();
+    };
+    to.want(register, microvolts);
+    *course = CourseImage::of(&to);
+    ACCEPTED
+}
+
+// The register of a code, where it is a voltage.
+fn voltage_of(code: u8) -> Option<Reg>
+    ensures { result ≡ voltage_register code }
+{
+    match cell_of(Code(code), 0) {
+        Some(Cell::Out(_, register)) if register.is_voltage() => Some(register),
+        _ => None,
+    }
+}
+
+/// What a course would begin now: 0 and the job, 95h where it would end. It changes nothing. E0h, E9h.
+#[unsafe(no_mangle)]
+pub extern "C" fn pm_course_next(
+    course: &CourseImage,
+    host: &GuardImage,
+    next: &mut CourseJobImage,
+) -> u8
+    ensures { WouldBegin (guard_of host.now) (course_in course.now) next.old result next.new }
+{
+    let Ok(stage) = host.host.read_stage() else {
+        return NO_HOST;
+    };
+    let Some(mut asked) = course.course() else {
+        return NO_COURSE;
+    };
+    match says(host, stage, &mut asked) {
+        CourseNext::Job(job) => {
+            *next = CourseJobImage::of(Some(job));
+            ACCEPTED
+        }
+        CourseNext::Ended(_) => {
+            *next = CourseJobImage::of(None);
+            ENDED
+        }
+    }
+}
+
+// What a course says next. H4 ends it where the host has no such output.
+fn says(host: &GuardImage, stage: Option<Stage>, course: &mut FrameCourse) -> CourseNext
+    requires { course.old.course.survey.output < 8 }
+    ensures { SaysIn (guard_at host.now stage) course.old result course.new }
+{
+    if host.host.state.outputs <= course.course.survey.output {
+        let end = CourseEnd::Refused(Refusal {
+            number: HostFault::UnknownOutput.number(),
+            register: None,
+        });
+        course.end = Some(end);
+        return CourseNext::Ended(end);
+    }
+    let limits = host.limits(course.course.survey.output);
+    let registers = host.registers.registers();
+    course.next_in(&host.host.state, stage, registers, &limits)
+}
+
+/// The frame of a course's open job; where none is open, what is next is begun. 95h once it has ended, also where the limits or the
+/// host refuse what it would begin. E0h, E9h; then, and once it has ended, it is nothing.
+#[unsafe(no_mangle)]
+pub extern "C" fn pm_course_frame(
+    course: &mut CourseImage,
+    host: &mut GuardImage,
+    sending: &mut SendingImage,
+) -> u8
+    ensures { HandsOut host.old course.old result host.new course.new sending.new }
+{
+    let Ok(stage) = host.host.read_stage() else {
+        sending.clear();
+        return NO_HOST;
+    };
+    let Some(mut asked) = course.course() else {
+        sending.clear();
+        return NO_COURSE;
+    };
+    if let Some(at) = stage {
+        if asked.is_job_of(at) {
+            sending.put(host.host.state.address, &at.message());
+            return ACCEPTED;
+        }
+    }
+    let mut refused = asked;
+    match says(host, stage, &mut asked) {
+        CourseNext::Ended(_) => {
+            *course = CourseImage::of(&asked);
+            sending.clear();
+            ENDED
+        }
+        CourseNext::Job(job) => {
+            let number = begin(host, Some(job));
+            if number == ACCEPTED {
+                *course = CourseImage::of(&asked);
+                pm_host_frame(host, sending);
+                ACCEPTED
+            } else {
+                refused.refused(number, job);
+                *course = CourseImage::of(&refused);
+                sending.clear();
+                ENDED
+            }
+        }
+    }
+}
+
+/// The job of a course that is under way, by what it asked for last: none once it was told the end of that. E9h.
+#[unsafe(no_mangle)]
+pub extern "C" fn pm_course_job_now(course: &CourseImage, now: &mut CourseJobImage) -> u8
+    ensures number { result ≡ kept_number (course_in course.now) }
+    ensures job { now.new ≡ job_answer (course_in course.now) now.old }
+{
+    let Some(asked) = course.course() else {
+        return NO_COURSE;
+    };
+    *now = CourseJobImage::of(asked.course.survey.asked);
+    ACCEPTED
+}
+
+/// A write was sent, and acknowledged or not (0). E0h, E9h, E2h where no write is being sent.
+#[unsafe(no_mangle)]
+pub extern "C" fn pm_course_write_ended(
+    course: &mut CourseImage,
+    host: &mut GuardImage,
+    acked: u8,
+) -> HostStep
+    ensures { TellsCourse host.old course.old (Finished (not (acked == 0))) result host.new course.new }
+{
+    tell(course, host, Told::Finished { acked: acked != 0 })
+}
+
+/// A request was sent, and these bytes came back, the read address first; none where there was no answer. E0h, E9h, E2h where
+/// no request is being sent.
+#[unsafe(no_mangle)]
+pub extern "C" fn pm_course_read_ended(
+    course: &mut CourseImage,
+    host: &mut GuardImage,
+    bytes: &[u8],
+) -> HostStep
+    ensures { TellsCourse host.old course.old (Got bytes.now) result host.new course.new }
+{
+    tell(course, host, Told::Got(bytes))
+}
+
+// Tells a host what became of its frame, and the course where it is of its job.
+fn tell(course: &mut CourseImage, host: &mut GuardImage, told: Told<'_>) -> HostStep
+    ensures { TellsCourse host.old course.old (entry_told told.entry) result host.new course.new }
+{
+    let Ok(stage) = host.host.read_stage() else {
+        return no_step(NO_HOST);
+    };
+    let Some(mut asked) = course.course() else {
+        return no_step(NO_COURSE);
+    };
+    match stage {
+        Some(stage) if stage.awaits(&told) => {
+            let progress = host.host.state.told(stage, told);
+            let address = host.host.state.address;
+            host.host.write_stage(progress.stage());
+            asked.heard(address, stage, told, progress.step());
+            *course = CourseImage::of(&asked);
+            step_after(progress.step(), address, stage, told)
+        }
+        _ => no_step(OTHER_FRAME),
+    }
+}
+
+/// How a course ended; kind 0 where it goes on. E9h.
+#[unsafe(no_mangle)]
+pub extern "C" fn pm_course_ended(course: &CourseImage, end: &mut CourseEndImage) -> u8
+    ensures number { result ≡ kept_number (course_in course.now) }
+    ensures said { end.new ≡ end_answer (course_in course.now) end.old }
+{
+    let Some(asked) = course.course() else {
+        return NO_COURSE;
+    };
+    *end = CourseEndImage::of(asked.end);
+    ACCEPTED
+}

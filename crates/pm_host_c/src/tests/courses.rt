@@ -1,0 +1,203 @@
+//! Courses: what they begin, and how they end.
+
+use super::calls::{NOTHING, host};
+use super::checks::equal;
+use crate::course::{
+    CourseJobImage, pm_course_ended, pm_course_frame, pm_course_job_now, pm_course_microvolts,
+    pm_course_next, pm_course_power, pm_course_read_ended, pm_course_size, pm_course_survey,
+    pm_course_version, pm_course_want, pm_course_words, pm_course_write_ended,
+};
+use crate::course_end_image::CourseEndImage;
+use crate::course_image::CourseImage;
+use crate::guard_image::GuardImage;
+use pm_course::FrameCourse;
+
+// A course of no meaning.
+fn blank() -> CourseImage {
+    let mut image = CourseImage::of(&FrameCourse::survey(0, 0));
+    image.mark = 0;
+    image
+}
+
+// The frame's kind, its first bytes' code, and the number that the call answers.
+fn frame(course: &mut CourseImage, host: &mut GuardImage) -> (u8, u8, u8) {
+    let mut sending = NOTHING;
+    let number = pm_course_frame(course, host, &mut sending);
+    let code = if sending.kind == 0 {
+        0
+    } else if sending.length == 2 {
+        sending.bytes[1]
+    } else if sending.length < 5 {
+        sending.bytes[1]
+    } else {
+        sending.bytes[4]
+    };
+    (number, sending.kind, code)
+}
+
+fn end(course: &CourseImage) -> (u8, u8, u8, u16, u16) {
+    let mut end = CourseEndImage {
+        kind: 9,
+        number: 9,
+        code: 9,
+        unused: 9,
+        word: 9,
+        fault: 9,
+    };
+    let _ = pm_course_ended(course, &mut end);
+    (end.kind, end.number, end.code, end.word, end.fault)
+}
+
+#[test]
+fn a_course_has_its_size(rt: HostRuntime) {
+    equal(&rt, &pm_course_size(), &104, &1);
+    equal(&rt, &pm_course_version(), &1, &2);
+    equal(&rt, &std::mem::size_of::<FrameCourse>(), &144, &3);
+}
+
+#[test]
+fn off_is_the_first_frame(rt: HostRuntime) {
+    let mut image = host(1);
+    let mut course = blank();
+    equal(&rt, &pm_course_power(&mut course, 0, 0x00, 3), &0, &1);
+    equal(&rt, &frame(&mut course, &mut image), &(0, 1, 0x01), &2);
+    equal(&rt, &frame(&mut course, &mut image), &(0, 1, 0x01), &3);
+    let step = pm_course_write_ended(&mut course, &mut image, 1);
+    equal(&rt, &(step.kind, step.word), &(0, 0), &4);
+    equal(&rt, &frame(&mut course, &mut image), &(0, 2, 0x01), &5);
+    let step = pm_course_read_ended(&mut course, &mut image, &[]);
+    equal(&rt, &(step.kind, step.word), &(3, 0), &6);
+    equal(&rt, &end(&course), &(0, 0, 0, 0, 0), &7);
+    equal(&rt, &frame(&mut course, &mut image), &(0, 1, 0x01), &8);
+}
+
+// The job that a call puts, and the number that it answers.
+fn next(course: &CourseImage, host: &GuardImage) -> (u8, u8, u8, u16) {
+    let mut job = NO_JOB;
+    let number = pm_course_next(course, host, &mut job);
+    (number, job.kind, job.code, job.word)
+}
+
+fn job_now(course: &CourseImage) -> (u8, u8, u8, u16) {
+    let mut job = NO_JOB;
+    let number = pm_course_job_now(course, &mut job);
+    (number, job.kind, job.code, job.word)
+}
+
+const NO_JOB: CourseJobImage = CourseJobImage {
+    kind: 9,
+    code: 9,
+    word: 9,
+};
+
+const ANSWERS_MODE: [u8; 4] = [0xB1, 0x01, 0x14, 0x4E];
+
+#[test]
+fn a_course_is_made_or_refused(rt: HostRuntime) {
+    let mut course = blank();
+    equal(&rt, &pm_course_survey(&mut course, 8, 3), &0x04, &1);
+    equal(&rt, &pm_course_power(&mut course, 8, 0x80, 3), &0x04, &2);
+    equal(
+        &rt,
+        &pm_course_microvolts(&mut course, 8, 0x21, 1, 3),
+        &0x04,
+        &3,
+    );
+    equal(
+        &rt,
+        &pm_course_microvolts(&mut course, 0, 0x01, 1, 3),
+        &0x05,
+        &4,
+    );
+    equal(
+        &rt,
+        &pm_course_microvolts(&mut course, 0, 0x10, 1, 3),
+        &0x05,
+        &5,
+    );
+    equal(&rt, &pm_course_want(&mut course, 0x21, 1), &0xE9, &6);
+    equal(&rt, &end(&course), &(9, 9, 9, 9, 9), &7);
+    equal(&rt, &pm_course_survey(&mut course, 0, 3), &0, &8);
+    equal(&rt, &pm_course_want(&mut course, 0x21, 1), &0xE9, &9);
+    equal(
+        &rt,
+        &pm_course_microvolts(&mut course, 0, 0x21, 1_000_000, 3),
+        &0,
+        &10,
+    );
+    equal(&rt, &pm_course_want(&mut course, 0x01, 1), &0x05, &11);
+    equal(&rt, &pm_course_want(&mut course, 0x24, 2_000_000), &0, &12);
+}
+
+#[test]
+fn a_course_needs_its_memory_and_a_host(rt: HostRuntime) {
+    let mut image = host(1);
+    let mut course = blank();
+    equal(&rt, &frame(&mut course, &mut image), &(0xE9, 0, 0), &1);
+    equal(&rt, &next(&course, &image), &(0xE9, 9, 9, 9), &2);
+    equal(&rt, &job_now(&course), &(0xE9, 9, 9, 9), &3);
+    let step = pm_course_write_ended(&mut course, &mut image, 1);
+    equal(&rt, &(step.kind, step.word), &(0xE9, 0), &4);
+    equal(&rt, &pm_course_survey(&mut course, 0, 9), &0, &5);
+    let mut none = GuardImage::blank();
+    equal(&rt, &frame(&mut course, &mut none), &(0xE0, 0, 0), &6);
+    equal(&rt, &next(&course, &none), &(0xE0, 9, 9, 9), &7);
+    let step = pm_course_read_ended(&mut course, &mut none, &[]);
+    equal(&rt, &(step.kind, step.word), &(0xE0, 0), &8);
+    let step = pm_course_write_ended(&mut course, &mut image, 1);
+    equal(&rt, &(step.kind, step.word), &(0xE2, 0), &9);
+}
+
+#[test]
+fn a_course_tells_its_job_and_its_end(rt: HostRuntime) {
+    let mut image = host(1);
+    let mut course = blank();
+    equal(
+        &rt,
+        &pm_course_microvolts(&mut course, 0, 0x21, 1_200_000, 2),
+        &0,
+        &1,
+    );
+    equal(&rt, &job_now(&course), &(0, 0, 0, 0), &2);
+    equal(&rt, &next(&course, &image), &(0, 1, 0x20, 0), &3);
+    equal(&rt, &frame(&mut course, &mut image), &(0, 2, 0x20), &4);
+    equal(&rt, &job_now(&course), &(0, 1, 0x20, 0), &5);
+    // While its job is open it would begin none.
+    equal(&rt, &next(&course, &image), &(0x95, 0, 0, 0), &6);
+    let step = pm_course_read_ended(&mut course, &mut image, &ANSWERS_MODE);
+    equal(&rt, &(step.kind, step.word), &(4, 0), &7);
+    equal(&rt, &job_now(&course), &(0, 0, 0, 0), &8);
+    equal(&rt, &next(&course, &image), &(0, 2, 0x01, 0), &9);
+    equal(&rt, &frame(&mut course, &mut image), &(0, 2, 0x01), &10);
+    let step = pm_course_read_ended(&mut course, &mut image, &[0xB1, 0x01, 0x80, 0x00]);
+    equal(&rt, &(step.kind, step.word), &(3, 0x35), &11);
+    equal(&rt, &next(&course, &image), &(0x95, 0, 0, 0), &12);
+    equal(&rt, &end(&course), &(0, 0, 0, 0, 0), &13);
+    equal(&rt, &frame(&mut course, &mut image), &(0x95, 0, 0), &14);
+    equal(&rt, &end(&course), &(4, 0, 0x01, 0, 0x35), &15);
+    equal(&rt, &frame(&mut course, &mut image), &(0x95, 0, 0), &16);
+}
+
+#[test]
+fn a_job_of_another_is_no_last_end(rt: HostRuntime) {
+    let mut image = host(1);
+    let mut course = blank();
+    equal(&rt, &pm_course_survey(&mut course, 0, 9), &0, &1);
+    equal(
+        &rt,
+        &crate::host::pm_host_check(&mut image, 0, 0x21),
+        &0,
+        &2,
+    );
+    equal(&rt, &frame(&mut course, &mut image), &(0x95, 0, 0), &3);
+    equal(&rt, &end(&course), &(2, 3, 0, 0, 0), &4);
+    let step = pm_course_read_ended(&mut course, &mut image, &[]);
+    equal(&rt, &(step.kind, step.word), &(3, 0), &5);
+    equal(&rt, &frame(&mut course, &mut image), &(0, 2, 0x20), &6);
+    equal(&rt, &end(&course), &(0, 0, 0, 0, 0), &7);
+    // An output that the host doesn't have.
+    equal(&rt, &pm_course_power(&mut course, 5, 0x00, 9), &0, &8);
+    let _ = crate::host::pm_host_restart(&mut image);
+    equal(&rt, &frame(&mut course, &mut image), &(0x95, 0, 0), &9);
+    equal(&rt, &end(&course), &(2, 4, 0, 0, 0), &10);
+}

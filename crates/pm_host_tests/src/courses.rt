@@ -1,0 +1,377 @@
+//! Courses, frame after frame, over a part that is written by hand: what is sent, and how each course ends.
+
+mod part;
+
+use self::part::{Part, Run, carried};
+use crate::checks::equal;
+use pm_course::{AnswerFault, CourseEnd, FrameCourse, Refusal, Wish, Wishes};
+use pm_host::Host;
+use pm_limits::{Guard, PartRegisters};
+use pm_table::{Code, Reg};
+use std::process::Abort;
+
+// A part that is on at 1 V and takes what is written, in ULINEAR16 with the exponent -12.
+const PART: Part = Part {
+    mode: Some(0x14),
+    coefficients: [0, 0, 0, 0, 0],
+    words: [0x80, 0x1000, 0x4000, 0x1100, 0x0F00, 0x0000],
+    protect: 0x00,
+    takes: true,
+    wrong_pec: false,
+    silent: false,
+    next_mode: None,
+};
+
+// That part.
+fn whole() -> Part {
+    PART
+}
+
+// A guard of a part with every register and one output, of two passes.
+fn guard(rt: &impl Abort) -> Guard {
+    match Host::new(0x58, 1, 2) {
+        Ok(host) => Guard::over(host),
+        Err(fault) => panic!(rt; "{fault}"),
+    }
+}
+
+// The wish of one voltage.
+fn volts(register: Reg, microvolts: i64) -> FrameCourse {
+    let mut course = FrameCourse::new(0, &Wishes::nothing(), 60);
+    course.want(register, microvolts);
+    course
+}
+
+fn refused(number: u8, register: Option<u8>) -> CourseEnd {
+    CourseEnd::Refused(Refusal {
+        number,
+        register: register.map(|code| Code(code)),
+    })
+}
+
+// What a course over a part comes to.
+fn over(rt: &impl Abort, course: FrameCourse, part: &mut Part) -> Run {
+    carried(course, &mut guard(rt), part, 400)
+}
+
+#[test]
+fn off_is_the_first_frame_of_any_part(rt: HostRuntime) {
+    let modes = [None, Some(0x20), Some(0x14)];
+    for (number, mode) in modes.iter().enumerate() {
+        let mut part = Part {
+            mode: *mode,
+            ..PART
+        };
+        let run = over(&rt, FrameCourse::power(0, 0x00, 4), &mut part);
+        equal(&rt, &run.end, &Some(CourseEnd::Reached), &number);
+        equal(
+            &rt,
+            &(run.first, run.writes, run.frames),
+            &(0x01, 1, 2),
+            &number,
+        );
+        equal(&rt, &part.words[0], &0x00, &number);
+    }
+}
+
+#[test]
+fn a_mode_of_no_format_ends_at_once(rt: HostRuntime) {
+    let courses = [
+        volts(Reg::VoutCommand, 1_200_000),
+        FrameCourse::survey(0, 60),
+        FrameCourse::power(0, 0x80, 60),
+    ];
+    for (number, course) in courses.iter().enumerate() {
+        let mut part = Part {
+            mode: Some(0x20),
+            ..PART
+        };
+        let run = over(&rt, *course, &mut part);
+        equal(&rt, &run.end, &Some(CourseEnd::NoFormat(0x20)), &number);
+        equal(&rt, &(run.frames, run.writes), &(1, 0), &number);
+        // DIRECT, with coefficients that make no format: m is 0.
+        let mut part = Part {
+            mode: Some(0x40),
+            ..PART
+        };
+        let run = over(&rt, *course, &mut part);
+        equal(&rt, &run.end, &Some(CourseEnd::NoFormat(0x40)), &number);
+        equal(&rt, &(run.frames, run.writes), &(2, 0), &number);
+    }
+}
+
+#[test]
+fn another_source_ends_a_course_to_a_voltage(rt: HostRuntime) {
+    let bytes = [0xFF, 0xB0, 0xB3];
+    for byte in &bytes {
+        let words = [*byte, 0x1000, 0x4000, 0x1100, 0x0F00, 0x0000];
+        let mut part = Part { words, ..PART };
+        let run = over(&rt, volts(Reg::VoutCommand, 1_200_000), &mut part);
+        equal(&rt, &run.end, &Some(CourseEnd::OtherSource(*byte)), byte);
+        equal(&rt, &(run.frames, run.writes), &(2, 0), byte);
+        // A course to a byte takes the output back.
+        let run = over(&rt, FrameCourse::power(0, 0x80, 60), &mut part);
+        equal(&rt, &run.end, &Some(CourseEnd::Reached), byte);
+        equal(
+            &rt,
+            &(run.code, run.word, run.writes),
+            &(0x01, 0x80, 1),
+            byte,
+        );
+        equal(&rt, &run.asked_protect, &true, byte);
+    }
+}
+
+// A register, microvolts, the mode and the coefficients, and the word that is ordered.
+static WORDS: [(Reg, i64, u8, [u8; 5], u16); 7] = [
+    (Reg::VoutCommand, 1_200_000, 0x14, [0; 5], 0x1333),
+    (Reg::MarginHigh, 1_200_150, 0x14, [0; 5], 0x1334),
+    (Reg::VoutMax, 1_200_000, 0x14, [0; 5], 0x1333),
+    (Reg::VoutMax, 1_199_950, 0x14, [0; 5], 0x1332),
+    (Reg::VoutMin, 500_001, 0x14, [0; 5], 0x0801),
+    // DIRECT with m = -1000, b = 5000, R = 0: a word Y is (Y - 5000) / -1000 volts, so 4000 is 1 V.
+    (
+        Reg::VoutCommand,
+        1_200_400,
+        0x40,
+        [0x18, 0xFC, 0x88, 0x13, 0x00],
+        3800,
+    ),
+    // VOUT_MAX gets the highest value that isn't above the wish, and the word that isn't below is another.
+    (
+        Reg::VoutMax,
+        3_000_400,
+        0x40,
+        [0x18, 0xFC, 0x88, 0x13, 0x00],
+        2000,
+    ),
+];
+
+#[test]
+fn the_word_of_a_voltage_is_formed_by_the_format(rt: HostRuntime) {
+    for (number, row) in WORDS.iter().enumerate() {
+        let (register, microvolts, mode, coefficients, word) = *row;
+        let words = if mode == 0x14 {
+            PART.words
+        } else {
+            // 1 V, 4 V, 1.1 V, 0.9 V and 0 V.
+            [0x80, 4000, 1000, 3900, 4100, 5000]
+        };
+        let mut part = Part {
+            mode: Some(mode),
+            coefficients,
+            words,
+            ..PART
+        };
+        let run = over(&rt, volts(register, microvolts), &mut part);
+        equal(&rt, &run.end, &Some(CourseEnd::Reached), &number);
+        let ordered = (register.code().0, word, 1);
+        equal(&rt, &(run.code, run.word, run.writes), &ordered, &number);
+    }
+}
+
+#[test]
+fn a_voltage_without_a_word_is_refused(rt: HostRuntime) {
+    let rows = [
+        (Reg::VoutCommand, -1, 0x13),
+        (Reg::VoutCommand, 17_000_000, 0x14),
+        (Reg::VoutMax, -1, 0x13),
+        (Reg::VoutMin, 17_000_000, 0x14),
+        (Reg::MarginLow, 1_000_000_000_000_001, 0x15),
+    ];
+    for row in &rows {
+        let (register, microvolts, number) = *row;
+        let run = over(&rt, volts(register, microvolts), &mut whole());
+        let end = refused(number, Some(register.code().0));
+        equal(&rt, &(run.end, run.writes), &(Some(end), 0), &microvolts);
+    }
+}
+
+#[test]
+fn a_format_that_changes_forms_the_word_anew(rt: HostRuntime) {
+    // The part is exchanged after the first write: its exponent is -13, and its registers hold the same volts.
+    let mut part = Part {
+        next_mode: Some(0x13),
+        words: [0x80, 0x1000, 0x7FFF, 0x1100, 0x0F00, 0x0000],
+        ..PART
+    };
+    let run = over(&rt, volts(Reg::VoutCommand, 1_200_000), &mut part);
+    equal(&rt, &run.end, &Some(CourseEnd::Reached), &1);
+    equal(
+        &rt,
+        &(run.code, run.word, run.writes),
+        &(0x21, 0x2666, 2),
+        &2,
+    );
+}
+
+#[test]
+fn limits_and_protection_refuse_before_a_write(rt: HostRuntime) {
+    let rows = [
+        (1_150_000, 1_300_000, 1_100_000, 0x00, 0x23),
+        (900_000, 1_100_000, 1_200_000, 0x00, 0x24),
+        (900_000, 1_300_000, 1_200_000, 0x80, 0x67),
+    ];
+    for (number, row) in rows.iter().enumerate() {
+        let (least, most, microvolts, protect, fault) = *row;
+        let mut guard = guard(&rt);
+        equal(&rt, &guard.narrow(0, least, most).is_ok(), &true, &number);
+        let mut part = Part { protect, ..PART };
+        let run = carried(
+            volts(Reg::VoutCommand, microvolts),
+            &mut guard,
+            &mut part,
+            400,
+        );
+        let end = Some(refused(fault, Some(0x21)));
+        equal(&rt, &(run.end, run.writes), &(end, 0), &number);
+    }
+}
+
+#[test]
+fn protection_of_operation_is_looked_at_once(rt: HostRuntime) {
+    let off = [0x00, 0x1000, 0x4000, 0x1100, 0x0F00, 0x0000];
+    let mut part = Part {
+        words: off,
+        protect: 0x80,
+        ..PART
+    };
+    let turned = over(&rt, FrameCourse::power(0, 0x80, 60), &mut part);
+    let end = Some(refused(0x67, Some(0x01)));
+    equal(&rt, &(turned.end, turned.writes), &(end, 0), &1);
+    let mut part = Part { words: off, ..PART };
+    let turned = over(&rt, FrameCourse::power(0, 0x94, 60), &mut part);
+    equal(&rt, &turned.end, &Some(CourseEnd::Reached), &2);
+    equal(
+        &rt,
+        &(turned.word, turned.writes, turned.asked_protect),
+        &(0x94, 1, true),
+        &3,
+    );
+    // Turning off asks for none.
+    let mut part = Part {
+        protect: 0x80,
+        takes: false,
+        ..PART
+    };
+    let turned = over(&rt, FrameCourse::power(0, 0x00, 60), &mut part);
+    equal(
+        &rt,
+        &turned.end,
+        &Some(CourseEnd::Differs(Reg::Operation, 0x80)),
+        &4,
+    );
+    equal(&rt, &turned.asked_protect, &false, &5);
+    // A margin is read before it is selected, so that limits can judge it: 0.9375 V and 1.0625 V.
+    let rows = [
+        (0x94, Some(CourseEnd::Reached)),
+        (0xA4, Some(refused(0x25, Some(0x01)))),
+    ];
+    for row in &rows {
+        let mut guard = guard(&rt);
+        equal(
+            &rt,
+            &guard.narrow(0, 900_000, 1_050_000).is_ok(),
+            &true,
+            &row.0,
+        );
+        let turned = carried(
+            FrameCourse::power(0, row.0, 60),
+            &mut guard,
+            &mut whole(),
+            400,
+        );
+        equal(&rt, &turned.end, &row.1, &row.0);
+    }
+    // Limits that the voltage isn't known to be within: L5, of OPERATION.
+    let mut guard = guard(&rt);
+    equal(
+        &rt,
+        &guard.narrow(0, 1_150_000, 1_300_000).is_ok(),
+        &true,
+        &6,
+    );
+    let mut part = Part { words: off, ..PART };
+    let turned = carried(FrameCourse::power(0, 0x80, 60), &mut guard, &mut part, 400);
+    let end = Some(refused(0x25, Some(0x01)));
+    equal(&rt, &(turned.end, turned.writes), &(end, 0), &7);
+}
+
+#[test]
+fn no_try_is_left(rt: HostRuntime) {
+    let wish = volts(Reg::VoutCommand, 1_200_000);
+    let spent = |code, fault| Some(CourseEnd::Spent {
+        code: Code(code),
+        fault,
+    });
+    let mut part = Part {
+        silent: true,
+        ..PART
+    };
+    let run = over(&rt, wish, &mut part);
+    equal(&rt, &run.end, &spent(0x20, Some(AnswerFault::NoAnswer)), &1);
+    let mut part = Part {
+        wrong_pec: true,
+        ..PART
+    };
+    let run = over(&rt, wish, &mut part);
+    equal(&rt, &run.end, &spent(0x20, Some(AnswerFault::WrongPec)), &2);
+    let mut few = FrameCourse::new(0, &Wishes::nothing(), 2);
+    few.want(Reg::VoutCommand, 1_200_000);
+    let run = over(&rt, few, &mut whole());
+    equal(&rt, &run.end, &spent(0x21, None), &3);
+    // An off that nothing hears.
+    let mut part = Part {
+        silent: true,
+        ..PART
+    };
+    let run = over(&rt, FrameCourse::power(0, 0x00, 3), &mut part);
+    equal(&rt, &run.end, &spent(0x01, Some(AnswerFault::NoAnswer)), &4);
+}
+
+#[test]
+fn an_order_that_differs_twice_ends(rt: HostRuntime) {
+    let mut part = Part {
+        takes: false,
+        ..PART
+    };
+    let run = over(&rt, volts(Reg::VoutCommand, 1_200_000), &mut part);
+    equal(
+        &rt,
+        &run.end,
+        &Some(CourseEnd::Differs(Reg::VoutCommand, 0x1000)),
+        &1,
+    );
+    equal(&rt, &run.writes, &4, &2);
+}
+
+#[test]
+fn a_missing_register_is_refused_at_once(rt: HostRuntime) {
+    let lacks = PartRegisters {
+        vout_min: false,
+        ..PartRegisters::all()
+    };
+    match Guard::of_part(0x58, 1, 2, [None; 8], lacks) {
+        Ok(mut guard) => {
+            let wish = volts(Reg::VoutMin, 500_000);
+            let run = carried(wish, &mut guard, &mut whole(), 400);
+            let end = Some(refused(0x27, Some(0x2B)));
+            equal(&rt, &(run.end, run.frames), &(end, 0), &1);
+        }
+        Err(fault) => panic!(rt; "{fault}"),
+    }
+}
+
+#[test]
+fn words_are_wanted_beside_voltages(rt: HostRuntime) {
+    let wishes = Wishes {
+        command: Wish::Word(0x1234),
+        max: Wish::Microvolts(2_000_000),
+        ..Wishes::nothing()
+    };
+    let mut part = PART;
+    let run = over(&rt, FrameCourse::new(0, &wishes, 60), &mut part);
+    equal(&rt, &run.end, &Some(CourseEnd::Reached), &1);
+    equal(&rt, &(part.words[1], part.words[2]), &(0x1234, 0x2000), &2);
+    equal(&rt, &run.writes, &2, &3);
+}

@@ -1,0 +1,189 @@
+"""`pmhost torture`: a bench for anybody's host."""
+from __future__ import annotations
+
+import argparse
+import json
+import random
+import re
+import shlex
+from typing import Any
+
+from .. import torture
+from ..faults import read_faults
+from ..torture.program import NoBench, Run, preload
+from ..torture.verdict import Judge, Unjudged, Verdict
+from ..torture.watched import ADDRESS, Cell, read_meant
+from . import streams
+from .call import complain
+from .parser import BadCall, shown, whole
+from .texts import without_a_bus
+
+ABOUT = f"""Runs a program again and again over a bus with the proved converter on it, and in each run one fault strikes one transfer.
+The program opens /dev/i2c-N, any N, as ever; the converter is at {ADDRESS:02X}h, speaks PAGE, PAGE_PLUS and packet error codes, and its output O has
+voltages in ULINEAR16 with the exponent O - 12. A program that is linked statically isn't reached.
+
+  pmhost torture -- ./your-host --bus 1
+  pmhost torture --strike lost,garbled --runs 100 -- sh set-rails.sh
+  pmhost torture --again 7:cut:4 -- sh set-rails.sh
+
+First the program runs without a fault: what each register takes then is what it is meant to take. A run is WRONG where a
+register takes a word that was meant for the same register of another output; FALSE where the program ends well and a register
+doesn't hold what was meant; NOT ENDED after its seconds. STRANGE words, meant for no register, are told and counted. The status is
+0 where there was none of the first three, 1 where there was, and 2 where the program can't be judged."""
+
+
+def kinds_of(word: str) -> list[str]:
+    found = word.replace(",", " ").split()
+    for each in found:
+        if each not in torture.KINDS:
+            raise argparse.ArgumentTypeError(f"kind {shown(each)}: give kinds of {', '.join(torture.KINDS)}")
+    return found
+
+
+def again_of(word: str) -> tuple[int, str]:
+    """N:FAULT, the transfer and its fault."""
+    number, _, fault = word.partition(":")
+    try:
+        only, = read_faults(fault)
+    except ValueError:
+        only = ""
+    if not number.isdecimal() or int(number) == 0 or not only:
+        raise argparse.ArgumentTypeError(f"again {shown(word)}: give a transfer's number and its fault, as 7:cut:4")
+    return int(number), only
+
+
+def add(commands: Any) -> None:
+    parser = commands.add_parser("torture", help="any program over the model part, with one fault in each run", description=ABOUT)
+    parser.add_argument("--strike", type=kinds_of, default=list(torture.KINDS), metavar="KIND,..",
+                        help=f"the kinds of faults, all if left out: {', '.join(torture.KINDS)}; pmhost faults --help says what each is")
+    parser.add_argument("--runs", type=whole(1, 10**6, "runs"), metavar="N",
+                        help="so many runs, drawn at random; if left out each kind once at each transfer")
+    parser.add_argument("--seed", type=whole(0, 10**9 - 1, "seed"), default=0, metavar="N", help="draws places and bits, 0 if left out")
+    parser.add_argument("--seconds", type=whole(1, 3600, "seconds"), default=10, metavar="N", help="how long a run may take, 10 if left out")
+    parser.add_argument("--outputs", type=whole(1, 8, "outputs"), default=2, metavar="N", dest="count",
+                        help="how many outputs the converter has, 2 if left out")
+    parser.add_argument("--meant", action="append", default=[], metavar="O:CODE=WORD",
+                        help="what a register is meant to hold, as 1:21=34CD, in place of what the run without a fault shows")
+    parser.add_argument("--said", metavar="REGEX", dest="finds", help="a run went well where a line of the program's output has this, whatever its status")
+    parser.add_argument("--again", type=again_of, metavar="N:FAULT", help="one run alone: the fault at the transfer of this number")
+    parser.add_argument("--json", action="store_true", dest="is_json", help="one object with all of it")
+    parser.add_argument("words", nargs=argparse.REMAINDER, metavar="-- PROGRAM ..", help="the program and its words")
+    parser.set_defaults(run=run, judge=judge)
+
+
+def judge(arguments: argparse.Namespace) -> None:
+    without_a_bus(arguments)
+    words = arguments.words[1:] if arguments.words[:1] == ["--"] else arguments.words
+    if not words:
+        raise BadCall("torture: give a program behind --, as pmhost torture -- ./your-host")
+    try:
+        arguments.meant = [read_meant(each, arguments.count) for each in arguments.meant]
+    except ValueError as fault:
+        raise BadCall(f"torture: --meant {shown(str(fault))}: give an output, a register and its word, as 1:21=34CD") from None
+    try:
+        arguments.program = torture.Program(words, arguments.count, arguments.seconds, arguments.finds)
+    except NoBench as fault:
+        raise BadCall(f"torture: {fault}") from None
+    except re.error as fault:
+        raise BadCall(f"torture: --said {shown(arguments.finds)}: {fault}") from None
+
+
+def run(arguments: argparse.Namespace) -> int:
+    try:
+        with preload() as below:
+            return bench(arguments, below)
+    except (NoBench, Unjudged) as fault:
+        complain(f"torture: {fault}")
+        return 2
+    except KeyboardInterrupt:
+        complain("torture: interrupted")
+        return streams.INTERRUPTED
+
+
+def bench(arguments: argparse.Namespace, below: str) -> int:
+    program: torture.Program = arguments.program
+    plain = program.run(below)
+    meant: list[tuple[Cell, int]] = arguments.meant
+    verdicts, judged = [], Judge(plain, meant)
+    if not arguments.is_json:
+        streams.write("meant: " + "; ".join(f"output {cell[0]} {cell[1]} {word:04X}" for cell, word in judged.last.items()))
+    for number, fault in chosen(arguments, plain):
+        found = judged.judge(program.run(below, number, fault))
+        verdicts.append(found)
+        if not arguments.is_json and (found.is_bad or found.strange or arguments.again):
+            tell(arguments, found)
+    total = Total(verdicts)
+    if arguments.is_json:
+        streams.write(json.dumps({**total.facts(), "meant": {place(cell): f"{word:04X}" for cell, word in judged.last.items()},
+                                  "bad": [facts(arguments, each) for each in verdicts if each.is_bad or each.strange]}))
+    else:
+        streams.write(total.line())
+    return int(total.is_bad)
+
+
+def chosen(arguments: argparse.Namespace, plain: Run) -> list[tuple[int, str]]:
+    """The runs: one alone, or all, or as many as were asked for of all of them again and again."""
+    if arguments.again:
+        return [arguments.again]
+    if arguments.runs is None:
+        return torture.drawn_faults(plain.transfers, arguments.strike, arguments.seed)
+    found: list[tuple[int, str]] = []
+    for turn in range(arguments.runs):
+        some = torture.drawn_faults(plain.transfers, arguments.strike, arguments.seed * 1_000_003 + turn)
+        if not some:
+            break
+        found.append(random.Random(f"{arguments.seed} {turn}").choice(some))
+    return found
+
+
+def place(cell: Cell) -> str:
+    return f"{cell[0]}:{cell[1]}"
+
+
+def again(arguments: argparse.Namespace, found: Verdict) -> str:
+    """The line that repeats a run."""
+    more = ["--outputs", str(arguments.count)] * (arguments.count != 2) + ["--said", arguments.finds or ""] * (arguments.finds is not None)
+    return shlex.join(["pmhost", "torture", *more, "--again", f"{found.run.number}:{found.run.fault}", "--", *arguments.program.words])
+
+
+def tell(arguments: argparse.Namespace, found: Verdict) -> None:
+    """A run that isn't good: what is wrong, its transfers, and the line that repeats it."""
+    ended = "not ended" if found.run.status is None else f"status {found.run.status}, {'well' if found.run.is_success else 'badly'}"
+    streams.write(f"transfer {found.run.number} {found.run.fault}: {ended}: {found.words}")
+    for transfer in found.run.transfers:
+        streams.write(f"  {transfer.line}")
+    streams.write(f"  {again(arguments, found)}")
+
+
+def facts(arguments: argparse.Namespace, found: Verdict) -> dict[str, Any]:
+    """A run that isn't good, for programs."""
+    return {"transfer": found.run.number, "fault": found.run.fault, "status": found.run.status, "well": found.run.is_success,
+            "ended": found.is_ended,
+            "wrong": [{"cell": place(each.cell), "word": f"{each.word:04X}", "meant_for": other, "by": each.transfer} for each, other in found.wrong],
+            "strange": [{"cell": place(each.cell), "word": f"{each.word:04X}", "by": each.transfer} for each in found.strange],
+            "false": [{"cell": place(cell), "holds": f"{held:04X}", "meant": f"{word:04X}"} for cell, held, word in found.lost],
+            "trace": [each.line for each in found.run.transfers], "again": again(arguments, found)}
+
+
+class Total:
+    """The counts over all runs."""
+
+    def __init__(self, verdicts: list[Verdict]) -> None:
+        self.runs = len(verdicts)
+        self.well = sum(each.run.is_success for each in verdicts)
+        self.wrong = sum(bool(each.wrong) for each in verdicts)
+        self.strange = sum(bool(each.strange) for each in verdicts)
+        self.false = sum(bool(each.lost) for each in verdicts)
+        self.unended = sum(not each.is_ended for each in verdicts)
+
+    @property
+    def is_bad(self) -> bool:
+        return bool(self.wrong or self.false or self.unended)
+
+    def facts(self) -> dict[str, int]:
+        return {"runs": self.runs, "well": self.well, "wrong": self.wrong, "false": self.false, "not_ended": self.unended,
+                "strange": self.strange}
+
+    def line(self) -> str:
+        return (f"{self.runs} runs, {self.well} ended well: {self.wrong} with a word on a wrong output, {self.false} with a false success, "
+                f"{self.unended} not ended; {self.strange} with a word that was meant for none")

@@ -1,0 +1,230 @@
+"""The way of an output to what is wanted of it, frame after frame: which job comes next, and how it ends, is what the library says."""
+from __future__ import annotations
+
+import ctypes
+from dataclasses import dataclass
+from typing import TYPE_CHECKING, Mapping, NoReturn, Optional, Union
+
+from . import _library as at
+from ._library import library
+from .errors import Differs, NoFormat, OtherSource, Spent, accepted, name_of, refusal
+from .values import NAMES, code_of, frame_bytes, whole
+from .voltages import GivenVoltage, given_microvolts
+
+if TYPE_CHECKING:
+    from .host import Host
+    from .states import Sending, Step
+
+REFERENCE = ctypes.byref
+# How many jobs a course begins at most, where a caller says nothing.
+SURVEY_TRIES = 32
+TRIES = 64
+
+ENDED = 0x95
+JOBS = ("none", "learn", "check", "order")
+ENDS = ("", "reached", "refused", "differs", "spent", "format", "source")
+# What was wrong with the last answer, beside the faults of frames.
+NO_ANSWER, NO_ACKNOWLEDGEMENT = 1, 2
+FAULTS = {NO_ANSWER: "no answer", NO_ACKNOWLEDGEMENT: "no acknowledgement"}
+# The registers of jobs; that of a learn is no cell.
+REGISTERS = {**NAMES, 0x20: "VOUT_MODE"}
+
+# The words that are wanted, by the names of registers or their codes: {"VOUT_COMMAND": 0x34CD}.
+Wanted = Mapping[Union[str, int], int]
+
+
+@dataclass(frozen=True)
+class Job:
+    """A job of a course: a `learn` of VOUT_MODE, a `check` of a register, or an `order` of a word."""
+
+    kind: str
+    register: str
+    word: Optional[int] = None
+
+
+@dataclass(frozen=True)
+class CourseEnd:
+    """How a course ended: `reached`; `refused`, with a refusal's number; `differs`, with the word that was read; `spent`, with what was
+    wrong with the last answer, nothing where all were good; `format`, with VOUT_MODE; or `source`, with the byte of OPERATION.
+    `register` is what it is about."""
+
+    kind: str
+    register: Optional[str] = None
+    number: int = 0
+    word: Optional[int] = None
+    fault: str = ""
+
+
+def wanted_image(wanted: Wanted) -> at.WantedImage:
+    """The words as the library takes them."""
+    image = at.WantedImage()
+    if not isinstance(wanted, Mapping):
+        raise TypeError(f'wanted: give words by registers, as {{"VOUT_COMMAND": 0x34CD}}, and not {wanted!r}')
+    for register, word in wanted.items():
+        name = NAMES[code_of(register)]
+        wish = getattr(image, name.removeprefix("VOUT_").lower(), None)
+        if wish is None:
+            raise ValueError(f"wanted: {name} is no voltage of an output")
+        if wish.has:
+            raise ValueError(f"wanted: {name} stands twice")
+        wish.has, wish.word = 1, whole(word, 0, 0xFFFF, f"wanted {name}")
+    return image
+
+
+def job_of(image: at.CourseJobImage) -> Optional[Job]:
+    """A job as the library says it, None where there is none."""
+    if image.kind == 0:
+        return None
+    kind = JOBS[image.kind]
+    return Job(kind, "VOUT_MODE" if kind == "learn" else NAMES[image.code], image.word if kind == "order" else None)
+
+
+class Course:
+    """One way of an output: to nothing, which is a survey of what it commands, to words, to voltages, or to a byte of OPERATION. `tries`
+    is how many jobs it begins at most.
+
+    While `frame` hands out a frame, send it and say by `write_ended` or `read_ended` what became of it; `end` says then how the course
+    ended. `Host.run_course` does so over a bus. Between two frames of a job the host does nothing else; meanwhile nothing else is ordered of
+    the output, and nothing restored.
+    """
+
+    def __init__(self, output: int, tries: int) -> None:
+        self._image = at.CourseImage()
+        self.output, self.tries = whole(output, 0, 7, "output"), whole(tries, 0, 0xFFFF, "tries")
+
+    @classmethod
+    def survey(cls, output: int, tries: int = SURVEY_TRIES) -> Course:
+        """To nothing: it reads all that decides what the output commands."""
+        made = cls(output, tries)
+        accepted(library.pm_course_survey(REFERENCE(made._image), output, tries))
+        return made
+
+    @classmethod
+    def words(cls, output: int, wanted: Wanted, tries: int = TRIES) -> Course:
+        """To words."""
+        made, image = cls(output, tries), wanted_image(wanted)
+        accepted(library.pm_course_words(REFERENCE(made._image), output, REFERENCE(image), tries))
+        return made
+
+    @classmethod
+    def voltage(cls, output: int, voltage: GivenVoltage, register: str | int = "VOUT_COMMAND", tries: int = TRIES) -> Course:
+        """To a voltage of a register: the nearest word, of VOUT_MAX the highest that isn't above it, of VOUT_MIN the lowest that
+        isn't below it. H5 of a register that is no voltage."""
+        made, microvolts, code = cls(output, tries), given_microvolts(voltage), code_of(register)
+        accepted(library.pm_course_microvolts(REFERENCE(made._image), output, code, microvolts, tries))
+        return made
+
+    @classmethod
+    def power(cls, output: int, byte: int, tries: int = TRIES) -> Course:
+        """To a byte of OPERATION. One that turns the output off is ordered at once, before anything is read."""
+        made = cls(output, tries)
+        accepted(library.pm_course_power(REFERENCE(made._image), output, whole(byte, 0, 0xFF, "byte"), tries))
+        return made
+
+    def want(self, register: str | int, voltage: GivenVoltage) -> None:
+        """A voltage is wanted of a register of a course to words or voltages, in the place of what was wanted of it. H5 of a register that
+        is no voltage."""
+        accepted(library.pm_course_want(REFERENCE(self._image), code_of(register), given_microvolts(voltage)))
+
+    # ---- Frames ----
+
+    def next(self, host: Host) -> Optional[Job]:
+        """The job that it would begin now, None where it would end."""
+        found = at.CourseJobImage()
+        number = library.pm_course_next(REFERENCE(self._image), host.reference, REFERENCE(found))
+        if number == ENDED:
+            return None
+        accepted(number)
+        return job_of(found)
+
+    def frame(self, host: Host) -> Optional[Sending]:
+        """What to send now, None once it has ended."""
+        found = at.SendingImage()
+        number = library.pm_course_frame(REFERENCE(self._image), host.reference, REFERENCE(found))
+        if number == ENDED:
+            return None
+        accepted(number)
+        return host.sending_of(found)
+
+    def job(self) -> Optional[Job]:
+        """The job that is under way, None where none is."""
+        found = at.CourseJobImage()
+        accepted(library.pm_course_job_now(REFERENCE(self._image), REFERENCE(found)))
+        return job_of(found)
+
+    def write_ended(self, host: Host, acked: bool) -> Step:
+        """A write was sent, and acknowledged or not."""
+        if not isinstance(acked, bool):
+            raise TypeError(f"acked: True or False is wanted, and not {acked!r}")
+        return host.step_of(library.pm_course_write_ended(REFERENCE(self._image), host.reference, acked))
+
+    def read_ended(self, host: Host, answer: bytes) -> Step:
+        """A request was sent, and these bytes came back, the read address first; none where there was no answer."""
+        taken = frame_bytes(answer, 2**16, "answer")
+        return host.step_of(library.pm_course_read_ended(REFERENCE(self._image), host.reference, taken, len(taken)))
+
+    # ---- Its memory ----
+
+    def save(self) -> bytes:
+        """The course as bytes."""
+        return bytes(self._image)
+
+    def load(self, memory: bytes) -> None:
+        """It is what it was when these bytes were saved."""
+        self._image = at.CourseImage.from_buffer_copy(memory)
+
+    def copy(self) -> Course:
+        """Another course, which stands where this one does."""
+        other = Course(self.output, self.tries)
+        other.load(self.save())
+        return other
+
+    # ---- Its end ----
+
+    @property
+    def ended(self) -> Optional[CourseEnd]:
+        """How it ended, None where it goes on."""
+        found = at.CourseEndImage()
+        accepted(library.pm_course_ended(REFERENCE(self._image), REFERENCE(found)))
+        if found.kind == 0:
+            return None
+        kind, number = ENDS[found.kind], found.fault
+        register = {"format": "VOUT_MODE", "source": "OPERATION"}.get(kind, REGISTERS.get(found.code))
+        word = found.word if kind in ("differs", "format", "source") else None
+        return CourseEnd(kind, register, found.number, word, FAULTS.get(number) or (name_of(number) if number else ""))
+
+    def end(self) -> None:
+        """Nothing where it has reached what is wanted. Raises a Refused, Differs, NoFormat, OtherSource or Spent, with the register that this
+        is about; a ValueError where the course goes on."""
+        found = self.ended
+        if found is None:
+            raise ValueError("end: the course goes on: send its frame first")
+        if found.kind != "reached":
+            self._fail(found)
+
+    def _fail(self, found: CourseEnd) -> NoReturn:
+        register, word = found.register, found.word or 0
+        if found.kind == "refused":
+            raise refusal(found.number, register)
+        if found.kind == "differs":
+            raise Differs(f"{register}: the part holds {in_hexadecimal(register, word)}h, and not what was ordered twice: it lost, refused, "
+                          "limited or rounded it: look at STATUS_CML, VOUT_MAX and VOUT_MIN", "differs", word, None, register)
+        if found.kind == "format":
+            raise NoFormat(f"VOUT_MODE is {word:02X}h, a format that this host doesn't speak: order words and no voltages, by `order`",
+                           "format", word, None, register)
+        if found.kind == "source":
+            raise OtherSource(f"OPERATION is {word:02X}h, by which another source may decide the voltage{avsbus(word)}: order OPERATION first, "
+                              "as by `turn_on`", "source", word, None, register)
+        why = f"with the last answer this was wrong: {found.fault}: look at the bus" if found.fault else \
+            "all answers were good: give more tries, or look why the part changes"
+        raise Spent(f"{register}: none of {self.tries} tries is left, {why}", "spent", None, None, register)
+
+
+def in_hexadecimal(register: Optional[str], word: int) -> str:
+    """A word in two digits where its register has one byte, otherwise in four."""
+    return f"{word:02X}" if register in ("OPERATION", "WRITE_PROTECT") else f"{word:04X}"
+
+
+def avsbus(byte: int) -> str:
+    """That a byte of OPERATION selects AVSBus, where its bits 5:4 are 11."""
+    return ", AVSBus" if byte & 0x30 == 0x30 else ""

@@ -1,0 +1,134 @@
+"""A rail's course under `apply`: it goes up to its first order, or on to its end, and its settings are told what becomes of them."""
+from __future__ import annotations
+
+from dataclasses import dataclass
+from typing import TYPE_CHECKING
+
+from .course import Course, Job
+from .rails import SETTINGS, Rail
+from .rounded import Accepting
+from .states import Step
+from .survey import FORMAT, TRIES, Nobody, behind, commanded, complete, only_word
+from .zeros import NotBelieved
+
+if TYPE_CHECKING:
+    from .apply import Board
+
+PROTECT = "WRITE_PROTECT"
+
+
+class Stopped(Exception):
+    """Why no further frame is sent; behind a job that ended badly with the part, and the output where the job was about one."""
+
+    def __init__(self, why: str, part: str | None = None, output: int | None = None) -> None:
+        super().__init__(why)
+        self.part, self.output = part, output
+
+
+class Due(Exception):
+    """An order is due, and none is to be sent yet."""
+
+
+@dataclass(eq=False)
+class Setting:
+    """A register of a rail: the word of the file, the one that is wanted of the plan, and what was known of it last."""
+
+    rail: Rail
+    key: str
+    asked: int
+    wanted: int
+    last: int | None = None
+    state: str = "not read"
+    is_ordered: bool = False
+
+    @property
+    def register(self) -> str:
+        return SETTINGS[self.key]
+
+    @property
+    def name(self) -> str:
+        return f"{self.rail.name}.{self.key}"
+
+
+class RailCourse:
+    """A rail's course from its start. What stops it is told as Stopped."""
+
+    def __init__(self, board: Board, rail: Rail) -> None:
+        self.board, self.rail, self.part = board, rail, board.on(rail)
+        self.course = Course.words(rail.output, board.wanted(rail), TRIES)
+        self.accepting, self.may_order = Accepting(self.part, self.course, board.accept), False
+
+    def go(self, may_order: bool) -> None:
+        """Goes on, to its end or, where nothing may be ordered, up to its first order. Stops where a register gives no good answer, or a
+        restart was seen, or the course ended otherwise. What it refuses is told by the board, since one that orders nothing reads on."""
+        self.may_order = may_order
+        board, rail = self.board, self.rail
+        try:
+            complete(self.part, self.course, self.before, self.after)
+        except Due:
+            pass
+        except Nobody as nobody:
+            raise self.unheard("VOUT_MODE", str(nobody)) from None
+        except NotBelieved as doubt:
+            self.part.restart()
+            raise self.unheard(PROTECT, str(doubt)) from None
+        board.surveys[rail.name], board.read_at[rail.name] = behind(self.part, self.course), board.orders
+        board.seen(rail, None, None)
+        board.look(rail)
+        self.judge()
+
+    def before(self, order: Job) -> None:
+        """An order is due."""
+        if not self.may_order:
+            raise Due
+        self.board.look(self.rail)
+        it = self.board.setting(self.rail, order.register)
+        self.accepting.before(order)
+        self.board.before_order(it)
+        it.is_ordered, self.board.orders = True, self.board.orders + 1
+
+    def after(self, order: Job, step: Step) -> None:
+        """An order has ended."""
+        board, rail = self.board, self.rail
+        it = board.setting(rail, order.register)
+        board.seen(rail, it, step)
+        board.after_order(it, step.kind == "done")
+        if self.accepting.after(order, step, rail.settings[it.key]) and step.word is not None:
+            # What wasn't possible before looks like a restart.
+            it.wanted = step.word
+            board.had_restarted.add(rail.part)
+        elif step.word is not None and board.has_restarted(rail):
+            raise self.stopped(self.unconfirmed(it, step.word, "it restarted, or rounds: --accept takes a word that is near"))
+
+    def judge(self) -> None:
+        """Stops where it has ended, and neither as it is wanted nor refused."""
+        board, rail, found, end = self.board, self.rail, self.board.surveys[self.rail.name], self.course.ended
+        for register, why in found.missing.items():
+            it = next((each for each in board.of(rail) if each.register == register and each.is_ordered), None)
+            held = None if it is None else only_word(self.part, rail.output, register)
+            words = self.silent(register, why) if it is None or held is not None else self.unconfirmed(it, None, why)
+            raise self.stopped(f"{rail.name}: its format isn't known: {why}" if register == FORMAT else words)
+        if found.unended:
+            raise self.stopped(f"{rail.name}: {found.unended}")
+        if end is not None and end.register is not None and end.word is not None:
+            raise self.stopped(self.unconfirmed(board.setting(rail, end.register), end.word, self.part.transfers.why()))
+
+    def unheard(self, register: str, why: str) -> Stopped:
+        """It had to be left, since this register gave no good answer."""
+        found = self.board.surveys[self.rail.name] = commanded(self.part, self.rail.output)
+        found.missing = {register: why}
+        self.board.seen(self.rail, None, None)
+        return self.stopped(self.silent(register, why))
+
+    def stopped(self, why: str) -> Stopped:
+        """Why it stops, behind a job that ended badly."""
+        return Stopped(why, self.rail.part, self.rail.output)
+
+    def silent(self, register: str, why: str) -> str:
+        """A register gave no good answer."""
+        return f"{self.board.name_of(self.rail, register)}: no good answer{': ' * bool(why)}{why}"
+
+    def unconfirmed(self, it: Setting, word: int | None, why: str) -> str:
+        """An order whose word wasn't read back."""
+        held = "no good answer" if word is None else f"the part holds {word:04X}"
+        return f"{it.name}: {self.board.shown(it, it.wanted)} isn't confirmed: {held}{': ' * bool(why)}{why}"

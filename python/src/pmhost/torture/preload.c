@@ -1,0 +1,293 @@
+/* Puts the bus of `pmhost torture` below a program that is there already, by LD_PRELOAD: what it opens as /dev/i2c-N is a
+ * connection to the bench, which the variable PMHOST_TORTURE names. Its I2C_RDWR, I2C_SMBUS (with I2C_PEC) and plain reads and writes
+ * become messages there, as the kernel's i2c-dev and its emulation of SMBus make them; locks succeed. All else goes to the C library. */
+#define _GNU_SOURCE
+#include <dlfcn.h>
+#include <errno.h>
+#include <fcntl.h>
+#include <linux/i2c-dev.h>
+#include <linux/i2c.h>
+#include <stdarg.h>
+#include <stdint.h>
+#include <stdlib.h>
+#include <string.h>
+#include <sys/socket.h>
+#include <sys/un.h>
+#include <unistd.h>
+
+#define FILES 1024
+#define FUNCTIONS (I2C_FUNC_I2C | I2C_FUNC_SMBUS_EMUL | I2C_FUNC_SMBUS_READ_BLOCK_DATA | I2C_FUNC_SMBUS_BLOCK_PROC_CALL)
+/* The C library's own function of a name. */
+#define NEXT(name, ...) ((int (*)(__VA_ARGS__))dlsym(RTLD_NEXT, name))
+
+/* What is known of a file of a bus. */
+static struct { uint8_t is_bus, has_pec; uint16_t address; } files[FILES];
+
+static int is_bus(int file) { return file >= 0 && file < FILES && files[file].is_bus; }
+
+/* ---- Messages to the bench ---- */
+
+static int is_moved(int file, void *bytes, size_t count, int is_read) {
+    uint8_t *at = bytes;
+    while (count > 0) {
+        ssize_t went = is_read ? recv(file, at, count, MSG_WAITALL) : send(file, at, count, MSG_NOSIGNAL);
+        if (went < 0 && errno == EINTR)
+            continue;
+        if (went <= 0)
+            return 0;
+        at += went;
+        count -= (size_t)went;
+    }
+    return 1;
+}
+
+/* Carries messages out: how many went, or minus the error. A read message's length becomes the number of bytes that came. */
+static int transfer(int file, struct i2c_msg *messages, unsigned count) {
+    uint8_t head = (uint8_t)count;
+    int32_t result;
+    int is_whole = is_moved(file, &head, 1, 0);
+    for (unsigned i = 0; i < count && is_whole; i++) {
+        uint16_t facts[3] = {messages[i].addr, messages[i].flags, messages[i].len};
+        is_whole = is_moved(file, facts, sizeof facts, 0) &&
+                   (messages[i].flags & I2C_M_RD || is_moved(file, messages[i].buf, messages[i].len, 0));
+    }
+    is_whole = is_whole && is_moved(file, &result, sizeof result, 1);
+    for (unsigned i = 0; i < count && is_whole && result >= 0; i++)
+        if (messages[i].flags & I2C_M_RD) {
+            uint16_t came;
+            is_whole = is_moved(file, &came, sizeof came, 1) && is_moved(file, messages[i].buf, came, 1);
+            messages[i].len = came;
+        }
+    return is_whole ? result : -EIO;
+}
+
+/* ---- SMBus by messages, as i2c_smbus_xfer_emulated of the kernel ---- */
+
+static uint8_t pec_of(uint8_t crc, const uint8_t *bytes, size_t count) {
+    for (size_t i = 0; i < count; i++) {
+        crc ^= bytes[i];
+        for (int bit = 0; bit < 8; bit++)
+            crc = (uint8_t)(crc & 0x80 ? crc << 1 ^ 0x07 : crc << 1);
+    }
+    return crc;
+}
+
+static int smbus(int file, const struct i2c_smbus_ioctl_data *asked) {
+    uint8_t sent[I2C_SMBUS_BLOCK_MAX + 4], came[I2C_SMBUS_BLOCK_MAX + 3];
+    uint16_t address = files[file].address;
+    int is_read = asked->read_write == I2C_SMBUS_READ, is_process = 0, has_count = 0;
+    int has_pec = files[file].has_pec && asked->size != I2C_SMBUS_QUICK && asked->size != I2C_SMBUS_I2C_BLOCK_DATA &&
+                  asked->size != I2C_SMBUS_I2C_BLOCK_BROKEN;
+    unsigned length = 1, back = 0;
+    sent[0] = asked->command;
+    switch (asked->size) {
+    case I2C_SMBUS_QUICK: {
+        struct i2c_msg only = {address, is_read ? I2C_M_RD : 0, 0, sent};
+        int went = transfer(file, &only, 1);
+        return went < 0 ? went : 0;
+    }
+    case I2C_SMBUS_BYTE:
+        if (is_read) {
+            length = 0;
+            back = 1;
+        }
+        break;
+    case I2C_SMBUS_BYTE_DATA:
+        if (is_read)
+            back = 1;
+        else
+            sent[length++] = asked->data->byte;
+        break;
+    case I2C_SMBUS_PROC_CALL:
+        is_process = 1;
+        back = 2;
+        /* fallthrough */
+    case I2C_SMBUS_WORD_DATA:
+        if (is_read && !is_process) {
+            back = 2;
+        } else {
+            sent[length++] = (uint8_t)asked->data->word;
+            sent[length++] = (uint8_t)(asked->data->word >> 8);
+        }
+        break;
+    case I2C_SMBUS_BLOCK_PROC_CALL:
+        is_process = has_count = 1;
+        /* fallthrough */
+    case I2C_SMBUS_BLOCK_DATA:
+        if (is_read && !is_process) {
+            has_count = 1;
+        } else {
+            if (asked->data->block[0] > I2C_SMBUS_BLOCK_MAX)
+                return -EINVAL;
+            memcpy(sent + 1, asked->data->block, asked->data->block[0] + 1u);
+            length += asked->data->block[0] + 1u;
+        }
+        break;
+    case I2C_SMBUS_I2C_BLOCK_BROKEN:
+    case I2C_SMBUS_I2C_BLOCK_DATA:
+        if (asked->data->block[0] > I2C_SMBUS_BLOCK_MAX)
+            return -EINVAL;
+        if (is_read) {
+            back = asked->data->block[0];
+        } else {
+            memcpy(sent + 1, asked->data->block + 1, asked->data->block[0]);
+            length += asked->data->block[0];
+        }
+        break;
+    default:
+        return -EOPNOTSUPP;
+    }
+    {
+        int reads = is_read || is_process;
+        uint8_t first = (uint8_t)(address << 1);
+        struct i2c_msg messages[2] = {
+            {address, 0, (uint16_t)length, sent},
+            {address, (uint16_t)(I2C_M_RD | (has_count ? I2C_M_RECV_LEN : 0)), (uint16_t)((has_count ? 1 : back) + (unsigned)has_pec), came},
+        };
+        if (has_pec && !reads) {
+            uint8_t crc = pec_of(0, &first, 1);
+            sent[length] = pec_of(crc, sent, length);
+            messages[0].len++;
+        }
+        int went = length == 0 ? transfer(file, messages + 1, 1) : transfer(file, messages, reads ? 2 : 1);
+        if (went < 0)
+            return went;
+        if (!reads)
+            return 0;
+        if (has_pec) {
+            uint8_t again = first | 1, crc = length == 0 ? 0 : pec_of(pec_of(0, &first, 1), sent, length);
+            crc = pec_of(pec_of(crc, &again, 1), came, messages[1].len - 1u);
+            if (crc != came[messages[1].len - 1])
+                return -EBADMSG;
+        }
+        if (has_count)
+            memcpy(asked->data->block, came, came[0] + 1u);
+        else if (asked->size == I2C_SMBUS_I2C_BLOCK_DATA || asked->size == I2C_SMBUS_I2C_BLOCK_BROKEN)
+            memcpy(asked->data->block + 1, came, back);
+        else if (back == 2)
+            asked->data->word = (uint16_t)(came[0] | came[1] << 8);
+        else
+            asked->data->byte = came[0];
+        return 0;
+    }
+}
+
+static int answered(int result) {
+    if (result >= 0)
+        return result;
+    errno = -result;
+    return -1;
+}
+
+/* ---- The calls of a program ---- */
+
+static int connected(void) {
+    struct sockaddr_un place = {.sun_family = AF_UNIX};
+    const char *path = getenv("PMHOST_TORTURE");
+    int file = path == NULL || strlen(path) >= sizeof place.sun_path ? -1 : socket(AF_UNIX, SOCK_STREAM, 0);
+    if (file < 0 || file >= FILES)
+        return answered(-ENOENT);
+    strcpy(place.sun_path, path);
+    if (connect(file, (struct sockaddr *)&place, sizeof place) < 0) {
+        NEXT("close", int)(file);
+        return answered(-ENOENT);
+    }
+    memset(&files[file], 0, sizeof files[file]);
+    files[file].is_bus = 1;
+    return file;
+}
+
+static int is_path(const char *path) { return strncmp(path, "/dev/i2c-", 9) == 0 || strncmp(path, "/dev/i2c/", 9) == 0; }
+
+#define OPENS(name)                                                                                                            \
+    int name(const char *path, int flags, ...) {                                                                              \
+        va_list rest;                                                                                                          \
+        va_start(rest, flags);                                                                                                 \
+        mode_t mode = flags & (O_CREAT | O_TMPFILE) ? va_arg(rest, mode_t) : 0;                                                \
+        va_end(rest);                                                                                                          \
+        return is_path(path) ? connected() : NEXT(#name, const char *, int, ...)(path, flags, mode);                          \
+    }
+OPENS(open)
+OPENS(open64)
+
+#define OPENS_AT(name)                                                                                                         \
+    int name(int folder, const char *path, int flags, ...) {                                                                  \
+        va_list rest;                                                                                                          \
+        va_start(rest, flags);                                                                                                 \
+        mode_t mode = flags & (O_CREAT | O_TMPFILE) ? va_arg(rest, mode_t) : 0;                                                \
+        va_end(rest);                                                                                                          \
+        return is_path(path) ? connected() : NEXT(#name, int, const char *, int, ...)(folder, path, flags, mode);             \
+    }
+OPENS_AT(openat)
+OPENS_AT(openat64)
+
+int close(int file) {
+    if (is_bus(file))
+        files[file].is_bus = 0;
+    return NEXT("close", int)(file);
+}
+
+#define LOCKS(name)                                                                                                            \
+    int name(int file, int request, ...) {                                                                                    \
+        va_list rest;                                                                                                          \
+        va_start(rest, request);                                                                                               \
+        void *argument = va_arg(rest, void *);                                                                                 \
+        va_end(rest);                                                                                                          \
+        if (is_bus(file) && (request == F_SETLK || request == F_SETLKW || request == F_OFD_SETLK || request == F_OFD_SETLKW)) \
+            return 0;                                                                                                          \
+        return NEXT(#name, int, int, ...)(file, request, argument);                                                           \
+    }
+LOCKS(fcntl)
+LOCKS(fcntl64)
+
+int ioctl(int file, unsigned long request, ...) {
+    va_list rest;
+    va_start(rest, request);
+    void *argument = va_arg(rest, void *);
+    va_end(rest);
+    if (!is_bus(file))
+        return NEXT("ioctl", int, unsigned long, ...)(file, request, argument);
+    switch (request) {
+    case I2C_SLAVE:
+    case I2C_SLAVE_FORCE:
+        if ((uintptr_t)argument > 0x7F)
+            return answered(-EINVAL);
+        files[file].address = (uint16_t)(uintptr_t)argument;
+        return 0;
+    case I2C_FUNCS:
+        *(unsigned long *)argument = FUNCTIONS;
+        return 0;
+    case I2C_PEC:
+        files[file].has_pec = argument != NULL;
+        return 0;
+    case I2C_TENBIT:
+        return argument == NULL ? 0 : answered(-EINVAL);
+    case I2C_RETRIES:
+    case I2C_TIMEOUT:
+        return 0;
+    case I2C_SMBUS:
+        return answered(smbus(file, argument));
+    case I2C_RDWR: {
+        struct i2c_rdwr_ioctl_data *asked = argument;
+        return asked->nmsgs > I2C_RDWR_IOCTL_MAX_MSGS ? answered(-EINVAL) : answered(transfer(file, asked->msgs, asked->nmsgs));
+    }
+    default:
+        return answered(-ENOTTY);
+    }
+}
+
+ssize_t write(int file, const void *bytes, size_t count) {
+    if (!is_bus(file))
+        return ((ssize_t (*)(int, const void *, size_t))dlsym(RTLD_NEXT, "write"))(file, bytes, count);
+    struct i2c_msg only = {files[file].address, 0, (uint16_t)count, (uint8_t *)bytes};
+    int went = answered(transfer(file, &only, 1));
+    return went < 0 ? went : (ssize_t)count;
+}
+
+ssize_t read(int file, void *bytes, size_t count) {
+    if (!is_bus(file))
+        return ((ssize_t (*)(int, void *, size_t))dlsym(RTLD_NEXT, "read"))(file, bytes, count);
+    struct i2c_msg only = {files[file].address, I2C_M_RD, (uint16_t)count, bytes};
+    int went = answered(transfer(file, &only, 1));
+    return went < 0 ? went : (ssize_t)count;
+}

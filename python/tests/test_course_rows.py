@@ -1,0 +1,280 @@
+"""The rows of trials/course/rows.txt, which C and Rust run too: the same frames in the same order, and the same ends, by a course of this
+package frame by frame, over a bus, and by the command."""
+import collections
+import contextlib
+import io
+import os
+import re
+import unittest
+from unittest import mock
+
+from pmhost import Course, Host, Packet, Voltage, cli, pec
+from pmhost._library import CALLS, library
+from pmhost.cli import orders
+from pmhost.cli.place import Place
+from pmhost.course import REGISTERS
+from pmhost.errors import name_of
+
+from . import running
+from .running import ROOT
+
+ROWS = os.path.join(ROOT, "trials", "course", "rows.txt")
+NAMES = {code: name for code, name in REGISTERS.items() if name != "VOUT_MODE"}
+LEARN, PROTECT = 0x20, 0x10
+TOKEN = re.compile(r"([rwc])([0-9A-F]{2})=([0-9A-F]*|-)([!*#]?)")
+# Commands for bytes of OPERATION.
+BYTES = {0x00: ["off"], 0x80: ["on"], 0xA8: ["margin", "high"], 0x94: ["margin", "low"]}
+
+
+class Row:
+    """A row, by its lines."""
+
+    def __init__(self, text):
+        self.row, self.host, self.before, self.course, self.bus, self.end = "", "", "", "", "", ""
+        last = ""
+        for line in text.splitlines():
+            word, _, rest = line.partition(" ")
+            last = word or last
+            setattr(self, last, f"{getattr(self, last)} {rest.strip()}".strip())
+        kind, output, *wishes = self.course.split()
+        self.kind, self.output = kind, int(output)
+        self.tries = next((int(word[6:]) for word in wishes if word.startswith("tries=")), 40)
+        self.wishes = [word for word in wishes if not word.startswith("tries=")]
+
+    def said(self, name, otherwise):
+        found = re.search(rf"\b{name}=(\S+)", self.host)
+        return found[1] if found else otherwise
+
+    @property
+    def lacks(self):
+        return [NAMES[int(code, 16)] for code in self.said("lacks", "").split(",") if code]
+
+    @property
+    def limits(self):
+        pair = self.said("limits", "")
+        return [Voltage(f"{each}uV") for each in pair.split(":")] if pair else []
+
+    def made_host(self):
+        found = Host(0x58, int(self.said("outputs", "1")), int(self.said("passes", "1")), self.lacks)
+        if self.limits:
+            found.set_limits(0, *self.limits)
+        return found
+
+    def made_course(self):
+        """Its course; a ValueError where what is wanted is beyond the voltages that this package has."""
+        if self.kind == "survey":
+            return Course.survey(self.output, self.tries)
+        if self.kind == "power":
+            return Course.power(self.output, int(self.wishes[0], 16), self.tries)
+        words = {int(wish[:2], 16): int(wish[3:], 16) for wish in self.wishes if wish[2] == "="}
+        volts = [(int(wish[:2], 16), Voltage(f"{wish[3:]}uV")) for wish in self.wishes if wish[2] == ":"]
+        if not words:
+            code, voltage = volts.pop(0)
+            made = Course.voltage(self.output, voltage, code, self.tries)
+        else:
+            made = Course.words(self.output, words, self.tries)
+        for code, voltage in volts:
+            made.want(code, voltage)
+        return made
+
+    def command(self):
+        """The words of pmhost that do the same, None where there are none."""
+        if self.kind == "survey":
+            job = ["survey", str(self.output)]
+        elif self.kind == "power":
+            name, *side = BYTES.get(int(self.wishes[0], 16), [""])
+            job = [name, str(self.output), *side] if name else ["word", str(self.output), "OPERATION", self.wishes[0]]
+        elif len(self.wishes) == 1:
+            code, sign, what = self.wishes[0][:2], self.wishes[0][2], self.wishes[0][3:]
+            register = NAMES[int(code, 16)]
+            job = ["set", str(self.output), f"{what}uV", register] if sign == ":" else ["word", str(self.output), register, what]
+        else:
+            return None
+        before = []
+        for token in self.before.split():
+            code = int(token[1:3], 16)
+            before += [*(["learn", "0"] if code == LEARN else ["read", "0", NAMES[code]]), "+"]
+        # A word of a format that isn't spoken goes alone where there are no limits.
+        limits = [f"--limit=0:{self.limits[0]}:{self.limits[1]}"] if self.limits else \
+            ["--limit=0:0V:16V"] if self.end.startswith("format") else ["--no-limit"]
+        return ["-b", "model", "-a", "58", "--outputs", self.said("outputs", "1"), "--passes", self.said("passes", "1"), *limits,
+                *(["--lacks", ",".join(self.lacks)] if self.lacks else []), *before, *job]
+
+
+class Script:
+    """A bus of which each frame is that of the next token, which says what comes back."""
+
+    def __init__(self, case, row):
+        self.case, self.row, self.tokens, self.page = case, row, row.before.split(), 0
+        self.has_turned = self.closed = False
+
+    def turn(self):
+        """Behind the jobs before the course: its own frames come."""
+        self.case.assertEqual(self.tokens, [], "frames before the course are missing")
+        self.tokens, self.page, self.has_turned = self.row.bus.split(), self.row.output, True
+
+    def take(self, frame, kinds):
+        if not self.tokens and not self.has_turned:
+            self.turn()
+        self.case.assertTrue(self.tokens, f"a frame too many: {frame.hex(' ')}")
+        token = self.tokens.pop(0)
+        kind, code, word, mark = TOKEN.fullmatch(token).groups()
+        self.case.assertIn(kind, kinds, token)
+        data = b"" if word == "-" else bytes.fromhex(word)
+        data = data if kind == "c" or len(data) < 2 else data[::-1]
+        self.case.assertEqual(frame, self.frame(kind, int(code, 16), data), token)
+        return int(code, 16), data, mark
+
+    def frame(self, kind, code, data):
+        if kind == "c":
+            return Packet("COEFFICIENTS", code).frame(0x58)
+        if kind == "r":
+            return bytes([0xB0, code] if code == PROTECT else [0xB0, 0x06, 2, self.page, code])
+        written = bytes([0xB0, code] if code == PROTECT else [0xB0, 0x05, 2 + len(data), self.page, code]) + data
+        return written + bytes([pec(written)])
+
+    def write(self, frame):
+        return self.take(frame, "w")[2] != "!"
+
+    def read(self, request, count):
+        code, data, mark = self.take(request, "rc")
+        if not data:
+            return b""
+        answer = data if code == PROTECT else bytes([len(data) + (mark == "#")]) + data
+        return answer + bytes([pec(request + b"\xB1" + answer) ^ (mark == "*")])
+
+    def close(self):
+        self.closed = True
+
+
+def words_of(end):
+    """An end as the rows have it."""
+    code = next((code for code, name in REGISTERS.items() if name == end.register), 0)
+    return {"reached": "reached", "refused": f"refused {name_of(end.number)} {code:02X}", "differs": f"differs {code:02X} {end.word or 0:04X}",
+            "spent": f"spent {code:02X} {end.fault.replace('no ack', 'not ack').replace('ledgement', 'ledged') or 'good'}",
+            "format": f"format {end.word or 0:02X}", "source": f"source {end.word or 0:02X}"}[end.kind]
+
+
+@unittest.skipUnless(os.path.exists(ROWS), "the package stands alone")
+class Rows(unittest.TestCase):
+    @classmethod
+    def setUpClass(cls):
+        text = re.sub(r"(?m)^#.*\n", "", running.stored(ROWS))
+        cls.rows = [Row(block) for block in re.split(r"\n\s*\n", text) if block.strip()]
+
+    def begun(self, row):
+        """A host behind the jobs before its course, the course, and the bus."""
+        host, bus = row.made_host(), Script(self, row)
+        for token in row.before.split():
+            code = int(token[1:3], 16)
+            host.learn(0) if code == LEARN else host.check(0, code)
+            host.run(bus)
+        bus.turn()
+        return host, row.made_course(), bus
+
+    def each(self, run):
+        """Each row whose voltages this package has, as a subtest."""
+        counted = 0
+        for row in self.rows:
+            with self.subTest(row=row.row):
+                if "N5" in row.end:
+                    self.assertRaisesRegex(ValueError, "beyond 10.9 V", row.made_course)
+                    continue
+                counted += run(row)
+        return counted
+
+    def test_frame_by_frame(self):
+        def run(row):
+            host, course, bus = self.begun(row)
+            while (sending := course.frame(host)) is not None:
+                self.assertEqual(course.frame(host), sending, "a frame is asked for again")
+                if sending.is_request:
+                    came = bus.read(sending.frame, sending.answer)
+                    course.read_ended(host, b"\xB1" + came if came else b"")
+                else:
+                    course.write_ended(host, bus.write(sending.frame))
+            self.assertEqual((words_of(course.ended), bus.tokens), (row.end, []))
+            return 1
+        self.assertGreaterEqual(self.each(run), 60)
+
+    def test_over_a_bus_with_hooks_and_without(self):
+        def run(row):
+            for has_hooks in (False, True):
+                host, course, bus = self.begun(row)
+                orders_told = []
+                hooks = (orders_told.append, lambda order, step: orders_told.append(step.kind)) if has_hooks else ()
+                host.run_course(course, bus, None, *hooks)
+                self.assertEqual((words_of(course.ended), bus.tokens), (row.end, []))
+                if has_hooks:
+                    self.assertEqual(len(orders_told) % 2, 0)
+                    self.assertEqual(bool(orders_told), "w" in row.bus)
+            return 1
+        self.assertGreaterEqual(self.each(run), 60)
+
+    def test_by_the_command(self):
+        """What it asks for beside its course isn't in the rows: whether a part is there that gave its first job no answer, and what the part
+        noted behind a bad end."""
+        kept = []
+
+        def made(name):
+            make = getattr(Course, name)
+
+            def keep(*words):
+                kept.append(make(*words))
+                return kept[-1]
+            return mock.patch.object(Course, name, keep)
+
+        def run(row):
+            words, bus = row.command(), Script(self, row)
+            if words is None or "H4" in row.end:
+                return 0
+            kept.clear()
+            out = io.StringIO()
+            with contextlib.ExitStack() as stack:
+                for patch in (mock.patch.object(Place, "_made", lambda place: bus), mock.patch.object(Place, "ask_operation", lambda *_: ""),
+                              mock.patch("pmhost.cli.outcome.read_notes", lambda *_: ""),
+                              mock.patch("pmhost.survey.ask_operation", lambda *_: ""),
+                              mock.patch("pmhost.survey.SURVEY_TRIES", row.tries), mock.patch.object(orders, "TRIES", row.tries),
+                              mock.patch.object(orders, "OFF_TRIES", row.tries), *map(made, ("survey", "words", "voltage", "power")),
+                              contextlib.redirect_stdout(out), contextlib.redirect_stderr(out)):
+                    stack.enter_context(patch)
+                status = cli.main(words)
+            self.assertEqual(len(kept), 1, out.getvalue())
+            self.assertEqual((words_of(kept[0].ended), bus.tokens, bus.closed), (row.end, [], True), out.getvalue())
+            self.assertTrue(status == 0 or row.end != "reached" or "OUTSIDE" in out.getvalue() or "CUT" in out.getvalue(), out.getvalue())
+            self.assertTrue(status == 1 or row.end == "reached", out.getvalue())
+            if row.end.startswith("refused"):
+                said = f"refused {' '.join(row.end.split()[1:3])}" if row.kind != "survey" else "which the part doesn't have"
+                self.assertIn(said, out.getvalue())
+            return 1
+        self.assertGreaterEqual(self.each(run), 60)
+
+
+class Costs(unittest.TestCase):
+    def test_a_voltage_costs_fourteen_transfers_and_forty_calls_of_the_host(self):
+        """Of the library's calls those of the model part are its transfers, and two more."""
+        counted = collections.Counter()
+
+        def counting(name):
+            call = getattr(library, name)
+
+            def counted_call(*words):
+                counted[name] += 1
+                return call(*words)
+            return mock.patch.object(library, name, counted_call)
+
+        for options in (["--no-limit"], ["--limit=0:3.135V:3.465V"]):
+            counted.clear()
+            with contextlib.ExitStack() as stack:
+                for name in CALLS:
+                    stack.enter_context(counting(name))
+                with contextlib.redirect_stdout(io.StringIO()) as out:
+                    status = cli.main(["-b", "model", "--outputs", "2", *options, "set", "0", "3.3V"])
+            self.assertEqual((status, counted["pm_part_hear"]), (0, 14), out.getvalue())
+            of_host = sum(count for name, count in counted.items() if not name.startswith("pm_part_"))
+            self.assertLessEqual(of_host, 40, counted)
+            self.assertEqual({name for name in counted if name.startswith("pm_part_")}, {"pm_part_new", "pm_part_hear"})
+
+
+if __name__ == "__main__":
+    unittest.main()

@@ -1,0 +1,311 @@
+"""The bench for anybody's host: what it says of programs whose faults are known, and each part of its verdict by itself."""
+import contextlib
+import io
+import json
+import os
+import re
+import sys
+import tempfile
+import textwrap
+import unittest
+
+from pmhost import cli
+from pmhost.faults import FaultyBus, Struck
+from pmhost.part import ModelPart
+from pmhost.torture import Judge, Program, Run, Unjudged, drawn_faults
+from pmhost.torture.program import Server, preload
+from pmhost.torture.watched import Took, WatchedPart, read_meant
+from .running import needs_tool
+
+# A host in the words of a Linux program: transfers of messages by I2C_RDWR, with packet error codes.
+HOST = '''
+import ctypes, fcntl, os, sys
+class Message(ctypes.Structure):
+    _fields_ = [("address", ctypes.c_uint16), ("flags", ctypes.c_uint16), ("length", ctypes.c_uint16), ("bytes", ctypes.c_void_p)]
+class Messages(ctypes.Structure):
+    _fields_ = [("first", ctypes.POINTER(Message)), ("count", ctypes.c_uint32)]
+file = os.open("/dev/i2c-1", os.O_RDWR)
+def pec(data):
+    crc = 0
+    for byte in data:
+        crc ^= byte
+        for _ in range(8):
+            crc = (crc << 1 ^ 0x07) & 0xFF if crc & 0x80 else crc << 1
+    return crc
+def transfer(*parts):
+    kept = [ctypes.create_string_buffer(bytes(part) if flags == 0 else part, len(part) if flags == 0 else part) for flags, part in parts]
+    made = (Message * len(parts))(*[Message(0x58, flags, len(each), ctypes.addressof(each)) for (flags, _), each in zip(parts, kept)])
+    fcntl.ioctl(file, 0x0707, Messages(made, len(parts)))
+    return bytes(kept[-1])
+def write(*data):
+    transfer((0, [*data, pec([0xB0, *data])]))
+def read(request, count):
+    came = transfer((0, request), (1, count + 1))
+    if pec([0xB0, *request, 0xB1, *came[:-1]]) != came[-1]:
+        raise OSError("wrong packet error code")
+    return came[:-1]
+'''
+# It selects by PAGE, reads back, and takes what it reads for what it wrote.
+BY_PAGE = HOST + '''
+for output, low, high in ((0, 0x34, 0x12), (1, 0x45, 0x23)):
+    write(0x00, output)
+    write(0x21, low, high)
+    if read([0x21], 2) != bytes([low, high]):
+        sys.exit(1)
+'''
+# It names the output in each packet, and reads back.
+BY_PAGE_PLUS = HOST + '''
+for output, low, high in ((0, 0x34, 0x12), (1, 0x45, 0x23)):
+    write(0x05, 0x04, output, 0x21, low, high)
+    if read([0x06, 0x02, output, 0x21], 3) != bytes([2, low, high]):
+        sys.exit(1)
+'''
+
+
+def tortured(script, *options):
+    """The status, what it prints and what it complains of, of a bench over a script."""
+    out, err = io.StringIO(), io.StringIO()
+    with tempfile.NamedTemporaryFile("w", suffix=".py") as file:
+        file.write(textwrap.dedent(script))
+        file.flush()
+        with contextlib.redirect_stdout(out), contextlib.redirect_stderr(err):
+            status = cli.main(["torture", *options, "--", sys.executable, "-S", "-E", file.name])
+    return status, out.getvalue(), err.getvalue()
+
+
+@needs_tool("gcc")
+class Programs(unittest.TestCase):
+    def test_a_host_that_names_the_output_in_each_packet_is_never_wrong(self):
+        status, out, err = tortured(BY_PAGE_PLUS)
+        self.assertEqual((status, err), (0, ""))
+        self.assertTrue(out.startswith("meant: output 0 VOUT_COMMAND 1234; output 1 VOUT_COMMAND 2345\n"), out)
+        # Four transfers, of which two are reads: nine kinds strike each, and four more a read.
+        self.assertRegex(out.splitlines()[-1], r"\A44 runs, \d+ ended well: 0 with a word on a wrong output, 0 with a false success, 0 not ended; 0 ")
+
+    def test_a_host_that_selects_by_page_puts_a_word_on_a_wrong_output(self):
+        status, out, _ = tortured(BY_PAGE, "--again", "4:false")
+        self.assertEqual(status, 1)
+        self.assertIn("transfer 4 false: status 0, well: WRONG: output 0 VOUT_COMMAND took 2345, which was meant for output 1, by transfer 5; "
+                      "FALSE: the program ended well, and output 0 VOUT_COMMAND holds 2345 in place of 1234; FALSE: ", out)
+        self.assertIn("\n  B0 00 01 ED  false: part no, acknowledged\n  B0 21 45 23 43  ok: part taken, acknowledged\n", out)
+        again = re.search(r"^  pmhost torture --again 4:false -- \S+python\S* -S -E \S+\.py$", out, re.M)
+        self.assertTrue(again, out)
+        self.assertEqual(out.splitlines()[-1], "1 runs, 1 ended well: 1 with a word on a wrong output, 1 with a false success, 0 not ended; "
+                                               "0 with a word that was meant for none")
+
+    def test_each_kind_and_as_many_runs_as_are_asked_for(self):
+        status, out, _ = tortured(BY_PAGE, "--json", "--strike", "false,restart", "--seed", "3")
+        found = json.loads(out)
+        self.assertEqual((status, found["runs"], found["wrong"]), (1, 12, 2))
+        self.assertEqual(found["meant"], {"0:VOUT_COMMAND": "1234", "1:VOUT_COMMAND": "2345"})
+        self.assertEqual([(each["transfer"], each["fault"]) for each in found["bad"]], [(4, "false"), (5, "restart")])
+        self.assertEqual(found["bad"][0]["wrong"], [{"cell": "0:VOUT_COMMAND", "word": "2345", "meant_for": 1, "by": 5}])
+        self.assertEqual(len(found["bad"][0]["trace"]), 6)
+        _, out, _ = tortured(BY_PAGE_PLUS, "--json", "--runs", "7", "--strike", "cut")
+        self.assertEqual(json.loads(out)["runs"], 7)
+
+    def test_a_program_that_says_how_it_went(self):
+        said = BY_PAGE.replace("sys.exit(1)", "print('no')") + "print('rails: all well')\nsys.exit(3)\n"
+        status, out, _ = tortured(said, "--said", "^rails: all", "--again", "4:false")
+        self.assertEqual((status, "status 3, well: WRONG" in out), (1, True))
+        self.assertIn("--said '^rails: all' --again 4:false --", out)
+        status, _, err = tortured(said, "--again", "4:false")
+        self.assertEqual((status, err), (2, "pmhost: torture: without a fault the program didn't end well (status 3): nothing can be judged\n"))
+
+    def test_what_cannot_be_judged(self):
+        same = BY_PAGE_PLUS.replace("(1, 0x45, 0x23)", "(1, 0x34, 0x12)")
+        self.assertEqual(tortured(same)[::2], (2, "pmhost: torture: the program means the same words for all outputs: give each its own, so that "
+                                                  "a word on a wrong output shows\n"))
+        self.assertEqual(tortured("")[::2], (2, "pmhost: torture: without a fault no register took a word: nothing can be judged\n"))
+        self.assertEqual(tortured("import time; time.sleep(60)", "--seconds", "1")[::2],
+                         (2, "pmhost: torture: without a fault the program didn't end in its seconds: nothing can be judged\n"))
+
+    def test_a_run_that_does_not_end(self):
+        stuck = BY_PAGE_PLUS.replace("sys.exit(1)", "import time; time.sleep(60)")
+        status, out, _ = tortured(stuck, "--seconds", "2", "--again", "1:false")
+        self.assertEqual((status, "transfer 1 false: not ended: NOT ENDED" in out), (1, True))
+
+    def test_calls_that_are_wrong_say_what_to_give(self):
+        for words, line in (([], "torture: give a program behind --, as pmhost torture -- ./your-host"),
+                            (["--", "/no/such/host"], "torture: /no/such/host: no such program"),
+                            (["--meant", "3:21=34CD", "--", "true"], "torture: --meant 3:21=34CD: give an output, a register and its word, as 1:21=34CD"),
+                            (["--strike", "sparks", "--", "true"], "torture: kind sparks: give kinds of lost, cut, "),
+                            (["--again", "cut:4", "--", "true"], "torture: again cut:4: give a transfer's number and its fault, as 7:cut:4"),
+                            (["--again", "0:cut:4", "--", "true"], "torture: again 0:cut:4: "),
+                            (["--said", "(", "--", "true"], "torture: --said (: ")):
+            err = io.StringIO()
+            with contextlib.redirect_stderr(err):
+                self.assertEqual(cli.main(["torture", *words]), 2)
+            self.assertTrue(err.getvalue().startswith(f"pmhost: {line}"), err.getvalue())
+
+    def test_the_kernels_own_smbus_calls(self):
+        """I2C_SMBUS with I2C_PEC, as i2c-tools and smbus2 use it: a byte, a word and a read of a word."""
+        script = HOST + '''
+class Data(ctypes.Union):
+    _fields_ = [("byte", ctypes.c_uint8), ("word", ctypes.c_uint16), ("block", ctypes.c_uint8 * 34)]
+class Asked(ctypes.Structure):
+    _fields_ = [("is_read", ctypes.c_uint8), ("code", ctypes.c_uint8), ("size", ctypes.c_uint32), ("data", ctypes.POINTER(Data))]
+def smbus(is_read, code, size, word=0):
+    data = Data(word=word)
+    fcntl.ioctl(file, 0x0720, Asked(is_read, code, size, ctypes.pointer(data)))
+    return data
+fcntl.ioctl(file, 0x0703, 0x58)
+fcntl.ioctl(file, 0x0708, 1)
+for output, word in ((0, 0x1234), (1, 0x2345)):
+    smbus(0, 0x00, 2, output)
+    smbus(0, 0x21, 3, word)
+    assert smbus(1, 0x21, 3).word == word
+assert smbus(1, 0x19, 2).byte == 0x80
+'''
+        status, out, err = tortured(script, "--again", "7:garbled:1:0")
+        self.assertEqual((status, err), (0, ""))
+        self.assertIn("transfer 7 garbled:1:0: status 1, badly: good\n", out)
+        self.assertIn("  B0 00 00 EA  ok: part taken, acknowledged\n  B0 21 34 12 63  ok: part taken, acknowledged\n  B0 21 read 3  ok: ", out)
+
+
+def run(took=(), held=None, named=None, restarts=(), status=0, fault="ok", number=1):
+    """A run that is over, as the verdict reads it."""
+    return Run(number, fault, [], list(took), {(0, "VOUT_COMMAND"): 1, (1, "VOUT_COMMAND"): 2} | (held or {}), dict(named or {}), list(restarts),
+               status, status == 0)
+
+
+ONE, TWO = (0, "VOUT_COMMAND"), (1, "VOUT_COMMAND")
+PLAIN = run([Took(ONE, 0x10, 1), Took(TWO, 0x20, 2)], {ONE: 0x10, TWO: 0x20})
+HELD = {ONE: 0x10, TWO: 0x20}
+
+
+class Verdicts(unittest.TestCase):
+    def judged(self, **facts):
+        return Judge(PLAIN).judge(run(**facts))
+
+    def test_a_word_of_another_output_is_wrong_also_where_it_is_written_over(self):
+        found = self.judged(took=[Took(TWO, 0x10, 2), Took(TWO, 0x20, 3)], held=HELD)
+        self.assertEqual(([each[1] for each in found.wrong], found.lost, found.is_bad), ([0], [], True))
+
+    def test_a_word_that_was_meant_for_both_is_not(self):
+        judge = Judge(run([Took(ONE, 0x10, 1), Took(TWO, 0x10, 2), Took(TWO, 0x20, 3)], HELD))
+        self.assertFalse(judge.judge(run([Took(TWO, 0x10, 5)], HELD)).is_bad)
+        self.assertTrue(judge.judge(run([Took(ONE, 0x20, 5)], HELD)).is_bad)
+
+    def test_a_word_that_was_meant_for_none_is_strange_and_not_wrong(self):
+        found = self.judged(took=[Took(ONE, 0x99, 1)], held=HELD)
+        self.assertEqual((len(found.strange), found.wrong, found.is_bad), (1, [], False))
+
+    def test_success_with_a_word_that_is_not_held_is_false(self):
+        self.assertEqual(self.judged(held={ONE: 0x10, TWO: 0x01}).lost, [(TWO, 0x01, 0x20)])
+        self.assertEqual(self.judged(held={ONE: 0x10, TWO: 0x01}, status=1).lost, [])
+
+    def test_a_restart_after_the_last_packet_of_a_cell_is_none_of_the_programs(self):
+        lost = {ONE: 0x10, TWO: 0x01}
+        for named, restarts, fault, is_false in ((3, [4], "restart", False), (4, [4], "restarted", False), (4, [4], "restart", True),
+                                                 (4, [4], "restart:2", True), (5, [4], "restart", True), (5, [4], "restarted", True)):
+            found = self.judged(held=lost, named={TWO: named}, restarts=restarts, fault=fault)
+            self.assertEqual(bool(found.lost), is_false, (named, restarts, fault))
+
+    def test_what_a_caller_means(self):
+        self.assertEqual(read_meant("1:21=34CD", 2), (TWO, 0x34CD))
+        self.assertEqual(read_meant("0:OPERATION=80", 2), ((0, "OPERATION"), 0x80))
+        for word in ("2:21=34CD", "1:21=34C", "1:21", "21=34CD", "1:99=0000", "x:21=34CD", "1:21=34CG"):
+            with self.assertRaises(ValueError, msg=word):
+                read_meant(word, 2)
+        judge = Judge(PLAIN, [(ONE, 0x77), (TWO, 0x88)])
+        self.assertEqual(judge.judge(run(held=HELD)).lost, [(ONE, 0x10, 0x77), (TWO, 0x20, 0x88)])
+
+    def test_without_a_good_run_nothing_is_judged(self):
+        for plain in (run(PLAIN.took, HELD, status=1), run([], HELD), run([Took(ONE, 7, 1), Took(TWO, 7, 1)], HELD)):
+            with self.assertRaises(Unjudged):
+                Judge(plain)
+
+
+class Watching(unittest.TestCase):
+    def test_which_cells_a_frame_names_and_takes(self):
+        part = WatchedPart(2)
+        part.number = 1
+        part.hear(bytes.fromhex("B0 00 01 ED"))
+        part.number = 2
+        part.hear(bytes.fromhex("B0 21 34 12 63"))
+        part.number = 3
+        part.hear(bytes.fromhex("B0 06 02 00 21"), is_request=True)
+        self.assertEqual(part.took, [Took(TWO, 0x1234, 2)])
+        self.assertEqual(part.named, {TWO: 2, ONE: 3})
+
+    def test_what_comes_from_the_store_is_taken_by_none(self):
+        part = WatchedPart(2)
+        part.hear(bytes.fromhex("B0 21 34 12 63"))
+        part.number = 5
+        part.restart()
+        self.assertEqual(([each.word for each in part.took], part.restarts), ([0x1234], [5]))
+        self.assertNotEqual(part.word(0, "VOUT_COMMAND"), 0x1234)
+
+    def test_faults_strike_what_has_them(self):
+        write, request = Struck(b"\xB0", None, "ok", "", ""), Struck(b"\xB0", 3, "ok", "", "")
+        drawn = drawn_faults([write, request], ("cut", "garbled", "ones", "restarted"), 0)
+        self.assertEqual([(number, fault.split(":")[0]) for number, fault in drawn],
+                         [(1, "cut"), (1, "restarted"), (2, "cut"), (2, "garbled"), (2, "ones"), (2, "restarted")])
+        self.assertEqual(drawn, drawn_faults([write, request], ("cut", "garbled", "ones", "restarted"), 0))
+
+
+class Answers(unittest.TestCase):
+    def test_a_controller_clocks_as_many_bytes_as_it_wants(self):
+        for came, flags, length, result in ((b"\x02\x34\x12\xA5", 1, 4, (2, [b"\x02\x34\x12\xA5"])), (b"\x02\x34", 1, 4, (2, [b"\x02\x34\xFF\xFF"])),
+                                            (b"\x02\x34\x12", 1, 2, (2, [b"\x02\x34"])), (b"", 1, 4, (-121, [])),
+                                            (b"\x02\x34\x12\xA5", 0x401, 2, (2, [b"\x02\x34\x12\xA5"])), (b"\x00", 0x401, 1, (-71, [])),
+                                            (b"\x21" + bytes(40), 0x401, 1, (-71, []))):
+            self.assertEqual(Server.answered(came, flags, length), result, (came, flags, length))
+
+    def test_who_is_not_there_and_what_is_not_done(self):
+        part = WatchedPart(2)
+        server = Server(part, FaultyBus(part, [], lambda struck: None))
+        self.assertEqual(server.carried_out([(0x57, 0, 1, b"\x01")]), (-6, []))
+        self.assertEqual(server.carried_out([(0x58, 0, 1, b"\x01"), (0x58, 0, 1, b"\x01")]), (-95, []))
+        self.assertEqual(server.carried_out([(0x58, 1, 1, b"")]), (1, [b"\xFF"]))
+        self.assertEqual(server.carried_out([(0x58, 0, 3, bytes.fromhex("00 01 ED"))]), (1, []))
+        self.assertEqual((part.page, part.number), (1, 2))
+
+
+class NewFaults(unittest.TestCase):
+    """The faults of a bus that only the bench draws: what the part makes of each, and what the host is told."""
+
+    READ, ANSWER = bytes.fromhex("B0 06 02 00 21"), bytes.fromhex("02 00 10")
+
+    def struck(self, *faults):
+        seen = []
+        part = ModelPart(0x58)
+        return part, FaultyBus(part, faults, seen.append), seen
+
+    def test_ones(self):
+        _, bus, _ = self.struck("ones", "ones")
+        self.assertEqual(bus.read(self.READ, 4), b"\xFF" * 4)
+        self.assertTrue(bus.write(bytes.fromhex("B0 21 34 12 63")))
+
+    def test_a_late_answer(self):
+        _, bus, _ = self.struck("late", "ok", "late")
+        self.assertEqual(bus.read(self.READ, 4), b"")
+        self.assertEqual(bus.read(bytes.fromhex("B0 19"), 2)[:1], b"\x80")
+        self.assertEqual(bus.read(self.READ, 4)[:1], b"\x80")
+
+    def test_restarts_around_a_frame(self):
+        write = bytes.fromhex("B0 21 34 12 63")
+        for fault, is_acknowledged, word in (("restart", True, 0x1234), ("restart:3", False, 0x1000), ("restarted", True, 0x1000)):
+            part, bus, seen = self.struck(fault)
+            self.assertEqual((bus.write(write), part.word(0, "VOUT_COMMAND")), (is_acknowledged, word), fault)
+            self.assertEqual(seen[0].fault, fault)
+        part, bus, _ = self.struck("ok", "restart:2")
+        self.assertEqual((bus.write(write), bus.read(self.READ, 4), part.word(0, "VOUT_COMMAND")), (True, b"", 0x1000))
+        part, bus, _ = self.struck("ok", "restarted")
+        self.assertTrue(bus.write(write))
+        self.assertEqual(bus.read(self.READ, 4)[:3], bytes.fromhex("02 34 12"))
+        self.assertEqual(part.word(0, "VOUT_COMMAND"), 0x1000)
+
+
+@needs_tool("gcc")
+class Preloading(unittest.TestCase):
+    def test_a_program_that_closes_and_opens_again_is_on_the_same_part(self):
+        script = HOST + "write(0x05, 0x04, 0, 0x21, 0x34, 0x12)\nos.close(file)\nfile = os.open('/dev/i2c-7', os.O_RDWR)\nprint(read([0x06, 2, 0, 0x21], 3).hex())\n"
+        with tempfile.TemporaryDirectory() as folder, preload() as below:
+            path = os.path.join(folder, "host.py")
+            with open(path, "w", encoding="utf-8") as file:
+                file.write(script)
+            found = Program([sys.executable, "-S", "-E", path], 2, said="^023412$").run(below)
+        self.assertTrue(found.is_success)
+        self.assertEqual((found.status, [each.word for each in found.took], found.named), (0, [0x1234], {ONE: 2}))

@@ -1,0 +1,49 @@
+#!/usr/bin/env python3
+"""The bench for anybody's host over three hosts: i2c-tools in a shell script, Python's smbus2, and pmhost itself.
+
+    trials/torture/run.py [--python PYTHON]
+
+It wants i2c-tools, a Python that has smbus2 (/usr/bin/python3 with Debian's python3-smbus2, or PYTHON), gcc, and the package's library
+(PMHOST_LIBRARY). Each host has a line of figures. It has passed where the bench finds a word on a wrong output of the first two, which select
+by PAGE, and of pmhost neither that nor a false success. The last line is `N passed, M failed`.
+"""
+import argparse
+import json
+import os
+import subprocess
+import sys
+
+HERE = os.path.dirname(os.path.abspath(__file__))
+sys.path.insert(0, os.path.dirname(HERE))
+import paths  # noqa: E402
+from tally import Tally  # noqa: E402
+
+
+def bench(words):
+    """The object that the bench prints."""
+    around = os.environ | {"PYTHONPATH": os.path.join(paths.ROOT, "python", "src"), "PATH": os.environ["PATH"] + ":/usr/sbin"}
+    ran = subprocess.run([sys.executable, "-m", "pmhost", "torture", "--json", "--", *words], capture_output=True, text=True, env=around)
+    if ran.returncode == 2:
+        sys.exit(f"{' '.join(words)}: {ran.stderr.strip()}")
+    return json.loads(ran.stdout)
+
+
+def main():
+    parser = argparse.ArgumentParser(description=__doc__, formatter_class=argparse.RawDescriptionHelpFormatter)
+    parser.add_argument("--python", default="/usr/bin/python3", help="a Python that has smbus2")
+    given = parser.parse_args()
+    order = "-b 1 -a 58 --outputs 2 --no-limit set 0 1.3V + set 1 0.9V".split()
+    tally = Tally()
+    for name, words, is_wrong in (("i2c-tools", ["bash", os.path.join(HERE, "rails.sh")], True),
+                                  ("smbus2", [given.python, os.path.join(HERE, "rails.py")], True),
+                                  ("pmhost", [sys.executable, "-m", "pmhost", *order], False)):
+        found = bench(words)
+        print(f"{name}: {found['runs']} runs, {found['well']} ended well, {found['wrong']} wrong, {found['false']} false, "
+              f"{found['not_ended']} not ended, {found['strange']} strange", flush=True)
+        is_good = found["wrong"] > 0 if is_wrong else found["wrong"] == found["false"] == found["not_ended"] == 0
+        tally.tell(name, [] if is_good else ["not as it must be"])
+    return tally.end()
+
+
+if __name__ == "__main__":
+    sys.exit(main())
