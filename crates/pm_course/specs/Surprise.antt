@@ -1,5 +1,5 @@
 -- Which answers show that the part restarted or was exchanged. This project's own choice.
-use Rattle.std.specs.Prelude.{◌≡◌, ℕ, Bool, false, not, List, Option, Some, None}
+use Rattle.std.specs.Prelude.{ℕ, Bool, false, not, List, Option, Some, None}
 use Rattle.pm_table.specs.declared.cell.Cell.{Cell}
 use Rattle.pm_host.specs.declared.question.Question.{Question}
 use Rattle.pm_host.specs.declared.question.Question.TheVariants.{Word, Mode, Coefficients}
