@@ -213,7 +213,12 @@ fn a_read_that_surprises_has_the_format_learned_again(rt: HostRuntime) {
     let rows = [1, 2, 3];
     for frames in &rows {
         let mut guard = guard(&rt);
-        equal(&rt, &guard.narrow(0, 900_000, 1_300_000).is_ok(), &true, frames);
+        equal(
+            &rt,
+            &guard.narrow(0, 900_000, 1_300_000).is_ok(),
+            &true,
+            frames,
+        );
         let mut part = PART;
         let known = carried(FrameCourse::survey(0, 60), &mut guard, &mut part, 400);
         equal(&rt, &known.end, &Some(CourseEnd::Reached), frames);
@@ -222,9 +227,19 @@ fn a_read_that_surprises_has_the_format_learned_again(rt: HostRuntime) {
             mode: 0x15,
             words: [0x80, 0x0800, 0x2000, 0x0880, 0x0780, 0x0000],
         });
-        let run = carried(volts(Reg::VoutCommand, 1_200_000), &mut guard, &mut part, 400);
+        let run = carried(
+            volts(Reg::VoutCommand, 1_200_000),
+            &mut guard,
+            &mut part,
+            400,
+        );
         equal(&rt, &run.end, &Some(CourseEnd::Reached), frames);
-        equal(&rt, &(run.code, run.word, run.writes), &(0x21, 0x099A, 1), frames);
+        equal(
+            &rt,
+            &(run.code, run.word, run.writes),
+            &(0x21, 0x099A, 1),
+            frames,
+        );
     }
 }
 

@@ -1,0 +1,11 @@
+-- Lemmas of this crate.
+mod Said
+mod Words
+mod OneWords
+mod Learns
+mod Told
+mod Ties
+mod Names
+mod ToWishes
+mod Off
+mod Kept
