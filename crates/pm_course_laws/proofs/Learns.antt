@@ -80,6 +80,15 @@ module _ (part : PartRegisters) (limits : Option Bounds) (s : Summary) where
     by (Some differs) t h = cc
     by None t h = by-missing (missing_fault part (wants_of (wanted_in c.survey.plan))) t (sym (going-none c byte unlearned) ∙ h)
 
+  -- it is the learn
+  pub due-is : (c : Course) (j : Asked) → is_busy s ≡ false → c.byte ≡ None → IsUnlearned c → next_of part limits s c ≡ said.Job j →
+      Learn c.survey.output ≡ j
+  due-is c j idle byte unlearned is = by (c.survey.left == 0) (due-job c j idle byte unlearned is).takes where
+    by : (b : Bool) → (if b then said.Ended (Stopped (stop.Spent (Learn c.survey.output))) else said.Job (Learn c.survey.output)) ≡ said.Job j →
+        Learn c.survey.output ≡ j
+    by true h = cc
+    by false h = cc
+
   pub record Either (c : Course) (q : Option Wanted) (j : Asked) : Type 0 where
     pub next : next_of part limits s (with_plan c q) ≡ said.Job j
     pub after : after_next part limits s c ≡ naming c (said.Job j)

@@ -8,4 +8,7 @@ mod Ties
 mod Names
 mod ToWishes
 mod Off
+mod Unordered
+mod Surveys
+mod Calls
 mod Kept

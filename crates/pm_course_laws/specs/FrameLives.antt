@@ -15,7 +15,7 @@ use Rattle.pm_host.specs.Summary.{step_of}
 use Rattle.pm_host.specs.Transcript as host
 use Rattle.pm_limits.specs.declared.part_registers.PartRegisters.{PartRegisters}
 use Rattle.pm_limits.specs.Bounds.{Bounds}
-use Rattle.pm_limits.specs.Guard.{Guarded, guard_fault, limits_at}
+use Rattle.pm_limits.specs.Guard.{Guarded, LetsBegin, guard_fault, limits_at}
 use Rattle.pm_rail.specs.declared.next.Next.TheVariants as said
 use Rattle.pm_rail.specs.declared.wanted.Wanted.{Wanted}
 use Rattle.pm_rail.specs.Course.{course_of, next_of, power_course_of}
@@ -24,12 +24,15 @@ use Rattle.pm_rail.specs.Registers.{wants_of}
 use Rattle.pm_course.specs.declared.course_end.CourseEnd.{CourseEnd}
 use Rattle.pm_course.specs.declared.course_end.CourseEnd.TheVariants.{Reached}
 use Rattle.pm_course.specs.declared.course_end.CourseNext.TheVariants.{Job, Ended}
+use Rattle.pm_course.specs.declared.course_end.Refusal.{Refusal}
 use Rattle.pm_course.specs.declared.frame_course.FrameCourse.{FrameCourse}
+use Rattle.pm_course.specs.declared.frames.Sending.{Sending}
 use Rattle.pm_course.specs.declared.voltages.Voltages.{Voltages}
-use Rattle.pm_course.specs.FrameCourse.{SaysNext, going_on, last_end, refused_by, to_byte, with_plan}
+use Rattle.pm_course.specs.FrameCourse.{SaysNext, going_on, last_end, refused_by, to_byte, to_survey, with_plan}
+use Rattle.pm_course.specs.Frames.{HandsOut, Hears}
 use Rattle.pm_course.specs.Heard.{heard_by}
 use Rattle.pm_course.specs.Surprise.{surprises}
-use Rattle.pm_course.specs.Wishes.{AreFormed}
+use Rattle.pm_course.specs.Wishes.{AreFormed, meant_faults}
 use Rattle.pm_world.specs.declared.event.Event.{Event}
 use Rattle.pm_world.specs.Bands.{HoldsMissing}
 use Rattle.pm_world.specs.Confirmed.{restarts_converter}
@@ -80,6 +83,15 @@ pub data IsFrameCourse (config : Config) (passes : ℕ) (part : PartRegisters) (
       IsFrameCourse config passes part begun before c own later →
       IsBeside part begun.course.survey.output (asked (now config passes (later ++ before)) event) →
       IsFrameCourse config passes part begun before c (own && not (begins_other event)) (event ∷ later)
+
+-- What a call that hands out a frame leads on to, by a guard whose host is that of the life: nothing begins, or the guard begins the job
+-- that the course says, which is asked for by the next event.
+pub data Handed (config : Config) (passes : ℕ) (part : PartRegisters) (begun : FrameCourse) (before : List Event) (own : Bool)
+    (later : List Event) (g new : Guarded) (is : FrameCourse) : Type 0 where
+  stays : new ≡ g → IsFrameCourse config passes part begun before is own later → Handed config passes part begun before own later g new is
+  begins_job : (job : Asked) → LetsBegin g job (Ok tt) new →
+      ((event : Event) → asked_by event ≡ Some job → IsFrameCourse config passes part begun before is true (event ∷ later)) →
+      Handed config passes part begun before own later g new is
 
 -- A course began while the host was idle, and the converter didn't restart since. The host had no good answer for a register
 -- that the part doesn't have; of a part with every register that says nothing.
@@ -148,14 +160,39 @@ pub record KeepsFrameCoursesOff (config : Config) (passes : ℕ) (part : PartReg
   pub untouched : AsksNoOrder config passes output later before → (register : Reg) →
       held_at config passes (later ++ before) output register ≡ held_at config passes before output register
 
--- In each life: a course to wishes that have words in the output's format, and one to a byte that turns the output off.
+-- A course that orders nothing, and that these events end with: each register of its output keeps its word. That is one to nothing,
+-- which is a survey, and one to wishes of which one has no word in the output's format, which ends with N3, N4 or N5.
+abbrev pub OrdersNothing : Config → ℕ → ℕ → List Event → List Event → Type 0
+OrdersNothing config passes output later before = (register : Reg) →
+    held_at config passes (later ++ before) output register ≡ held_at config passes before output register
+
+-- In each life: a course to wishes that have words in the output's format (`words`), one to wishes of which one has none (`unformed`), one
+-- to nothing (`surveys`), and one to a byte that turns the output off (`off`). What the calls of a course do is what its life is made of
+-- (`hands`, `hears`).
 pub record FrameCoursesHoldInLives : Type 0 where
   pub words : (config : Config) (passes : ℕ) (part : PartRegisters) (output : ℕ) (words wanted : Wanted) (voltages : Voltages)
       (tries : ℕ) (c : FrameCourse) (own : Bool) (later before : List Event) →
       IsSpelled config → IsLived config passes (later ++ before) → Means config output words voltages wanted →
       BeginsFrames config passes part (going_on (course_of output words tries) voltages) c own later before →
       KeepsFrameCourses config passes part output words wanted voltages tries c own later before
+  pub unformed : (config : Config) (passes : ℕ) (part : PartRegisters) (output : ℕ) (words : Wanted) (voltages : Voltages)
+      (tries : ℕ) (c : FrameCourse) (own : Bool) (later before : List Event) (refusal : Refusal) →
+      IsSpelled config → IsLived config passes (later ++ before) → meant_faults (shape_for config output) voltages ≡ Some refusal →
+      BeginsFrames config passes part (going_on (course_of output words tries) voltages) c own later before →
+      OrdersNothing config passes output later before
+  pub surveys : (config : Config) (passes : ℕ) (part : PartRegisters) (output tries : ℕ) (c : FrameCourse) (own : Bool)
+      (later before : List Event) → IsSpelled config → IsLived config passes (later ++ before) →
+      BeginsFrames config passes part (to_survey output tries) c own later before → OrdersNothing config passes output later before
   pub off : (config : Config) (passes : ℕ) (part : PartRegisters) (output byte tries : ℕ) (c : FrameCourse) (own : Bool)
       (later before : List Event) → has_on byte ≡ false → IsSpelled config → IsLived config passes (later ++ before) →
       BeginsFrames config passes part (to_byte output byte tries) c own later before →
       KeepsFrameCoursesOff config passes part output byte tries c own later before
+  pub hands : (config : Config) (passes : ℕ) (part : PartRegisters) (begun c is : FrameCourse) (own : Bool) (later before : List Event)
+      (g new : Guarded) (sent : Option Sending) → IsFrameCourse config passes part begun before c own later →
+      g.host ≡ (now config passes (later ++ before)).host → g.registers ≡ part → HandsOut g c sent new is →
+      Handed config passes part begun before own later g new is
+  pub hears : (config : Config) (passes : ℕ) (part : PartRegisters) (begun c is : FrameCourse) (later before : List Event)
+      (g new : Guarded) (event : Event) (entry : host.Entry) → IsFrameCourse config passes part begun before c true later →
+      g.host ≡ (now config passes (later ++ before)).host → begins_other event ≡ false →
+      (share_of (now config passes (later ++ before)) event).told ≡ Some entry → Hears g c entry (Ok tt) new is →
+      IsFrameCourse config passes part begun before is (goes_on (step_of g.host entry)) (event ∷ later)
