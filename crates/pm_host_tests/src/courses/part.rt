@@ -81,7 +81,8 @@ impl Part {
         if let Some(other) = self.exchange {
             if other.frames == frames {
                 self.mode = Some(other.mode);
-                self.words = other.words;
+                let words = other.words;
+                self.words = words;
             }
         }
     }
