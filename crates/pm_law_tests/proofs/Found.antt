@@ -8,8 +8,8 @@ found-so (Ok None) so lived spelled short = tt
 found-so (Err fault) so lived spelled short = tt
 
 -- of the run's life and of its configuration's numbers
-pub found-lived : {X E : Type 0} (r : Result (Option X) E) {A B C S G : Type 0} → (A → S → G) →
+pub found-lived : {X E : Type 0} (r : Result (Option X) E) (B C : Type 0) {A S G : Type 0} → (A → S → G) →
     IfOk r (λ found. OnSome found A) → OnOk r (B × C × S) → IfOk r (λ found. OnSome found G)
-found-lived (Ok (Some world)) so lived sound = so lived sound.2
-found-lived (Ok None) so lived sound = tt
-found-lived (Err fault) so lived sound = tt
+found-lived (Ok (Some world)) B C so lived sound = so lived sound.2
+found-lived (Ok None) B C so lived sound = tt
+found-lived (Err fault) B C so lived sound = tt

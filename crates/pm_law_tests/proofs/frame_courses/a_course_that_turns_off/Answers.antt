@@ -6,7 +6,7 @@ use Rattle.pm_law_tests.proofs.Found.{found-lived}
 use Rattle.pm_law_tests.proofs.frame_courses.a_course_that_turns_off.Goals as goal
 
 pub returns : goal.returns
-returns c = found-lived c.run_all.result
+returns c = found-lived c.run_all.result _ _
     (λ lived spelled part output byte tries course own later before is off begins.
     c.frame_courses_hold_in_lives.ensures.off c.args.c c.args.passes part output byte tries course own later before off spelled
     (subst (λ (es : List Event). IsLived c.args.c c.args.passes es) is lived) begins)
