@@ -9,7 +9,7 @@ STYLE = "docs/style.md"
 MOST_WORDS, AVERAGE, LONGEST = 42000, 20, 35
 PLAINEST = {"README.md": 15, "docs/proved.md": 15}
 # A sentence ends so where a further one begins; "e.g." and the like are no words of these pages.
-END = re.compile(r"(?<=[.?!])[\"')]*\s+(?=[A-Z`0-9\"('*])")
+END = re.compile(r"(?<=[.?!])[\"')*]*\s+(?=[A-Z`0-9\"('*]|[a-z-]+\.md\b)")
 # Headers are read too, but not counted: their comments are pages for who writes C.
 HEADERS = ("crates/pm_host_c/include/pmhost.h", "crates/pm_host_c/include/pmhost_patient.h", "crates/pm_device_c/include/pmpart.h")
 
