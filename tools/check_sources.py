@@ -321,16 +321,20 @@ def unclaimed(crates):
             yield *law.place, "claims", f"the law {law.name} names no definition"
 
 
+def judged_pages():
+    return [name for name in prose.pages() if name not in prose.NOT_JUDGED]
+
+
 def page_words():
     """Words of the style page's list that pages and headers use otherwise than is allowed."""
-    for name in (*prose.pages(), *prose.HEADERS):
+    for name in (*judged_pages(), *prose.HEADERS):
         for word, around in prose.misused(name):
             yield name, 1, "words", f"{word}: .. {around} .."
 
 
 def page_sentences():
     """Pages with more words a sentence than is allowed, and their longest sentence where it is too long."""
-    for name in prose.pages():
+    for name in judged_pages():
         average, longest, sentence = prose.measure(name)
         if average > prose.PLAINEST.get(name, prose.AVERAGE):
             yield name, 1, "sentence", f"{average:.1f} words a sentence"

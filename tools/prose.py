@@ -8,8 +8,12 @@ STYLE = "docs/style.md"
 # What all pages together may have, and what a page may: words a sentence on average, and words of its longest one.
 MOST_WORDS, AVERAGE, LONGEST = 42000, 20, 35
 PLAINEST = {"README.md": 15, "docs/proved.md": 15}
+# Pages that are counted here and judged elsewhere: the manual page is made of the command's help, and README has an editor of its own.
+NOT_JUDGED = ("docs/pmhost.1", "README.md")
 # A sentence ends so where a further one begins; "e.g." and the like are no words of these pages.
-END = re.compile(r"(?<=[.?!])[\"')*]*\s+(?=[A-Z`0-9\"('*]|[a-z-]+\.md\b)")
+END = re.compile(r"(?<=[.?!])[\"')*]*\s+(?=[A-Z`0-9\"('*\[]|[a-z-]+\.md\b)")
+# A macro of mdoc in a line of them.
+MACRO = re.compile(r"(?:^\.|\b)(?:Fl|Ar|Cm|Ns|Op|Sq|Ql|Pa|Xr|Nm|Pq|Oo|Oc|No|Li)\b(?: Fl\b)? ?")
 # Headers are read too, but not counted: their comments are pages for who writes C.
 HEADERS = ("crates/pm_host_c/include/pmhost.h", "crates/pm_host_c/include/pmhost_patient.h", "crates/pm_device_c/include/pmpart.h")
 
@@ -49,10 +53,10 @@ def page_prose(text):
 
 
 def manual_prose(text):
-    """The sentences of a manual page in mdoc: a line that begins with a macro which breaks ends one."""
-    text = re.sub(r"^\.Bd.*?^\.Ed$", ".Pp", text, flags=re.M | re.S)
+    """The sentences of a manual page in mdoc: a line that begins with a macro which breaks ends one. The synopsis has none."""
+    text = re.sub(r"^\.Sh SYNOPSIS\n.*?(?=^\.Sh)|^\.Bd.*?^\.Ed$", ".Pp\n", text, flags=re.M | re.S)
     for part in re.split(r"^\.(?:Pp|It|Sh|Ss|Bl|El|Nd|Dd|Dt|Os)\b.*$", text, flags=re.M):
-        yield " ".join(re.sub(r"^\.(\w\w )?", "", line) for line in part.split("\n")), False
+        yield " ".join(MACRO.sub("", line) if line.startswith(".") else line for line in part.split("\n")), False
 
 
 def header_prose(text):
