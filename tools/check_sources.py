@@ -19,7 +19,7 @@ where X6 arises instead. Without git the files are those that stand in the tree.
     page       a refusal of a type isn't in docs/refusals.md, or one of the page or of a help is in no type
     example    an example of a comment stands in no test, word for word
     claims     a law has no comment that says it in words, or its clause names no definition; tools/claims prints both
-    words      a page or a header for C uses a word of docs/style.md's list otherwise than is allowed there
+    words      a page uses a word of docs/style.md's list otherwise than is allowed there
     sentence   a page has more words a sentence on average, or a longer one, than docs/style.md lets it have
     law        docs/proved.md names a law, a clause or a definition that no crate has
     path       a path that a page, a script or a source names isn't there
@@ -326,8 +326,8 @@ def judged_pages():
 
 
 def page_words():
-    """Words of the style page's list that pages and headers use otherwise than is allowed."""
-    for name in (*judged_pages(), *prose.HEADERS):
+    """Words of the style page's list that pages use otherwise than is allowed; tools/house --pages counts those of the headers for C too."""
+    for name in judged_pages():
         for word, around in prose.misused(name):
             yield name, 1, "words", f"{word}: .. {around} .."
 

@@ -109,7 +109,7 @@ enum {
     PM_F8_NESTED = 0x38
 };
 
-/* What pm_course_frame and pm_course_next answer if the course has ended. */
+/* What pm_course_frame and pm_course_next answer where the course has ended. */
 enum { PM_ENDED = 0x95 };
 
 /* The cells: an output and one of these command codes; with WRITE_PROTECT, which is the device's, the
@@ -514,7 +514,7 @@ enum {
 typedef uint8_t (*pm_write)(void *context, const uint8_t *bytes, uint64_t count);
 typedef uint64_t (*pm_read)(void *context, const uint8_t *request, uint64_t count, uint8_t *answer, uint64_t room);
 
-/* Carries a course out, or the host's open job if `course` is NULL, frame after frame, and answers the last step; PM_ENDED of a
+/* Carries a course out, or the host's open job where `course` is NULL, frame after frame, and answers the last step; PM_ENDED of a
  * course; or why a call was refused. A `read` that says that more bytes came than there was room for counts as one to which none
  * came. The loop ends since a job has at most twice as many frames as passes and a course at most its tries of jobs, which is
  * proved; it is C of this header, tried under rows of each kind of fault (trials/c/rows/run_rows.c, trials/course) and under
@@ -548,7 +548,7 @@ static inline pm_step pm_host_run(pm_host *host, pm_write write, pm_read read, v
     return pm_carry_out(host, NULL, write, read, context);
 }
 
-/* Carries a course out, and says how it ended: PM_REFUSED also if the memory holds no host (PM_NO_HOST) or no course
+/* Carries a course out, and says how it ended: PM_REFUSED also where the memory holds no host (PM_NO_HOST) or no course
  * (PM_NO_COURSE). */
 PM_MUST_USE
 static inline pm_course_end pm_host_run_course(pm_host *host, pm_course *course, pm_write write, pm_read read, void *context) {
