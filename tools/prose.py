@@ -19,8 +19,8 @@ HEADERS = ("crates/pm_host_c/include/pmhost.h", "crates/pm_host_c/include/pmhost
 
 
 def pages():
-    """Every page of the tree: what ends in .md, and the manual pages."""
-    return [it for it in kept_files() if it.endswith((".md", ".1")) and os.path.isfile(os.path.join(ROOT, it))]
+    """Every page of the tree but those of tests' data: what ends in .md, and the manual pages."""
+    return [it for it in kept_files() if it.endswith((".md", ".1")) and "/tests/data/" not in it and os.path.isfile(os.path.join(ROOT, it))]
 
 
 def text_of(name):
