@@ -11,7 +11,7 @@ DECIDES = ["outputs", "PAGE_PLUS", "PEC on reads", "PEC required on writes, and 
            "second addresses", "store and restore", "pins that override", "CLEAR_FAULTS"]
 HEAD = [("what decides", "what is known", "source"), ("---", "---", "---")]
 PLACE = r"[a-z0-9_-]+\.(?:c|h|rst):[1-9][0-9]*(?:-[1-9][0-9]*)?"
-LINUX = re.compile(rf"Linux 6\.1, {PLACE}(?:, {PLACE})*\Z")
+LINUX = re.compile(rf"{PLACE}(?:, {PLACE})*\Z")
 
 
 def families(page):
