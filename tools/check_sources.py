@@ -321,38 +321,6 @@ def unclaimed(crates):
             yield *law.place, "claims", f"the law {law.name} names no definition"
 
 
-def judged_pages():
-    return [name for name in prose.pages() if name not in prose.NOT_JUDGED]
-
-
-def page_words():
-    """Words of the style page's list that pages use otherwise than is allowed; tools/house --pages counts those of the headers for C too."""
-    for name in judged_pages():
-        for word, around in prose.misused(name):
-            yield name, 1, "words", f"{word}: .. {around} .."
-
-
-def page_sentences():
-    """Pages with more words a sentence than is allowed, and their longest sentence where it is too long."""
-    for name in judged_pages():
-        average, longest, sentence = prose.measure(name)
-        if average > prose.PLAINEST.get(name, prose.AVERAGE):
-            yield name, 1, "sentence", f"{average:.1f} words a sentence"
-        if longest > prose.LONGEST:
-            yield name, 1, "sentence", f"{longest} words: {sentence}"
-
-
-def lost_laws():
-    """Names of docs/proved.md that no crate has: of a function, a clause or a definition."""
-    known = set()
-    for path in house.files_at("crates/*/src/**/*.rt") + house.files_at("crates/*/specs/**/*.antt"):
-        known.update(re.findall(r"\w+", read(path)))
-    text = re.sub(r"^```.*?^```$|Trusted: .*", "", read("docs/proved.md"), flags=re.M | re.S)
-    for name in sorted(set(re.findall(r"`([A-Za-z]\w*(?:::\w+)*)`", text))):
-        if not set(name.split("::")) <= known:
-            yield "docs/proved.md", 1, "law", f"no crate has {name}"
-
-
 def stripped(text):
     """A text's lines without the space around them."""
     return "\n".join(line.strip() for line in text.split("\n"))
@@ -398,7 +366,7 @@ def findings(crates):
     yield from hanging(crates)
     yield from unrun(crates)
     yield from unclaimed(crates)
-    yield from (*lost_paths(), *hand_tallies(), *old_names(), *page_words(), *page_sentences(), *lost_laws()) if "pmb" in crates else ()
+    yield from (*lost_paths(), *hand_tallies(), *old_names(), *prose.findings(), *claims.lost_names()) if "pmb" in crates else ()
     yield from planted.findings(crates)
 
 

@@ -50,12 +50,9 @@ def promises_of(path):
     for found in HEAD.finditer(text):
         margin, public, name = found.groups()
         owner = next((it for start, it in reversed(owners) if start < found.start()), "") if margin else ""
-        if not public and not owner.startswith("pub trait") and " for " not in owner:
-            continue
-        if not public and " for " in owner:
-            continue
-        head, clauses = contract(text[found.start():])
-        yield Promise(type_of(owner), name, (path, text[:found.start()].count("\n") + 1), comment_above(text[:found.start()]), head, clauses)
+        if public or owner.startswith("pub trait"):
+            before, (head, clauses) = text[:found.start()], contract(text[found.start():])
+            yield Promise(type_of(owner), name, (path, before.count("\n") + 1), comment_above(before), head, clauses)
 
 
 def type_of(owner):
@@ -112,6 +109,17 @@ def definitions():
 def named(promise, known):
     """The definitions that the clauses of a promise name, with their places."""
     return {word: known[word] for clause in promise.clauses for word in re.findall(r"\b[A-Z]\w+", clause) if word in known}
+
+
+def lost_names():
+    """Names of docs/proved.md that no crate has: of a function, a clause or a definition. In the form of tools/check_sources.py."""
+    known = set()
+    for path in glob.glob("crates/*/src/**/*.rt", recursive=True) + glob.glob("crates/*/specs/**/*.antt", recursive=True):
+        known.update(re.findall(r"\w+", read(path)))
+    text = re.sub(r"^```.*?^```$|Trusted: .*", "", read("docs/proved.md"), flags=re.M | re.S)
+    for name in sorted(set(re.findall(r"`([A-Za-z]\w*(?:::\w+)*)`", text))):
+        if not set(name.split("::")) <= known:
+            yield "docs/proved.md", 1, "law", f"no crate has {name}"
 
 
 def show(promise, known):

@@ -46,7 +46,8 @@ def page_prose(text):
     for block in re.split(r"\n\s*\n", text):
         lines = block.strip("\n").split("\n")
         if lines[0].startswith("|"):
-            yield from ((cell.strip(), True) for line in lines if not re.match(r"\|[-| ]+\|?$", line) for cell in line.strip("| ").split(" | "))
+            rows = [line.strip("| ").split(" | ") for line in lines if not re.match(r"\|[-| ]+\|?$", line)]
+            yield from ((cell.strip(), True) for row in rows for cell in row)
         else:
             kept = "\n".join(line for line in lines if not line.startswith("#"))
             yield from ((item, False) for item in re.split(r"^(?:> ?)?\s*(?:[-*]|[0-9]+\.) +", kept, flags=re.M) if item.strip())
@@ -110,3 +111,14 @@ def misused(name):
         for found in listed.finditer(text):
             if not any(start <= found.start() and found.end() <= end for start, end in free):
                 yield found.group().lower(), text[max(0, found.start() - 40):found.end() + 30]
+
+
+def findings():
+    """What the style page refuses, in the form of tools/check_sources.py: words of its list, and sentences that are too long."""
+    for name in (it for it in pages() if it not in NOT_JUDGED):
+        yield from ((name, 1, "words", f"{word}: .. {around} ..") for word, around in misused(name))
+        average, longest, sentence = measure(name)
+        if average > PLAINEST.get(name, AVERAGE):
+            yield name, 1, "sentence", f"{average:.1f} words a sentence"
+        if longest > LONGEST:
+            yield name, 1, "sentence", f"{longest} words: {sentence}"

@@ -68,7 +68,12 @@ class Sources(unittest.TestCase):
         prose = self.rules.prose
         with mock.patch.object(prose, "pages", lambda: ["docs/words.md"]), mock.patch.object(prose, "HEADERS", ()), \
                 mock.patch.object(prose, "text_of", lambda name, real=prose.text_of: real(name) if name == prose.STYLE else text):
-            return [f"{kind}: {line}" for _, _, kind, line in (*self.rules.page_words(), *self.rules.page_sentences())]
+            return [f"{kind}: {line}" for _, _, kind, line in prose.findings()]
+
+    def test_a_name_of_the_page_of_proofs_that_no_crate_has_is_found(self):
+        claims = self.rules.claims
+        with mock.patch.object(claims, "read", lambda path, real=claims.read: "`own`, `one_is_none`" if path == "docs/proved.md" else real(path)):
+            self.assertEqual([line for *_, line in claims.lost_names()], ["no crate has one_is_none"])
 
     def test_words_of_the_list_and_long_sentences_are_found(self):
         self.assertEqual(self.prose("A wait comes after a write. `where` is code.\n\n```text\nit tells\n```\n"), [])
