@@ -6,6 +6,7 @@ import tempfile
 import unittest
 from fractions import Fraction
 
+from pmhost import cli
 from pmhost.values import CODES
 
 from . import kernel, odd_parts
@@ -63,6 +64,27 @@ class Examples(unittest.TestCase):
         part.hear([0xB0, 0x03, 0x00], "stop")
         words = re.search("`pmhost -b 1 -a 58 (.*?)`", text)[1].split()
         self.assertEqual(called(["-b", "7", "-a", "58", *words], kernel.FakeKernel(part)), (0, blocks(text, "text")[0], ""))
+
+
+class CommandLine(unittest.TestCase):
+    """The pages of the command line name what the parser takes."""
+
+    # Those of these have pages of their own, which name more than a help does.
+    ELSEWHERE = ("faults", "torture", "capture")
+
+    def setUp(self):
+        self.parser, self.commands = cli.parser()
+        self.pages = "\n".join(stored(ROOT, "docs", f"{name}.md") for name in ("getting-started", "command-line", "board-file", "adapters"))
+
+    def test_each_command_has_a_row(self):
+        rows = "\n".join(line for line in section("command-line", "The commands").splitlines() if line.startswith("| `"))
+        self.assertEqual([name for name in self.commands if not re.search(rf"`{name}[ `]", rows)], [])
+
+    def test_each_option_is_named(self):
+        parsers = [self.parser, *(parser for name, parser in self.commands.items() if name not in self.ELSEWHERE)]
+        options = {flag for parser in parsers for action in parser._actions for flag in action.option_strings if flag.startswith("--")}
+        named = {"--help", "--version", "--bus", "--address"} | {it for it in options if re.search(rf"{it}\b", self.pages)}
+        self.assertEqual(sorted(options - named), [])
 
 
 class Cases(unittest.TestCase):
