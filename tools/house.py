@@ -5,6 +5,7 @@
     tools/house --pairs    the laws that are stated twice and the lemmas that are proved twice, a pair a line
     tools/house --middles  the comments that begin in the middle of a sentence
     tools/house --laws     the public laws that no other function calls
+    tools/house --ends     the conditions above the crates that look at how a job or a course ended, and which begin a job or stand in a loop
     tools/house --pages    each page: its words, words a sentence, words of its longest sentence, and its words of docs/style.md's
                            list that are no allowed uses
 
@@ -15,6 +16,7 @@ import glob
 import os
 import re
 
+import branches
 import prose
 from crate_copy import crates_below, read
 from program import ROOT, Words, kept_files
@@ -213,6 +215,12 @@ def long_lines():
     return sum(len(over(read(path))) for path in found)
 
 
+def end_branches():
+    """The conditions above the crates that look at how a job or a course ended."""
+    paths = [path for pattern in ("crates/*/include/*.h", "rust/src/**/*.rs", "python/src/**/*.py", "examples/web/*.mjs") for path in files_at(pattern)]
+    return list(branches.branches(paths, read))
+
+
 def page_rows():
     """Each page and header: its words, the words a sentence, the words of the longest one, and how many words of the list it misuses."""
     for name in (*prose.pages(), *prose.HEADERS):
@@ -230,8 +238,8 @@ def show_pages():
 
 
 def main():
-    words = Words(__doc__, "--pairs, --middles, --laws, --pages or nothing")
-    for flag in "pairs", "middles", "laws", "pages":
+    words = Words(__doc__, "--pairs, --middles, --laws, --ends, --pages or nothing")
+    for flag in "pairs", "middles", "laws", "ends", "pages":
         words.add_argument(f"--{flag}", action="store_true")
     given = words.read()
     os.chdir(ROOT)
@@ -249,6 +257,10 @@ def main():
     if given.laws:
         for it in uncalled_laws(crates):
             print("%s %s" % it)
+        return
+    if given.ends:
+        for path, line, condition, begins in end_branches():
+            print("%s:%d: %s%s" % (path, line, condition, ": BEGINS A JOB OR STANDS IN A LOOP" if begins else ""))
         return
     if given.pages:
         show_pages()
@@ -277,6 +289,7 @@ def main():
         ("lines of code, definitions and proofs", code + definitions + proofs),
         ("lines of python/ and trials/", sum(read(path).count("\n") for path in kept_files() if path.startswith(("python/", "trials/")) and is_text(path))),
         ("files with a name of before of what users get", len(old_names())),
+        ("branches that look at an end, and begin a job or stand in a loop", sum(begins for *_, begins in end_branches())),
         ("words of all pages, at most %d" % prose.MOST_WORDS, sum(prose.words_of(name) for name in prose.pages())),
         ("words of docs/style.md's list on pages and in headers", sum(row[3] for row in page_rows())),
     ]
