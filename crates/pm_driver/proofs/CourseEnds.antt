@@ -1,13 +1,11 @@
 -- A course to wanted words that is carried out over a bus whose calls nothing disturbs ends by what the converter holds.
-use Rattle.std.specs.Prelude.{◌≡◌, ◌≤◌, ◌<◌, ◌+◌, ◌-◌, ◌==◌, ◌||◌, ◌⊎◌, ℕ, Bool, true, false, if◌then◌else◌, refl, Option, Some, None, Ok, Err, is_none, is_some, option_map, Result}
+use Rattle.std.specs.Prelude.{◌≡◌, ◌≤◌, ◌+◌, ◌-◌, ◌==◌, ◌||◌, ◌⊎◌, ℕ, Bool, true, false, if◌then◌else◌, refl, Option, Some, None, Ok, is_none, is_some, option_map}
 use Rattle.std.proofs.Common.{arith, sym, ◌∙◌, ap, ap₂, subst, inl, inr}
 use Rattle.std.proofs.Math.Path.{fun_ext}
 use Rattle.std.proofs.lemmas.Bool.Decides.{nat_tests}
-use Rattle.pm_table.specs.declared.cell.Cell.{Cell}
 use Rattle.pm_table.specs.declared.cell.Cell.TheVariants.{Out}
 use Rattle.pm_table.specs.declared.reg.Reg.{Reg}
 use Rattle.pm_model.specs.Commanded.{commanded, selected}
-use Rattle.pm_model.specs.Settings.{Words}
 use Rattle.pm_device.specs.declared.config.Config.{Config}
 use Rattle.pm_device.specs.Held.{Held as Converter, value_for}
 use Rattle.pm_host.specs.declared.job.Job.{Job as Asked}
@@ -24,9 +22,8 @@ use Rattle.pm_rail.specs.declared.course.Course.{Course}
 use Rattle.pm_rail.specs.declared.fault.PlanFault.{PlanFault}
 use Rattle.pm_rail.specs.declared.next.Next.{Next}
 use Rattle.pm_rail.specs.declared.next.Next.TheVariants.{Job, Ended}
-use Rattle.pm_rail.specs.declared.orders.PlanOrder.{PlanOrder}
 use Rattle.pm_rail.specs.declared.wanted.Wanted.{Wanted}
-use Rattle.pm_rail.specs.Course.{after_by, course_of, naming, next_by, order_next, ordering, reading, renewed, says, taking, told_of}
+use Rattle.pm_rail.specs.Course.{after_by, course_of, naming, next_by, order_next, ordering, reading, renewed, says, told_of}
 use Rattle.pm_rail.specs.Laws.{SurveysEndKnown}
 use Rattle.pm_rail.specs.Lemmas.Ends.{done}
 use Rattle.pm_rail.specs.Lemmas.Says.{asks-due, taken}
@@ -36,11 +33,11 @@ use Rattle.pm_rail.specs.Registers.{Held, Wants, wants_of}
 use Rattle.pm_rail.specs.Survey.{due_job, survey_of}
 use Rattle.pm_driver.specs.Acts.{Call}
 use Rattle.pm_driver.specs.Courses.{Courses, no_job, one_more}
-use Rattle.pm_driver.specs.Driven.{Driving, HasLife, Runs}
+use Rattle.pm_driver.specs.Driven.{Driving, Runs}
 use Rattle.pm_driver.specs.Undisturbed.{AreUndisturbed}
-use Rattle.pm_driver.specs.UndisturbedCourses.{EndsBy, FitsPart, UndisturbedCoursesEnd, held_fault, tries_for, words_of}
+use Rattle.pm_driver.specs.UndisturbedCourses.{EndsBy, UndisturbedCoursesEnd, held_fault, tries_for, words_of}
 use Rattle.pm_driver.specs.UndisturbedJobs.{UndisturbedJobs}
-use Rattle.pm_driver.proofs.CourseSteps.{Enough, Facts, On, of_output, on-read, on-renewed, on-wrote, order-is, order_due, plan-held, says-is}
+use Rattle.pm_driver.proofs.CourseSteps.{Enough, On, on-read, on-renewed, on-wrote, order-is, order_due, plan-held, says-is}
 use Rattle.pm_driver.proofs.Places.{Kind, checks, kind, learns}
 use Rattle.pm_driver.proofs.PlanTruth.{dues, five-dues, none-due, none-next}
 use Rattle.pm_driver.proofs.SurveySteps.{ReadLaws, begins-at, need, nothing-needed}

@@ -1,5 +1,5 @@
 -- A course in the middle of which the bus becomes one that disturbs nothing: what was read before stands where it counted no restart.
-use Rattle.std.specs.Prelude.{◌≡◌, ◌≤◌, ◌<◌, ◌+◌, ◌-◌, ◌==◌, ◌&&◌, ◌||◌, ◌⊎◌, ℕ, Bool, true, false, not, cond, if◌then◌else◌, refl, List, [], ◌∷◌, Option, Some, None, Ok, IsSomeAnd, is_some}
+use Rattle.std.specs.Prelude.{◌≡◌, ◌≤◌, ◌<◌, ◌-◌, ◌==◌, ◌&&◌, ◌||◌, ◌⊎◌, ℕ, Bool, true, false, not, cond, if◌then◌else◌, refl, List, [], ◌∷◌, Option, Some, None, Ok, IsSomeAnd, is_some}
 use Rattle.std.proofs.Common.{arith, sym, ◌∙◌, ap, subst, inl, inr}
 use Rattle.std.proofs.lemmas.Bool.Decides.{nat_tests}
 use Rattle.pm_num.specs.AnyFormat.{Shape}

@@ -33,7 +33,6 @@ use Rattle.pm_rail.specs.declared.course.Course.{Course}
 use Rattle.pm_rail.specs.declared.course.Differing.{Differing}
 use Rattle.pm_rail.specs.declared.fault.PlanFault.{PlanFault}
 use Rattle.pm_rail.specs.declared.fault.PlanFault.TheVariants.{Busy, MissingRegister, Protected}
-use Rattle.pm_rail.specs.declared.next.Next.{Next}
 use Rattle.pm_rail.specs.declared.next.Next.TheVariants.{Job, Ended}
 use Rattle.pm_rail.specs.declared.orders.PlanOrder.{PlanOrder}
 use Rattle.pm_rail.specs.declared.survey.Survey.{Survey}
@@ -48,7 +47,7 @@ use Rattle.pm_rail.specs.Lemmas.Surveyed.{has-none}
 use Rattle.pm_rail.specs.Orders.{answer, is_protected, is_wanted_missing, limits_fault, missing_fault, order_of, plan_of, protection_fault, voltages, words_fault}
 use Rattle.pm_rail.specs.Plan.{goal_of, is_due, next_register, put}
 use Rattle.pm_rail.specs.Registers.{Held, Wants, wants_of}
-use Rattle.pm_rail.specs.Survey.{asking, due_job, is_surveyed, nothing_read, wanted_in}
+use Rattle.pm_rail.specs.Survey.{due_job, is_surveyed, nothing_read, wanted_in}
 use Rattle.pm_driver.specs.Acts.{Call}
 use Rattle.pm_driver.specs.Driven.{Driving, HasLife, Runs}
 use Rattle.pm_driver.specs.Rails.{asks_in, surveyed_by}
@@ -59,7 +58,7 @@ use Rattle.pm_driver.proofs.CourseOrders.{allows, order-knows, order-todo}
 use Rattle.pm_driver.proofs.Places.{below, cell_of, none-read, one-place, same_place, seven, total, two-places}
 use Rattle.pm_driver.proofs.PlanTruth.{due-before, due-wanted, dues, fewer, first-none-of, goal-stays, next-is-due, none-due, none-next, none-three, three-none, words-stay}
 use Rattle.pm_driver.proofs.Surveyed.{asked-output, asked-plan}
-use Rattle.pm_driver.proofs.SurveySteps.{At, Calm, Knows, ReadLaws, accepts, in-range, is_learned, life-on, need, settled, survey-step, todo}
+use Rattle.pm_driver.proofs.SurveySteps.{At, Knows, ReadLaws, accepts, in-range, is_learned, life-on, need, settled, survey-step, todo}
 use Rattle.pm_driver.proofs.SurveyTruth.{Allows, plan-is, plan_in, same-fits}
 
 -- no order is left

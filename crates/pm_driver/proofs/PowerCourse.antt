@@ -1,8 +1,7 @@
 -- How far a course is that turns an output on, or changes what it is on with, over a bus whose calls nothing disturbs.
-use Rattle.std.specs.Prelude.{◌≡◌, ◌≢◌, ◌≤◌, ◌<◌, ◌+◌, ◌-◌, ◌==◌, ◌&&◌, ◌||◌, ◌⊎◌, ℕ, Bool, true, false, not, cond, nat_lt, if◌then◌else◌, refl, List, [], ◌∷◌, Option, Some, None, Ok, Err, Result, is_none, is_some, slice_index_or}
+use Rattle.std.specs.Prelude.{◌≡◌, ◌≢◌, ◌≤◌, ◌<◌, ◌+◌, ◌==◌, ◌&&◌, ◌||◌, ◌⊎◌, ℕ, Bool, true, false, not, cond, if◌then◌else◌, refl, List, Option, Some, None, Ok, Err, Result, is_none, is_some, slice_index_or}
 use Rattle.std.specs.Option.{option_map_or}
 use Rattle.std.proofs.Common.{arith, sym, ◌∙◌, ap, ap₂, subst, inl, inr}
-use Rattle.std.proofs.Math.Path.{fun_ext}
 use Rattle.std.proofs.lemmas.Bool.{eq-eqb}
 use Rattle.std.proofs.lemmas.Bool.Decides.{nat_tests}
 use Rattle.pm_num.specs.AnyFormat.{Shape}
@@ -10,14 +9,13 @@ use Rattle.pm_table.specs.declared.cell.Cell.{Cell}
 use Rattle.pm_table.specs.declared.cell.Cell.TheVariants.{Out, Protect}
 use Rattle.pm_table.specs.declared.reg.Reg.{Reg}
 use Rattle.pm_table.specs.declared.reg.Reg.TheVariants.{Operation}
-use Rattle.pm_table.specs.Cell.{IsCell, cell_accepts, cell_code, same_register}
+use Rattle.pm_table.specs.Cell.{IsCell, cell_accepts, cell_code}
 use Rattle.pm_table.specs.Operation.{has_on, selected_register}
 use Rattle.pm_table.specs.Protection.{is_allowed}
-use Rattle.pm_table.specs.Rules.{first, rule}
-use Rattle.pm_model.specs.Commanded.{commanded, selected}
+use Rattle.pm_table.specs.Rules.{rule}
 use Rattle.pm_model.specs.Settings.{Words, word_at}
 use Rattle.pm_device.specs.declared.config.Config.{Config}
-use Rattle.pm_device.specs.Held.{Held as Converter, shape_for, value_for}
+use Rattle.pm_device.specs.Held.{Held as Converter, shape_for}
 use Rattle.pm_host.specs.declared.job.Job.{Job as Asked}
 use Rattle.pm_host.specs.declared.job.Job.TheVariants.{Order}
 use Rattle.pm_host.specs.declared.job.JobEnd.{JobEnd}
@@ -25,48 +23,38 @@ use Rattle.pm_host.specs.declared.job.JobEnd.TheVariants.{Done}
 use Rattle.pm_host.specs.declared.knowledge.Possible.{Possible}
 use Rattle.pm_host.specs.Known.{Known, known_after}
 use Rattle.pm_host.specs.Marks.{Good, Put}
-use Rattle.pm_host.specs.Possible.{is_possible, only}
-use Rattle.pm_host.specs.Refusals.{is_busy}
-use Rattle.pm_host.specs.Summary.{Summary, format_at, possible_at}
+use Rattle.pm_host.specs.Possible.{only}
+use Rattle.pm_host.specs.Summary.{possible_at}
 use Rattle.pm_host.specs.Transcript as accepted
 use Rattle.pm_limits.specs.Bounds.{Bounds}
-use Rattle.pm_limits.specs.declared.fault.LimitFault.{LimitFault}
 use Rattle.pm_limits.specs.declared.part_registers.PartRegisters.{PartRegisters}
-use Rattle.pm_limits.specs.Guard.{guard_fault, limits_at}
+use Rattle.pm_limits.specs.Guard.{limits_at}
 use Rattle.pm_limits.specs.Part.{has_register}
-use Rattle.pm_rail.specs.declared.apply_end.ApplyEnd.{ApplyEnd}
-use Rattle.pm_rail.specs.declared.apply_end.ApplyEnd.TheVariants.{Reached, Stopped}
-use Rattle.pm_rail.specs.declared.apply_end.StopCause.TheVariants.{Refused, Spent}
+use Rattle.pm_rail.specs.declared.apply_end.ApplyEnd.TheVariants.{Stopped}
+use Rattle.pm_rail.specs.declared.apply_end.StopCause.TheVariants.{Refused}
 use Rattle.pm_rail.specs.declared.course.Course.{Course}
 use Rattle.pm_rail.specs.declared.course.Differing.{Differing}
 use Rattle.pm_rail.specs.declared.fault.PlanFault.{PlanFault}
 use Rattle.pm_rail.specs.declared.fault.PlanFault.TheVariants.{Busy, NotKnown}
-use Rattle.pm_rail.specs.declared.next.Next.{Next}
 use Rattle.pm_rail.specs.declared.next.Next.TheVariants.{Job, Ended}
 use Rattle.pm_rail.specs.declared.orders.PlanOrder.{PlanOrder}
-use Rattle.pm_rail.specs.declared.survey.Survey.{Survey}
-use Rattle.pm_rail.specs.Course.{after_by, going, going_to, is_carried_out, is_operation_known, naming, next_by, once_more, order_by, order_next, ordering, power_course_of, power_next, reading, renewed, says, taking, told_of, turning_off}
-use Rattle.pm_rail.specs.Known.{known_at, known_word}
-use Rattle.pm_rail.specs.Lemmas.AskedFree.{asked-free}
-use Rattle.pm_rail.specs.Lemmas.Says.{asks-due, taken}
-use Rattle.pm_rail.specs.Lemmas.Steps.{first-of, second-of}
-use Rattle.pm_rail.specs.Plan.{commands_by, put}
-use Rattle.pm_rail.specs.Registers.{Held, nothing, wants_of}
-use Rattle.pm_rail.specs.Survey.{due_job, has_read, is_surveyed, nothing_read, survey_of, wanted_in}
+use Rattle.pm_rail.specs.Course.{going, going_to, is_carried_out, is_operation_known, naming, once_more, order_by, order_next, power_next, reading, renewed, says, told_of, turning_off}
+use Rattle.pm_rail.specs.Known.{known_word}
+use Rattle.pm_rail.specs.Lemmas.Steps.{first-of}
+use Rattle.pm_rail.specs.Registers.{nothing}
+use Rattle.pm_rail.specs.Survey.{due_job, is_surveyed, wanted_in}
 use Rattle.pm_driver.specs.Acts.{Call}
-use Rattle.pm_driver.specs.Courses.{Courses, no_job, one_more}
 use Rattle.pm_driver.specs.Driven.{Driving, HasLife, Runs}
 use Rattle.pm_driver.specs.Rails.{asks_in, surveyed_by}
 use Rattle.pm_driver.specs.Undisturbed.{AreUndisturbed}
 use Rattle.pm_driver.specs.UndisturbedCourses.{words_of}
 use Rattle.pm_driver.specs.UndisturbedJobs.{IsOrdered, UndisturbedJobs}
-use Rattle.pm_driver.proofs.CourseSteps.{last-none}
-use Rattle.pm_driver.proofs.Places.{cell_of, one-place, same_place, two-places}
+use Rattle.pm_driver.proofs.Places.{cell_of, same_place, two-places}
 use Rattle.pm_driver.proofs.PowerReads.{Tells, left_of, stray}
-use Rattle.pm_driver.proofs.PowerSteps.{Here, PowerStep, as-at, begins-here, byte_of, nothing-here, order-left, order-tells, power-step, power_need}
-use Rattle.pm_driver.proofs.SurveySteps.{Calm, ReadLaws, accepts, in-range, is_learned, life-on, true-format}
-use Rattle.pm_driver.proofs.SurveyTruth.{known-is, none-some, operation-is, read-is, unstuck}
-use Rattle.pm_driver.proofs.Surveyed.{asked-output, asked-plan}
+use Rattle.pm_driver.proofs.PowerSteps.{Here, PowerStep, as-at, begins-here, byte_of, order-left, order-tells, power-step, power_need}
+use Rattle.pm_driver.proofs.SurveySteps.{Calm, ReadLaws, accepts, in-range, is_learned, life-on}
+use Rattle.pm_driver.proofs.SurveyTruth.{known-is, none-some, read-is, unstuck}
+use Rattle.pm_driver.proofs.Surveyed.{asked-output}
 
 module _ (laws : ReadLaws) {B : Type 0} (gives : B → Call → B → Type 0) (held : B → Converter) (restarts : B → ℕ)
     (jobs : UndisturbedJobs gives held restarts) (is_so : B → Bool) (all : AreUndisturbed gives held is_so)

@@ -1,13 +1,11 @@
 -- A course that turns an output on, or changes what it is on with, ends over a bus whose calls nothing disturbs.
-use Rattle.std.specs.Prelude.{◌≡◌, ◌≢◌, ◌≤◌, ◌<◌, ◌+◌, ◌-◌, ◌==◌, ◌&&◌, ◌⊎◌, ℕ, Bool, true, false, not, nat_lt, if◌then◌else◌, refl, List, [], ◌∷◌, Option, Some, None, Ok, Err, Result, is_some, slice_index_or}
-use Rattle.std.proofs.Common.{arith, sym, ◌∙◌, ap, ap₂, subst, inl, inr}
-use Rattle.std.proofs.lemmas.Bool.{eq-eqb, lt-ltb}
+use Rattle.std.specs.Prelude.{◌≡◌, ◌==◌, ◌⊎◌, ℕ, Bool, true, false, if◌then◌else◌, refl, Option, Some, None, Ok}
+use Rattle.std.proofs.Common.{arith, sym, ◌∙◌, ap, subst, inl, inr}
+use Rattle.std.proofs.lemmas.Bool.{eq-eqb}
 use Rattle.std.proofs.lemmas.Bool.Decides.{nat_tests}
-use Rattle.pm_table.specs.declared.cell.Cell.{Cell}
 use Rattle.pm_table.specs.declared.cell.Cell.TheVariants.{Out, Protect}
-use Rattle.pm_table.specs.declared.reg.Reg.{Reg}
 use Rattle.pm_table.specs.declared.reg.Reg.TheVariants.{Operation}
-use Rattle.pm_table.specs.Cell.{IsCell, cell_code, same_register}
+use Rattle.pm_table.specs.Cell.{cell_code}
 use Rattle.pm_table.specs.Operation.{has_on, selected_register}
 use Rattle.pm_table.specs.Protection.{is_allowed}
 use Rattle.pm_model.specs.Settings.{word_at}
@@ -30,11 +28,11 @@ use Rattle.pm_rail.specs.Lemmas.Says.{asks-due, taken}
 use Rattle.pm_rail.specs.Survey.{due_job}
 use Rattle.pm_driver.specs.Acts.{Call}
 use Rattle.pm_driver.specs.Courses.{Courses, no_job, one_more}
-use Rattle.pm_driver.specs.Driven.{Driving, HasLife, Runs}
+use Rattle.pm_driver.specs.Driven.{Driving, Runs}
 use Rattle.pm_driver.specs.Undisturbed.{AreUndisturbed}
 use Rattle.pm_driver.specs.UndisturbedCourses.{words_of}
 use Rattle.pm_driver.specs.UndisturbedJobs.{UndisturbedJobs}
-use Rattle.pm_driver.proofs.PowerCourse.{Enough, OnPower, due_order, need_of, order-held, order-power, read-power, renewed-power, says-power, switch}
+use Rattle.pm_driver.proofs.PowerCourse.{Enough, OnPower, need_of, order-held, order-power, read-power, renewed-power, says-power}
 use Rattle.pm_driver.proofs.PowerReads.{PowerKind, checks, learns, power-kind}
 use Rattle.pm_driver.proofs.PowerSteps.{byte_of, nothing-here}
 use Rattle.pm_driver.proofs.SurveySteps.{ReadLaws}

@@ -1,11 +1,10 @@
 -- How a course to a byte of OPERATION ends over a bus whose calls nothing disturbs.
-use Rattle.std.specs.Prelude.{◌≡◌, ◌≢◌, ◌≤◌, ◌<◌, ◌+◌, ◌-◌, ◌==◌, ◌&&◌, ◌||◌, ◌⊎◌, ℕ, Bool, true, false, not, nat_lt, if◌then◌else◌, refl, List, [], ◌∷◌, Option, Some, None, Ok, Err, Result, is_none, is_some, slice_index_or}
+use Rattle.std.specs.Prelude.{◌≡◌, ◌≢◌, ◌≤◌, ◌<◌, ◌+◌, ◌-◌, ◌==◌, ◌&&◌, ℕ, Bool, true, false, not, nat_lt, if◌then◌else◌, refl, List, [], ◌∷◌, Option, Some, None, Ok, Result, is_some, slice_index_or}
 use Rattle.std.specs.Option.{option_map_or}
 use Rattle.std.proofs.Common.{arith, sym, ◌∙◌, ap, ap₂, subst, inl, inr}
 use Rattle.std.proofs.Math.Path.{fun_ext}
-use Rattle.std.proofs.lemmas.Bool.{eq-eqb, lt-ltb, or_right}
+use Rattle.std.proofs.lemmas.Bool.{lt-ltb, or_right}
 use Rattle.std.proofs.lemmas.Bool.Decides.{nat_tests}
-use Rattle.pm_num.specs.AnyFormat.{Shape}
 use Rattle.pm_table.specs.declared.cell.Cell.{Cell}
 use Rattle.pm_table.specs.declared.cell.Cell.TheVariants.{Out, Protect}
 use Rattle.pm_table.specs.declared.operation.Operation.{Operation as Byte}
@@ -24,7 +23,6 @@ use Rattle.pm_host.specs.declared.fault.HostFault.TheVariants.{Busy, UnknownOutp
 use Rattle.pm_host.specs.declared.job.Job.{Job as Asked}
 use Rattle.pm_host.specs.declared.job.Job.TheVariants.{Order}
 use Rattle.pm_host.specs.declared.job.JobEnd.{JobEnd}
-use Rattle.pm_host.specs.declared.job.JobEnd.TheVariants.{Done}
 use Rattle.pm_host.specs.declared.knowledge.Possible.{Possible}
 use Rattle.pm_host.specs.Known.{HasPlaces}
 use Rattle.pm_host.specs.Possible.{has_room, is_listed, only}
@@ -45,10 +43,10 @@ use Rattle.pm_rail.specs.declared.course.Differing.{Differing}
 use Rattle.pm_rail.specs.declared.fault.PlanFault.TheVariants as plan
 use Rattle.pm_rail.specs.declared.next.Next.{Next}
 use Rattle.pm_rail.specs.declared.next.Next.TheVariants.{Job, Ended}
-use Rattle.pm_rail.specs.Course.{after_by, going, going_to, naming, next_by, once_more, power_course_of, reading, renewed, says, taking, told_of, turning_off}
+use Rattle.pm_rail.specs.Course.{after_by, going, going_to, naming, next_by, power_course_of, reading, renewed, says, taking, told_of, turning_off}
 use Rattle.pm_rail.specs.Lemmas.AskedFree.{asked-free}
-use Rattle.pm_rail.specs.Lemmas.Says.{asks-due, off-job, renewed-none, renewed-so}
-use Rattle.pm_rail.specs.Plan.{commands_by, put}
+use Rattle.pm_rail.specs.Lemmas.Says.{asks-due, renewed-none, renewed-so}
+use Rattle.pm_rail.specs.Plan.{commands_by}
 use Rattle.pm_rail.specs.Registers.{Held}
 use Rattle.pm_rail.specs.Survey.{due_job, survey_of}
 use Rattle.pm_driver.specs.Acts.{Call}
@@ -56,8 +54,8 @@ use Rattle.pm_driver.specs.Courses.{Completes, Courses, ends, no_job, one_more, 
 use Rattle.pm_driver.specs.Driven.{Driving, HasLife, Runs}
 use Rattle.pm_driver.specs.Undisturbed.{AreUndisturbed}
 use Rattle.pm_driver.specs.UndisturbedCourses.{words_of}
-use Rattle.pm_driver.specs.UndisturbedJobs.{IsOrdered, UndisturbedJobs}
-use Rattle.pm_driver.specs.UndisturbedPower.{IsHeld, IsSwitched, SwitchesBy, UndisturbedPowerEnds, power_tries}
+use Rattle.pm_driver.specs.UndisturbedJobs.{UndisturbedJobs}
+use Rattle.pm_driver.specs.UndisturbedPower.{IsHeld, IsSwitched, SwitchesBy, UndisturbedPowerEnds}
 use Rattle.pm_driver.proofs.FewChecks.{life-places}
 use Rattle.pm_driver.proofs.Places.{one-place}
 use Rattle.pm_driver.proofs.PowerCourse.{Enough, OnPower, operation-only}

@@ -1,10 +1,9 @@
 -- Which registers a survey for no plan reads, by the words that are held, and what one good answer leaves to read.
-use Rattle.std.specs.Prelude.{◌≡◌, ◌≤◌, ◌<◌, ◌+◌, ◌-◌, ◌&&◌, ◌||◌, ◌⊎◌, ℕ, Bool, true, false, not, cond, if◌then◌else◌, refl, find, List, [], ◌∷◌, Option, Some, None, is_none, is_some, option_map, unwrap_or}
+use Rattle.std.specs.Prelude.{◌≡◌, ◌≤◌, ◌<◌, ◌+◌, ◌-◌, ◌&&◌, ◌||◌, ◌⊎◌, ℕ, Bool, true, false, not, cond, if◌then◌else◌, refl, find, [], ◌∷◌, Option, Some, None, is_none, is_some, option_map, unwrap_or}
 use Rattle.std.specs.Option.{option_map_or, option_or}
 use Rattle.std.proofs.Common.{arith, sym, ◌∙◌, ap, ap₂, subst, inl, inr}
 use Rattle.std.proofs.lemmas.Bool.{not-false, not-true}
 use Rattle.pm_num.specs.AnyFormat.{Shape}
-use Rattle.pm_table.specs.declared.cell.Cell.{Cell}
 use Rattle.pm_table.specs.declared.cell.Cell.TheVariants.{Out, Protect}
 use Rattle.pm_table.specs.declared.reg.Reg.{Reg}
 use Rattle.pm_table.specs.declared.reg.Reg.TheVariants.{Operation, VoutCommand, VoutMax, MarginHigh, MarginLow, VoutMin}
@@ -26,8 +25,8 @@ use Rattle.pm_limits.specs.Lemmas.Selected.{each-selected}
 use Rattle.pm_rail.specs.declared.survey.Reads.{Reads}
 use Rattle.pm_rail.specs.declared.survey.Survey.{Survey}
 use Rattle.pm_rail.specs.declared.wanted.Wanted.{Wanted}
-use Rattle.pm_rail.specs.Known.{Cells, cells_of, known_at, known_of, known_word}
-use Rattle.pm_rail.specs.Lemmas.Known.{all-off, not-second}
+use Rattle.pm_rail.specs.Known.{cells_of, known_at, known_of, known_word}
+use Rattle.pm_rail.specs.Lemmas.Known.{all-off}
 use Rattle.pm_rail.specs.Lemmas.Steps.{first-of, second-of}
 use Rattle.pm_rail.specs.Lemmas.Surveyed.{found, has-none}
 use Rattle.pm_rail.specs.Orders.{is_needed}

@@ -1,21 +1,19 @@
 -- The jobs of a course that turns an output on, or changes what it is on with, over a bus whose calls nothing disturbs.
-use Rattle.std.specs.Prelude.{◌≡◌, ◌≢◌, ◌≤◌, ◌<◌, ◌+◌, ◌-◌, ◌==◌, ◌&&◌, ◌||◌, ◌⊎◌, ℕ, Bool, true, false, not, cond, if◌then◌else◌, refl, List, Option, Some, None, Ok, is_none, is_some, unwrap_or, slice_index_or}
+use Rattle.std.specs.Prelude.{◌≡◌, ◌≤◌, ◌<◌, ◌+◌, ◌==◌, ◌&&◌, ◌⊎◌, ℕ, Bool, true, false, not, cond, if◌then◌else◌, refl, List, Option, Some, None, Ok, is_none, is_some, unwrap_or, slice_index_or}
 use Rattle.std.proofs.Common.{arith, sym, ◌∙◌, ap, ap₂, subst, inl, inr}
 use Rattle.std.proofs.lemmas.Bool.Decides.{nat_tests}
 use Rattle.pm_num.specs.AnyFormat.{Shape}
-use Rattle.pm_table.specs.declared.cell.Cell.{Cell}
-use Rattle.pm_table.specs.declared.cell.Cell.TheVariants.{Out, Protect}
+use Rattle.pm_table.specs.declared.cell.Cell.TheVariants.{Out}
 use Rattle.pm_table.specs.declared.reg.Reg.{Reg}
 use Rattle.pm_table.specs.declared.reg.Reg.TheVariants.{Operation, VoutCommand, VoutMax, MarginHigh, MarginLow, VoutMin}
-use Rattle.pm_table.specs.Cell.{IsCell, cell_accepts, cell_code, same_register}
+use Rattle.pm_table.specs.Cell.{cell_accepts, same_register}
 use Rattle.pm_table.specs.Laws.{CellsAreToldApart, CellsHavePlaces}
 use Rattle.pm_table.specs.Operation.{selected_register}
-use Rattle.pm_table.specs.Protection.{is_allowed}
 use Rattle.pm_model.specs.Settings.{Words, word_at}
 use Rattle.pm_device.specs.declared.config.Config.{Config}
 use Rattle.pm_device.specs.Held.{Held as Converter, shape_for}
 use Rattle.pm_host.specs.declared.job.Job.{Job as Asked}
-use Rattle.pm_host.specs.declared.job.Job.TheVariants.{Check, Learn, Order}
+use Rattle.pm_host.specs.declared.job.Job.TheVariants.{Check, Learn}
 use Rattle.pm_host.specs.declared.job.JobEnd.{JobEnd}
 use Rattle.pm_host.specs.declared.knowledge.Possible.{Possible}
 use Rattle.pm_host.specs.Known.{HasPlaces, Known, known_after, known_possible}
@@ -34,11 +32,10 @@ use Rattle.pm_driver.specs.Driven.{Driving, HasLife, Runs}
 use Rattle.pm_driver.specs.Rails.{asks_in, surveyed_by}
 use Rattle.pm_driver.specs.Undisturbed.{AreUndisturbed}
 use Rattle.pm_driver.specs.UndisturbedCourses.{words_of}
-use Rattle.pm_driver.specs.UndisturbedJobs.{IsOrdered, UndisturbedJobs}
-use Rattle.pm_driver.proofs.FewChecks.{life-places}
-use Rattle.pm_driver.proofs.Places.{below, cell_of, each-place, either, has_at, is-known, none-of, none-read, once, one-place, same-itself, order-only, order-others, order-whole, same_place, total, two-places}
-use Rattle.pm_driver.proofs.PowerReads.{AfterOne, PowerKind, Tells, Why, after-one, and-false, checks, four, is_stray, knows_at, learns, left_of, matters, power-kind, stray}
-use Rattle.pm_driver.proofs.SurveySteps.{At, Calm, Knows, ReadLaws, accepts, in-range, is_learned, life-on, settled, true-format}
+use Rattle.pm_driver.specs.UndisturbedJobs.{UndisturbedJobs}
+use Rattle.pm_driver.proofs.Places.{below, cell_of, each-place, either, has_at, is-known, none-of, none-read, once, one-place, same-itself, order-only, order-others, order-whole, same_place, total}
+use Rattle.pm_driver.proofs.PowerReads.{PowerKind, Tells, Why, after-one, and-false, checks, four, is_stray, knows_at, learns, left_of, matters, power-kind, stray}
+use Rattle.pm_driver.proofs.SurveySteps.{At, Calm, ReadLaws, accepts, in-range, is_learned, life-on, settled}
 use Rattle.pm_driver.proofs.SurveyTruth.{none-some, only-possible}
 
 -- ---- Where a survey for no plan is ----

@@ -1,23 +1,15 @@
 -- A check and a learn over a bus whose calls nothing disturbs.
-use Rattle.std.proofs.Common.{◌≡◌, ◌≢◌, ◌⊎◌, arith, cond, eqb, ℕ, Bool, true, false, List, [], ◌∷◌, ◌++◌, Option, Some, None, length}
-use Rattle.std.proofs.Common.{is_none, is_some, refl, sym, ◌∙◌, ap, ap₂, subst, inl, inr, Result, Ok, Err}
-use Rattle.std.specs.Prelude.{option_map}
-use Rattle.std.specs.Result.{result_ok}
+use Rattle.std.proofs.Common.{◌≡◌, ◌≢◌, ◌⊎◌, arith, ℕ, Bool, true, List, [], ◌∷◌, Option, Some, None, length}
+use Rattle.std.proofs.Common.{is_some, refl, sym, ◌∙◌, ap, subst, inl, inr, Result, Ok, Err}
 use Rattle.std.proofs.lemmas.List.{length-replicate}
-use Rattle.pm_num.specs.AnyFormat.{Shape, InUlinear16}
+use Rattle.pm_num.specs.AnyFormat.{Shape}
 use Rattle.pm_table.specs.declared.cell.Cell.{Cell}
 use Rattle.pm_table.specs.declared.fault.TableFault.{TableFault}
 use Rattle.pm_table.specs.declared.vout_mode.VoutMode.{VoutMode}
 use Rattle.pm_table.specs.declared.vout_mode.VoutMode.TheVariants.{Linear, Direct}
-use Rattle.pm_table.specs.Coefficients.{coefficients_of}
-use Rattle.pm_table.specs.Format.{shape_in}
 use Rattle.pm_table.specs.VoutMode.{mode_of}
-use Rattle.pm_frame.specs.declared.fault.FrameFault.{FrameFault}
-use Rattle.pm_frame.specs.declared.message.Message.{Message}
-use Rattle.pm_frame.specs.Fault.{address_fault, answer_fault, length_fault, whole_answer}
-use Rattle.pm_frame.specs.Layout.{is_read_message, read_address}
-use Rattle.pm_frame.specs.Lemmas.{length_fault-found}
-use Rattle.pm_frame.specs.View.{answer_payload}
+use Rattle.pm_frame.specs.Fault.{whole_answer}
+use Rattle.pm_frame.specs.Layout.{is_read_message}
 use Rattle.pm_model.specs.Settings.{Words, word_at}
 use Rattle.pm_device.specs.declared.config.Config.{Config}
 use Rattle.pm_device.specs.Effect as device
@@ -29,42 +21,35 @@ use Rattle.pm_host.specs.declared.job.JobEnd.TheVariants.{Done, Learned, Unknown
 use Rattle.pm_host.specs.declared.question.Question.{Question}
 use Rattle.pm_host.specs.declared.question.Question.TheVariants.{Word, Mode, Coefficients}
 use Rattle.pm_host.specs.declared.stage.Stage.TheVariants.{Asks}
-use Rattle.pm_host.specs.declared.host.Step.TheVariants.{Ended, Next}
 use Rattle.pm_host.specs.Lemmas.{reads_cell}
-use Rattle.pm_host.specs.Answers.{good_payload, good_word, word_in}
+use Rattle.pm_host.specs.Answers.{good_payload, good_word}
 use Rattle.pm_host.specs.Frames.{frames_left}
-use Rattle.pm_host.specs.Known.{known_after}
-use Rattle.pm_host.specs.Marks.{Good}
 use Rattle.pm_host.specs.Messages.{cell_read, coefficients_read, mode_read}
 use Rattle.pm_host.specs.Question.{question_message}
-use Rattle.pm_host.specs.Refusals.{cell_fault, is_busy, job_fault, output_fault}
-use Rattle.pm_host.specs.Summary.{Change, Summary, asked, change, ends, format_at, goes_on, idle, learned, mode_taken, next as host_next, step_of}
-use Rattle.pm_host.specs.Transcript.{Check, Got, Job, Learn, Setup, end_of}
+use Rattle.pm_host.specs.Refusals.{job_fault}
+use Rattle.pm_host.specs.Summary.{Change, Summary, change, format_at, next as host_next, step_of}
+use Rattle.pm_host.specs.Transcript.{Check, Got, Job, Learn, Setup}
 use Rattle.pm_world.specs.declared.event.Arrival.TheVariants.{Whole}
 use Rattle.pm_world.specs.declared.event.Back.TheVariants as back
 use Rattle.pm_world.specs.declared.event.Event.{Event}
 use Rattle.pm_world.specs.declared.event.Event.TheVariants as event
 use Rattle.pm_world.specs.GoodBus.{WasLearned, stage_after}
 use Rattle.pm_world.specs.GoodTurns.{Ends, GoesOn, OpenJobsEnd, Turns, mode_turn, turn_of}
-use Rattle.pm_world.specs.Lemmas.{now-config}
 use Rattle.pm_world.specs.Life.{life, now}
-use Rattle.pm_world.specs.Setup.{setup_of}
 use Rattle.pm_world.specs.State.{end_by}
 use Rattle.pm_world.specs.Uncertainty.{job_event}
-use Rattle.pm_driver.specs.Acts.{Act, AreCalls, AreDone, Began, Call, Called, Looked, MayDo, Read, Renewed, Wrote, asked_in, host_by}
-use Rattle.pm_driver.specs.Acts.{told_all}
-use Rattle.pm_driver.specs.Bus.{IsAsked, answer_of}
+use Rattle.pm_driver.specs.Acts.{Act, Began, Call, Called, MayDo, Read, Wrote, host_by}
+use Rattle.pm_driver.specs.Bus.{answer_of}
 use Rattle.pm_driver.specs.Driven.{Driving, HasLife, Runs, driven}
-use Rattle.pm_driver.specs.Lives.{EndsSo, Goes, IsLife, Leads}
+use Rattle.pm_driver.specs.Lives.{EndsSo, Goes, Leads}
 use Rattle.pm_driver.specs.Undisturbed.{AreUndisturbed, IsUndisturbed, asked_whole}
 use Rattle.pm_driver.specs.UndisturbedJobs.{IsChecked, IsLearned}
 use Rattle.pm_driver.proofs.BegunJobs.{job-goes, life-shape}
 use Rattle.pm_driver.proofs.Grown.{life-setup}
-use Rattle.pm_driver.proofs.EndedJobs.{now-end}
 use Rattle.pm_driver.proofs.SurveyRuns.{words-now}
 use Rattle.pm_driver.proofs.UndisturbedActs.{Learns, Ran, acts-by, again, asking, cell-idle, check-next, checked, ends-as, good-fits, got, learns-by-coefficients, learns-by-mode, more, never, next-config, output-idle, payload-long, read-so}
 use Rattle.pm_driver.proofs.UndisturbedOrders.{Below, not-idle}
-use Rattle.pm_driver.proofs.WithinLimits.{first-none, guard-free, later-none}
+use Rattle.pm_driver.proofs.WithinLimits.{guard-free}
 
 module _ (laws : Below) (turns : OpenJobsEnd) (first : Summary) (start : Held) (has : HasLife first start) where
   abbrev config : Config
