@@ -54,7 +54,7 @@ use Rattle.pm_driver.proofs.CourseSteps.{On}
 use Rattle.pm_driver.proofs.FewChecks.{life-places}
 use Rattle.pm_driver.proofs.Followed.{host-is}
 use Rattle.pm_driver.proofs.Idle.{no_frame}
-use Rattle.pm_driver.proofs.Places.{Kind, below, cell_of, checks, has-and, has_at, kind, learns, none-read, one-place, same_place, seven, total}
+use Rattle.pm_driver.proofs.Places.{Kind, below, cell_of, checks, has-and, has_at, kind, learns, none-read, other-place, same_place, seven, total}
 use Rattle.pm_driver.proofs.PlanTruth.{five-dues}
 use Rattle.pm_driver.proofs.SurveySteps.{ReadLaws, is_learned, life-on, settled, todo, true-format}
 
@@ -120,7 +120,7 @@ module _ (laws : ReadLaws) (transcripts : TranscriptsAreFollowed) {B : Type 0} (
     read-is = ap (λ (c : Cell). has_at (and_read v.read c) q) (sym at) ∙ has-and v.read output why.place q
 
     go : (b : Bool) → same_place why.place q ≡ b → (has_at v.read q ≡ true) ⊎ ((Check cell ≡ Check (cell_of output q)) × (Done ≡ Done))
-    go true e = inr (ap (λ (c : Cell). Check c) (sym at ∙ ap (cell_of output) (one-place why.place q e)), refl)
+    go true e = inr (ap (λ (c : Cell). Check c) (sym at ∙ ap (cell_of output) (sym (other-place why.place q e))), refl)
     go false e = inl (ap (λ (b : Bool). b || has_at v.read q) (sym e) ∙ sym read-is ∙ is)
 
   -- the course as it is asked

@@ -21,8 +21,8 @@ use Rattle.pm_rail.specs.Plan.{is_due}
 use Rattle.pm_rail.specs.Registers.{Held, wants_of}
 use Rattle.pm_driver.proofs.Places.{below, cell_of, each-place, has_at, is-known, order-only, order-others, order-whole, same_place}
 use Rattle.pm_driver.proofs.PlanTruth.{due-wanted}
-use Rattle.pm_driver.proofs.SurveySteps.{Calm, Knows, settled, todo}
-use Rattle.pm_driver.proofs.SurveyTruth.{Allows, none-some, only-possible}
+use Rattle.pm_driver.proofs.SurveySteps.{Calm, Knows, none-some, only-possible, settled, todo}
+use Rattle.pm_driver.proofs.SurveyTruth.{Allows}
 
 -- ---- What an order makes of what is known ----
 
@@ -74,7 +74,7 @@ module _ (apart : CellsAreToldApart) (law : CellsHavePlaces) (output : ℕ) (sma
       own true e is = let bad : false ≡ true = sym (ap not there') ∙ is in cc
       own false e is = refl
 
--- where no register is protected, WRITE_PROTECT allows each that is due
+-- WRITE_PROTECT allows each register that is due, if none is protected
 pub allows : (protect : ℕ) (held : Held) (wanted : Wanted) → protection_fault protect held (wants_of wanted) ≡ None →
     Allows protect held (wants_of wanted)
 allows protect held wanted free r due = by r (is_voltage r) refl due where

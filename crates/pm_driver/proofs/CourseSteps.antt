@@ -55,7 +55,7 @@ use Rattle.pm_driver.specs.Undisturbed.{AreUndisturbed}
 use Rattle.pm_driver.specs.UndisturbedCourses.{FitsPart, held_fault, words_of}
 use Rattle.pm_driver.specs.UndisturbedJobs.{IsOrdered, UndisturbedJobs}
 use Rattle.pm_driver.proofs.CourseOrders.{allows, order-knows, order-todo}
-use Rattle.pm_driver.proofs.Places.{below, cell_of, none-read, one-place, same_place, seven, total, two-places}
+use Rattle.pm_driver.proofs.Places.{below, cell_of, none-read, other-place, same_place, seven, total, two-cells}
 use Rattle.pm_driver.proofs.PlanTruth.{due-before, due-wanted, dues, fewer, first-none-of, goal-stays, next-is-due, none-due, none-next, none-three, three-none, words-stay}
 use Rattle.pm_driver.proofs.Surveyed.{asked-output, asked-plan}
 use Rattle.pm_driver.proofs.SurveySteps.{At, Knows, ReadLaws, accepts, in-range, is_learned, life-on, need, settled, survey-step, todo}
@@ -319,7 +319,7 @@ module _ (laws : ReadLaws) (end_known : SurveysEndKnown) {B : Type 0} (gives : B
           (sym on.own) is
 
       differs : (o : ℕ) (q : Option Reg) → same_place (Some r) q ≡ false → cell_of o q ≢ Out o r
-      differs o q two same = let bad = sym (two-places laws.apart o (Some r) q (sym same)) ∙ two in cc
+      differs o q two same = two-cells laws.apart o (Some r) q two (sym same)
 
       there' : (q : Option Reg) → IsCell old.guard.host.setup.outputs (cell_of course.survey.output q)
       there' (Some x) = on.at.there
@@ -362,7 +362,7 @@ module _ (laws : ReadLaws) (end_known : SurveysEndKnown) {B : Type 0} (gives : B
         at-one : (q : Reg) (b : Bool) → same_register r q ≡ b → word_at (held new.bus).words (Out output q)
             ≡ (if b then goal_of (of_output (held old.bus).words) wanting r else word_at (held old.bus).words (Out output q))
         at-one q true e = ap (λ (o : Option Reg). word_at (held new.bus).words (Out output (unwrap_or o r)))
-            (sym (one-place (Some r) (Some q) e)) ∙ is.takes
+            (other-place (Some r) (Some q) e) ∙ is.takes
         at-one q false e = is.others (Out output q) (differs output (Some q) e)
             (subst (λ (o : ℕ). o < old.guard.host.setup.outputs) on.own on.at.there)
 
@@ -390,7 +390,7 @@ module _ (laws : ReadLaws) (end_known : SurveysEndKnown) {B : Type 0} (gives : B
 
         go : (b : Bool) → same_register r q ≡ b → word_at (held new.bus).words (Out output q) ≡ w
         go true e =
-            let same : Some r ≡ Some q = one-place (Some r) (Some q) e in
+            let same : Some r ≡ Some q = sym (other-place (Some r) (Some q) e) in
             let has : has_register part q ≡ true = subst (λ (o : Option Reg). has_register part (unwrap_or o r) ≡ true) same has-it in
             let bad = sym lacks-old ∙ has-none part (shape_for (held old.bus).config output) q has in cc
         go false e = is.others (Out output q) (differs output (Some q) e)

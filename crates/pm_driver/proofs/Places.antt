@@ -64,15 +64,15 @@ unfoldable pub total : (Option Reg → Bool) → ℕ
 total test = tally test (with_protect registers)
 
 -- a place is itself alone
-pub one-place : (p q : Option Reg) → same_place p q ≡ true → p ≡ q
-one-place (Some Operation) (Some Operation) h = refl
-one-place (Some VoutCommand) (Some VoutCommand) h = refl
-one-place (Some VoutMax) (Some VoutMax) h = refl
-one-place (Some MarginHigh) (Some MarginHigh) h = refl
-one-place (Some MarginLow) (Some MarginLow) h = refl
-one-place (Some VoutMin) (Some VoutMin) h = refl
-one-place None None h = refl
-one-place p q h = cc
+pub other-place : (p q : Option Reg) → same_place p q ≡ true → q ≡ p
+other-place (Some Operation) (Some Operation) h = refl
+other-place (Some VoutCommand) (Some VoutCommand) h = refl
+other-place (Some VoutMax) (Some VoutMax) h = refl
+other-place (Some MarginHigh) (Some MarginHigh) h = refl
+other-place (Some MarginLow) (Some MarginLow) h = refl
+other-place (Some VoutMin) (Some VoutMin) h = refl
+other-place None None h = refl
+other-place p q h = cc
 
 -- each place stands once in the list
 pub once : (p : Option Reg) → total (same_place p) ≡ 1
@@ -100,7 +100,7 @@ more-in p q at others off on (x ∷ xs) = go (more-in p q at others off on xs) (
   go : tally q xs ≡ tally (same_place at) xs + tally p xs → (b : Bool) → same_place at x ≡ b → cond (q x) (1 + tally q xs) (tally q xs)
       ≡ cond b (1 + tally (same_place at) xs) (tally (same_place at) xs) + cond (p x) (1 + tally p xs) (tally p xs)
   go rest true e =
-      let one = one-place at x e in
+      let one = sym (other-place at x e) in
       let is_on : q x ≡ true = subst (λ (y : Option Reg). q y ≡ true) one on in
       let is_off : p x ≡ false = subst (λ (y : Option Reg). p y ≡ false) one off in
       rw (is_on, is_off) (omega arith)
@@ -262,12 +262,13 @@ pub there : (output : ℕ) (p : Option Reg) → output < 8 → IsCell 8 (cell_of
 there output (Some register) h = h
 there output None h = tt
 
--- the cells of an output are told apart
-pub two-places : CellsAreToldApart → (output : ℕ) (p q : Option Reg) → cell_of output p ≡ cell_of output q → same_place p q ≡ true
-two-places apart output (Some r) (Some x) e = second-of (output == output) _ ((apart (Out output r) (Out output x)).1 e)
-two-places apart output (Some r) None e = (apart (Out output r) Protect).1 e
-two-places apart output None (Some x) e = (apart Protect (Out output x)).1 e
-two-places apart output None None e = refl
+-- cells of an output at two places are two
+pub two-cells : CellsAreToldApart → (output : ℕ) (p q : Option Reg) → same_place p q ≡ false → cell_of output p ≢ cell_of output q
+two-cells apart output (Some r) (Some x) two e =
+    let bad = sym (second-of (output == output) _ ((apart (Out output r) (Out output x)).1 e)) ∙ two in cc
+two-cells apart output (Some r) None two e = let bad = (apart (Out output r) Protect).1 e in cc
+two-cells apart output None (Some x) two e = let bad = (apart Protect (Out output x)).1 e in cc
+two-cells apart output None None two e = cc
 
 module _ (apart : CellsAreToldApart) (law : CellsHavePlaces) (k : Known) (whole : HasPlaces k) (output : ℕ) (small : output < 8) where
   abbrev after : Option Reg → ℕ → Known
@@ -287,14 +288,14 @@ module _ (apart : CellsAreToldApart) (law : CellsHavePlaces) (k : Known) (whole 
       (law.below (cell_of output p) (there output p small)) in
       get_or-set_same list (place_of (cell_of output p)) (only word) Any fits
 
-  -- where it was possible, the others stay
+  -- the other cells stay as they are known, if the word was possible
   pub others-stay : (p q : Option Reg) (word : ℕ) → is_possible word (known_possible k (cell_of output p)) ≡ true → same_place p q ≡ false →
       known_possible (known_after k (Good (cell_of output p) word)) (cell_of output q) ≡ known_possible k (cell_of output q)
   others-stay p q word expected two =
       let differ : place_of (cell_of output q) ≢ place_of (cell_of output p) = λ same.
       let one : cell_of output p ≡ cell_of output q = sym (law.back (cell_of output p) (there output p small))
       ∙ ap (λ (n : ℕ). cell_in n) (sym same) ∙ law.back (cell_of output q) (there output q small) in
-      let bad = sym (two-places apart output p q one) ∙ two in cc in
+      two-cells apart output p q two one in
       get_or-set_other (if is_possible word (known_possible k (cell_of output p)) then k.possible else all_any)
       (place_of (cell_of output p)) (place_of (cell_of output q)) (only word) Any differ
       ∙ ap (λ (b : Bool). slice_index_or (if b then k.possible else all_any) (place_of (cell_of output q)) Any) expected
@@ -350,7 +351,7 @@ module _ (apart : CellsAreToldApart) (law : CellsHavePlaces) (k : Known) (whole 
       (joined (known_possible k (cell_of output p)) word) Any (λ same.
       let one : cell_of output p ≡ cell_of output q = sym (law.back (cell_of output p) (there output p small))
       ∙ ap (λ (n : ℕ). cell_in n) (sym same) ∙ law.back (cell_of output q) (there output q small) in
-      let bad = sym (two-places apart output p q one) ∙ two in cc)
+      two-cells apart output p q two one)
 
   expected-put : is_possible word (known_possible put (cell_of output p)) ≡ true
   expected-put = ap (λ (o : Possible). is_possible word o) put-here ∙ joined-possible (known_possible k (cell_of output p)) word
@@ -366,7 +367,7 @@ module _ (apart : CellsAreToldApart) (law : CellsHavePlaces) (k : Known) (whole 
   pub order-whole : HasPlaces (known_after put (Good (cell_of output p) word))
   order-whole = still-whole apart law put put-whole output small p word
 
--- where a good answer surprises, any word is possible of each other cell
+-- each other cell may hold any word, if a good answer surprises
 pub others-any : CellsAreToldApart → CellsHavePlaces → (k : Known) (output : ℕ) → output < 8 → (p q : Option Reg) (word : ℕ) →
     is_possible word (known_possible k (cell_of output p)) ≡ false → same_place p q ≡ false →
     known_possible (known_after k (Good (cell_of output p) word)) (cell_of output q) ≡ Any
@@ -376,7 +377,7 @@ others-any apart law k output small p q word surprise two =
     (place_of (cell_of output p)) (place_of (cell_of output q)) (only word) Any (λ same.
     let one : cell_of output p ≡ cell_of output q = sym (law.back (cell_of output p) (there output p small))
     ∙ ap (λ (n : ℕ). cell_in n) (sym same) ∙ law.back (cell_of output q) (there output q small) in
-    let bad = sym (two-places apart output p q one) ∙ two in cc)
+    two-cells apart output p q two one)
     ∙ (ap (λ (b : Bool). slice_index_or (if b then k.possible else all_any) (place_of (cell_of output q)) Any) surprise
     ∙ get_or-replicate places (place_of (cell_of output q)) Any Any (law.below (cell_of output q) (there output q small)))
 
@@ -400,7 +401,7 @@ none-of test none p = go (test p) refl where
   go : (b : Bool) → test p ≡ b → b ≡ false
   go true e =
       let one : total (same_place p) ≤ total test = below test (same_place p)
-      (λ x h. ap test (sym (one-place p x h)) ∙ e) in
+      (λ x h. ap test (other-place p x h) ∙ e) in
       let is = once p in absurd (omega arith)
   go false e = refl
 
@@ -409,7 +410,7 @@ pub each-place : (P : Option Reg → Type 0) (p : Option Reg) → P p → ((q : 
     (q : Option Reg) → P q
 each-place P p own other q = go (same_place p q) refl where
   go : (b : Bool) → same_place p q ≡ b → P q
-  go true e = subst P (one-place p q e) own
+  go true e = subst P (sym (other-place p q e)) own
   go false e = other q e
 
 -- what passes a test passes one of two others

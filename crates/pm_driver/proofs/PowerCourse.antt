@@ -49,11 +49,11 @@ use Rattle.pm_driver.specs.Rails.{asks_in, surveyed_by}
 use Rattle.pm_driver.specs.Undisturbed.{AreUndisturbed}
 use Rattle.pm_driver.specs.UndisturbedCourses.{words_of}
 use Rattle.pm_driver.specs.UndisturbedJobs.{IsOrdered, UndisturbedJobs}
-use Rattle.pm_driver.proofs.Places.{cell_of, same_place, two-places}
+use Rattle.pm_driver.proofs.Places.{cell_of, same_place, two-cells}
 use Rattle.pm_driver.proofs.PowerReads.{Tells, left_of, stray}
 use Rattle.pm_driver.proofs.PowerSteps.{Here, PowerStep, as-at, begins-here, byte_of, order-left, order-tells, power-step, power_need}
-use Rattle.pm_driver.proofs.SurveySteps.{Calm, ReadLaws, accepts, in-range, is_learned, life-on}
-use Rattle.pm_driver.proofs.SurveyTruth.{known-is, none-some, read-is, unstuck}
+use Rattle.pm_driver.proofs.SurveySteps.{Calm, ReadLaws, accepts, in-range, is_learned, life-on, none-some}
+use Rattle.pm_driver.proofs.SurveyTruth.{known-is, read-is, unstuck}
 use Rattle.pm_driver.proofs.Surveyed.{asked-output}
 
 module _ (laws : ReadLaws) {B : Type 0} (gives : B → Call → B → Type 0) (held : B → Converter) (restarts : B → ℕ)
@@ -303,7 +303,7 @@ module _ (laws : ReadLaws) {B : Type 0} (gives : B → Call → B → Type 0) (h
       own = subst (λ (o : ℕ). IsOrdered held is_so (Out o Operation) byte old end new) (sym on.own) is
 
       differs : (q : Option Reg) → same_place (Some Operation) q ≡ false → cell_of course.survey.output q ≢ Out course.survey.output Operation
-      differs q two same = let bad = sym (two-places laws.apart course.survey.output (Some Operation) q (sym same)) ∙ two in cc
+      differs q two same = two-cells laws.apart course.survey.output (Some Operation) q two (sym same)
 
       there' : (q : Option Reg) → IsCell old.guard.host.setup.outputs (cell_of course.survey.output q)
       there' (Some x) = on.here.there

@@ -57,7 +57,7 @@ use Rattle.pm_driver.specs.UndisturbedCourses.{words_of}
 use Rattle.pm_driver.specs.UndisturbedJobs.{UndisturbedJobs}
 use Rattle.pm_driver.specs.UndisturbedPower.{IsHeld, IsSwitched, SwitchesBy, UndisturbedPowerEnds}
 use Rattle.pm_driver.proofs.FewChecks.{life-places}
-use Rattle.pm_driver.proofs.Places.{one-place}
+use Rattle.pm_driver.proofs.Places.{other-place}
 use Rattle.pm_driver.proofs.PowerCourse.{Enough, OnPower, operation-only}
 use Rattle.pm_driver.proofs.PowerEnds.{Named, all-way, end-way, named, orders, reads, renewed-way, same-byte}
 use Rattle.pm_driver.proofs.PowerSteps.{Here, begins-here, power_need}
@@ -65,7 +65,7 @@ use Rattle.pm_driver.proofs.SurveySteps.{ReadLaws, true-format}
 
 -- ---- What an output commands ----
 
--- by its other words and this byte
+-- an output whose other words stay commands what they say with this byte
 switched-words : {B : Type 0} (held : B → Converter) (is_so : B → Bool) (output byte : ℕ) (old new : Driving B) →
     words_of (held new.bus) output Operation ≡ byte → (held new.bus).config ≡ (held old.bus).config →
     ((other : Cell) → other ≢ Out output Operation → IsCell old.guard.host.setup.outputs other →
@@ -81,7 +81,7 @@ switched-words held is_so output byte old new takes made others here so = record
   where
     each : (q : Reg) (b : Bool) → same_register Operation q ≡ b →
         words_of (held new.bus) output q ≡ (if b then byte else words_of (held old.bus) output q)
-    each q true e = ap (λ (o : Option Reg). word_of o) (sym (one-place (Some Operation) (Some q) e)) ∙ takes where
+    each q true e = ap (λ (o : Option Reg). word_of o) (other-place (Some Operation) (Some q) e) ∙ takes where
       word_of : Option Reg → ℕ
       word_of None = 0
       word_of (Some r) = words_of (held new.bus) output r
@@ -94,7 +94,7 @@ switched-words held is_so output byte old new takes made others here so = record
 
 -- ---- An order that a guard lets through ----
 
--- of four rules none applies
+-- none of four rules applies
 four-none : (a b c d : Option LimitFault) → a ≡ None → b ≡ None → c ≡ None → d ≡ None → first (a ∷ b ∷ c ∷ d ∷ []) ≡ None
 four-none None None None None p q r s = refl
 four-none (Some x) b c d p q r s = cc
@@ -324,7 +324,7 @@ module _ {B : Type 0} (gives : B → Call → B → Type 0) (held : B → Conver
       left : (n : ℕ) → 1 ≤ n → (n == 0) ≡ false
       left n h = grind (arith, nat_tests)
 
-  -- and once the order was read back
+  -- it has ended once the order was read back
   says-last : (course : Course) (d : Driving B) → IsOff course → course.done ≡ true → is_busy d.guard.host ≡ false →
       next_by d.guard course ≡ Ended Reached
   says-last course d off done quiet =

@@ -32,9 +32,8 @@ use Rattle.pm_rail.specs.Lemmas.Surveyed.{found, has-none}
 use Rattle.pm_rail.specs.Orders.{is_needed}
 use Rattle.pm_rail.specs.Registers.{Held, Wants, nothing, wants_of}
 use Rattle.pm_rail.specs.Survey.{and_read, due_by, due_job, has_read, is_unread, is_unsure, wanted_in}
-use Rattle.pm_driver.proofs.Places.{below, cell_of, each-place, has_at, has-and, is-known, is-only, more as one-more, once, one-place, others-any, others-stay, same-itself, same_place, still-whole, total}
-use Rattle.pm_driver.proofs.SurveySteps.{Calm, settled}
-use Rattle.pm_driver.proofs.SurveyTruth.{none-some, only-possible}
+use Rattle.pm_driver.proofs.Places.{below, cell_of, each-place, has_at, has-and, is-known, is-only, more as one-more, once, other-place, others-any, others-stay, same-itself, same_place, still-whole, total}
+use Rattle.pm_driver.proofs.SurveySteps.{Calm, none-some, only-possible, settled}
 
 -- ---- The registers that decide ----
 
@@ -85,7 +84,7 @@ pub record Why (v : Survey) (k : Known) (chosen : Reg) (r : Reg) : Type 0 where
   pub lost : has_read v.read r ≡ true → is_none (known_word (Out v.output r) (known_possible k (Out v.output r))) ≡ true
   pub why : (matters chosen (Some r) ≡ true) ⊎ ((r ≡ VoutCommand) × (is_stray k v.output v.read ≡ true))
 
--- of registers that pass a test OPERATION is found first
+-- OPERATION is found first, if it passes the test
 first-found : (test : Reg → Bool) (r : Reg) → find test registers ≡ Some r → test Operation ≡ true → Operation ≡ r
 first-found test r is passes =
     let same : Some Operation ≡ Some r = sym (ap (λ (b : Bool). if b then Some Operation
@@ -321,7 +320,7 @@ module _ (apart : CellsAreToldApart) (law : CellsHavePlaces) (output : ℕ) (sma
     go : (b : Bool) → same_place p q ≡ b →
         is_possible (word_at words (cell_of output q)) (known_possible now_known (cell_of output q)) ≡ true
     go true e = subst (λ (x : Option Reg). is_possible (word_at words (cell_of output x)) (known_possible now_known (cell_of output x)) ≡ true)
-        (one-place p q e)
+        (sym (other-place p q e))
         (ap (λ (o : Possible). is_possible word o) (is-only apart law k was.whole output small p word) ∙ only-possible word)
     go false e = other e
 
@@ -356,7 +355,7 @@ module _ (apart : CellsAreToldApart) (law : CellsHavePlaces) (output : ℕ) (sma
 
       both : same_place p (Some Operation) ≡ false → (b : Bool) → same_place p (Some VoutCommand) ≡ b → is_stray k output read ≡ true
       both two true e =
-          let bad = sym (ap (has_at now_read) (sym (one-place p (Some VoutCommand) e)) ∙ here) ∙ command-unread in cc
+          let bad = sym (ap (has_at now_read) (other-place p (Some VoutCommand) e) ∙ here) ∙ command-unread in cc
       both two false e = ap₂ (λ (a b : Bool). a && b)
           (sym (elsewhere (Some Operation) two) ∙ first-of (has_at now_read (Some Operation)) _ is)
           (ap₂ (λ (o : Possible) (b : Bool). not (is_some (known_word (cell_of output (Some Operation)) o)) && not b)
@@ -364,7 +363,7 @@ module _ (apart : CellsAreToldApart) (law : CellsHavePlaces) (output : ℕ) (sma
           ∙ second-of (has_at now_read (Some Operation)) _ is)
 
       go : (b : Bool) → same_place p (Some Operation) ≡ b → is_stray k output read ≡ true
-      go true e = let bad = sym (ap (knows_at now_known output) (sym (one-place p (Some Operation) e)) ∙ now-knows) ∙ operation-lost in cc
+      go true e = let bad = sym (ap (knows_at now_known output) (other-place p (Some Operation) e) ∙ now-knows) ∙ operation-lost in cc
       go false e = both e (same_place p (Some VoutCommand)) refl
 
     expected-tells : (left : ℕ) → (stray k output read ≤ spare → stray now_known output now_read ≤ left) →
@@ -473,7 +472,7 @@ module _ (apart : CellsAreToldApart) (law : CellsHavePlaces) (output : ℕ) (sma
         (ap (λ (b : Bool). matters chosen_one p && not b) (same-itself p) ∙ and-false (matters chosen_one p)) own in
         let one : total (same_place p) ≤ total (λ q. matters chosen_one q && not (settled k output read q)) =
         below (λ q. matters chosen_one q && not (settled k output read q)) (same_place p)
-        (λ q same. subst (λ (x : Option Reg). (matters chosen_one x && not (settled k output read x)) ≡ true) (one-place p q same)
+        (λ q same. subst (λ (x : Option Reg). (matters chosen_one x && not (settled k output read x)) ≡ true) (sym (other-place p q same))
         (ap₂ (λ (a b : Bool). a && not b) own unsettled)) in
         record { left = 1; tells = surprised-tells 1 few; less = omega arith }
       where

@@ -33,10 +33,9 @@ use Rattle.pm_driver.specs.Rails.{asks_in, surveyed_by}
 use Rattle.pm_driver.specs.Undisturbed.{AreUndisturbed}
 use Rattle.pm_driver.specs.UndisturbedCourses.{words_of}
 use Rattle.pm_driver.specs.UndisturbedJobs.{UndisturbedJobs}
-use Rattle.pm_driver.proofs.Places.{below, cell_of, each-place, either, has_at, is-known, none-of, none-read, once, one-place, same-itself, order-only, order-others, order-whole, same_place, total}
+use Rattle.pm_driver.proofs.Places.{below, cell_of, each-place, either, has_at, is-known, none-of, none-read, once, other-place, same-itself, order-only, order-others, order-whole, same_place, total}
 use Rattle.pm_driver.proofs.PowerReads.{PowerKind, Tells, Why, after-one, and-false, checks, four, is_stray, knows_at, learns, left_of, matters, power-kind, stray}
-use Rattle.pm_driver.proofs.SurveySteps.{At, Calm, ReadLaws, accepts, in-range, is_learned, life-on, settled}
-use Rattle.pm_driver.proofs.SurveyTruth.{none-some, only-possible}
+use Rattle.pm_driver.proofs.SurveySteps.{At, Calm, ReadLaws, accepts, in-range, is_learned, life-on, none-some, only-possible, settled}
 
 -- ---- Where a survey for no plan is ----
 
@@ -64,7 +63,7 @@ as-at v guard h spare is = record {
   knows = record { whole = is.tells.whole; true_of = is.tells.true_of; calm = inr (omega arith) };
 }
 
--- where nothing was read four registers are to do
+-- four registers are to be read at most
 pub four-left : (chosen : ℕ) (k : Known) (output : ℕ) (read : Reads) → left_of (selected_register chosen) k output read ≤ 4
 unfolding left_of
 four-left chosen k output read =
@@ -295,7 +294,7 @@ module _ (laws : ReadLaws) {B : Type 0} (gives : B → Call → B → Type 0) (h
 
 -- registers that are the same are so both ways
 turned : (r chosen : Reg) → same_register r chosen ≡ true → same_place (Some chosen) (Some r) ≡ true
-turned r chosen is = ap (same_place (Some chosen)) (one-place (Some r) (Some chosen) is) ∙ same-itself (Some chosen)
+turned r chosen is = ap (same_place (Some chosen)) (sym (other-place (Some r) (Some chosen) is)) ∙ same-itself (Some chosen)
 
 module _ (apart : CellsAreToldApart) (law : CellsHavePlaces) (output : ℕ) (small' : output < 8) (read : Reads) (k : Known)
     (words new_words : Words) (spare : ℕ) (was : Tells output read k words spare) (byte : ℕ)

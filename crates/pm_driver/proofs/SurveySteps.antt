@@ -42,7 +42,7 @@ use Rattle.pm_driver.proofs.Grown.{life-setup}
 use Rattle.pm_driver.proofs.FewChecks.{life-places}
 use Rattle.pm_driver.proofs.Surveyed.{asked-output, asked-plan}
 use Rattle.pm_driver.proofs.SurveyRuns.{words-now}
-use Rattle.pm_driver.proofs.Places.{below, but-one, cell_of, each-place, has_at, has-and, is-known, is-only, more as one-more, none-of, none-read, once, one-place, others-any, others-stay, same-itself, same_place, seven, still-whole, there, total}
+use Rattle.pm_driver.proofs.Places.{below, but-one, cell_of, each-place, has_at, has-and, is-known, is-only, more as one-more, none-of, none-read, once, other-place, others-any, others-stay, same-itself, same_place, seven, still-whole, there, total}
 use Rattle.pm_driver.proofs.Places.{Kind, checks, kind, learns}
 
 -- ---- What is still to be read ----
@@ -72,11 +72,11 @@ pub record Knows (output : ℕ) (read : Reads) (k : Known) (words : Words) (spar
   pub true_of : (p : Option Reg) → settled k output read p ≡ true → known_possible k (cell_of output p) ≡ only (word_at words (cell_of output p))
   pub calm : Calm k output words ⊎ (6 ≤ spare)
 
--- of any word nothing is known
+-- a cell that may hold any word isn't known
 any-unknown : (cell : Cell) (possible : Possible) → possible ≡ Any → is_some (known_word cell possible) ≡ false
 any-unknown cell possible is = ap (λ (p : Possible). is_some (known_word cell p)) is
 
-none-some : {A : Type 0} (o : Option A) → is_none o ≡ false → is_some o ≡ true
+pub none-some : {A : Type 0} (o : Option A) → is_none o ≡ false → is_some o ≡ true
 none-some None h = cc
 none-some (Some a) h = refl
 
@@ -85,7 +85,7 @@ none-not None h = refl
 none-not (Some a) h = cc
 
 -- one word alone may be held where it is
-only-possible : (word : ℕ) → is_possible word (only word) ≡ true
+pub only-possible : (word : ℕ) → is_possible word (only word) ≡ true
 only-possible word = ap (λ (b : Bool). b || false) (eq-eqb word word refl)
 
 -- A check that is done of a cell that wasn't settled: fewer are to do, with what is to spare.
@@ -188,7 +188,7 @@ module _ (apart : CellsAreToldApart) (law : CellsHavePlaces) (output : ℕ) (sma
         let six = but-one p in
         let one : total (same_place p) ≤ total (λ q. not (settled k output read q)) =
         below (λ q. not (settled k output read q)) (same_place p)
-        (λ q same. ap not (ap (settled k output read) (sym (one-place p q same)) ∙ unsettled)) in
+        (λ q same. ap not (ap (settled k output read) (other-place p q same) ∙ unsettled)) in
         let single = once p in
         let enough : 6 ≤ spare = go was.calm in omega arith;
   }
@@ -244,7 +244,7 @@ in-range output p has here =
     place (Some register) h = h
     place None h = tt
 
--- where a survey is
+-- how far a survey is
 pub record At (v : Survey) (guard : Guarded) (h : Converter) (spare : ℕ) : Type 0 where
   pub idle : is_busy guard.host ≡ false
   pub there : v.output < guard.host.setup.outputs
@@ -409,7 +409,7 @@ true-format lives has output shape known' =
     (ap (λ (s : Summary). format_at s output) has.life.host_is ∙ known')
     ∙ life-shape has.life output
 
--- where nothing was read all seven are to do
+-- a survey that has read nothing has seven cells to read at most
 pub begins-at : LawsOfLives → (v : Survey) (guard : Guarded) (h : Converter) → HasLife guard.host h → is_busy guard.host ≡ false →
     v.output < guard.host.setup.outputs → v.read ≡ nothing_read →
     At v guard h 6 × (need v guard.host ≤ 8)

@@ -46,8 +46,8 @@ use Rattle.pm_driver.specs.Acts.{Call}
 use Rattle.pm_driver.specs.UndisturbedCourses.{words_of}
 use Rattle.pm_driver.specs.UndisturbedJobs.{UndisturbedJobs}
 use Rattle.pm_driver.proofs.PlanTruth.{first-none-of, five-three, protection-same, order-same, words-same}
-use Rattle.pm_driver.proofs.Places.{is-known, one-place}
-use Rattle.pm_driver.proofs.SurveySteps.{At, ReadLaws, need, nothing-needed}
+use Rattle.pm_driver.proofs.Places.{is-known, other-place}
+use Rattle.pm_driver.proofs.SurveySteps.{At, ReadLaws, need, none-some, nothing-needed, only-possible}
 use Rattle.std.specs.Prelude.{[], ◌∷◌, find, cond}
 use Rattle.pm_host.specs.declared.job.Job.TheVariants.{Check, Learn}
 use Rattle.pm_rail.specs.Orders.{planned_fault}
@@ -62,13 +62,6 @@ use Rattle.pm_driver.proofs.SurveySteps.{Came, came}
 -- WRITE_PROTECT allows each register that is due
 abbrev pub Allows : ℕ → Held → Wants → Type 0
 Allows protect held wants = (r : Reg) → is_due held wants r ≡ true → is_allowed protect (register_code r) ≡ true
-
-pub none-some : {A : Type 0} (o : Option A) → is_none o ≡ false → is_some o ≡ true
-none-some None h = cc
-none-some (Some a) h = refl
-
-pub only-possible : (word : ℕ) → is_possible word (only word) ≡ true
-only-possible word = ap (λ (b : Bool). b || false) (eq-eqb word word refl)
 
 -- a test that holds of none of a list
 any-none : (test : Reg → Bool) → ((r : Reg) → test r ≡ false) → (list : List Reg) → list_any test list ≡ false
@@ -198,7 +191,7 @@ module _ (guard : Guarded) (h : Converter) (v : Survey) (spare : ℕ) (at : At v
             (ap (λ (byte : ℕ). has_register guard.registers (selected_register byte)) operation-is ∙ chosen)
           where
             one-register : (a b : Reg) → same_register a b ≡ true → a ≡ b
-            one-register a b e' = ap (λ (o : Option Reg). unwrap_or o a) (one-place (Some a) (Some b) e')
+            one-register a b e' = ap (λ (o : Option Reg). unwrap_or o a) (sym (other-place (Some a) (Some b) e'))
         go false e m' = wanted-has m' (own x m')
 
       limit : (x : Reg) (has : Bool) → has_register guard.registers x ≡ has → (w : ℕ) → (has ≡ false → missing_word guard.registers shape x ≡ Some w) →
@@ -267,7 +260,7 @@ module _ (guard : Guarded) (h : Converter) (v : Survey) (spare : ℕ) (at : At v
         known-held cells Protect (word_at h.words Protect)
         (ap (λ (p : Possible). is_possible (word_at h.words Protect) p) is ∙ only-possible (word_at h.words Protect)) both.1
 
-    -- so the plan is the one by the words that are held
+    -- the plan is the one by the words that are held
     pub plan-is : is_some v.plan ≡ true → plan_in v.output wanted guard ≡ answer (held_fault (limits_at guard v.output) h v.output wants)
         (option_map (order_of (words_of h v.output) wants) (next_register (value_for h.config v.output) (words_of h v.output) wants))
     plan-is some =

@@ -268,7 +268,7 @@ module _ (laws : Below) (turns : OpenJobsEnd) (first : Summary) (start : Held) (
           (ap (λ (s : Summary). s.stage) (so.ran.is_life.host_is ∙ at))
           (laws.whole.read config passes (question_message q) so.ran.events (reads-so q own))
 
-      -- where it has learned
+      -- it has learned
       learned-so : (q : Question) → IsOwn q → host_by first acts ≡ asking first q → Turns config passes after (Ends Learned) →
           WasLearned config passes output after → Comes q
       unfolding reading
@@ -284,7 +284,7 @@ module _ (laws : Below) (turns : OpenJobsEnd) (first : Summary) (start : Held) (
                 (ap (λ (s : Summary). format_at s output) (sym goes.is_life.host_is) ∙ was.format) turn.1,
           )
 
-      -- where it asks for the coefficients next
+      -- it asks for the coefficients next
       asks-more : host_by first acts ≡ asking first (Mode output) → Turns config passes after (GoesOn (Asks (Coefficients output) 0)) →
           Comes (Mode output)
       asks-more at turn =

@@ -110,8 +110,8 @@ UndisturbedCoursesEnd {B = B} gives held restarts = (is_so : B → Bool) → Are
 abbrev pub WholePartsFit : Type 0
 WholePartsFit = (held : Held) (output : ℕ) (wants : Wants) → FitsPart all_registers held output wants
 
--- The same where the bus disturbs nothing from some moment of the course on, before which it counted no restart, with 27 tries
--- left there and no order that differed twice: the course ends by what the converter holds at that moment.
+-- A course in the middle of which the bus becomes such a one, before which it counted no restart, with 27 tries left then and
+-- no order that differed twice, ends by what the converter holds at that moment.
 abbrev pub CoursesEndOnceUndisturbed : {B : Type 0} → (B → Call → B → Type 0) → (B → Held) → (B → ℕ) → Type 0
 CoursesEndOnceUndisturbed {B = B} gives held restarts = (is_so : B → Bool) → AreUndisturbed gives held is_so →
     (output : ℕ) (wanted : Wanted) (tries : ℕ) (end : ApplyEnd) (first middle new : Driving B) (course last : Course) →

@@ -50,7 +50,7 @@ pub record IsOrdered {B : Type 0} (held : B → Held) (is_so : B → Bool) (cell
   pub config : (held new.bus).config ≡ (held old.bus).config
   pub so : is_so new.bus ≡ true
 
--- So ends each job that isn't refused, over a bus whose calls nothing disturbs.
+-- Each job that isn't refused ends so over a bus whose calls nothing disturbs.
 pub record UndisturbedJobs {B : Type 0} (gives : B → Call → B → Type 0) (held : B → Held) (restarts : B → ℕ) : Type 0 where
   pub check : (is_so : B → Bool) → AreUndisturbed gives held is_so → (cell : Cell) (end : JobEnd) (old new : Driving B) →
       HasLife old.guard.host (held old.bus) → is_so old.bus ≡ true →

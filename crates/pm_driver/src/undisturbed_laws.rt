@@ -58,8 +58,8 @@ pub fn undisturbed_courses_end<B: Bus>()
     surveys_end_known();
 }
 
-/// So ends a course over a bus that disturbs nothing from some moment on, before which it counted no restart since the course
-/// began, if 27 tries are left then.
+/// A course ends by what the part holds at some moment from which on the bus disturbs nothing, if the bus counted no restart
+/// since the course began, and 27 tries are left then.
 pub fn courses_end_once_undisturbed<B: Bus>()
     ensures { CoursesEndOnceUndisturbed B.gives B.held B.restarts }
 {
