@@ -86,7 +86,7 @@ pub struct FaultBit {
     /// STATUS_WORD or a status register.
     pub register: Question,
     /// The number, from 0.
-    pub place: u16,
+    pub place: u8,
 }
 
 impl Delivery {
@@ -222,7 +222,7 @@ impl Delivery {
     }
 
     /// Whether this bit of STATUS_WORD is 1.
-    pub(crate) fn has(&self, place: u16) -> bool
+    pub(crate) fn has(&self, place: u8) -> bool
         ensures { result ≡ spec_has self.now place }
     {
         self.status_word.is_good() && has_bit(self.status_word.word, place)
@@ -230,7 +230,7 @@ impl Delivery {
 
     /// Whether this bit of STATUS_WORD is 1 and wasn't known to be before the first order. Where nothing was asked before, since
     /// nothing is ordered, no bit is new.
-    pub fn is_new(&self, place: u16) -> bool
+    pub fn is_new(&self, place: u8) -> bool
         ensures { result ≡ spec_is_new self.now place }
     {
         self.has(place)
@@ -266,7 +266,7 @@ impl Delivery {
     }
 
     // The first bit of these faults that is new.
-    fn first_new(&self) -> Option<u16>
+    fn first_new(&self) -> Option<u8>
         ensures { result ≡ find (spec_is_new self.now) status_word_faults }
     {
         if self.is_new(VOUT_OV_FAULT) {
@@ -281,7 +281,7 @@ impl Delivery {
     }
 
     // The first fault of a status register whose summary in STATUS_WORD is new.
-    fn status_fault(&self, register: Question, summary: u16, places: &[u16]) -> Option<FaultBit>
+    fn status_fault(&self, register: Question, summary: u8, places: &[u8]) -> Option<FaultBit>
         ensures { result ≡ spec_status_fault self.now register summary places.now }
     {
         let heard = self.heard(register);
@@ -307,7 +307,7 @@ impl Delivery {
 }
 
 // A fault of a register, where there is one.
-fn fault_in(register: Question, place: Option<u16>) -> Option<FaultBit>
+fn fault_in(register: Question, place: Option<u8>) -> Option<FaultBit>
     ensures { result ≡ option_map (fault_bit register) place }
 {
     match place {

@@ -161,7 +161,7 @@ impl Delivery {
     }
 
     // A status register that is asked where its summary in STATUS_WORD is new.
-    fn ask_of(&self, register: Question, summary: u16, passes: u8) -> Option<Question>
+    fn ask_of(&self, register: Question, summary: u8, passes: u8) -> Option<Question>
         ensures { result ≡ asks_of self.now passes register summary }
     {
         if self.is_new(summary) {

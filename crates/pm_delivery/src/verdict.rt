@@ -27,7 +27,7 @@ pub enum Verdict {
     /// OFF is 1, though the output is commanded on.
     IsOff,
     /// The bit of this number of this register says a fault that wasn't known to be there before the first order.
-    NewFault(Question, u16),
+    NewFault(Question, u8),
     /// READ_VOUT lies outside the output's limits.
     OutsideLimits,
     /// READ_VOUT is farther from what the output commands than it may be.
@@ -151,7 +151,7 @@ impl Delivery {
     }
 
     // Such a register, where this is one.
-    fn unanswered_of(&self, register: Question, summary: u16) -> Option<Question>
+    fn unanswered_of(&self, register: Question, summary: u8) -> Option<Question>
         ensures { result ≡ rule (spec_is_unanswered self.now register summary) register }
     {
         if self.is_new(summary) && !self.heard(register).is_good() {
