@@ -469,7 +469,7 @@ impl Delivery {
 
     /// What a course wants that is at or beyond a fault limit, by which nothing is ordered; `None` where that is told alone.
     fn refuses(&self, course: &Course, host: &Host) -> Result<Option<Limit>, Refusal> {
-        for register in [Register::VoutCommand, Register::MarginHigh, Register::MarginLow] {
+        for register in [Register::VoutCommand, Register::VoutMarginHigh, Register::VoutMarginLow] {
             let judged = match course.goal(host, register) {
                 Some(word) => self.judge(host, word)?,
                 None => continue,
@@ -545,7 +545,7 @@ impl Host {
     ) -> Result<Verdict, NotDelivered<B::Error>> {
         let turns_off = is_off(course.next(self)) || is_off(course.job());
         let mut failures = Failures::default();
-        Frames::of_course(self, course).carry_out_until(bus, &mut failures, |course, host, _| is_order(course.next(host)))?;
+        let _step = Frames::of_course(self, course).carry_out_until(bus, &mut failures, |course, host| is_order(course.next(host)))?;
         if !turns_off && is_order(course.next(self)) {
             if delivery.image.before.asked == 0 {
                 delivery.look_before()?;
