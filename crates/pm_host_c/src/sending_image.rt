@@ -50,6 +50,27 @@ impl SendingImage {
     }
 }
 
+impl SendingImage {
+    /// The request of a read by PAGE_PLUS is to be sent, to which a whole answer has so many bytes.
+    pub(crate) fn put_paged(&mut self, request: &[u8; 5], answer: u8)
+        ensures kind { self.new.kind ≡ 2 }
+        ensures answer { self.new.answer ≡ answer }
+        ensures frame { take self.new.length self.new.bytes ≡ request.now }
+    {
+        copy_request(&mut self.bytes, request);
+        self.kind = 2;
+        self.length = 5;
+        self.answer = answer;
+    }
+}
+
+// Copies a request to the front of the bytes.
+fn copy_request(bytes: &mut [u8; 16], request: &[u8; 5])
+    ensures { take 5 bytes.new ≡ request.now }
+{
+    bytes[..5].copy_from_slice(request);
+}
+
 /// Copies a frame to the front of the bytes, and answers how many it has.
 pub(crate) fn copy_frame(bytes: &mut [u8; 16], frame: &Frame) -> u8
     ensures length { result ≡ length frame.now.items }
