@@ -54,7 +54,8 @@ use Rattle.pm_driver.proofs.CourseSteps.{On}
 use Rattle.pm_driver.proofs.FewChecks.{life-places}
 use Rattle.pm_driver.proofs.Followed.{host-is}
 use Rattle.pm_driver.proofs.Idle.{no_frame}
-use Rattle.pm_driver.proofs.Places.{Kind, below, cell_of, checks, has-and, has_at, kind, learns, none-read, other-place, same_place, seven, total}
+use Rattle.pm_rail.specs.Lemmas.Places.{below, cell_of, has-and, has_at, none-read, same_place, total}
+use Rattle.pm_driver.proofs.Places.{Kind, checks, kind, learns, other-place, seven}
 use Rattle.pm_driver.proofs.PlanTruth.{five-dues}
 use Rattle.pm_driver.proofs.SurveySteps.{ReadLaws, is_learned, life-on, settled, todo, true-format}
 

@@ -55,7 +55,8 @@ use Rattle.pm_driver.specs.Undisturbed.{AreUndisturbed}
 use Rattle.pm_driver.specs.UndisturbedCourses.{FitsPart, held_fault, words_of}
 use Rattle.pm_driver.specs.UndisturbedJobs.{IsOrdered, UndisturbedJobs}
 use Rattle.pm_driver.proofs.CourseOrders.{allows, order-knows, order-todo}
-use Rattle.pm_driver.proofs.Places.{below, cell_of, none-read, other-place, same_place, seven, total, two-cells}
+use Rattle.pm_rail.specs.Lemmas.Places.{below, cell_of, none-read, same_place, total}
+use Rattle.pm_driver.proofs.Places.{other-place, seven, two-cells}
 use Rattle.pm_driver.proofs.PlanTruth.{due-before, due-wanted, dues, fewer, first-none-of, goal-stays, next-is-due, none-due, none-next, none-three, three-none, words-stay}
 use Rattle.pm_driver.proofs.Surveyed.{asked-output, asked-plan}
 use Rattle.pm_driver.proofs.SurveySteps.{At, Knows, ReadLaws, accepts, in-range, is_learned, life-on, need, settled, survey-step, todo}

@@ -49,7 +49,8 @@ use Rattle.pm_driver.specs.Rails.{asks_in, surveyed_by}
 use Rattle.pm_driver.specs.Undisturbed.{AreUndisturbed}
 use Rattle.pm_driver.specs.UndisturbedCourses.{words_of}
 use Rattle.pm_driver.specs.UndisturbedJobs.{IsOrdered, UndisturbedJobs}
-use Rattle.pm_driver.proofs.Places.{cell_of, same_place, two-cells}
+use Rattle.pm_rail.specs.Lemmas.Places.{cell_of, same_place}
+use Rattle.pm_driver.proofs.Places.{two-cells}
 use Rattle.pm_driver.proofs.PowerReads.{Tells, left_of, stray}
 use Rattle.pm_driver.proofs.PowerSteps.{Here, PowerStep, as-at, begins-here, byte_of, order-left, order-tells, power-step, power_need}
 use Rattle.pm_driver.proofs.SurveySteps.{Calm, ReadLaws, accepts, in-range, is_learned, life-on, none-some}

@@ -32,7 +32,8 @@ use Rattle.pm_rail.specs.Lemmas.Surveyed.{found, has-none}
 use Rattle.pm_rail.specs.Orders.{is_needed}
 use Rattle.pm_rail.specs.Registers.{Held, Wants, nothing, wants_of}
 use Rattle.pm_rail.specs.Survey.{and_read, due_by, due_job, has_read, is_unread, is_unsure, wanted_in}
-use Rattle.pm_driver.proofs.Places.{below, cell_of, each-place, has_at, has-and, is-known, is-only, more as one-more, once, other-place, others-any, others-stay, same-itself, same_place, still-whole, total}
+use Rattle.pm_rail.specs.Lemmas.Places.{below, cell_of, each-place, has_at, has-and, is-known, is-only, more as one-more, once, others-stay, same-itself, same_place, still-whole, total}
+use Rattle.pm_driver.proofs.Places.{other-place, others-any}
 use Rattle.pm_driver.proofs.SurveySteps.{Calm, none-some, only-possible, settled}
 
 -- ---- The registers that decide ----

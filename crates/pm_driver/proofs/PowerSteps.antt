@@ -33,7 +33,8 @@ use Rattle.pm_driver.specs.Rails.{asks_in, surveyed_by}
 use Rattle.pm_driver.specs.Undisturbed.{AreUndisturbed}
 use Rattle.pm_driver.specs.UndisturbedCourses.{words_of}
 use Rattle.pm_driver.specs.UndisturbedJobs.{UndisturbedJobs}
-use Rattle.pm_driver.proofs.Places.{below, cell_of, each-place, either, has_at, is-known, none-of, none-read, once, other-place, same-itself, order-only, order-others, order-whole, same_place, total}
+use Rattle.pm_rail.specs.Lemmas.Places.{below, cell_of, each-place, has_at, is-known, none-read, once, same-itself, same_place, total}
+use Rattle.pm_driver.proofs.Places.{either, none-of, other-place, order-only, order-others, order-whole}
 use Rattle.pm_driver.proofs.PowerReads.{PowerKind, Tells, Why, after-one, and-false, checks, four, is_stray, knows_at, learns, left_of, matters, power-kind, stray}
 use Rattle.pm_driver.proofs.SurveySteps.{At, Calm, ReadLaws, accepts, in-range, is_learned, life-on, none-some, only-possible, settled}
 

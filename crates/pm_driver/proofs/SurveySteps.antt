@@ -42,7 +42,8 @@ use Rattle.pm_driver.proofs.Grown.{life-setup}
 use Rattle.pm_driver.proofs.FewChecks.{life-places}
 use Rattle.pm_driver.proofs.Surveyed.{asked-output, asked-plan}
 use Rattle.pm_driver.proofs.SurveyRuns.{words-now}
-use Rattle.pm_driver.proofs.Places.{below, but-one, cell_of, each-place, has_at, has-and, is-known, is-only, more as one-more, none-of, none-read, once, other-place, others-any, others-stay, same-itself, same_place, seven, still-whole, there, total}
+use Rattle.pm_rail.specs.Lemmas.Places.{below, cell_of, each-place, has_at, has-and, is-known, is-only, more as one-more, none-read, once, others-stay, same-itself, same_place, still-whole, there, total}
+use Rattle.pm_driver.proofs.Places.{but-one, none-of, other-place, others-any, seven}
 use Rattle.pm_driver.proofs.Places.{Kind, checks, kind, learns}
 
 -- ---- What is still to be read ----

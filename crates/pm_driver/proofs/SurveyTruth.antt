@@ -3,7 +3,6 @@
 use Rattle.std.specs.Prelude.{◌≡◌, ◌≤◌, ◌+◌, ◌&&◌, ◌||◌, ◌⊎◌, ℕ, Bool, true, false, not, if◌then◌else◌, refl, List, Option, Some, None, Err, Result, is_none, is_some, option_map, unwrap_or}
 use Rattle.std.specs.Option.{option_map_or}
 use Rattle.std.proofs.Common.{arith, sym, ◌∙◌, ap, ap₂, subst, inl, inr}
-use Rattle.std.proofs.lemmas.Bool.{eq-eqb}
 use Rattle.pm_num.specs.AnyFormat.{Shape, shape_value}
 use Rattle.pm_table.specs.declared.cell.Cell.TheVariants.{Out, Protect}
 use Rattle.pm_table.specs.declared.reg.Reg.{Reg}
@@ -46,7 +45,8 @@ use Rattle.pm_driver.specs.Acts.{Call}
 use Rattle.pm_driver.specs.UndisturbedCourses.{words_of}
 use Rattle.pm_driver.specs.UndisturbedJobs.{UndisturbedJobs}
 use Rattle.pm_driver.proofs.PlanTruth.{first-none-of, five-three, protection-same, order-same, words-same}
-use Rattle.pm_driver.proofs.Places.{is-known, other-place}
+use Rattle.pm_rail.specs.Lemmas.Places.{is-known}
+use Rattle.pm_driver.proofs.Places.{other-place}
 use Rattle.pm_driver.proofs.SurveySteps.{At, ReadLaws, need, none-some, nothing-needed, only-possible}
 use Rattle.std.specs.Prelude.{[], ◌∷◌, find, cond}
 use Rattle.pm_host.specs.declared.job.Job.TheVariants.{Check, Learn}
