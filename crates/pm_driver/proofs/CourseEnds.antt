@@ -40,9 +40,9 @@ use Rattle.pm_driver.specs.UndisturbedJobs.{UndisturbedJobs}
 use Rattle.pm_driver.proofs.CourseSteps.{Enough, On, on-read, on-renewed, on-wrote, order-is, order_due, plan-held, says-is}
 use Rattle.pm_driver.proofs.Places.{Kind, checks, kind, learns}
 use Rattle.pm_driver.proofs.PlanTruth.{dues, five-dues, none-due, none-next}
-use Rattle.pm_driver.proofs.SurveySteps.{ReadLaws, begins-at, need, nothing-needed}
+use Rattle.pm_driver.proofs.SurveySteps.{LawsOfSurveys, begins-at, need, nothing-needed}
 
-module _ (laws : ReadLaws) (end_known : SurveysEndKnown) {B : Type 0} (gives : B → Call → B → Type 0) (held : B → Converter)
+module _ (laws : LawsOfSurveys) (end_known : SurveysEndKnown) {B : Type 0} (gives : B → Call → B → Type 0) (held : B → Converter)
     (restarts : B → ℕ) (jobs : UndisturbedJobs gives held restarts) (is_so : B → Bool) (all : AreUndisturbed gives held is_so)
     (output : ℕ) (wanted : Wanted) (part : PartRegisters) (fault : Option PlanFault) (start : Converter) (extra : ℕ) where
   abbrev wanting : Wants
@@ -208,7 +208,7 @@ module _ (laws : ReadLaws) (end_known : SurveysEndKnown) {B : Type 0} (gives : B
 -- ---- From one moment to the last ----
 
 -- from where a course is so far on, it ends by what was held there
-pub ends-by : (laws : ReadLaws) (end_known : SurveysEndKnown) {B : Type 0} (gives : B → Call → B → Type 0) (held : B → Converter)
+pub ends-by : (laws : LawsOfSurveys) (end_known : SurveysEndKnown) {B : Type 0} (gives : B → Call → B → Type 0) (held : B → Converter)
     (restarts : B → ℕ) (jobs : UndisturbedJobs gives held restarts) (is_so : B → Bool) (all : AreUndisturbed gives held is_so)
     (output : ℕ) (wanted : Wanted) (old new : Driving B) (extra : ℕ) (begun course : Course) (end : ApplyEnd) →
     On laws end_known gives held restarts jobs is_so all output wanted old.guard.registers
@@ -256,7 +256,7 @@ ends-by laws end_known gives held restarts jobs is_so all output wanted old new 
           so = last.so;
         })
 
-pub courses-end : ReadLaws → SurveysEndKnown → {B : Type 0} (gives : B → Call → B → Type 0) (held : B → Converter)
+pub courses-end : LawsOfSurveys → SurveysEndKnown → {B : Type 0} (gives : B → Call → B → Type 0) (held : B → Converter)
     (restarts : B → ℕ) → UndisturbedJobs gives held restarts → UndisturbedCoursesEnd gives held restarts
 courses-end laws end_known {B = B} gives held restarts jobs is_so all output wanted tries end old new has so idle here fits enough finishes =
     let both = ends-by laws end_known gives held restarts jobs is_so all output wanted old new

@@ -54,9 +54,10 @@ use Rattle.pm_driver.proofs.CourseSteps.{On}
 use Rattle.pm_driver.proofs.FewChecks.{life-places}
 use Rattle.pm_driver.proofs.Followed.{host-is}
 use Rattle.pm_driver.proofs.Idle.{no_frame}
-use Rattle.pm_driver.proofs.Places.{Kind, below, cell_of, checks, has-and, has_at, kind, learns, none-read, other-place, same_place, seven, total}
+use Rattle.pm_rail.specs.Lemmas.Places.{below, cell_of, has-and, has_at, none-read, same_place, total}
+use Rattle.pm_driver.proofs.Places.{Kind, checks, kind, learns, other-place, seven}
 use Rattle.pm_driver.proofs.PlanTruth.{five-dues}
-use Rattle.pm_driver.proofs.SurveySteps.{ReadLaws, is_learned, life-on, settled, todo, true-format}
+use Rattle.pm_driver.proofs.SurveySteps.{LawsOfSurveys, is_learned, life-on, settled, todo, true-format}
 
 -- a word that may be held is the only one that is known
 only-known : (cell : Cell) (word : ℕ) (possible : Possible) → is_possible word possible ≡ true →
@@ -89,7 +90,7 @@ idle-of transcripts lives {host = host} has none =
     (transcripts.sound (setup_of has.config has.passes) (life has.config has.passes has.events).entries has.life.lived.made
     (lives.followed.told has.config has.passes has.events has.life.lived))) none
 
-module _ (laws : ReadLaws) (transcripts : TranscriptsAreFollowed) {B : Type 0} (gives : B → Call → B → Type 0) (held : B → Converter)
+module _ (laws : LawsOfSurveys) (transcripts : TranscriptsAreFollowed) {B : Type 0} (gives : B → Call → B → Type 0) (held : B → Converter)
     (restarts : B → ℕ) (output : ℕ) (plan_words : Option Wanted) where
   -- how far a course is over any bus that counted no restart: what was read stands
   pub record Far (course : Course) (d : Driving B) : Type 0 where
@@ -210,7 +211,7 @@ module _ (laws : ReadLaws) (transcripts : TranscriptsAreFollowed) {B : Type 0} (
       let two = step-count middle last job end does in
       far-step before middle last job end (all-far begun first far before middle runs (omega arith)) (omega arith) names does
 
-pub courses-end-once : ReadLaws → TranscriptsAreFollowed → SurveysEndKnown → {B : Type 0} (gives : B → Call → B → Type 0)
+pub courses-end-once : LawsOfSurveys → TranscriptsAreFollowed → SurveysEndKnown → {B : Type 0} (gives : B → Call → B → Type 0)
     (held : B → Converter) (restarts : B → ℕ) → UndisturbedJobs gives held restarts → CoursesEndOnceUndisturbed gives held restarts
 unfolding todo
 courses-end-once laws transcripts end_known gives held restarts jobs is_so all output wanted tries end first middle new course last has idle here

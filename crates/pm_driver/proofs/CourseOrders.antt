@@ -19,7 +19,8 @@ use Rattle.pm_rail.specs.Lemmas.Known.{none-voltage, not-second}
 use Rattle.pm_rail.specs.Orders.{is_protected, protection_fault}
 use Rattle.pm_rail.specs.Plan.{is_due}
 use Rattle.pm_rail.specs.Registers.{Held, wants_of}
-use Rattle.pm_driver.proofs.Places.{below, cell_of, each-place, has_at, is-known, order-only, order-others, order-whole, same_place}
+use Rattle.pm_rail.specs.Lemmas.Places.{below, cell_of, each-place, has_at, is-known, same_place}
+use Rattle.pm_driver.proofs.Places.{order-only, order-others, order-whole}
 use Rattle.pm_driver.proofs.PlanTruth.{due-wanted}
 use Rattle.pm_driver.proofs.SurveySteps.{Calm, Knows, none-some, only-possible, settled, todo}
 use Rattle.pm_driver.proofs.SurveyTruth.{Allows}

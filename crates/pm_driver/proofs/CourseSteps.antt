@@ -55,10 +55,11 @@ use Rattle.pm_driver.specs.Undisturbed.{AreUndisturbed}
 use Rattle.pm_driver.specs.UndisturbedCourses.{FitsPart, held_fault, words_of}
 use Rattle.pm_driver.specs.UndisturbedJobs.{IsOrdered, UndisturbedJobs}
 use Rattle.pm_driver.proofs.CourseOrders.{allows, order-knows, order-todo}
-use Rattle.pm_driver.proofs.Places.{below, cell_of, none-read, other-place, same_place, seven, total, two-cells}
+use Rattle.pm_rail.specs.Lemmas.Places.{below, cell_of, none-read, same_place, total}
+use Rattle.pm_driver.proofs.Places.{other-place, seven, two-cells}
 use Rattle.pm_driver.proofs.PlanTruth.{due-before, due-wanted, dues, fewer, first-none-of, goal-stays, next-is-due, none-due, none-next, none-three, three-none, words-stay}
 use Rattle.pm_driver.proofs.Surveyed.{asked-output, asked-plan}
-use Rattle.pm_driver.proofs.SurveySteps.{At, Knows, ReadLaws, accepts, in-range, is_learned, life-on, need, settled, survey-step, todo}
+use Rattle.pm_driver.proofs.SurveySteps.{At, Knows, LawsOfSurveys, accepts, in-range, is_learned, life-on, need, settled, survey-step, todo}
 use Rattle.pm_driver.proofs.SurveyTruth.{Allows, plan-is, plan_in, same-fits}
 
 -- no order is left
@@ -67,7 +68,7 @@ last-none (Ok None) is = refl
 last-none (Ok (Some order)) is = cc
 last-none (Err fault) is = cc
 
-module _ (laws : ReadLaws) (end_known : SurveysEndKnown) {B : Type 0} (gives : B → Call → B → Type 0) (held : B → Converter)
+module _ (laws : LawsOfSurveys) (end_known : SurveysEndKnown) {B : Type 0} (gives : B → Call → B → Type 0) (held : B → Converter)
     (restarts : B → ℕ) (jobs : UndisturbedJobs gives held restarts) (is_so : B → Bool) (all : AreUndisturbed gives held is_so)
     (output : ℕ) (wanted : Wanted) (part : PartRegisters) (fault : Option PlanFault) (start : Converter) (extra : ℕ) where
   abbrev pub wanting : Wants

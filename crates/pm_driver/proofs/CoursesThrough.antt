@@ -1,5 +1,5 @@
 -- Courses over a simulated bus at the end of its plan of faults.
-use Rattle.std.specs.Prelude.{◌≡◌, ◌≤◌, ◌||◌, ◌&&◌, ℕ, Bool, true, false, refl, if◌then◌else◌, is_none, is_some, Option, Some, None}
+use Rattle.std.specs.Prelude.{◌≡◌, ◌≤◌, ◌||◌, ℕ, Bool, true, false, refl, if◌then◌else◌, is_none, is_some, Option, Some, None}
 use Rattle.std.proofs.Common.{arith}
 use Rattle.pm_table.specs.declared.reg.Reg.{Reg}
 use Rattle.pm_table.specs.declared.reg.Reg.TheVariants.{Operation, VoutCommand, VoutMax, MarginHigh, MarginLow, VoutMin}
@@ -17,6 +17,7 @@ use Rattle.pm_driver.specs.CoursesThrough.{CoursesGoThrough}
 use Rattle.pm_driver.specs.Plan.{device_in, gives_so, restarts_so}
 use Rattle.pm_driver.specs.CoursesThrough.{RetryingIsUndisturbed}
 use Rattle.pm_driver.specs.Acts.{Call, Read, Wrote}
+use Rattle.std.proofs.Math.Bool.{and-false}
 use Rattle.std.proofs.Common.{inl, inr}
 use Rattle.pm_driver.specs.NeverRestarts.{patient_device, patient_gives, patient_restarts}
 use Rattle.pm_driver.specs.PlanEnds.{is_at_end, is_ready}
@@ -24,20 +25,16 @@ use Rattle.pm_driver.specs.Undisturbed.{WholeFramesAreLegal}
 use Rattle.pm_driver.proofs.PlanEnds.{patient-so, simulated-so}
 use Rattle.pm_driver.proofs.PlanTruth.{first-none-of}
 
-and-off : (b : Bool) → (b && false) ≡ false
-and-off true = refl
-and-off false = refl
-
 -- a part with every register misses none
 none-missing : (wants : Wants) → missing_fault all_registers wants ≡ None
 none-missing wants = first-none-of (λ r. MissingRegister r) (is_wanted_missing all_registers wants) off voltages where
   off : (r : Reg) → is_wanted_missing all_registers wants r ≡ false
-  off Operation = and-off (is_some (wants Operation))
-  off VoutCommand = and-off (is_some (wants VoutCommand))
-  off VoutMax = and-off (is_some (wants VoutMax))
-  off MarginHigh = and-off (is_some (wants MarginHigh))
-  off MarginLow = and-off (is_some (wants MarginLow))
-  off VoutMin = and-off (is_some (wants VoutMin))
+  off Operation = and-false (is_some (wants Operation))
+  off VoutCommand = and-false (is_some (wants VoutCommand))
+  off VoutMax = and-false (is_some (wants VoutMax))
+  off MarginHigh = and-false (is_some (wants MarginHigh))
+  off MarginLow = and-false (is_some (wants MarginLow))
+  off VoutMin = and-false (is_some (wants VoutMin))
 
 pub whole-fit : WholePartsFit
 whole-fit held output wants = record {

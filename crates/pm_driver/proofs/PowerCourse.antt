@@ -49,14 +49,15 @@ use Rattle.pm_driver.specs.Rails.{asks_in, surveyed_by}
 use Rattle.pm_driver.specs.Undisturbed.{AreUndisturbed}
 use Rattle.pm_driver.specs.UndisturbedCourses.{words_of}
 use Rattle.pm_driver.specs.UndisturbedJobs.{IsOrdered, UndisturbedJobs}
-use Rattle.pm_driver.proofs.Places.{cell_of, same_place, two-cells}
+use Rattle.pm_rail.specs.Lemmas.Places.{cell_of, same_place}
+use Rattle.pm_driver.proofs.Places.{two-cells}
 use Rattle.pm_driver.proofs.PowerReads.{Tells, left_of, stray}
 use Rattle.pm_driver.proofs.PowerSteps.{Here, PowerStep, as-at, begins-here, byte_of, order-left, order-tells, power-step, power_need}
-use Rattle.pm_driver.proofs.SurveySteps.{Calm, ReadLaws, accepts, in-range, is_learned, life-on, none-some}
+use Rattle.pm_driver.proofs.SurveySteps.{Calm, LawsOfSurveys, accepts, in-range, is_learned, life-on, none-some}
 use Rattle.pm_driver.proofs.SurveyTruth.{known-is, read-is, unstuck}
 use Rattle.pm_driver.proofs.Surveyed.{asked-output}
 
-module _ (laws : ReadLaws) {B : Type 0} (gives : B → Call → B → Type 0) (held : B → Converter) (restarts : B → ℕ)
+module _ (laws : LawsOfSurveys) {B : Type 0} (gives : B → Call → B → Type 0) (held : B → Converter) (restarts : B → ℕ)
     (jobs : UndisturbedJobs gives held restarts) (is_so : B → Bool) (all : AreUndisturbed gives held is_so)
     (output byte : ℕ) (turns_on : has_on byte ≡ true) (first_bus : Driving B) (extra : ℕ)
     (chosen_there : has_register first_bus.guard.registers (selected_register byte) ≡ true)

@@ -35,13 +35,13 @@ use Rattle.pm_driver.specs.UndisturbedJobs.{UndisturbedJobs}
 use Rattle.pm_driver.proofs.PowerCourse.{Enough, OnPower, need_of, order-held, order-power, read-power, renewed-power, says-power}
 use Rattle.pm_driver.proofs.PowerReads.{PowerKind, checks, learns, power-kind}
 use Rattle.pm_driver.proofs.PowerSteps.{byte_of, nothing-here}
-use Rattle.pm_driver.proofs.SurveySteps.{ReadLaws}
+use Rattle.pm_driver.proofs.SurveySteps.{LawsOfSurveys}
 
 -- a byte is itself
 pub same-byte : (a b : ℕ) → a ≡ b → (a == b) ≡ false → ⊥
 same-byte a b is e = let bad = sym (eq-eqb a b is) ∙ e in cc
 
-module _ (laws : ReadLaws) {B : Type 0} (gives : B → Call → B → Type 0) (held : B → Converter) (restarts : B → ℕ)
+module _ (laws : LawsOfSurveys) {B : Type 0} (gives : B → Call → B → Type 0) (held : B → Converter) (restarts : B → ℕ)
     (jobs : UndisturbedJobs gives held restarts) (is_so : B → Bool) (all : AreUndisturbed gives held is_so)
     (output byte : ℕ) (turns_on : has_on byte ≡ true) (first_bus : Driving B) (extra : ℕ)
     (chosen_there : has_register first_bus.guard.registers (selected_register byte) ≡ true)

@@ -61,7 +61,7 @@ use Rattle.pm_driver.proofs.Places.{other-place}
 use Rattle.pm_driver.proofs.PowerCourse.{Enough, OnPower, operation-only}
 use Rattle.pm_driver.proofs.PowerEnds.{Named, all-way, end-way, named, orders, reads, renewed-way, same-byte}
 use Rattle.pm_driver.proofs.PowerSteps.{Here, begins-here, power_need}
-use Rattle.pm_driver.proofs.SurveySteps.{ReadLaws, true-format}
+use Rattle.pm_driver.proofs.SurveySteps.{LawsOfSurveys, true-format}
 
 -- ---- What an output commands ----
 
@@ -161,7 +161,7 @@ left-named guard course job is =
 
 -- ---- On ----
 
-module _ (laws : ReadLaws) {B : Type 0} (gives : B → Call → B → Type 0) (held : B → Converter) (restarts : B → ℕ)
+module _ (laws : LawsOfSurveys) {B : Type 0} (gives : B → Call → B → Type 0) (held : B → Converter) (restarts : B → ℕ)
     (jobs : UndisturbedJobs gives held restarts) (is_so : B → Bool) (all : AreUndisturbed gives held is_so)
     (output byte : ℕ) (turns_on : has_on byte ≡ true) (old : Driving B) (tries most : ℕ)
     (chosen_there : has_register old.guard.registers (selected_register byte) ≡ true)
@@ -412,7 +412,7 @@ module _ {B : Type 0} (gives : B → Call → B → Type 0) (held : B → Conver
 
 -- ---- Both ----
 
-pub power-ends : ReadLaws → {B : Type 0} (gives : B → Call → B → Type 0) (held : B → Converter) (restarts : B → ℕ) →
+pub power-ends : LawsOfSurveys → {B : Type 0} (gives : B → Call → B → Type 0) (held : B → Converter) (restarts : B → ℕ) →
     UndisturbedJobs gives held restarts → UndisturbedPowerEnds gives held restarts
 power-ends laws {B = B} gives held restarts jobs is_so all output byte tries result old new course has so idle here chosen_there allowed enough completes =
     go (has_on byte) refl result course new enough completes

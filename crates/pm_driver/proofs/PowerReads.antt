@@ -3,6 +3,7 @@ use Rattle.std.specs.Prelude.{◌≡◌, ◌≤◌, ◌<◌, ◌+◌, ◌-◌, �
 use Rattle.std.specs.Option.{option_map_or, option_or}
 use Rattle.std.proofs.Common.{arith, sym, ◌∙◌, ap, ap₂, subst, inl, inr}
 use Rattle.std.proofs.lemmas.Bool.{not-false, not-true}
+use Rattle.std.proofs.Math.Bool.{and-false}
 use Rattle.pm_num.specs.AnyFormat.{Shape}
 use Rattle.pm_table.specs.declared.cell.Cell.TheVariants.{Out, Protect}
 use Rattle.pm_table.specs.declared.reg.Reg.{Reg}
@@ -32,7 +33,8 @@ use Rattle.pm_rail.specs.Lemmas.Surveyed.{found, has-none}
 use Rattle.pm_rail.specs.Orders.{is_needed}
 use Rattle.pm_rail.specs.Registers.{Held, Wants, nothing, wants_of}
 use Rattle.pm_rail.specs.Survey.{and_read, due_by, due_job, has_read, is_unread, is_unsure, wanted_in}
-use Rattle.pm_driver.proofs.Places.{below, cell_of, each-place, has_at, has-and, is-known, is-only, more as one-more, once, other-place, others-any, others-stay, same-itself, same_place, still-whole, total}
+use Rattle.pm_rail.specs.Lemmas.Places.{below, cell_of, each-place, has_at, has-and, is-known, is-only, more as one-more, once, others-stay, same-itself, same_place, still-whole, total}
+use Rattle.pm_driver.proofs.Places.{other-place, others-any}
 use Rattle.pm_driver.proofs.SurveySteps.{Calm, none-some, only-possible, settled}
 
 -- ---- The registers that decide ----
@@ -252,10 +254,6 @@ pub record Tells (output : ℕ) (read : Reads) (k : Known) (words : Words) (spar
   pub whole : HasPlaces k
   pub true_of : (p : Option Reg) → settled k output read p ≡ true → known_possible k (cell_of output p) ≡ only (word_at words (cell_of output p))
   pub calm : (Calm k output words × (stray k output read ≤ spare)) ⊎ (4 + stray k output read ≤ spare)
-
-pub and-false : (b : Bool) → (b && false) ≡ false
-and-false true = refl
-and-false false = refl
 
 -- a count of one test that implies another
 fewer-strays : (a b : Bool) → (b ≡ true → a ≡ true) → cond b 1 0 ≤ cond a 1 0

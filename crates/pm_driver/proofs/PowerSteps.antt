@@ -2,6 +2,7 @@
 use Rattle.std.specs.Prelude.{◌≡◌, ◌≤◌, ◌<◌, ◌+◌, ◌==◌, ◌&&◌, ◌⊎◌, ℕ, Bool, true, false, not, cond, if◌then◌else◌, refl, List, Option, Some, None, Ok, is_none, is_some, unwrap_or, slice_index_or}
 use Rattle.std.proofs.Common.{arith, sym, ◌∙◌, ap, ap₂, subst, inl, inr}
 use Rattle.std.proofs.lemmas.Bool.Decides.{nat_tests}
+use Rattle.std.proofs.Math.Bool.{and-false}
 use Rattle.pm_num.specs.AnyFormat.{Shape}
 use Rattle.pm_table.specs.declared.cell.Cell.TheVariants.{Out}
 use Rattle.pm_table.specs.declared.reg.Reg.{Reg}
@@ -33,9 +34,10 @@ use Rattle.pm_driver.specs.Rails.{asks_in, surveyed_by}
 use Rattle.pm_driver.specs.Undisturbed.{AreUndisturbed}
 use Rattle.pm_driver.specs.UndisturbedCourses.{words_of}
 use Rattle.pm_driver.specs.UndisturbedJobs.{UndisturbedJobs}
-use Rattle.pm_driver.proofs.Places.{below, cell_of, each-place, either, has_at, is-known, none-of, none-read, once, other-place, same-itself, order-only, order-others, order-whole, same_place, total}
-use Rattle.pm_driver.proofs.PowerReads.{PowerKind, Tells, Why, after-one, and-false, checks, four, is_stray, knows_at, learns, left_of, matters, power-kind, stray}
-use Rattle.pm_driver.proofs.SurveySteps.{At, Calm, ReadLaws, accepts, in-range, is_learned, life-on, none-some, only-possible, settled}
+use Rattle.pm_rail.specs.Lemmas.Places.{below, cell_of, each-place, has_at, is-known, none-read, once, same-itself, same_place, total}
+use Rattle.pm_driver.proofs.Places.{either, none-of, other-place, order-only, order-others, order-whole}
+use Rattle.pm_driver.proofs.PowerReads.{PowerKind, Tells, Why, after-one, checks, four, is_stray, knows_at, learns, left_of, matters, power-kind, stray}
+use Rattle.pm_driver.proofs.SurveySteps.{At, Calm, LawsOfSurveys, accepts, in-range, is_learned, life-on, none-some, only-possible, settled}
 
 -- ---- Where a survey for no plan is ----
 
@@ -182,7 +184,7 @@ pub record PowerStep {B : Type 0} (held : B → Converter) (is_so : B → Bool) 
   pub lived : HasLife new.guard.host (held new.bus)
   pub so : is_so new.bus ≡ true
 
-module _ (laws : ReadLaws) {B : Type 0} (gives : B → Call → B → Type 0) (held : B → Converter) (restarts : B → ℕ)
+module _ (laws : LawsOfSurveys) {B : Type 0} (gives : B → Call → B → Type 0) (held : B → Converter) (restarts : B → ℕ)
     (jobs : UndisturbedJobs gives held restarts) (is_so : B → Bool) (all : AreUndisturbed gives held is_so) where
   checked : (v : Survey) (old new : Driving B) (r : Reg) (end : JobEnd) (spare : ℕ) → HasLife old.guard.host (held old.bus) →
       is_so old.bus ≡ true → Here v old.guard (held old.bus) spare → 0 < v.left →

@@ -3,6 +3,7 @@ use Rattle.std.specs.Prelude.{◌≡◌, ◌≤◌, ◌<◌, ◌+◌, ◌==◌, 
 use Rattle.std.proofs.Common.{arith, sym, ◌∙◌, ap, ap₂, subst, inl, inr}
 use Rattle.std.proofs.lemmas.Bool.Decides.{nat_tests}
 use Rattle.std.proofs.lemmas.Bool.{eq-eqb}
+use Rattle.std.proofs.Math.Bool.{and-false}
 use Rattle.pm_num.specs.AnyFormat.{Shape}
 use Rattle.pm_table.specs.declared.cell.Cell.{Cell}
 use Rattle.pm_table.specs.declared.reg.Reg.{Reg}
@@ -42,7 +43,8 @@ use Rattle.pm_driver.proofs.Grown.{life-setup}
 use Rattle.pm_driver.proofs.FewChecks.{life-places}
 use Rattle.pm_driver.proofs.Surveyed.{asked-output, asked-plan}
 use Rattle.pm_driver.proofs.SurveyRuns.{words-now}
-use Rattle.pm_driver.proofs.Places.{below, but-one, cell_of, each-place, has_at, has-and, is-known, is-only, more as one-more, none-of, none-read, once, other-place, others-any, others-stay, same-itself, same_place, seven, still-whole, there, total}
+use Rattle.pm_rail.specs.Lemmas.Places.{below, cell_of, each-place, has_at, has-and, is-known, is-only, more as one-more, none-read, once, others-stay, same-itself, same_place, still-whole, there, total}
+use Rattle.pm_driver.proofs.Places.{but-one, none-of, other-place, others-any, seven}
 use Rattle.pm_driver.proofs.Places.{Kind, checks, kind, learns}
 
 -- ---- What is still to be read ----
@@ -132,11 +134,7 @@ module _ (apart : CellsAreToldApart) (law : CellsHavePlaces) (output : ℕ) (sma
   gone : is_possible word (known_possible k (cell_of output p)) ≡ false → (q : Option Reg) → same_place p q ≡ false →
       settled now_known output now_read q ≡ false
   gone surprise q two = ap (λ (b : Bool). has_at now_read q && b)
-      (any-unknown (cell_of output q) _ (others-any apart law k output small p q word surprise two)) ∙ and-off (has_at now_read q)
-    where
-      and-off : (b : Bool) → (b && false) ≡ false
-      and-off true = refl
-      and-off false = refl
+      (any-unknown (cell_of output q) _ (others-any apart law k output small p q word surprise two)) ∙ and-false (has_at now_read q)
 
   expected-after : is_possible word (known_possible k (cell_of output p)) ≡ true → After
   unfolding todo
@@ -206,7 +204,7 @@ module _ (apart : CellsAreToldApart) (law : CellsHavePlaces) (output : ℕ) (sma
 -- ---- One job of a survey ----
 
 -- what all this is had from
-pub record ReadLaws : Type 0 where
+pub record LawsOfSurveys : Type 0 where
   pub apart : CellsAreToldApart
   pub places : CellsHavePlaces
   pub origin : WordsHaveAnOrigin
@@ -261,7 +259,7 @@ pub record Stepped {B : Type 0} (held : B → Converter) (is_so : B → Bool) (v
   pub lived : HasLife new.guard.host (held new.bus)
   pub so : is_so new.bus ≡ true
 
-module _ (laws : ReadLaws) {B : Type 0} (gives : B → Call → B → Type 0) (held : B → Converter) (restarts : B → ℕ)
+module _ (laws : LawsOfSurveys) {B : Type 0} (gives : B → Call → B → Type 0) (held : B → Converter) (restarts : B → ℕ)
     (jobs : UndisturbedJobs gives held restarts) (is_so : B → Bool) (all : AreUndisturbed gives held is_so) where
   checked : (v : Survey) (old new : Driving B) (p : Option Reg) (end : JobEnd) (spare : ℕ) → HasLife old.guard.host (held old.bus) →
       is_so old.bus ≡ true → At v old.guard (held old.bus) spare → 0 < v.left →
@@ -339,16 +337,12 @@ module _ (laws : ReadLaws) {B : Type 0} (gives : B → Call → B → Type 0) (h
       is_so old.bus ≡ true → At v old.guard (held old.bus) spare → asks_in v old.guard ≡ Some job →
       Runs gives held restarts job old (Ok end) new → Stepped held is_so v (surveyed_by v job end) spare old new
   survey-step v old new job end spare has so at asks runs = go (v.left == 0) refl asks where
-    and-off : (b : Bool) → (b && false) ≡ false
-    and-off true = refl
-    and-off false = refl
-
     by : 0 < v.left → (j : Job) → Kind v old.guard.host (format_at old.guard.host v.output) j → Runs gives held restarts j old (Ok end) new →
         Stepped held is_so v (surveyed_by v j end) spare old new
     by some j (learns (inl unlearned)) r = learns-now v old new end spare has so at some
         (ap (λ (b : Bool). b && is_some (format_at old.guard.host v.output)) unlearned) r
     by some j (learns (inr none)) r = learns-now v old new end spare has so at some
-        (ap (λ (f : Option Shape). v.learned && is_some f) none ∙ and-off v.learned) r
+        (ap (λ (f : Option Shape). v.learned && is_some f) none ∙ and-false v.learned) r
     by some j (checks cell why) r =
         subst (λ (c : Cell). Stepped held is_so v (surveyed_by v (Check c) end) spare old new) why.is
         (checked v old new why.place end spare has so at some (λ read. subst (λ (c : Cell). is_none (known_word c
@@ -370,10 +364,6 @@ nothing-needed v guard h spare at none = go (due_job guard.registers v guard.hos
   both : (a b : ℕ) → a + b ≡ 0 → (a ≡ 0) × (b ≡ 0)
   both a b e = (omega arith, omega arith)
 
-  and-off : (b : Bool) → (b && false) ≡ false
-  and-off true = refl
-  and-off false = refl
-
   is-learned : (b : Bool) → ◌≡◌ {A = ℕ} (cond b 0 1) 0 → b ≡ true
   is-learned true e = refl
   is-learned false e = cc
@@ -385,7 +375,7 @@ nothing-needed v guard h spare at none = go (due_job guard.registers v guard.hos
   never job (learns (inl unlearned)) =
       let bad = sym yes ∙ ap (λ (b : Bool). b && is_some (format_at guard.host v.output)) unlearned in cc
   never job (learns (inr unknown)) =
-      let bad : true ≡ false = sym yes ∙ (ap (λ (f : Option Shape). v.learned && is_some f) unknown ∙ and-off v.learned) in cc
+      let bad : true ≡ false = sym yes ∙ (ap (λ (f : Option Shape). v.learned && is_some f) unknown ∙ and-false v.learned) in cc
   never job (checks cell why) =
       let free = none-of (λ p. not (settled guard.host.known v.output v.read p)) (both (cond (is_learned v guard.host) 0 1) _ none).1 why.place in
       lost (has_at v.read why.place) _ refl (subst (λ (c : Cell). has_at v.read why.place ≡ true →
@@ -438,7 +428,7 @@ begins-at lives v guard h has idle here none = (
     unread p = ap (λ (b : Bool). b && is_some (known_word (cell_of v.output p) (known_possible guard.host.known (cell_of v.output p))))
         (ap (λ (r : Reads). has_at r p) none ∙ none-read p)
 
-module _ (laws : ReadLaws) {B : Type 0} (gives : B → Call → B → Type 0) (held : B → Converter) (restarts : B → ℕ)
+module _ (laws : LawsOfSurveys) {B : Type 0} (gives : B → Call → B → Type 0) (held : B → Converter) (restarts : B → ℕ)
     (jobs : UndisturbedJobs gives held restarts) (is_so : B → Bool) (all : AreUndisturbed gives held is_so) where
   pub record Came (begun v : Survey) (old new : Driving B) : Type 0 where
     pub plan : v.plan ≡ begun.plan

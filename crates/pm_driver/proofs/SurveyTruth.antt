@@ -3,7 +3,6 @@
 use Rattle.std.specs.Prelude.{◌≡◌, ◌≤◌, ◌+◌, ◌&&◌, ◌||◌, ◌⊎◌, ℕ, Bool, true, false, not, if◌then◌else◌, refl, List, Option, Some, None, Err, Result, is_none, is_some, option_map, unwrap_or}
 use Rattle.std.specs.Option.{option_map_or}
 use Rattle.std.proofs.Common.{arith, sym, ◌∙◌, ap, ap₂, subst, inl, inr}
-use Rattle.std.proofs.lemmas.Bool.{eq-eqb}
 use Rattle.pm_num.specs.AnyFormat.{Shape, shape_value}
 use Rattle.pm_table.specs.declared.cell.Cell.TheVariants.{Out, Protect}
 use Rattle.pm_table.specs.declared.reg.Reg.{Reg}
@@ -27,6 +26,7 @@ use Rattle.pm_table.specs.Operation.{is_operation, selected_register}
 use Rattle.pm_table.specs.Rules.{first, rule}
 use Rattle.pm_table.specs.RuleLemmas.{map-none, or-none, rule-none}
 use Rattle.std.proofs.lemmas.Bool.{not-false}
+use Rattle.std.proofs.Math.Bool.{and-false}
 use Rattle.pm_world.specs.Bands.{HoldsMissing}
 use Rattle.pm_rail.specs.declared.fault.PlanFault.{PlanFault}
 use Rattle.pm_rail.specs.declared.fault.PlanFault.TheVariants.{Busy, MissingRegister, NotKnown}
@@ -46,8 +46,9 @@ use Rattle.pm_driver.specs.Acts.{Call}
 use Rattle.pm_driver.specs.UndisturbedCourses.{words_of}
 use Rattle.pm_driver.specs.UndisturbedJobs.{UndisturbedJobs}
 use Rattle.pm_driver.proofs.PlanTruth.{first-none-of, five-three, protection-same, order-same, words-same}
-use Rattle.pm_driver.proofs.Places.{is-known, other-place}
-use Rattle.pm_driver.proofs.SurveySteps.{At, ReadLaws, need, none-some, nothing-needed, only-possible}
+use Rattle.pm_rail.specs.Lemmas.Places.{is-known}
+use Rattle.pm_driver.proofs.Places.{other-place}
+use Rattle.pm_driver.proofs.SurveySteps.{At, LawsOfSurveys, need, none-some, nothing-needed, only-possible}
 use Rattle.std.specs.Prelude.{[], ◌∷◌, find, cond}
 use Rattle.pm_host.specs.declared.job.Job.TheVariants.{Check, Learn}
 use Rattle.pm_rail.specs.Orders.{planned_fault}
@@ -226,12 +227,8 @@ module _ (guard : Guarded) (h : Converter) (v : Survey) (spare : ℕ) (at : At v
     unstuck = ap (λ (f : Option Shape). is_stuck_by guard.registers v guard.host f) format
         ∙ (ap (λ (w : Wants). is_stuck_in guard.registers v.output cells known w) wants-are
         ∙ any-none (is_lacking guard.registers cells v.output known wants)
-        (λ r. ap (λ (b : Bool). not (has_register guard.registers r) && b) (unknown-off r) ∙ and-off (not (has_register guard.registers r)))
+        (λ r. ap (λ (b : Bool). not (has_register guard.registers r) && b) (unknown-off r) ∙ and-false (not (has_register guard.registers r)))
         registers)
-      where
-        and-off : (b : Bool) → (b && false) ≡ false
-        and-off true = refl
-        and-off false = refl
 
     surveyed : is_surveyed guard.registers v guard.host ≡ true
     surveyed = ap₂ (λ (o : Option Job) (b : Bool). is_none o && not b) free unstuck
@@ -306,7 +303,7 @@ same-fits part' part new h o' o p' p parts words config outputs plans fits =
 
 -- ---- A survey ends by its own rule ----
 
-pub surveys-end : ReadLaws → {B : Type 0} (gives : B → Call → B → Type 0) (held : B → Converter) (restarts : B → ℕ) →
+pub surveys-end : LawsOfSurveys → {B : Type 0} (gives : B → Call → B → Type 0) (held : B → Converter) (restarts : B → ℕ) →
     UndisturbedJobs gives held restarts → UndisturbedSurveysEnd gives held restarts
 surveys-end laws gives held restarts jobs is_so all begun v old new done has so idle here none enough fits to =
     let few = was.few in (

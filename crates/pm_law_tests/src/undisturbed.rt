@@ -31,7 +31,12 @@ use pm_rail::{ApplyEnd, Course, Survey, Wanted};
 
 /// A new host begins beside a part as it is, with every register, and carries a plan out with 27 tries: it ends as the words say
 /// that the part holds.
-pub fn a_first_plan<B: Bus>(guard: Guard, bus: B, output: u8, wanted: &Wanted) -> (Driver<B>, ApplyEnd)
+pub fn a_first_plan<B: Bus>(
+    guard: Guard,
+    bus: B,
+    output: u8,
+    wanted: &Wanted,
+) -> (Driver<B>, ApplyEnd)
     ghost is_so: { B → Bool }
     requires undisturbed { AreUndisturbed B.gives B.held is_so }
     requires so { is_so bus ≡ true }

@@ -9,3 +9,4 @@ pub mod Surveyed
 pub mod Says
 pub mod Power
 pub mod AskedFree
+pub mod Places

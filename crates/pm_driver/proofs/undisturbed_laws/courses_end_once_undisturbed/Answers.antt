@@ -1,10 +1,10 @@
 use Rattle.pm_driver.proofs.CourseMiddle.{courses-end-once}
-use Rattle.pm_driver.proofs.SurveySteps.{ReadLaws}
+use Rattle.pm_driver.proofs.SurveySteps.{LawsOfSurveys}
 use Rattle.pm_driver.proofs.undisturbed_laws.courses_end_once_undisturbed.Goals as goal
 
 pub returns : goal.returns
 returns g c =
-    let laws : ReadLaws = record {
+    let laws : LawsOfSurveys = record {
       apart = c.cells_are_told_apart.ensures;
       places = c.cells_have_places.ensures;
       origin = c.words_have_an_origin.ensures;

@@ -1,10 +1,10 @@
 use Rattle.pm_driver.proofs.PowerLaw.{power-ends}
-use Rattle.pm_driver.proofs.SurveySteps.{ReadLaws}
+use Rattle.pm_driver.proofs.SurveySteps.{LawsOfSurveys}
 use Rattle.pm_driver.proofs.undisturbed_laws.undisturbed_power_ends.Goals as goal
 
 pub returns : goal.returns
 returns g c =
-    let laws : ReadLaws = record {
+    let laws : LawsOfSurveys = record {
       apart = c.cells_are_told_apart.ensures;
       places = c.cells_have_places.ensures;
       origin = c.words_have_an_origin.ensures;
