@@ -65,6 +65,8 @@ class Copy:
             return self.warns(row)
         if test == "course rows":
             return self.course_row(row)
+        if test == "delivery rows":
+            return self.delivery_row(row)
         if test == "patient_rows.c":
             return self.patient_row(row)
         if test == "i2c_dev.c":
@@ -87,6 +89,11 @@ class Copy:
         self.program("courses", "trials/course/rows.c")
         status, text = self.run("timeout", "60", "./courses", "trials/course/rows.txt")
         return status in (0, 1) and f"\n{name}: " not in "\n" + text
+
+    def delivery_row(self, name):
+        """Whether this row of deliveries is right."""
+        self.program("deliveries", "trials/delivery/rows.c")
+        return f"\n{name}: " not in "\n" + self.run("timeout", "60", "./deliveries")[1]
 
     def warns(self, call):
         """Whether gcc warns of this call alone on a line."""

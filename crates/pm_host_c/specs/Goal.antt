@@ -7,7 +7,6 @@ use Rattle.pm_num.specs.NearestWord.{nearest_word}
 use Rattle.pm_num.specs.Ratio.{micros}
 use Rattle.pm_table.specs.declared.cell.Cell.TheVariants.{Out}
 use Rattle.pm_table.specs.declared.reg.Reg.{Reg}
-use Rattle.pm_table.specs.declared.reg.Reg.TheVariants.{Operation, VoutCommand, VoutMax, MarginHigh, MarginLow, VoutMin}
 use Rattle.pm_table.specs.Cell.{register_of, same_register}
 use Rattle.pm_table.specs.Operation.{has_on, selected_register}
 use Rattle.pm_host.specs.declared.fault.HostFault.TheVariants.{UnknownOutput}
@@ -15,6 +14,7 @@ use Rattle.pm_host.specs.FaultWords.{host_fault_number}
 use Rattle.pm_host.specs.Image.{host_of}
 use Rattle.pm_host.specs.Refusals.{range_fault}
 use Rattle.pm_host.specs.Summary.{Summary, format_at, possible_at}
+use Rattle.pm_limits.specs.Band.{each_selection, is_selected}
 use Rattle.pm_rail.specs.Known.{sole}
 use Rattle.pm_rail.specs.Registers.{wants_of}
 use Rattle.pm_rail.specs.Survey.{wanted_in}
@@ -26,21 +26,16 @@ use Rattle.pm_host_c.specs.CourseImage.{course_in}
 use Rattle.pm_host_c.specs.Delivery.{idle}
 use Rattle.pm_host_c.specs.Numbers.{accepted, no_cell, no_course, no_goal, no_host}
 
--- a register that an output can command by: VOUT_COMMAND or a margin
+-- a register that an output can command by, which some byte of OPERATION selects: VOUT_COMMAND or a margin
 abbrev pub is_commanding : Reg → Bool
-is_commanding Operation = false
-is_commanding VoutCommand = true
-is_commanding VoutMax = false
-is_commanding MarginHigh = true
-is_commanding MarginLow = true
-is_commanding VoutMin = false
+is_commanding register = is_selected each_selection register
 
 -- the word that a register is known to hold that a byte selects which leaves the output on
 abbrev pub selected_goal : Summary → FrameCourse → ℕ → Reg → Option ℕ
 selected_goal s c byte register = if has_on byte && same_register (selected_register byte) register
     then sole (possible_at s (Out c.course.survey.output register)) else None
 
--- of a voltage that is wanted the nearest word, where the format has one; otherwise the word that is wanted as such
+-- a wish's word: that nearest to a voltage, where the format has one; otherwise the word that is wanted as such
 abbrev pub has_wanted : Option Shape → Option ℤ → Option ℕ → Bool
 has_wanted shape None word = is_some word
 has_wanted shape (Some x) word = option_map_or (λ s. is_none (range_fault s x)) shape false
