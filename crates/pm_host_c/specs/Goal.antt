@@ -1,13 +1,13 @@
 -- Which word an output is to command once a course has ended. This project's own choice.
-use Rattle.std.specs.Prelude.{◌≡◌, ℕ, ℤ, ◌&&◌, nat_lt, if◌then◌else◌, Bool, true, false, Option, Some, None, is_none, is_some}
-use Rattle.std.specs.Prelude.{IfSome, IsSomeAnd, option_and_then}
+use Rattle.std.specs.Prelude.{◌≡◌, ℕ, ℤ, ◌&&◌, nat_lt, if◌then◌else◌, Bool, false, Option, Some, None, is_none, is_some}
+use Rattle.std.specs.Prelude.{IfSome, IsSomeAnd}
 use Rattle.std.specs.Option.{option_map_or}
 use Rattle.pm_num.specs.AnyFormat.{Shape, shape_rank, shape_value}
 use Rattle.pm_num.specs.NearestWord.{nearest_word}
 use Rattle.pm_num.specs.Ratio.{micros}
 use Rattle.pm_table.specs.declared.cell.Cell.TheVariants.{Out}
 use Rattle.pm_table.specs.declared.reg.Reg.{Reg}
-use Rattle.pm_table.specs.Cell.{register_of, same_register}
+use Rattle.pm_table.specs.Cell.{same_register}
 use Rattle.pm_table.specs.Operation.{has_on, selected_register}
 use Rattle.pm_host.specs.declared.fault.HostFault.TheVariants.{UnknownOutput}
 use Rattle.pm_host.specs.FaultWords.{host_fault_number}
@@ -20,9 +20,7 @@ use Rattle.pm_rail.specs.Registers.{wants_of}
 use Rattle.pm_rail.specs.Survey.{wanted_in}
 use Rattle.pm_course.specs.declared.frame_course.FrameCourse.{FrameCourse}
 use Rattle.pm_course.specs.Wishes.{voltage_of}
-use Rattle.pm_host_c.specs.declared.course_image.CourseImage.{CourseImage}
 use Rattle.pm_host_c.specs.declared.guard_image.GuardImage.{GuardImage}
-use Rattle.pm_host_c.specs.CourseImage.{course_in}
 use Rattle.pm_host_c.specs.Delivery.{idle}
 use Rattle.pm_host_c.specs.Numbers.{accepted, no_cell, no_course, no_goal, no_host}
 

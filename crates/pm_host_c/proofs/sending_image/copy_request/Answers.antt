@@ -1,5 +1,5 @@
 -- The bytes in front of the others are the request, which has five.
-use Rattle.std.proofs.Common.{◌≡◌, ◌++◌, ◌∙◌, ap, subst, sym, length}
+use Rattle.std.proofs.Common.{◌≡◌, ◌++◌, ◌∙◌, ap, subst, length}
 use Rattle.std.proofs.Math.Seq.{take-append_seam}
 use Rattle.std.proofs.Common.{take, List, ℕ}
 use Rattle.pm_host_c.proofs.sending_image.copy_request.Goals as goal
