@@ -22,7 +22,8 @@ class Copy:
 
     def __init__(self, folder, built):
         self.folder, self.built, self.sound = folder, built, {}
-        for each in ("crates/pm_host_c/include", "crates/pm_device_c/include", "examples/c", "trials/c/rows", "trials/course", "trials/delivery", "rust"):
+        for each in ("crates/pm_host_c/include", "crates/pm_device_c/include", "examples/c", "trials/c/rows", "trials/course",
+                     "trials/delivery", "rust"):
             shutil.copytree(os.path.join(ROOT, each), os.path.join(folder, each), ignore=shutil.ignore_patterns("target"))
 
     def run(self, *words, **environment):

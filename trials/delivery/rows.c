@@ -16,7 +16,8 @@
  *   h  READ_VOUT is 4 % above what is commanded                        c  BUSY and CML come with each order */
 typedef struct {
     const char *name;
-    char call;           /* s set to 1.1 V, S to 1.3 V, U to 0.7 V, n on, o off, m margin high (1.15 V), y survey, O survey of an output off */
+    char call;           /* s set to 1.1 V, S to 1.3 V, U to 0.7 V, n on, o off, m margin high (1.15 V), y survey, O survey of an output
+                          * that is off */
     const char *wrong;
     uint8_t fault_limits, has_read_vout;
     uint16_t rounds;
