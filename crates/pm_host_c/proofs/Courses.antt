@@ -1,7 +1,8 @@
 -- How the memory of a course is kept.
-use Rattle.std.proofs.Common.{◌≡◌, ◌<◌, ℕ, ℤ, Bool, true, false, Option, Some, None, refl, sym, ap, rules}
+use Rattle.std.proofs.Common.{◌≡◌, ◌<◌, ℕ, ℤ, Bool, true, false, Option, Some, None, refl, sym, ap, ◌∙◌, rules}
 use Rattle.std.specs.Prelude.{nat_lt, ◌==◌, if◌then◌else◌, is_none, is_some, unwrap_or}
 use Rattle.pm_table.specs.declared.reg.Reg.{Reg}
+use Rattle.pm_table.specs.declared.reg.Reg.TheVariants.{Operation, VoutCommand, VoutMax, MarginHigh, MarginLow, VoutMin}
 use Rattle.pm_host.specs.declared.job.Job.{Job}
 use Rattle.pm_rail.specs.declared.course.Differing.{Differing}
 use Rattle.pm_rail.specs.declared.survey.Reads.{Reads}
@@ -10,10 +11,11 @@ use Rattle.pm_rail.specs.Course.{course_of}
 use Rattle.pm_course.specs.declared.answer_fault.AnswerFault.{AnswerFault}
 use Rattle.pm_course.specs.declared.answer_fault.AnswerFault.TheVariants.{NoAnswer, NotAcknowledged, NotOurs, Short, Long, WrongCount, WrongPec}
 use Rattle.pm_course.specs.declared.frame_course.FrameCourse.{FrameCourse}
+use Rattle.pm_course.specs.declared.voltages.Voltages.{Voltages}
 use Rattle.pm_course.specs.FrameCourse.{going_on, refused_by, to_byte, to_survey, wanting}
 use Rattle.pm_course.specs.Wishes.{no_voltages}
-use Rattle.pm_host_c.specs.CourseEnd.{fault_held, fault_number}
-use Rattle.pm_host_c.specs.CourseImage.{course_image, course_in, differed_held, differed_image, CoursesAreKept, IsKept}
+use Rattle.pm_host_c.specs.CourseEnd.{end_held, end_numbers, fault_held, fault_number}
+use Rattle.pm_host_c.specs.CourseImage.{course_image, course_in, differed_held, differed_image, voltages_held, CoursesAreKept, IsKept}
 use Rattle.pm_host_c.specs.Numbers.{flag}
 use Rattle.pm_host_c.proofs.Kept.{flag-kept, plan-kept}
 

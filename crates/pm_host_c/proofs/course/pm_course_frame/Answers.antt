@@ -1,14 +1,16 @@
-use Rattle.std.proofs.Common.{◌≡◌, ◌≢◌, ◌∙◌, Option, Some, None, ap, sym, subst, refl, rules}
+use Rattle.std.proofs.Common.{◌≡◌, ◌≢◌, ◌∙◌, true, Option, Some, None, Ok, ap, sym, subst, refl, rules}
 use Rattle.std.specs.Option.{option_map_or}
 use Rattle.pm_host.specs.declared.stage.Stage.{Stage}
-use Rattle.pm_host.specs.Image.{host_of}
+use Rattle.pm_host.specs.Image.{held, host_of}
+use Rattle.pm_limits.specs.Guard.{Guarded}
 use Rattle.pm_course.specs.declared.course_end.CourseNext.{CourseNext}
 use Rattle.pm_course.specs.declared.course_end.CourseNext.TheVariants.{Job, Ended}
 use Rattle.pm_host_c.specs.declared.course_image.CourseImage.{CourseImage}
 use Rattle.pm_host_c.specs.Course.{BeginsIn, HandsOut, SaysIn, again, begun, guard_at, no_course_there, no_host_there, over, refused, refused_in}
 use Rattle.pm_host_c.specs.CourseImage.{course_image}
 use Rattle.pm_host_c.specs.Guard.{guard_of}
-use Rattle.pm_host_c.specs.Host.{job_begun, job_number}
+use Rattle.pm_host.specs.Summary.{Summary}
+use Rattle.pm_host_c.specs.Host.{job_begun, job_number, memory_number}
 use Rattle.pm_host_c.specs.Numbers.{accepted}
 use Rattle.pm_host_c.specs.declared.guard_image.GuardImage.{GuardImage}
 use Rattle.pm_course.specs.declared.frame_course.FrameCourse.{FrameCourse}

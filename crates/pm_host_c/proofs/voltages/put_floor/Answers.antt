@@ -1,7 +1,9 @@
-use Rattle.std.proofs.Common.{◌≡◌, ◌^◌, ◌<◌, false, ℤ, pos, neg_ℤ, ◌*ℤ◌, ◌≤ℤ◌, w64, to_z, of_z, sym, subst, arith}
+use Rattle.std.proofs.Common.{◌≡◌, ℕ, ◌*◌, ◌^◌, ◌<◌, ◌≤◌, false, ℤ, pos, negsuc, neg_ℤ, ◌*ℤ◌, ◌≤ℤ◌, w64, to_z, of_z, sym, subst, arith}
+use Rattle.std.proofs.Math.Nat.{le_of_mul-le-mul_right}
 use Rattle.std.proofs.lemmas.Bool.{or_parts}
 use Rattle.std.proofs.lemmas.Int.{ints}
 use Rattle.std.specs.Int.{w128}
+use Rattle.std.specs.Prelude.{int_lt}
 use Rattle.pm_num.specs.Ratio.{Ratio}
 use Rattle.pm_num.specs.Lemmas.Integers.{le_from_times, not_less}
 use Rattle.pm_host_c.specs.Voltages.{is_far, IsFloor, IsNear}

@@ -1,4 +1,4 @@
-use Rattle.std.proofs.Common.{◌∙◌, Bool, ap, refl}
+use Rattle.std.proofs.Common.{◌≡◌, ◌∙◌, Bool, ap, refl}
 use Rattle.pm_rail.specs.declared.wanted.Wanted.{Wanted}
 use Rattle.pm_host_c.specs.Numbers.{flag}
 use Rattle.pm_host_c.specs.Wanted.{wanted_image}
