@@ -22,7 +22,8 @@ class Copy:
 
     def __init__(self, folder, built):
         self.folder, self.built, self.sound = folder, built, {}
-        for each in ("crates/pm_host_c/include", "crates/pm_device_c/include", "examples/c", "trials/c/rows", "trials/course", "rust"):
+        for each in ("crates/pm_host_c/include", "crates/pm_device_c/include", "examples/c", "trials/c/rows", "trials/course",
+                     "trials/delivery", "rust"):
             shutil.copytree(os.path.join(ROOT, each), os.path.join(folder, each), ignore=shutil.ignore_patterns("target"))
 
     def run(self, *words, **environment):
@@ -65,6 +66,8 @@ class Copy:
             return self.warns(row)
         if test == "course rows":
             return self.course_row(row)
+        if test == "delivery rows":
+            return self.delivery_row(row)
         if test == "patient_rows.c":
             return self.patient_row(row)
         if test == "i2c_dev.c":
@@ -87,6 +90,11 @@ class Copy:
         self.program("courses", "trials/course/rows.c")
         status, text = self.run("timeout", "60", "./courses", "trials/course/rows.txt")
         return status in (0, 1) and f"\n{name}: " not in "\n" + text
+
+    def delivery_row(self, name):
+        """Whether this row of deliveries is right."""
+        self.program("deliveries", "trials/delivery/rows.c")
+        return f"\n{name}: " not in "\n" + self.run("timeout", "60", "./deliveries")[1]
 
     def warns(self, call):
         """Whether gcc warns of this call alone on a line."""

@@ -302,6 +302,17 @@ pm_course_power(&course, 0, 0x80, 8)
 pm_course_want(&course, PM_VOUT_MAX, 3500000)
 pm_course_frame(&course, &host, &sending)
 pm_host_run_course(&host, &course, 0, 0, 0).kind
+pm_host_deliver(&host, &course, &delivery, 0, 0, 0, 0, &delivered).kind
+pm_delivery_new(&delivery, 0, PM_FAULT_LIMITS_REFUSE, 1, 50, 8)
+pm_delivery_before(&delivery)
+pm_delivery_after(&delivery, 0)
+pm_delivery_frame(&delivery, &host, &sending)
+pm_delivery_verdict(&delivery, &host, &delivered)
+pm_delivery_judge(&delivery, &host, 0x1000, &judgement)
+pm_delivery_ask(&delivery, &host, 0, 0, 0)
+pm_delivery_judge_course(&delivery, &course, &host, &judgement)
+pm_paged_request(0x58, 0, 0x40, 2, &sending)
+pm_read_paged(0x58, 0, 0x40, 2, sending.bytes, 5, &block)
 END
 }
 
@@ -312,7 +323,11 @@ static pm_host host;
 static pm_wanted wanted;
 static pm_course course;
 static pm_sending sending;
-int main(void) { (void)wanted; (void)course; (void)sending;' row=0
+static pm_delivery delivery;
+static pm_delivered delivered;
+static pm_judgement judgement;
+static pm_block block;
+int main(void) { (void)host; (void)wanted; (void)course; (void)sending; (void)delivery; (void)delivered; (void)judgement; (void)block;' row=0
     while read -r call; do
         row=$((row + 1))
         echo "$before return $call; }" > "$folder/asks.c"
@@ -388,6 +403,7 @@ for each in $compilers; do
         program "$name part" examples/c/part.expected "$compiler $strict" examples/c/part.c $rest --
         program "$name pm_host_run" trials/c/rows/run_rows.expected "$compiler $strict" trials/c/rows/run_rows.c $rest --
         program "$name courses" trials/course/rows.expected "$compiler $strict" trials/course/rows.c $rest -- trials/course/rows.txt
+        program "$name deliveries" trials/delivery/rows.expected "$compiler $strict" trials/delivery/rows.c $rest --
         program "$name pm_patient_run" trials/c/rows/patient_rows.expected "$compiler $strict" trials/c/rows/patient_rows.c $rest --
         program "$name both ends" examples/c/faults.expected "$compiler $strict" examples/c/faults.c $rest --
         program "$name HAL" examples/c/hal_bus.expected "$compiler $strict" examples/c/hal_bus.c $rest --

@@ -4,7 +4,7 @@
 #include <stdio.h>
 #include <string.h>
 
-/* What is wrong with the part:
+/* What is wrong with the part (H: VOUT_MARGIN_HIGH is 1.3 V):
  *   t  it trips where it is to command VOUT_OV_FAULT_LIMIT or more     r  its RUN pin is low
  *   g  power good begins at 1.2 V                                      o  VOUT_OV_FAULT was latched before
  *   w  a warning of VOUT_UV comes with each order                      u  a fault of VOUT_UV comes with each order
@@ -16,7 +16,8 @@
  *   h  READ_VOUT is 4 % above what is commanded                        c  BUSY and CML come with each order */
 typedef struct {
     const char *name;
-    char call;           /* s set to 1.1 V, S set to 1.3 V, n on, o off, m margin high (1.15 V), y survey, O survey of an output off */
+    char call;           /* s set to 1.1 V, S to 1.3 V, U to 0.7 V, n on, o off, m margin high (1.15 V), y survey, O survey of an output
+                          * that is off */
     const char *wrong;
     uint8_t fault_limits, has_read_vout;
     uint16_t rounds;
@@ -38,7 +39,9 @@ static const row rows[] = {
     {"the same, told alone", 'S', "t", TELL, 1, 5, 1, 0, 4, 0x79, 0, 0, 0x8860, NONE, 20, 1, 0},
     {"the same, not read", 'S', "t", SKIP, 1, 5, 1, 0, 4, 0x79, 0, 0, 0x8860, NONE, 16, 1, 0},
     {"fault limits that give no answer", 'S', "tf", REFUSE, 1, 5, 1, 0, 4, 0x79, 0, 0, 0x8860, NONE, 22, 1, 0},
-    {"a margin beyond a fault limit", 'm', "t", REFUSE, 1, 5, 1, 0, 1, 0, 0, 0, 0, 1149902, 20, 1, 0},
+    {"a margin below the fault limits", 'm', "t", REFUSE, 1, 5, 1, 0, 1, 0, 0, 0, 0, 1149902, 20, 1, 0},
+    {"a margin at VOUT_OV_FAULT_LIMIT", 'm', "tH", REFUSE, 1, 5, 2, 0x68, 13, 0x40, 0, 0, 0x14CD, NONE, 12, 0, 0},
+    {"a goal at VOUT_UV_FAULT_LIMIT", 'U', "", REFUSE, 1, 5, 2, 0x68, 13, 0x44, 0, 0, 0x0B33, NONE, 11, 0, 0},
     {"a RUN pin that is low", 's', "r", REFUSE, 1, 5, 1, 0, 4, 0x79, 0, 0, 0x0840, NONE, 23, 1, 4},
     {"power good that begins above", 's', "g", REFUSE, 1, 3, 1, 0, 8, 0x79, 0, 0, 0x0800, 1100097, 26, 1, 2},
     {"power good of a part without READ_VOUT", 's', "g", REFUSE, 0, 3, 1, 0, 9, 0x79, 0, 0, 0x0800, NONE, 21, 1, 2},
@@ -177,6 +180,7 @@ static int begin(pm_course *course) {
     switch (now->call) {
     case 's': return pm_course_microvolts(course, 0, PM_VOUT_COMMAND, 1100000, 40);
     case 'S': return pm_course_microvolts(course, 0, PM_VOUT_COMMAND, 1300000, 40);
+    case 'U': return pm_course_microvolts(course, 0, PM_VOUT_COMMAND, 700000, 40);
     case 'n': return pm_course_power(course, 0, 0x80, 40);
     case 'o': return pm_course_power(course, 0, 0x00, 40);
     case 'm': return pm_course_power(course, 0, 0xA8, 40);
@@ -203,6 +207,7 @@ int main(void) {
         reads = writes = pauses = status_words = has_ordered = 0;
         operation = now->call == 'n' || now->call == 'O' ? 0x00 : 0x80;
         command = 0x1000;
+        high = is('H') ? 0x14CD : 0x1266;
         if (pm_host_new(&host, 0x58, 1, 2) != 0 || pm_host_set_limits(&host, 0, 500000, 2000000) != 0 || begin(&course) != 0
             || pm_delivery_new(&delivery, 0, now->fault_limits, now->has_read_vout, 50, now->rounds) != 0)
             return 1;
@@ -214,6 +219,6 @@ int main(void) {
                    (long long)(said.has_microvolts ? said.microvolts : NONE), reads, writes, pauses);
         }
     }
-    printf("%d rows passed, %d failed\n", count - failed, failed);
+    printf("deliveries: %d rows passed, %d failed\n", count - failed, failed);
     return failed != 0;
 }

@@ -4,6 +4,7 @@ use Rattle.pm_frame.specs.declared.fault.FrameFault.{FrameFault}
 use Rattle.pm_frame.specs.BlockRead.{block_payload}
 use Rattle.pm_frame.specs.FaultWords.{frame_fault_number}
 use Rattle.pm_frame.specs.PagedRead.{paged_fault}
+use Rattle.pm_table.specs.Codes as command
 use Rattle.pm_delivery.specs.declared.question.Question.{Question}
 use Rattle.pm_delivery.specs.declared.question.Question.TheVariants.{Before, OvFaultLimit, OvWarnLimit, UvWarnLimit, UvFaultLimit, StatusWord}
 use Rattle.pm_delivery.specs.declared.question.Question.TheVariants.{StatusVout, StatusIout, StatusInput, StatusTemperature, ReadVout}
@@ -12,17 +13,17 @@ use Rattle.pm_delivery.specs.declared.question.Question.TheVariants.{PowerGoodOn
 -- the command code: STATUS_WORD, VOUT_OV_FAULT_LIMIT, VOUT_OV_WARN_LIMIT, VOUT_UV_WARN_LIMIT, VOUT_UV_FAULT_LIMIT, the status
 -- registers, READ_VOUT, POWER_GOOD_ON, POWER_GOOD_OFF
 abbrev pub question_code : Question → ℕ
-question_code Before = 0x79
+question_code Before = command.status_word
 question_code OvFaultLimit = 0x40
 question_code OvWarnLimit = 0x42
 question_code UvWarnLimit = 0x43
 question_code UvFaultLimit = 0x44
-question_code StatusWord = 0x79
-question_code StatusVout = 0x7A
+question_code StatusWord = command.status_word
+question_code StatusVout = command.status_vout
 question_code StatusIout = 0x7B
 question_code StatusInput = 0x7C
 question_code StatusTemperature = 0x7D
-question_code ReadVout = 0x8B
+question_code ReadVout = command.read_vout
 question_code PowerGoodOn = 0x5E
 question_code PowerGoodOff = 0x5F
 

@@ -20,7 +20,7 @@ share within = if nat_lt 1000 within then 1000 else within
 abbrev pub over : Ratio → Ratio → ℤ
 over p q = p.num *ℤ pos q.den
 
--- so many thousandths of a number's size are less than this
+-- a gap is more than so many thousandths of a number's size
 abbrev pub is_more : ℕ → ℤ → ℤ → Bool
 is_more within of gap = int_lt (pos (unsigned_abs of * share within)) (pos 1000 *ℤ gap)
 

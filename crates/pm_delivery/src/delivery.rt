@@ -90,7 +90,7 @@ pub struct FaultBit {
 }
 
 impl Delivery {
-    /// Of this output nothing was asked. READ_VOUT may be this many thousandths of what the output commands away from it (50 are
+    /// A delivery of an output of which nothing was asked. READ_VOUT may be this many thousandths of what the output commands away from it (50 are
     /// 5 %), and all is asked at most so often.
     pub fn new(
         output: u8,

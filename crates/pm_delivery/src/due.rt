@@ -112,7 +112,7 @@ impl Delivery {
         }
     }
 
-    // The same by the round's verdict.
+    // What is due once a round has ended with this verdict.
     fn due_by(&self, passes: u8, verdict: Verdict) -> Due
         ensures { result ≡ spec_due_by self.now passes verdict }
     {

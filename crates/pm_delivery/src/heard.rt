@@ -35,7 +35,7 @@ impl Heard {
         !self.is_good() && self.asked < passes
     }
 
-    /// The same after one answer more: its payload, a byte or a word with its low byte first, or the number of what was wrong.
+    /// What came of the question with one answer more: its payload, a byte or a word with its low byte first, or the number of what was wrong.
     pub(crate) fn after(self, answer: Result<u16, u8>) -> Heard
         ensures { result ≡ heard_after self answer }
     {

@@ -40,16 +40,16 @@ impl Question {
         ensures { result.0 ≡ question_code self }
     {
         match self {
-            Question::Before | Question::StatusWord => Code(0x79),
+            Question::Before | Question::StatusWord => Code::STATUS_WORD,
             Question::OvFaultLimit => Code(0x40),
             Question::OvWarnLimit => Code(0x42),
             Question::UvWarnLimit => Code(0x43),
             Question::UvFaultLimit => Code(0x44),
-            Question::StatusVout => Code(0x7A),
+            Question::StatusVout => Code::STATUS_VOUT,
             Question::StatusIout => Code(0x7B),
             Question::StatusInput => Code(0x7C),
             Question::StatusTemperature => Code(0x7D),
-            Question::ReadVout => Code(0x8B),
+            Question::ReadVout => Code::READ_VOUT,
             Question::PowerGoodOn => Code(0x5E),
             Question::PowerGoodOff => Code(0x5F),
         }

@@ -85,7 +85,7 @@ impl Delivery {
         }
     }
 
-    // The same where it isn't off.
+    // What a rail does that is commanded on, and that STATUS_WORD doesn't call off.
     fn verdict_sound(&self, reading: Reading) -> Verdict
         ensures { result ≡ spec_verdict_sound self.now reading (new_fault self.now) }
     {
@@ -111,7 +111,7 @@ impl Delivery {
         }
     }
 
-    // The same of a part with READ_VOUT.
+    // What a rail does by READ_VOUT and power good, of a part that has READ_VOUT.
     fn verdict_with(&self, reading: Reading) -> Verdict
         ensures { result ≡ spec_verdict_with self.now reading }
     {

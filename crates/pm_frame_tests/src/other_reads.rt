@@ -1,12 +1,16 @@
 //! Reads that are no message: blocks and plain reads of any code, with real frames and each fault, written by hand, and an
 //! answer that comes late.
 
-ghost use Rattle.std.specs.Prelude.{◌≤◌};
+ghost use Rattle.std.specs.Prelude.{◌≡◌, ◌≤◌, true, IfSome};
+ghost use Rattle.pm_frame.specs.Layout.{is_carried};
 ghost use Rattle.pm_table.specs.Address.{IsAddress};
 
 use crate::checks::agrees;
 use crate::framing::answer_fault;
-use pm_frame::{FrameFault, MOST_READ, Message, code_request, fits, read_block, read_plain};
+use pm_frame::{
+    FrameFault, MOST_READ, Message, code_request, fits, is_carried, paged_request, read_block,
+    read_paged, read_plain,
+};
 use pm_table::address_ok;
 
 // The bytes 00h to 1Fh, which are as many as a block has at most.
@@ -216,6 +220,78 @@ fn a_plain_read_is_read_or_has_its_first_fault(rt: HostRuntime) {
     );
     agrees(&rt, 16, &code_request(0x58, 0x99), &[0xB0, 0x99]);
     agrees(&rt, 17, &code_request(0x4F, 0x8B), &[0x9E, 0x8B]);
+}
+
+// The page, the code, the size that was asked for, what came back from 58h, and the payload or the first fault. VOUT_OV_FAULT_LIMIT
+// (40h) of output 0 is 3.8 V, STATUS_VOUT (7Ah) of output 1 has VOUT_UV_FAULT, MFR_ID (99h) is `LTC`.
+#[rattlefmt::skip]
+static PAGED: [(u8, u8, Option<usize>, &[u8], Payload); 18] = [
+    (0, 0x40, Some(2), &[0xB1, 0x02, 0xCD, 0x3C, 0x4F], Ok(&[0xCD, 0x3C])),
+    (1, 0x7A, Some(1), &[0xB1, 0x01, 0x10, 0x50], Ok(&[0x10])),
+    (0, 0x99, None, &[0xB1, 0x03, 0x4C, 0x54, 0x43, 0x6D], Ok(b"LTC")),
+    (0, 0x99, None, &[0xB1, 0x00, 0x03], Ok(&[])),
+    (0, 0x40, Some(2), &[], Err(FrameFault::NotOurs)),
+    (0, 0x40, Some(2), &[0xB0, 0x02, 0xCD, 0x3C, 0x4F], Err(FrameFault::NotOurs)),
+    (0, 0x40, Some(2), &[0xB1], Err(FrameFault::Short(1))),
+    (0, 0x40, Some(2), &[0xB1, 0x02], Err(FrameFault::Short(2))),
+    (0, 0x40, Some(2), &[0xB1, 0x02, 0xCD, 0x3C], Err(FrameFault::Short(4))),
+    (0, 0x40, Some(2), &[0xB1, 0x02, 0xCD, 0x3C, 0x4F, 0x00], Err(FrameFault::Long(5))),
+    (0, 0x40, Some(1), &[0xB1, 0x02, 0xCD, 0x3C, 0x4F], Err(FrameFault::WrongCount(1))),
+    (0, 0x40, Some(3), &[0xB1, 0x02, 0xCD, 0x3C, 0x4F], Err(FrameFault::WrongCount(1))),
+    (0, 0x99, None, &[0xB1, 0x21], Err(FrameFault::WrongCount(1))),
+    (0, 0x40, Some(2), &[0xB1, 0xFF, 0xFF, 0xFF, 0xFF], Err(FrameFault::WrongCount(1))),
+    (1, 0x40, Some(2), &[0xB1, 0x02, 0xCD, 0x3C, 0x4F], Err(FrameFault::WrongPec(4))),
+    (0, 0x44, Some(2), &[0xB1, 0x02, 0xCD, 0x3C, 0x4F], Err(FrameFault::WrongPec(4))),
+    (0, 0x40, Some(2), &[0xB1, 0x02, 0xCD, 0x3D, 0x4F], Err(FrameFault::WrongPec(4))),
+    (0, 0x40, Some(2), &[0xB1, 0x02, 0xCD, 0x3C, 0xE8], Err(FrameFault::WrongPec(4))),
+];
+
+// The payload or the first fault of a read by PAGE_PLUS.
+fn paged<'a>(page: u8, code: u8, size: Option<usize>, got: &'a [u8]) -> Result<&'a [u8], FrameFault>
+    requires carried { is_carried code ≡ true }
+    requires most { IfSome size (λ n. n ≤ 32) }
+{
+    read_paged(0x58, page, code, size, got)
+}
+
+#[test]
+fn a_read_by_page_plus_is_read_or_has_its_first_fault(rt: HostRuntime) {
+    for (row, (page, code, size, got, wanted)) in PAGED.iter().enumerate() {
+        assert!(rt; is_carried(*code));
+        let size = *size;
+        if let Some(n) = size {
+            assert!(rt; n <= MOST_READ);
+        }
+        agrees(&rt, row, &paged(*page, *code, size, got), wanted);
+    }
+    agrees(
+        &rt,
+        18,
+        &paged_request(0x58, 1, 0x40),
+        &[0xB0, 0x06, 0x02, 0x01, 0x40],
+    );
+}
+
+// The codes that PAGE_PLUS doesn't carry (PMBus 1.3 Part II): PAGE, PAGE_PLUS_WRITE, PAGE_PLUS_READ; and COEFFICIENTS, by this
+// project's own choice. Beside them codes that it carries.
+static CARRIED: [(u8, bool); 10] = [
+    (0x00, false),
+    (0x05, false),
+    (0x06, false),
+    (0x30, false),
+    (0x01, true),
+    (0x04, true),
+    (0x07, true),
+    (0x40, true),
+    (0x79, true),
+    (0xFF, true),
+];
+
+#[test]
+fn page_plus_carries_all_codes_but_four(rt: HostRuntime) {
+    for (row, (code, wanted)) in CARRIED.iter().enumerate() {
+        agrees(&rt, row, &is_carried(*code), wanted);
+    }
 }
 
 // The read of VOUT_COMMAND of output 0, that of VOUT_MARGIN_LOW of output 1, which shares its PEC, and that of

@@ -63,9 +63,9 @@ extern "C" {
 #define PM_NAME_STACK 4096
 
 /* What a call answers: 0, or why it is refused. A refused call changes nothing, but for these: pm_host_frame, pm_course_frame and
- * pm_delivery_frame then write PM_NOTHING, and pm_delivery_judge that answers P8 says of which limit. pm_pec, pm_host_restart_seen and pm_host_limits_state answer something else: each says what, and what the last
- * answers is no number of these; nor is PM_ENDED, which refuses nothing. pm_refusal_name gives the name of each, and of those of
- * pmpart.h. */
+ * pm_delivery_frame then write PM_NOTHING, and pm_delivery_judge that answers P8 says of which limit. pm_pec, pm_host_restart_seen
+ * and pm_host_limits_state answer something else: each says what, and what the last answers is no number of these; nor is PM_ENDED,
+ * which refuses nothing. pm_refusal_name gives the name of each, and of those of pmpart.h. */
 enum {
     PM_OK = 0,
     PM_H1_OUTPUT_COUNT = 0x01,    /* a number of outputs other than 1 to 8 */

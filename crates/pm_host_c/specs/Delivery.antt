@@ -1,5 +1,5 @@
 -- What the calls of a delivery answer and write, by the definitions of pm_delivery. This project's own choice.
-use Rattle.std.specs.Prelude.{◌≡◌, ◌≢◌, ℕ, ℤ, pos, ◌==◌, ◌&&◌, ◌+◌, not, nat_lt, if◌then◌else◌, Bool, false, List, slice_index_or}
+use Rattle.std.specs.Prelude.{◌≡◌, ℕ, ℤ, pos, ◌==◌, ◌&&◌, ◌+◌, not, nat_lt, if◌then◌else◌, Bool, false, List, slice_index_or}
 use Rattle.std.specs.Prelude.{Option, Some, None, is_some, IfSome, IsSomeAnd}
 use Rattle.std.specs.Option.{option_map_or}
 use Rattle.pm_num.specs.AnyFormat.{Shape, shape_value}
@@ -37,7 +37,7 @@ use Rattle.pm_host_c.specs.declared.guard_image.GuardImage.{GuardImage}
 use Rattle.pm_host_c.specs.declared.sending_image.SendingImage.{SendingImage}
 use Rattle.pm_host_c.specs.Guard.{limits_kept, registers_held}
 use Rattle.pm_host_c.specs.Host.{IsNothing}
-use Rattle.pm_host_c.specs.Numbers.{accepted, ended, flag, no_delivery, no_host, other_frame}
+use Rattle.pm_host_c.specs.Numbers.{accepted, ended, no_delivery, no_host, other_frame}
 use Rattle.pm_host_c.specs.Paged.{IsPagedSending}
 use Rattle.pm_host_c.specs.Voltages.{floor_number, IsFloor}
 

@@ -27,9 +27,9 @@ pub struct DeliveredImage {
     pub kind: u8,
     /// The command code of the register that says so.
     pub code: u8,
-    /// Of a new fault the number of its bit.
+    /// The number of the bit of a new fault, otherwise 0.
     pub bit: u8,
-    /// Where it isn't known what was wrong with the last answer.
+    /// What was wrong with the last answer of a register that isn't known, otherwise 0.
     pub fault: u8,
     /// 1 where READ_VOUT is told, otherwise 0.
     pub has_microvolts: u8,
@@ -140,7 +140,7 @@ fn floor_at(state: &State, output: u8, word: u16) -> Option<i64>
     }
 }
 
-// The same in a format.
+// A word in microvolts, rounded down, by a format.
 fn floor_of(format: &AnyFormat, word: u16) -> Option<i64>
     ensures told { is_some result ≡ is_near (Some (shape_of format.now)) word }
     ensures floor { IsFloorOf (Some (shape_of format.now)) word result }
@@ -239,7 +239,7 @@ pub extern "C" fn pm_delivery_judge(
     judge_in(&delivery.delivery, host, word, judgement)
 }
 
-// The same of an output that is there.
+// Judges a word of an output that the host has.
 fn judge_in(delivery: &Delivery, host: &GuardImage, word: u16, judgement: &mut JudgementImage) -> u8
     requires { delivery.now.output < 8 }
     ensures number { result ≡ judged_number (format_at (idle host.now) delivery.now.output) delivery.now word }

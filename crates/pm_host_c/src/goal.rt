@@ -42,7 +42,7 @@ pub extern "C" fn pm_course_goal(
     }
 }
 
-// The same of a course that is there.
+// The goal of a course that is in memory.
 fn course_goal(asked: &FrameCourse, host: &GuardImage, register: Option<Reg>, word: &mut u16) -> u8
     requires { asked.now.course.survey.output < 8 }
     ensures number { result ≡ course_number host.now (Some asked.now) register }
@@ -59,7 +59,7 @@ fn course_goal(asked: &FrameCourse, host: &GuardImage, register: Option<Reg>, wo
     }
 }
 
-// The same of a register.
+// The goal of a register, where the course has one.
 fn register_goal(asked: &FrameCourse, state: &State, register: Reg, word: &mut u16) -> u8
     requires { asked.now.course.survey.output < 8 }
     ensures number { result ≡ register_number (held None state.now) asked.now (Some register) }

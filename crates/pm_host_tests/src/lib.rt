@@ -9,6 +9,8 @@ mod buses;
 #[cfg(test)]
 mod courses;
 #[cfg(test)]
+mod deliveries;
+#[cfg(test)]
 mod driver;
 #[cfg(test)]
 mod host;

@@ -97,7 +97,7 @@ fn delivered(wrong: &'static str, what: &str, fault_limits: FaultLimits) -> (Str
     let options = DeliveryOptions { fault_limits, has_read_vout: true, rounds: 3, ..DeliveryOptions::default() };
     let mut delivery = Delivery::new(0, &options).unwrap();
     let said = match host.deliver(&mut course, &mut delivery, &mut rail, || ()) {
-        Ok(verdict) => verdict.to_string(),
+        Ok(verdict) => format!("well: {verdict}"),
         Err(why) => why.to_string(),
     };
     (said, rail.writes)
@@ -109,26 +109,26 @@ fn an_end_says_what_the_rail_does() {
     let tripped = "STATUS_WORD 8860 VOUT, POWER_GOOD#, OFF, VOUT_OV_FAULT: the rail is off";
     let refused = "refused: P8 BeyondFaultLimit: at or beyond VOUT_OV_FAULT_LIMIT 14CD, which would trip the rail";
     for (wrong, what, limits, said, writes) in [
-        ("", "1100000", Refuse, "delivers 1.100097V", 1),
+        ("", "1100000", Refuse, "well: delivers 1.100097V", 1),
         ("t", "1300000", Refuse, refused, 0),
         ("t", "1300000", Tell, tripped, 1),
         ("t", "1300000", Skip, tripped, 1),
         ("tf", "1300000", Refuse, tripped, 1),
-        ("t", "1299000", Refuse, "delivers 1.299072V", 1),
+        ("t", "1299000", Refuse, "well: delivers 1.299072V", 1),
         ("", "650000", Refuse, "refused: P8 BeyondFaultLimit: at or beyond VOUT_UV_FAULT_LIMIT 0A66, which would trip the rail", 0),
         ("r", "1100000", Refuse, "STATUS_WORD 0840 POWER_GOOD#, OFF: the rail is off", 1),
         ("r", "survey", Refuse, "STATUS_WORD 0840 POWER_GOOD#, OFF: the rail is off", 0),
         ("r", "on", Refuse, "STATUS_WORD 0840 POWER_GOOD#, OFF: the rail is off", 1),
         ("u", "1100000", Refuse, "STATUS_VOUT 10 VOUT_UV_FAULT: VOUT_UV_FAULT came with this call", 1),
-        ("o", "1100000", Refuse, "delivers 1.100097V", 1),
-        ("o", "survey", Refuse, "delivers 1V", 0),
+        ("o", "1100000", Refuse, "well: delivers 1.100097V", 1),
+        ("o", "survey", Refuse, "well: delivers 1V", 0),
         ("g", "1100000", Refuse, "READ_VOUT 1.100097V, and power good is missing", 1),
         ("l", "1100000", Refuse, "READ_VOUT 0.98999V, too far from what the output commands", 1),
         ("s", "1100000", Refuse, "delivery not known: STATUS_WORD gave no good answer: no answer", 1),
         ("v", "1100000", Refuse, "delivery not known: READ_VOUT gave no good answer: no answer", 1),
-        ("", "off", Refuse, "off", 1),
+        ("", "off", Refuse, "well: off", 1),
         ("n", "off", Refuse, "commanded off, and the part says that it is on", 1),
-        ("", "on", Refuse, "delivers 1V", 1),
+        ("", "on", Refuse, "well: delivers 1V", 1),
     ] {
         assert_eq!(delivered(wrong, what, limits), (said.to_string(), writes), "{wrong:?} {what}");
     }

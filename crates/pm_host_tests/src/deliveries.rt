@@ -1,0 +1,170 @@
+//! What a delivery asks and says, by the bits of the standard (PMBus 1.3 Part II, STATUS_WORD to STATUS_TEMPERATURE): rows written by
+//! hand.
+
+use crate::checks::{equal, is_true};
+use pm_delivery::{Delivery, Due, Question, Reading, Verdict};
+use pm_rail::Power;
+
+// The command code of each register that is asked, and how many bytes it has.
+static CODES: [(Question, u8, usize); 13] = [
+    (Question::Before, 0x79, 2),
+    (Question::OvFaultLimit, 0x40, 2),
+    (Question::OvWarnLimit, 0x42, 2),
+    (Question::UvWarnLimit, 0x43, 2),
+    (Question::UvFaultLimit, 0x44, 2),
+    (Question::StatusWord, 0x79, 2),
+    (Question::StatusVout, 0x7A, 1),
+    (Question::StatusIout, 0x7B, 1),
+    (Question::StatusInput, 0x7C, 1),
+    (Question::StatusTemperature, 0x7D, 1),
+    (Question::ReadVout, 0x8B, 2),
+    (Question::PowerGoodOn, 0x5E, 2),
+    (Question::PowerGoodOff, 0x5F, 2),
+];
+
+#[test]
+fn each_question_reads_its_register(rt: HostRuntime) {
+    for (question, code, size) in &CODES {
+        equal(
+            &rt,
+            &(question.code().0, question.size()),
+            &(*code, *size),
+            question,
+        );
+    }
+}
+
+// A delivery of an output whose STATUS_WORD was 0000h before its order.
+fn after_order() -> Delivery {
+    let mut delivery = Delivery::new(0, 0, true, 50, 1);
+    delivery.look_before();
+    delivery.hear(Question::Before, Ok(0));
+    delivery.look_after(false);
+    delivery
+}
+
+// What it says with this STATUS_WORD, where READ_VOUT is right.
+fn said(status: u16) -> Verdict {
+    let mut delivery = after_order();
+    delivery.hear(Question::StatusWord, Ok(status));
+    delivery.hear(Question::ReadVout, Ok(0x1000));
+    delivery.hear(Question::PowerGoodOn, Ok(0));
+    delivery.hear(Question::PowerGoodOff, Ok(0));
+    delivery.verdict(1, Power::On, Reading::Right)
+}
+
+// Each bit of STATUS_WORD alone, and what the rail does then; a summary's register isn't known yet.
+static WORDS: [(u16, Verdict); 17] = [
+    (0x0000, Verdict::Delivers),
+    (0x0001, Verdict::Delivers), // NONE OF THE ABOVE
+    (0x0002, Verdict::Delivers), // CML
+    (0x0004, Verdict::NotYet), // TEMPERATURE
+    (0x0008, Verdict::NewFault(Question::StatusWord, 3)), // VIN_UV_FAULT
+    (0x0010, Verdict::NewFault(Question::StatusWord, 4)), // IOUT_OC_FAULT
+    (0x0020, Verdict::NewFault(Question::StatusWord, 5)), // VOUT_OV_FAULT
+    (0x0040, Verdict::IsOff), // OFF
+    (0x0080, Verdict::Delivers), // BUSY
+    (0x0100, Verdict::Delivers), // UNKNOWN
+    (0x0200, Verdict::Delivers), // OTHER
+    (0x0400, Verdict::Delivers), // FANS
+    (0x0800, Verdict::PowerGoodAlone), // POWER_GOOD#
+    (0x1000, Verdict::Delivers), // MFR_SPECIFIC
+    (0x2000, Verdict::NotYet), // INPUT
+    (0x4000, Verdict::NotYet), // IOUT/POUT
+    (0x8000, Verdict::NotYet), // VOUT
+];
+
+#[test]
+fn each_bit_of_status_word_decides_or_is_told(rt: HostRuntime) {
+    for (status, verdict) in &WORDS {
+        equal(&rt, &said(*status), verdict, status);
+    }
+}
+
+// A bit of STATUS_WORD, the register that it points to, and the bits of that which say a fault.
+static REGISTERS: [(u16, Question, u8); 4] = [
+    // VOUT_OV_FAULT, VOUT_UV_FAULT, TON_MAX_FAULT
+    (0x8000, Question::StatusVout, 0b1001_0100),
+    // IOUT_OC_FAULT, IOUT_OC_LV_FAULT, IOUT_UC_FAULT, current share fault, POUT_OP_FAULT
+    (0x4000, Question::StatusIout, 0b1101_1010),
+    // VIN_OV_FAULT, VIN_UV_FAULT, IIN_OC_FAULT
+    (0x2000, Question::StatusInput, 0b1001_0100),
+    // OT_FAULT, UT_FAULT
+    (0x0004, Question::StatusTemperature, 0b1001_0000),
+];
+
+// What it says of one bit of such a register.
+fn said_of(status: u16, register: Question, bit: u8) -> Verdict {
+    let mut delivery = after_order();
+    delivery.hear(Question::StatusWord, Ok(status));
+    delivery.hear(register, Ok(u16::from(1u8 << bit)));
+    delivery.hear(Question::ReadVout, Ok(0x1000));
+    delivery.verdict(1, Power::On, Reading::Right)
+}
+
+#[test]
+fn each_fault_of_a_status_register_decides(rt: HostRuntime) {
+    for (status, register, faults) in &REGISTERS {
+        for bit in 0..8u8 {
+            let wanted = if (*faults >> bit) % 2 == 1 {
+                Verdict::NewFault(*register, bit)
+            } else {
+                Verdict::Delivers
+            };
+            equal(
+                &rt,
+                &said_of(*status, *register, bit),
+                &wanted,
+                &(register, bit),
+            );
+        }
+    }
+}
+
+#[test]
+fn a_fault_that_stood_before_decides_nothing(rt: HostRuntime) {
+    let mut delivery = Delivery::new(0, 0, true, 50, 1);
+    delivery.look_before();
+    delivery.hear(Question::Before, Ok(0x8020));
+    delivery.look_after(false);
+    delivery.hear(Question::StatusWord, Ok(0x8020));
+    delivery.hear(Question::ReadVout, Ok(0x1000));
+    let verdict = delivery.verdict(1, Power::On, Reading::Right);
+    equal(&rt, &verdict, &Verdict::Delivers, &1);
+    is_true(&rt, !delivery.is_new(5), &2);
+}
+
+#[test]
+fn a_fault_of_which_nobody_knows_since_when_decides(rt: HostRuntime) {
+    let mut delivery = Delivery::new(0, 0, true, 50, 1);
+    delivery.look_before();
+    delivery.hear(Question::Before, Err(0x35));
+    delivery.look_after(false);
+    delivery.hear(Question::StatusWord, Ok(0x0020));
+    let verdict = delivery.verdict(1, Power::On, Reading::NotKnown);
+    equal(
+        &rt,
+        &verdict,
+        &Verdict::NewFault(Question::StatusWord, 5),
+        &1,
+    );
+}
+
+#[test]
+fn nothing_is_asked_before_an_order_twice(rt: HostRuntime) {
+    let mut delivery = Delivery::new(0, 0, true, 50, 1);
+    delivery.look_before();
+    for question in [
+        Question::Before,
+        Question::OvFaultLimit,
+        Question::OvWarnLimit,
+        Question::UvWarnLimit,
+        Question::UvFaultLimit,
+    ] {
+        let due = delivery.due(2, Power::On, Reading::NotKnown);
+        equal(&rt, &due, &Due::Ask(question), &question);
+        delivery.hear(question, Ok(0x1000));
+    }
+    let due = delivery.due(2, Power::On, Reading::NotKnown);
+    equal(&rt, &due, &Due::Nothing, &1);
+}
