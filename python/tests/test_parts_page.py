@@ -24,7 +24,7 @@ def families(page):
 
 def faults(page):
     """What is wrong with the page: a row of what doesn't decide, or a second one, and cells that have no source."""
-    found = [] if f"These decide: {'; '.join(DECIDES)}. What a family's table doesn't name wasn't looked up" in " ".join(page.split()) else ["what decides"]
+    found = [] if f"These decide: {'; '.join(DECIDES)}. What a family's lines don't name wasn't looked up" in " ".join(page.split()) else ["what decides"]
     for name, rows in families(page).items():
         said = [row[0] for row in rows]
         if not said or said != [it for it in DECIDES if it in said]:
