@@ -34,14 +34,15 @@ def words_of(name):
 
 
 def prose_of(name):
-    """A page's paragraphs, items and cells, each with whether it is a cell of a table: without code, headings and the places of
-    links. A piece of code in a sentence is one word."""
+    """A page's paragraphs, items and cells, each with whether it is a cell of a table: without code, headings, the places of
+    links, and sources as `(pmbus.h:410)`. A piece of code in a sentence is one word."""
     text = text_of(name)
     return manual_prose(text) if name.endswith(".1") else header_prose(text) if name.endswith(".h") else page_prose(text)
 
 
 def page_prose(text):
     text = re.sub(r"^```.*?^```$", "", text, flags=re.M | re.S)
+    text = re.sub(r"\s\([a-z0-9_-]+\.(?:c|h|rst):[0-9][^()]*\)", "", text)
     text = re.sub(r"!?\[([^\]]*)\]\([^)]*\)", r"\1", re.sub(r"`[^`]+`", "`x`", text))
     for block in re.split(r"\n\s*\n", text):
         lines = block.strip("\n").split("\n")

@@ -9,28 +9,27 @@ PAGE = os.path.join(ROOT, "docs", "parts.md")
 # What a family's table may say, and what the page says that it names, in this order.
 DECIDES = ["outputs", "PAGE_PLUS", "PEC on reads", "PEC required on writes, and by which bit", "VOUT_MODE", "registers", "busy",
            "second addresses", "store and restore", "pins that override", "CLEAR_FAULTS"]
-HEAD = [("what decides", "what is known", "source"), ("---", "---", "---")]
 PLACE = r"[a-z0-9_-]+\.(?:c|h|rst):[1-9][0-9]*(?:-[1-9][0-9]*)?"
 LINUX = re.compile(rf"{PLACE}(?:, {PLACE})*\Z")
 
 
 def families(page):
-    """The rows of each family's table, by the family's name."""
+    """The lines of each family, by its name: what decides, what is known of it, and its source in parentheses at the end."""
     found = {}
     for part in page.partition("\n## Families\n")[2].split("\n### ")[1:]:
-        lines = [line for line in part.splitlines() if line.startswith("|")]
-        found[part.partition("\n")[0]] = [tuple(cell.strip() for cell in line.strip("|").split("|")) for line in lines]
+        lines = re.findall(r"^- (.*(?:\n  .*)*)", part, re.M)
+        found[part.partition("\n")[0]] = [re.fullmatch(r"([^:]*): (.*?)(?: \(([^()]*)\))?", " ".join(line.split())).groups("") for line in lines]
     return found
 
 
 def faults(page):
     """What is wrong with the page: a row of what doesn't decide, or a second one, and cells that have no source."""
-    found = [] if f"These decide: {'; '.join(DECIDES)}. What a family's table doesn't name wasn't looked up" in " ".join(page.split()) else ["what decides"]
+    found = [] if f"These decide: {'; '.join(DECIDES)}. What a family's lines don't name wasn't looked up" in " ".join(page.split()) else ["what decides"]
     for name, rows in families(page).items():
-        said = [row[0] for row in rows[2:]]
-        if rows[:2] != HEAD or not said or said != [it for it in DECIDES if it in said]:
-            found.append(f"{name}: its rows")
-        found += [f"{name}: {row[0]}" for row in rows[2:] if len(row) != 3 or not row[1] or not LINUX.match(row[2])]
+        said = [row[0] for row in rows]
+        if not said or said != [it for it in DECIDES if it in said]:
+            found.append(f"{name}: its lines")
+        found += [f"{name}: {row[0]}" for row in rows if not row[1] or not LINUX.match(row[2])]
     return found
 
 
@@ -44,16 +43,16 @@ class Page(unittest.TestCase):
 
     def test_a_cell_without_a_source_is_found(self):
         name, rows = next(iter(families(self.page).items()))
-        row = next(row for row in rows[2:] if LINUX.match(row[2]))
-        line = f"| {' | '.join(row)} |"
+        row = rows[0]
+        line = f"- {row[0]}: {row[1]} ({row[2]})\n"
         self.assertEqual(self.page.count(line), 1)
         for wrong in ("", "from memory", "Linux 6.1", "Linux 6.1, ltc2978.c", "not looked up: see the data sheet", f"{row[2]}, likely"):
             with self.subTest(wrong=wrong):
-                self.assertEqual(faults(self.page.replace(line, f"| {row[0]} | {row[1]} | {wrong} |")), [f"{name}: {row[0]}"])
+                self.assertEqual(faults(self.page.replace(line, f"- {row[0]}: {row[1]} ({wrong})\n")), [f"{name}: {row[0]}"])
 
     def test_a_row_of_something_else_or_a_second_one_is_found(self):
         name = next(iter(families(self.page)))
-        for old, new, wrong in (("| busy |", "| idle |", f"{name}: its rows"), ("| busy |", "| VOUT_MODE |", f"{name}: its rows"),
+        for old, new, wrong in (("\n- busy:", "\n- idle:", f"{name}: its lines"), ("\n- busy:", "\n- VOUT_MODE:", f"{name}: its lines"),
                                 ("; registers;", ";", "what decides")):
             with self.subTest(new=new):
                 self.assertEqual(faults(self.page.replace(old, new, 1)), [wrong])
