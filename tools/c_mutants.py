@@ -11,10 +11,9 @@ import mutant_file
 from crate_copy import read, write
 from program import ROOT
 
+SOURCES = os.path.join(ROOT, "rust", "src")
 # The tests that stand in rust/src.
-UNITS = {"a_bus_that_is_not_there_says_what_to_do", "a_transfer_holds_all_signals_back", "an_address_is_locked_for_one_open_file",
-         "enxio_alone_is_unheard", "ones_of_the_kernel_are_no_answer", "what_the_kernel_does_not_take_is_an_error",
-         "what_the_kernel_says_is_the_error"}
+UNITS = {name for each in os.listdir(SOURCES) for name in re.findall(r"#\[test\]\n    fn (\w+)", read(os.path.join(SOURCES, each)))}
 
 
 class Copy:
