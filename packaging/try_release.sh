@@ -79,10 +79,11 @@ block() {
         echo 'cd; export COLUMNS=200'
         commands "$1"
     } > "$root$work/block"
+    chroot "$root" /usr/bin/env -i PATH=/usr/bin:/bin LC_ALL=C.UTF-8 /bin/su trial -s /bin/sh "$work/block" > "$after" 2>&1 < /dev/null
     while IFS= read -r line; do
         echo "$line"
         case $line in *": ok") tell 0; number=$((number + 1)) ;; *": FAILED") tell 1 ;; esac
-    done < <(chroot "$root" /usr/bin/env -i PATH=/usr/bin:/bin LC_ALL=C.UTF-8 /bin/su trial -s /bin/sh "$work/block" 2>&1 < /dev/null)
+    done < "$after"
     [ "$number" -gt 2 ] # (a block without commands was none)
     tell $?
     umount "$root"

@@ -64,8 +64,8 @@ class Copy:
             return self.warns(row)
         if test == "course rows":
             return self.course_row(row)
-        if test == "patient_rows.c":
-            return self.patient_row(row)
+        if test in ("patient_rows.c", "target_rows.c"):
+            return self.own_row(test, row)
         if test == "i2c_dev.c":
             return self.transfers(row, bug.said["mishaps"], bug.said["prints"] + "\n")
         return self.rust(bug.said["test"])
@@ -95,10 +95,10 @@ class Copy:
                        f'int main(void) {{ (void)host; (void)course; (void)wanted; (void)sending; {call}; return 0; }}\n')
         return self.run("gcc", "-Icrates/pm_host_c/include", "-Werror=unused-result", "-c", "drops.c")[0] != 0
 
-    def patient_row(self, name):
-        """Whether this row of patient_rows.c is right."""
-        self.program("patient", "trials/c/rows/patient_rows.c")
-        return f"\n{name}: " not in "\n" + self.run("./patient")[1]
+    def own_row(self, file, name):
+        """Whether this row of a program with rows of its own is right."""
+        self.program("own", f"trials/c/rows/{file}")
+        return f"\n{name}: " not in "\n" + self.run("./own")[1]
 
     def transfers(self, words, mishaps, wanted):
         """Whether i2c_dev.c over the stand-in for the kernel prints this."""

@@ -5,7 +5,7 @@
     trials/qemu/adapters.py --arm FOLDER [DRIVER ..]
 
 FOLDER has libpm_host_c.a and libpm_device_c.a for 32-bit ARM Linux, as trials/c/targets.sh --out leaves them in arm-linux. Each driver, as
-i2c_imx, takes two minutes of one core; packages are fetched the first time (QEMU_CACHE, DEBIAN_MIRROR). Of each driver it is printed what it says
+i2c_imx, takes two to eight minutes of one core; packages are fetched the first time (QEMU_CACHE, DEBIAN_MIRROR). Of each driver it is printed what it says
 of an address that nobody has and of a refused byte. QEMU's controllers are models: what hardware does isn't shown. The last line is
 `N passed, M failed`.
 """
@@ -31,7 +31,7 @@ PARTS = {0x58: "max34451", 0x20: "max7310"}
 NOBODY, NO_ADDRESS = "No such device or address", 6
 # What each driver says of an address that nobody has, and of a byte that is refused behind one that somebody has: its number and its words.
 SAID = {"i2c_aspeed": ((NO_ADDRESS, NOBODY), (5, "Input/output error")),
-        "i2c_imx": ((110, "Connection timed out"), (NO_ADDRESS, NOBODY)),
+        "i2c_imx": ((110, "Connection timed out"), (110, "Connection timed out")),
         "i2c_versatile": ((NO_ADDRESS, NOBODY), (5, "Input/output error"))}
 ORDER = "--outputs 2 --limit 0:3.135V:3.465V set 0 3.3V"
 SCRIPT = """
