@@ -92,7 +92,7 @@ def built(archives, folder):
 def tried(tally, driver, files):
     """The calls in the guest, each beside its row."""
     machine = guest.MACHINES[driver]
-    said = guest.run(machine, PARTS, SCRIPT.format(machine.number, order=ORDER), files, seconds=500)
+    said = guest.run(machine, PARTS, SCRIPT.format(machine.number, order=ORDER), files)
     calls = {it[0]: it[1:] for it in re.findall(r"^== (.*)\n((?:.*\n)*?)status (\d+)$", "\n".join(said), re.MULTILINE)}
     for name, pattern, status in rows(driver):
         text, found = calls.get(name, ("it isn't there", "-1"))

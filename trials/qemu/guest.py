@@ -143,7 +143,7 @@ class NoGuest(Exception):
     """What the guest said where it didn't come to its end."""
 
 
-def run(machine, devices, script, files=None, modules=("i2c_dev",), seconds=300):
+def run(machine, devices, script, files=None, modules=("i2c_dev",), seconds=900):
     """What the script printed, a line each. `devices` are QEMU's, by their addresses; `files` stand beside the script: a text, or what
     puts it at a path."""
     folder, version = kernel()
