@@ -2,7 +2,8 @@
 # Installs what a built tree has below a folder: the command pmhost with its package for Python, the program pmb,
 # their manual pages and completions for bash; for C the host and the model part, libpmhost and libpmpart, each as an
 # archive and as a shared object with its header (the host's has pmhost_patient.h beside it), and pmhost.pc and pmpart.pc for
-# pkg-config; README, docs and examples; and the package as a wheel.
+# pkg-config; the package as a wheel; the Rust crate; the decoder for sigrok where that looks; and a README of what is installed
+# (packaging/release.md), docs, examples and the captures that these name.
 #
 #   packaging/install.sh PREFIX [--library] [--archives FOLDER]
 #   packaging/install.sh PREFIX --uninstall
@@ -141,12 +142,31 @@ wheel() {
     put 644 "$work/wheel"/*.whl "share/pmhost/$(basename "$work/wheel"/*.whl)"
 }
 
-# pages: README, docs and examples, those that git knows where the tree is a repository of its own
-pages() {
+# known WORD ..: the files of these folders that git knows, where the tree is a repository of its own
+known() {
     (
         cd "$root"
-        { [ -e .git ] && git ls-files README.md CHANGELOG.md docs examples 2> /dev/null; } || find README.md CHANGELOG.md docs examples -type f
-    ) > "$work/pages"
+        { [ -e .git ] && git ls-files "$@" 2> /dev/null; } || find "$@" -type f ! -name '*.pyc'
+    )
+}
+
+# crate: the Rust crate, which finds the archives of this folder
+crate() {
+    known rust/Cargo.toml rust/README.md rust/build.rs rust/src rust/examples > "$work/crate"
+    while IFS= read -r each; do put 644 "$root/$each" "share/pmhost/$each"; done < "$work/crate"
+}
+
+# decoder: the one for sigrok
+decoder() {
+    known trials/sigrok/pmbus > "$work/decoder"
+    while IFS= read -r each; do put 644 "$root/$each" "share/libsigrokdecode/decoders/pmbus/$(basename "$each")"; done < "$work/decoder"
+}
+
+# pages: docs, examples, and the captures that they and README name
+pages() {
+    put 644 "$root/packaging/release.md" share/doc/pmhost/README.md
+    known CHANGELOG.md docs examples > "$work/pages"
+    (cd "$root" && grep -oh 'python/tests/data/captures/[A-Za-z0-9._-]*[a-z]' packaging/release.md docs/*.md) | sort -u >> "$work/pages"
     while IFS= read -r each; do put 644 "$root/$each" "share/doc/pmhost/$each"; done < "$work/pages"
 }
 
@@ -157,6 +177,8 @@ library pm_device_c pmpart pmpart.h "A model of a PMBus power converter to try f
 if [ -z "$library" ]; then
     package
     [ -n "${COMPLETION-}" ] || wheel
+    crate
+    decoder
     pages
     if [ -n "$pmb" ]; then
         put 755 "$pmb" bin/pmb
@@ -165,7 +187,7 @@ if [ -z "$library" ]; then
     fi
 fi
 told
-echo "installed below $to: libpmhost and libpmpart for C${library:-, pmhost and pmb with manual pages and completions, README, docs and examples}" | sed 's/Cyes$/C/'
+echo "installed below $to: libpmhost and libpmpart for C${library:-, pmhost and pmb with manual pages and completions, the Rust crate, the decoder for sigrok, README, docs and examples}" | sed 's/Cyes$/C/'
 echo "next: cc -I$prefix/include examples/c/order.c $prefix/lib/libpmhost.a"
 [ -n "$library" ] || echo "      pmhost -b model --outputs 2 --limit 0:3.135V:3.465V set 0 3.3V   # a model part, no board; man pmhost"
 case ":$PATH:" in *":$prefix/bin:"*) ;; *) [ -n "$library" ] || echo "      ($prefix/bin isn't on your PATH yet)" ;; esac

@@ -3,12 +3,13 @@
 #
 #   packaging/try_release.sh RELEASE ROOT
 #
-# RELEASE is the folder of the release. ROOT is a Debian 12 that holds no work, which is made by hand, as root:
-#   debootstrap --variant=minbase --include=gcc,libc6-dev,pkg-config,python3,python3-venv,man-db bookworm ROOT
-# The .deb is installed there, and the tarball unpacked, with no checkout beside them; as an ordinary user pmhost sets a rail of
-# a model part, C programs are compiled by pkg-config over both and run, the wheel is installed without a network, pmb decodes,
-# and README's examples run. Manual pages are shown by man-db. Last the .deb is removed, which leaves nothing; and on this machine
-# install.sh --uninstall is tried with what the tarball has (packaging/try_uninstall.sh). The last line says how many passed and failed.
+# RELEASE is the folder of the release. ROOT is a Debian 12 with python3 alone, which is made by hand, as root, and stays as it is:
+#   debootstrap --variant=minbase --include=python3 bookworm ROOT
+# What is tried stands in layers over it. In ROOT itself README's first example runs on python3 alone. Then each block of the release's README
+# runs as an ordinary user, in a layer of its own with the .deb and the packages of Debian that stand above the block, which apt-get fetches. Last,
+# in one more layer, the .deb is installed, and the tarball unpacked, with no checkout beside them; C programs are compiled by pkg-config over
+# both, manual pages are shown by man-db, and the .deb is removed, which leaves nothing; and on this machine install.sh --uninstall is tried
+# with what the tarball has (packaging/try_uninstall.sh). The last line says how many passed and failed.
 set -u
 case " $* " in *" --help "* | *" -h "*) sed -n '2,/^[^#]/s/^# \{0,1\}//p' "$0"; exit 0 ;; esac
 [ $# = 2 ] || { echo "try_release.sh: give RELEASE ROOT; --help says more" >&2; exit 2; }
@@ -20,22 +21,33 @@ done
 [ -x "$root/usr/bin/dpkg" ] || { echo "try_release.sh: $root is no Debian root: --help says how one is made" >&2; exit 2; }
 [ "$(id -u)" = 0 ] || { echo "try_release.sh: be root, since it goes into the root by chroot" >&2; exit 2; }
 . tools/tally.sh
-work=/tmp/pmhost-trial is_installed=''
-before=$(mktemp) after=$(mktemp) unpacked=$(mktemp -d)
-# ended: nothing of the trial stays, here or in the root, also where it is interrupted
+work=/tmp/pmhost-trial bare=$root
+before=$(mktemp) after=$(mktemp) unpacked=$(mktemp -d) layers=$(mktemp -d)
+# ended: nothing of the trial stays, also where it is interrupted
 ended() {
-    [ -z "$is_installed" ] || chroot "$root" dpkg -P pmhost > /dev/null 2>&1
-    rm -rf "$before" "$after" "$unpacked" "${root:?}$work"
+    umount "$layers"/*/root 2> /dev/null
+    rm -rf "$before" "$after" "$unpacked" "$layers"
 }
 trap ended EXIT
 trap 'exit 130' INT TERM HUP
-rm -rf "${root:?}$work"
-mkdir -p "$root$work"
-cp "$release"/*x86_64.tar.gz "$release"/*amd64.deb "$root$work/"
-chroot "$root" sh -c 'id trial > /dev/null 2>&1 || useradd -m trial' && chroot "$root" chown -R trial "$work"
+
+# layer NAME PACKAGE ..: root is a layer over the bare one, with these packages, a user, and what was released
+layer() {
+    local folder=$layers/$1
+    shift
+    mkdir -p "$folder"/{upper,work,root}
+    mount -t overlay overlay -o "lowerdir=$bare,upperdir=$folder/upper,workdir=$folder/work" "$folder/root" || exit 2
+    root=$folder/root
+    mkdir -p "$root$work"
+    cp "$release"/*x86_64.tar.gz "$release"/*amd64.deb "$root$work/"
+    cp /etc/resolv.conf "$root/etc/"
+    echo "deb http://deb.debian.org/debian-security bookworm-security main" > "$root/etc/apt/sources.list.d/security.list"
+    chroot "$root" sh -c 'id trial > /dev/null 2>&1 || useradd -m trial' && chroot "$root" chown -R trial "$work"
+    [ $# = 0 ] || step "packages $*" "apt-get -qq update && DEBIAN_FRONTEND=noninteractive apt-get -qq install -y --no-install-recommends $*"
+}
 all() { find "$root"/usr "$root"/etc "$root"/opt -not -name '*.pyc' -not -name __pycache__ -not -path '*/ld.so.cache' | sort; }
 
-# step NAME COMMANDS, asked NAME COMMANDS: they run in the root, by a shell, with no network of their own; asked: as an ordinary user
+# step NAME COMMANDS, asked NAME COMMANDS: they run in the root, by a shell; asked: as an ordinary user
 step() { ran "$1" /bin/sh -ec "cd $work; $2"; }
 asked() { ran "$1" /bin/su trial -s /bin/sh -c "set -e; cd $work; $2"; }
 ran() {
@@ -48,11 +60,50 @@ ran() {
     fi
 }
 
+# blocks: of each block of the release's README its heading and its packages, parted by a tab
+blocks() { awk '/^## / { head = substr($0, 4) } /^Packages of Debian: / { gsub(/.*: |`/, ""); print head "\t" $0 }' "$release/README.md"; }
+
+# commands HEADING: each command of its block, as a call of `run`, with what it has to print
+commands() {
+    awk -v head="## $1" '/^## / { is_here = $0 == head } /^```/ { is_block = is_here && /sh$/; next } is_block' "$release/README.md" |
+        sed "s/'/'\\\\''/g; s/^\\(.*\\) # \\(.*\\)\$/run '\\1' '\\2'/; t; s/.*/run '&' ''/"
+}
+
+# block HEADING PACKAGES: its commands, each in the same shell of an ordinary user
+block() {
+    local number=0 line
+    layer "${1// /_}" $2
+    step "$1: the .deb" 'apt-get -qq install -y --no-install-recommends ./*.deb'
+    {
+        echo 'run() { eval "$1" > /tmp/said 2>&1; status=$?; { [ -z "$2" ] || grep -qF -- "$2" /tmp/said; } && [ $status = 0 ] && echo "$1: ok" || { echo "$1: FAILED"; tail -5 /tmp/said; }; }'
+        echo 'cd; export COLUMNS=200'
+        commands "$1"
+    } > "$root$work/block"
+    chroot "$root" /usr/bin/env -i PATH=/usr/bin:/bin LC_ALL=C.UTF-8 /bin/su trial -s /bin/sh "$work/block" > "$after" 2>&1 < /dev/null
+    while IFS= read -r line; do
+        echo "$line"
+        case $line in *": ok") tell 0; number=$((number + 1)) ;; *": FAILED") tell 1 ;; esac
+    done < "$after"
+    [ "$number" -gt 2 ] # (a block without commands was none)
+    tell $?
+    umount "$root"
+    rm -rf "$layers/${1// /_}"
+}
+
+layer python3_alone
+mkdir -p "$root$work/tree/python"
+cp -r python/tests "$root$work/tree/python/" && cp -r examples "$root$work/tree/"
+chroot "$root" chown -R trial "$work"
+asked "README's first example on python3 alone" 'cd tree; (cd python/tests && python3 -m plain replay) < examples/answer-lost.scenario | cmp - examples/answer-lost.report'
+umount "$root"
+while IFS=$'\t' read -r heading packages; do block "$heading" "$packages"; done < <(blocks)
+layer whole gcc libc6-dev pkg-config python3-venv man-db
 doc=/usr/share/doc/pmhost
 step "no toolchain is there" '! command -v rt && ! command -v rattle'
 all > "$before"
-is_installed=yes
 step ".deb" 'dpkg -i *.deb'
+asked "what a user imports" 'python3 -c "import pmhost; assert pmhost.__file__.startswith(\"/usr/lib/python3/dist-packages/\")"'
+step "what root imports" 'python3 -c "import pmhost"'
 asked "its command" 'pmhost -b model --outputs 2 --limit 0:3.135V:3.465V set 0 3.3V | grep "the output commands 3.300048V, within"'
 asked "a file of rails" 'printf "[rails.core]\noutput = 0\nvolts = \"0.9V\"\nlimits = [\"0.85V\", \"0.95V\"]\n" > rails.toml && pmhost -b model apply rails.toml'
 asked "one version" 'test "$(for each in pmb pmhost; do $each --version | cut -d" " -f2; done | sort -u)" = "$(pkg-config --modversion pmhost pmpart | sort -u)"'
@@ -64,7 +115,6 @@ asked "C over the archives" "gcc $doc/examples/c/faults.c -l:libpmhost.a -l:libp
 asked "the wheel" 'python3 -m venv v && v/bin/pip install --no-index /usr/share/pmhost/*.whl && v/bin/pmhost -b model --outputs 2 --no-limit set 0 3.3V'
 asked "pmb decodes a capture" "pmb decode --values --vout=ulinear16:-12 < $doc/examples/bus.trace | grep -q '3.300048 V'"
 asked "README's example" "pmb replay < $doc/examples/answer-lost.scenario | cmp - $doc/examples/answer-lost.report"
-asked "a capture of sigrok" "printf 'i2c-1: Start\ni2c-1: Address write: 58\n' | pmhost capture sigrok > trace"
 asked "manual pages and completions" 'for each in pmb pmhost; do test -x /usr/bin/$each && man -P cat $each 2> /dev/null | grep -qi NAME && bash -c ". /usr/share/bash-completion/completions/$each && complete -p $each" || exit 1; done'
 asked "tarball, anywhere" "mkdir t && tar -C t --strip-components=1 -xf *.tar.gz && export PKG_CONFIG_PATH=$work/t/lib/pkgconfig LD_LIBRARY_PATH=$work/t/lib && gcc t/share/doc/pmhost/examples/c/order.c \$(pkg-config --cflags --libs pmhost) -o order && ./order | cmp - t/share/doc/pmhost/examples/c/order.expected && readlink -f \$(ldd order | sed -n 's/.*libpmhost.so.* => \\(.*\\) (.*/\\1/p') | grep -q ^$work/t/ && t/bin/pmhost -b model --outputs 2 --limit 0:3.135V:3.465V set 0 3.3V"
 step "removed" 'dpkg -P pmhost'

@@ -1,6 +1,7 @@
 //! Finds the archives libpm_host_c.a and libpm_device_c.a for the target that is built for: in the folder that
 //! PM_ARCHIVES_<target> names, with `_` for `-`; for x86-64 Linux else in that of PM_ARCHIVES, or those that `rt lib`
-//! left in crates/pm_host_c/out and crates/pm_device_c/out. Installed they are libpmhost.a and libpmpart.a.
+//! left in crates/pm_host_c/out and crates/pm_device_c/out. Installed they are libpmhost.a and libpmpart.a, and those of the folder that
+//! the crate is installed in are taken for the machine itself.
 
 use std::path::{Path, PathBuf};
 use std::{env, fs, process};
@@ -32,10 +33,14 @@ fn archive(target: &str, library: &str) -> PathBuf {
         let installed = folder.join(format!("lib{}.a", library.trim_end_matches("_c")));
         return if installed.is_file() { installed } else { folder.join(format!("lib{library}.a")) };
     }
+    let home = env::var_os("CARGO_MANIFEST_DIR").expect("cargo sets it");
+    let beside = Path::new(&home).join(format!("../../../lib/lib{}.a", library.trim_end_matches("_c")));
+    if Path::new(&home).ends_with("share/pmhost/rust") && beside.is_file() && env::var("HOST").is_ok_and(|it| it == target) {
+        return beside;
+    }
     if !is_built_here {
         refuse(format!("no archives for {target}: build them by trials/c/targets.sh --out FOLDER, and give {own}=FOLDER/NAME"));
     }
-    let home = env::var_os("CARGO_MANIFEST_DIR").expect("cargo sets it");
     Path::new(&home).join(format!("../crates/{library}/out/lib{library}.a"))
 }
 

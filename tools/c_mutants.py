@@ -11,10 +11,9 @@ import mutant_file
 from crate_copy import read, write
 from program import ROOT
 
+SOURCES = os.path.join(ROOT, "rust", "src")
 # The tests that stand in rust/src.
-UNITS = {"a_bus_that_is_not_there_says_what_to_do", "a_transfer_holds_all_signals_back", "an_address_is_locked_for_one_open_file",
-         "enxio_alone_is_unheard", "ones_of_the_kernel_are_no_answer", "what_the_kernel_does_not_take_is_an_error",
-         "what_the_kernel_says_is_the_error"}
+UNITS = {name for each in os.listdir(SOURCES) for name in re.findall(r"#\[test\]\n    fn (\w+)", read(os.path.join(SOURCES, each)))}
 
 
 class Copy:
@@ -68,8 +67,8 @@ class Copy:
             return self.course_row(row)
         if test == "delivery rows":
             return self.delivery_row(row)
-        if test == "patient_rows.c":
-            return self.patient_row(row)
+        if test in ("patient_rows.c", "target_rows.c"):
+            return self.own_row(test, row)
         if test == "i2c_dev.c":
             return self.transfers(row, bug.said["mishaps"], bug.said["prints"] + "\n")
         return self.rust(bug.said["test"])
@@ -104,10 +103,10 @@ class Copy:
                        f'int main(void) {{ (void)host; (void)course; (void)wanted; (void)sending; {call}; return 0; }}\n')
         return self.run("gcc", "-Icrates/pm_host_c/include", "-Werror=unused-result", "-c", "drops.c")[0] != 0
 
-    def patient_row(self, name):
-        """Whether this row of patient_rows.c is right."""
-        self.program("patient", "trials/c/rows/patient_rows.c")
-        return f"\n{name}: " not in "\n" + self.run("./patient")[1]
+    def own_row(self, file, name):
+        """Whether this row of a program with rows of its own is right."""
+        self.program("own", f"trials/c/rows/{file}")
+        return f"\n{name}: " not in "\n" + self.run("./own")[1]
 
     def transfers(self, words, mishaps, wanted):
         """Whether i2c_dev.c over the stand-in for the kernel prints this."""

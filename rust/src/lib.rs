@@ -14,12 +14,16 @@ mod kernel;
 #[cfg(feature = "linux")]
 mod linux;
 mod loops;
+#[cfg(feature = "linux")]
+mod no_transfer;
 mod number;
 mod packet;
 mod part;
 mod patient;
 mod rail;
 mod refusal;
+#[cfg(feature = "linux")]
+mod reserved;
 
 pub use bus::{Bus, Operation};
 pub use course::{AnswerFault, Course, NotReached, COURSE_TRIES};
@@ -30,10 +34,14 @@ pub use done::{Done, NotDone};
 pub use host::{Band, Cell, Host, Known, Limits, LimitsState, Possible, Register, Sending, Step};
 pub use jobs::Job;
 #[cfg(feature = "linux")]
-pub use linux::{LinuxBus, NoBus, NoTransfer, SystemClock};
+pub use linux::{LinuxBus, NoBus, SystemClock};
+#[cfg(feature = "linux")]
+pub use no_transfer::NoTransfer;
 pub use number::Format;
 pub use packet::{pec, Block, Bytes, Data, Packet};
 pub use part::{Heard, NoAnswer, Output, Part, Reading};
 pub use patient::{Clock, NotHeard, Patient, Unheard};
 pub use rail::{Power, Rail, Selected, Wanted};
 pub use refusal::Refusal;
+#[cfg(feature = "linux")]
+pub use reserved::Reserved;

@@ -401,6 +401,8 @@ for each in $compilers; do
         name=$each; case $option in *sanitize*) name="$each, sanitized" ;; esac
         program "$name order" examples/c/order.expected "$compiler $strict" examples/c/order.c $rest --
         program "$name part" examples/c/part.expected "$compiler $strict" examples/c/part.c $rest --
+        program "$name maker" examples/c/maker.expected "$compiler $strict" examples/c/maker.c $rest --
+        program "$name pm_target" trials/c/rows/target_rows.expected "$compiler $strict" trials/c/rows/target_rows.c $rest --
         program "$name pm_host_run" trials/c/rows/run_rows.expected "$compiler $strict" trials/c/rows/run_rows.c $rest --
         program "$name courses" trials/course/rows.expected "$compiler $strict" trials/course/rows.c $rest -- trials/course/rows.txt
         program "$name deliveries" trials/delivery/rows.expected "$compiler $strict" trials/delivery/rows.c $rest --

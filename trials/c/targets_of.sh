@@ -1,5 +1,5 @@
 # The targets of trials/c/targets.sh: what each is, how it is compiled, and how its programs are linked and run.
-names="x86-64 x86-64-llvm aarch64-linux wasm64 aarch64-none riscv64-linux cortex-m0 cortex-m3 cortex-m4 cortex-m4f arm-linux rv32imac wasm32"
+names="x86-64 x86-64-llvm aarch64-linux wasm64 aarch64-none riscv64-linux cortex-m0 cortex-m3 cortex-m4 cortex-m4f cortex-m33 arm-linux rv32imac wasm32"
 declare -A class title flags pointer linker counter call meaning
 meaning=([kit]="proved, compiled by the toolchain" [hand]="the same module, compiled by hand: tested, not proved"
     [rewritten]="rewritten to 32 bits: tested, not proved")
@@ -22,6 +22,7 @@ is cortex-m0 rewritten 4 arm-none-eabi-ld yes "Cortex-M0" "--target=thumbv6m-non
 is cortex-m3 rewritten 4 arm-none-eabi-ld yes "Cortex-M3" "--target=thumbv7m-none-eabi -mcpu=cortex-m3 -mfloat-abi=soft -Os"
 is cortex-m4 rewritten 4 arm-none-eabi-ld yes "Cortex-M4, soft float" "--target=thumbv7em-none-eabi -mcpu=cortex-m4 -mfloat-abi=soft -Os"
 is cortex-m4f rewritten 4 arm-none-eabi-ld yes "Cortex-M4, hard float" "--target=thumbv7em-none-eabihf -mcpu=cortex-m4 -mfloat-abi=hard -mfpu=fpv4-sp-d16 -Os"
+is cortex-m33 rewritten 4 arm-none-eabi-ld yes "Cortex-M33" "--target=thumbv8m.main-none-eabi -mcpu=cortex-m33 -mfloat-abi=soft -Os"
 is arm-linux rewritten 4 arm-linux-gnueabihf-ld yes "32-bit ARM Linux" "--target=armv7-unknown-linux-gnueabihf -march=armv7-a -mfpu=vfpv3-d16 -fPIC -O2"
 is rv32imac rewritten 4 "riscv64-unknown-elf-ld -m elf32lriscv" yes "RV32IMAC" "--target=riscv32-unknown-elf -march=rv32imac -mabi=ilp32 -Os"
 is wasm32 rewritten 4 "" "" "wasm32" "--target=wasm32-unknown-unknown -O2"
@@ -58,7 +59,7 @@ link() {
         riscv64-linux) riscv64-linux-gnu-gcc -O2 -static $warn $more "$@" $(hosted "$@") "${archives[@]}" -o "$program" ;;
         arm-linux) arm-linux-gnueabihf-gcc -O2 -static $warn $more "$@" $(hosted "$@") "${archives[@]}" -o "$program" ;;
         cortex-m*) arm-none-eabi-gcc $(core "$name") $warn -Os -ffunction-sections -nostartfiles -Wl,--gc-sections $more \
-            -T "$(board "$program" "$@")" "$@" examples/firmware/cortex_m.c $bare/bare.c "${archives[@]}" -o "$program" ;;
+            -T "$(board "$name" "$program" "$@")" "$@" examples/firmware/cortex_m.c $bare/bare.c "${archives[@]}" -o "$program" ;;
         rv32imac) riscv64-unknown-elf-gcc --specs=$picolibc -march=rv32imac -mabi=ilp32 $warn -Os -ffunction-sections -nostartfiles \
             -Wl,--gc-sections $more -T examples/firmware/rv32.ld "$@" examples/firmware/rv32.c $bare/bare.c "${archives[@]}" -o "$program" ;;
         aarch64-none) aarch64-linux-gnu-gcc -march=armv8-a+nofp+nosimd -mgeneral-regs-only -mstrict-align -Os -ffreestanding -nostdinc \
@@ -73,13 +74,15 @@ hosted() {
     case "$*" in *firmware*) echo examples/firmware/hosted.c ;; esac
 }
 
-# board PROGRAM SOURCES ..: the linker script of a Cortex-M. same.c keeps four hosts and all cells, 11.5 of the board's 16 KB,
-# and leaves less for the stack than firmware asks: 4.8 KB, where its deepest call is a part's, which takes 3.4 KB on M0.
+# board NAME PROGRAM SOURCES ..: the linker script of a Cortex-M. same.c keeps four hosts and all cells, 11.5 of the board's 16 KB,
+# and leaves less for the stack than firmware asks: 4.8 KB, where its deepest call is a part's, which takes 3.4 KB on M0. The M33's board
+# starts in its secure memory, which stands elsewhere.
 board() {
-    case "$*" in
-        *same.c*) sed 's/>= 6144/>= 4608/' examples/firmware/cortex_m.ld > "$1.ld"; echo "$1.ld" ;;
-        *) echo examples/firmware/cortex_m.ld ;;
-    esac
+    local name=$1 program=$2 words=(); shift 2
+    case "$*" in *same.c*) words+=(-e 's/>= 6144/>= 4608/') ;; esac
+    [ "$name" != cortex-m33 ] || words+=(-e 's/ORIGIN = 0x00000000/ORIGIN = 0x10000000/; s/ORIGIN = 0x20000000/ORIGIN = 0x30000000/')
+    [ ${#words[@]} != 0 ] || { echo examples/firmware/cortex_m.ld; return; }
+    sed "${words[@]}" examples/firmware/cortex_m.ld > "$program.ld"; echo "$program.ld"
 }
 
 # core NAME: the words of gcc for a Cortex-M
@@ -125,6 +128,7 @@ run() {
         aarch64-none) timeout 900 qemu-system-aarch64 -M virt -cpu cortex-a53 $bus "$@" -kernel "$program" ;;
         cortex-m0) timeout 900 qemu-system-arm -M microbit $bus "$@" -kernel "$program" ;;
         cortex-m3) timeout 900 qemu-system-arm -M mps2-an385 $bus "$@" -kernel "$program" ;;
+        cortex-m33) timeout 900 qemu-system-arm -M mps2-an505 $bus "$@" -kernel "$program" ;;
         cortex-m4*) timeout 900 qemu-system-arm -M mps2-an386 $bus "$@" -kernel "$program" ;;
         rv32imac) timeout 900 qemu-system-riscv32 -M virt -bios none $bus "$@" -kernel "$program" ;;
         wasm64) timeout 900 node --no-warnings --experimental-wasm-memory64 $bare/run.mjs "$program" "$program.library" ;;

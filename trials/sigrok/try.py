@@ -26,6 +26,7 @@ import paths  # noqa: E402, F401
 import program  # noqa: E402
 import told_rows  # noqa: E402
 from plain import draw_captures  # noqa: E402
+from plain.packets import pec  # noqa: E402
 from plain.trace import parts_of  # noqa: E402
 from pmhost.capture import trace  # noqa: E402
 from pmhost.capture.vcd import waveform  # noqa: E402
@@ -153,15 +154,17 @@ def drawn_fault(options, rows):
     for line in told:
         number, said = line.split(" ", 1)
         parts = [part.split() for part in lines[int(number) - 1].split("/")]
-        if is_on_bus(said, parts) and ("--all" in options or " F" not in said):
-            wanted.append(wanted_words(said + " ", parts[0]).rstrip(" "))
+        if is_on_bus(said, parts):
+            # The decoder tells a fault as decode does with --all.
+            is_told = "--all" in options or " F" not in said
+            wanted.append(wanted_words(said + " ", parts[0]).rstrip(" ") if is_told else None)
         else:
             lines[int(number) - 1] = "# not drawn"
     given = re.findall(r"--(vout|readings)[= ](\S+)", options)
     # Colons part options of sigrok-cli, and commas decoders.
     formats = "".join(f":{name}={it.replace(':', '/').replace(',', '+')}" for name, it in given)
     found, errors = sigrok(waveform("\n".join(lines)), formats)
-    if found != wanted:
+    if len(found) != len(wanted) or any(other not in (None, one) for one, other in zip(found, wanted)):
         yield f"{options} {rows[0]}: it tells {found} {errors!r}, and not {wanted}"
 
 
@@ -181,6 +184,57 @@ def random_wave_faults(decode, seed):
             yield f"{line} is told as {one!r}, and not {other!r}"
     if len(found) != len(lines):
         yield f"{len(found)} of {len(lines)} packets are told: {errors!r}"
+
+
+def page_entry(dice):
+    """Bytes of one of two addresses, as lines of a trace, and as a waveform is drawn of them: packets of PAGE and of an output, good ones and
+    others, and bytes that are no packet."""
+    address, page = dice.choice((0xB0, 0xB4)), dice.randrange(3)
+    write, answer = [address, 0x00, page], [address | 1, page]
+    kind = dice.randrange(1, 15)
+    if kind == 1:
+        return [f"# a read alone: {address | 1:02X} 21"], f"{address | 1:02X} 21"
+    if kind == 2:
+        return [f"# no device acknowledged the address: {address:02X}"], f"{address:02X}!"
+    if kind == 3 and dice.random() < 0.3:
+        three = f"{address:02X} 00 / {address | 1:02X} 00 / {address | 1:02X} 00"
+        return [f"# 3 parts: {three}"], three
+    parts = [write] if kind < 7 else [[address, 0x00], answer] if kind < 10 else [[address, 0x21, 0xCD, 0x34]] if kind < 12 else \
+        [[address, 0x8B], [address | 1, 0xFF, 0xFF]] if kind < 14 else [[address, dice.choice((0x05, 0x06, 0x10, 0x19, 0x30, 0x99)), 0x01]]
+    if dice.random() < 0.85:
+        parts[-1].append(pec([byte for part in parts for byte in part]) ^ (dice.random() < 0.1))
+    if dice.random() < 0.1:
+        del parts[-1][dice.randrange(1, len(parts[-1])) + (len(parts) == 1):]
+    words = [[f"{byte:02X}" for byte in part] for part in parts]
+    before, line = [], " / ".join(" ".join(part) for part in words)
+    if dice.random() < 0.1:
+        words[0][1] += "!"
+        before = ["# byte 1 wasn't acknowledged"]
+    return [*before, line], " / ".join(" ".join(part) for part in words)
+
+
+def mark_faults(decode, entries):
+    """The row of warnings has the marks of `decode --pages`, which counts lines where the decoder counts packets."""
+    lines, numbers = [], {}
+    for count, (told, _) in enumerate(entries, 1):
+        lines += told
+        numbers[str(len(lines))] = count
+    marks = re.findall(r"WRONG PAGE\? lines (\d+) and (\d+)", decode("\n".join(lines).encode(), ["--all", "--values", "--pages"])[1])
+    wanted = [f"WRONG PAGE? packets {numbers[one]} and {numbers[other]}" for one, other in marks]
+    found, errors = sigrok(waveform("\n".join(drawn for _, drawn in entries)), row="warnings")
+    if found != wanted or not wanted:
+        differing = next(iter({*found} ^ {*wanted}), None)
+        yield f"{len(found)} marks and {len(wanted)} wanted, as {differing}: {errors!r}"
+
+
+def page_faults(decode, seed):
+    """Of the captures with PAGE that are kept, and of random packets."""
+    for name in "ltc2972", "ltc2977":
+        with open(os.path.join(program.ROOT, "examples", "captures", f"{name}.trace"), encoding="ascii") as file:
+            kept = [line for line in file.read().splitlines() if not line.startswith("#")]
+        yield from mark_faults(decode, [([line], line) for line in kept if is_on_bus("", [part.split() for part in line.split("/")])])
+    dice = random.Random(seed)
+    yield from mark_faults(decode, [page_entry(dice) for _ in range(1500)])
 
 
 def byte_faults():
@@ -210,6 +264,7 @@ def checks(engine, seed, texts):
         yield "drawn rows", drawn_faults()
         yield "drawn random packets", random_wave_faults(engine.decode, seed)
         yield "bytes", byte_faults()
+        yield "warnings of a wrong page", page_faults(engine.decode, seed)
 
 
 def main():

@@ -135,6 +135,57 @@ uint8_t pm_part_status_word(const pm_part *part, uint8_t output, uint16_t *statu
 uint8_t pm_part_status_vout(const pm_part *part, uint8_t output, uint8_t *status);
 uint8_t pm_part_status_cml(const pm_part *part, uint8_t *status);
 
+/* What follows is inline and compiled by you: it is tested, and not proved.
+ *
+ * A part as the PMBus target of a converter's own firmware: pm_target_hear and pm_target_restart are pm_part_hear and
+ * pm_part_restart, after which your function is told each output whose commanded voltage isn't what it was told last. It
+ * is told whether the output is on, and the microvolts that it commands, rounded down; of an output that is off, 0. An
+ * output whose voltage can't be asked for, since the memory holds no part or the voltage is beyond 10^15 microvolts, is
+ * told as off. Your function may not call a target. The part stays yours, to be asked, and to be given readings. */
+typedef void (*pm_commanded)(void *context, uint8_t output, uint8_t is_on, int64_t microvolts);
+
+typedef struct {
+    pm_part *part;
+    pm_commanded commanded;
+    void *context;
+    uint8_t outputs; /* as in the part's configuration */
+    uint8_t on[8];   /* what was told last */
+    int64_t microvolts[8];
+} pm_target;
+
+/* Tells each output that isn't as it was told last, or every one. */
+static inline void pm_target_tell(pm_target *target, int is_every) {
+    for (uint8_t output = 0; output < target->outputs && output < 8; output++) {
+        uint8_t on = 0;
+        int64_t microvolts = 0;
+        if (pm_part_on_state(target->part, output, &on) != PM_PART_OK || !on ||
+            pm_part_commanded_microvolts(target->part, output, &microvolts) != PM_PART_OK)
+            on = 0, microvolts = 0;
+        if (!is_every && on == target->on[output] && microvolts == target->microvolts[output])
+            continue;
+        target->on[output] = on, target->microvolts[output] = microvolts;
+        target->commanded(target->context, output, on, microvolts);
+    }
+}
+
+/* Begins with a part that pm_part_new made, and tells each of its outputs once. */
+static inline void pm_target_begin(pm_target *target, pm_part *part, uint8_t outputs, pm_commanded commanded, void *context) {
+    target->part = part, target->commanded = commanded, target->context = context, target->outputs = outputs;
+    pm_target_tell(target, 1);
+}
+
+static inline uint8_t pm_target_hear(pm_target *target, const uint8_t *bytes, uint64_t count, uint8_t is_request, pm_part_reply *reply) {
+    uint8_t heard = pm_part_hear(target->part, bytes, count, is_request, reply);
+    pm_target_tell(target, 0);
+    return heard;
+}
+
+static inline uint8_t pm_target_restart(pm_target *target) {
+    uint8_t restarted = pm_part_restart(target->part);
+    pm_target_tell(target, 0);
+    return restarted;
+}
+
 #ifdef __cplusplus
 }
 #endif

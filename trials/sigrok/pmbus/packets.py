@@ -6,6 +6,9 @@ from .tables import CARRIED_READS, CARRIED_WRITES, FLAGS, NAMES, READS, TEXTS, U
 CODES = {name: code for code, name in NAMES.items()}
 CARRIER, REQUESTER, ASKER = CODES["PAGE_PLUS_WRITE"], CODES["PAGE_PLUS_READ"], CODES["COEFFICIENTS"]
 MODE, CAPABILITY, ON_OFF_CONFIG = CODES["VOUT_MODE"], CODES["CAPABILITY"], CODES["ON_OFF_CONFIG"]
+RESTORES = [CODES[name] for name in ("RESTORE_DEFAULT_ALL", "RESTORE_DEFAULT_CODE", "RESTORE_USER_ALL", "RESTORE_USER_CODE")]
+# In the place of a mode that may have changed since it was read.
+OVER = "over"
 # The codes of the table of packets; NAMES has those of the standard.
 TABLE = {*READS, *WRITES, CARRIER, REQUESTER, ASKER}
 # The codes that PAGE_PLUS doesn't carry.
@@ -91,10 +94,17 @@ def readings_of(text):
 
 
 class Told:
-    """A packet as it is told: its kind, its text, a short text, and how its PEC is: None where that isn't asked."""
+    """A packet as it is told: its kind, its text, a short text, and how its PEC is: None where that isn't asked. `packet` is its address, its
+    code, its page and its payload, where it has them; `is_ones` that nobody answered."""
 
-    def __init__(self, kind, text, short, pec=None):
+    def __init__(self, kind, text, short, pec=None, packet=(None, None, None, None), is_ones=False):
         self.kind, self.text, self.short, self.pec = kind, text, short, pec
+        self.address, self.code, page, self.payload = packet
+        self.is_read = False
+        self.is_good = kind == KNOWN
+        # Whether it says nothing certain of its address any more, and whether it acts on an output and names none.
+        self.is_lost = kind == FAULT or is_ones
+        self.is_of_output = not self.is_lost and page is None
 
 
 class Reader:
@@ -106,6 +116,23 @@ class Reader:
 
     def tell(self, write, read=None):
         """A packet: the bytes of its write part, and of its read part."""
+        told = self.of(write, read)
+        told.is_read = read is not None
+        if told.address is not None and read is None:
+            self.forget(write)
+        return told
+
+    def forget(self, write):
+        """A write may have changed the modes of a page, or of all: what was learned of them counts no more."""
+        page, code, data = None, write[1:2], write[2:]
+        if code == [CARRIER]:
+            page, code, data = (data + [0, 0])[1], data[2:3], data[3:]
+        if code and code[0] in RESTORES or code == [MODE] and data and page in (None, 0xFF):
+            self.modes.update({of: OVER for of in self.modes if of[0] == write[0]})
+        elif code == [MODE] and data:
+            self.modes[write[0], page] = OVER
+
+    def of(self, write, read):
         if not write or write[0] & 1 or not 0x08 <= write[0] >> 1 <= 0x77:
             return Told(FAULT, "-- no address of a device", "?")
         where = "%02X " % (write[0] >> 1)
@@ -123,7 +150,7 @@ class Reader:
                 return self.other(where, write, read)
         if fault in (NO_PEC, SHORT):
             fault = ELSEWHERE if len(write) > 1 else "too short"
-        return Told(FAULT, where + fault, fault, False if fault == WRONG_PEC else None)
+        return Told(FAULT, where + fault, fault, False if fault == WRONG_PEC else None, (write[0] >> 1, *(write[1:2] or [None]), None, None))
 
     def known(self, where, write, read, has_pec):
         """A packet of the table, with its PEC; it may have none on the bus."""
@@ -133,7 +160,7 @@ class Reader:
             self.coefficients[write[0], write[3]] = m, b, r
             said = "m %d b %d r %d" % (m, b, r)
             return Told(KNOWN, "%s%s of %02X side %d read %s%s" % (where, NAMES[code], write[3], write[4], said, ending),
-                        "%s %s" % (NAMES[code], said), has_pec or None)
+                        "%s %s" % (NAMES[code], said), has_pec or None, (write[0] >> 1, code, None, None))
         first = 2 if read is None else 1
         if code in (CARRIER, REQUESTER):
             page, code, first = write[3], write[4], 5 if read is None else 2
@@ -149,7 +176,7 @@ class Reader:
             if payload[0] < 0x20:
                 self.linear.add(write[0])
         text = "%s%s %s%s%s" % (where, NAMES[code], said, value and " " + value, ending)
-        return Told(KNOWN, text, "%s %s" % (NAMES[code], value or said), has_pec or None)
+        return Told(KNOWN, text, "%s %s" % (NAMES[code], value or said), has_pec or None, (write[0] >> 1, code, page, payload))
 
     def value(self, address, page, code, payload):
         """What a payload says."""
@@ -175,6 +202,8 @@ class Reader:
         mode = self.modes.get((address, page))
         if mode is None:
             return format_of(self.vout)
+        if mode == OVER:
+            return None
         said = next((said for first, last, said in WORDS[MODE] if first == mode), "")
         if said != "DIRECT":
             return format_of(said.lower().replace(" ", ":"))
@@ -185,13 +214,15 @@ class Reader:
     def other(self, where, write, read, is_ones=False):
         """A packet by its code and bytes."""
         last, first = (write, 2) if read is None else (read, 1)
-        is_right, code = is_last_right(write, read), write[1]
+        is_right, code, page = is_last_right(write, read), write[1], None
         shown = last[first:-1] if is_right else last[first:]
         written, got = (shown, None) if read is None else (write[2:], shown)
         if code == CARRIER and read is None and len(written) > 2 and written[0] == len(written) - 1:
-            where, code, written = "%spage %d " % (where, written[1]), written[2], written[3:]
+            page = written[1]
+            where, code, written = "%spage %d " % (where, page), written[2], written[3:]
         elif code == REQUESTER and got and len(write) == 5 and write[2] == 2 and got[0] == len(got) - 1:
-            where, code, written, got = "%spage %d " % (where, write[3]), write[4], [], got[1:]
+            page = write[3]
+            where, code, written, got = "%spage %d " % (where, page), write[4], [], got[1:]
         words = ["code %02X" % code, *([NAMES[code]] if code in NAMES else [])]
         if written:
             words.append("write " + spaced(written))
@@ -202,7 +233,8 @@ class Reader:
         value = value_of_bytes(code, written if got is None else got)
         said = " ".join(words) + (value and " " + value)
         ending = NOBODY if is_ones else RIGHT if is_right else NO_PEC
-        return Told(OTHER, "%s%s, %s" % (where, said, ending), said, True if is_right else None)
+        return Told(OTHER, "%s%s, %s" % (where, said, ending), said, True if is_right else None, (write[0] >> 1, code, page, None),
+                    is_ones or got == [])
 
 
 def bits_of(bits, word):

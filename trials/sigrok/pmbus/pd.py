@@ -4,9 +4,13 @@ import re
 import sigrokdecode as srd
 
 from .packets import FAULT, KNOWN, OTHER, Reader, format_of, labels, pec, readings_of, spaced
+from .pages import Pages
 
 # Annotations by their places below.
-PACKET, OTHERS, FAULTY, NONE, BYTE, PEC_RIGHT, PEC_WRONG = range(7)
+PACKET, OTHERS, FAULTY, NONE, BYTE, PEC_RIGHT, PEC_WRONG, WRONG_PAGE = range(8)
+UNHEARD, CUT, ALONE = "no device acknowledged the address", "no stop", "a read alone"
+# Bytes that are no packet, and say of no other address anything.
+OF_ONE = CUT, ALONE
 CLASSES = {KNOWN: PACKET, OTHER: OTHERS, FAULT: FAULTY}
 
 
@@ -33,17 +37,19 @@ class Decoder(srd.Decoder):
         ("byte", "Byte"),
         ("pec-right", "Right PEC"),
         ("pec-wrong", "Wrong PEC"),
+        ("wrong-page", "Wrong page"),
     )
     annotation_rows = (
         ("packets", "Packets", (PACKET, OTHERS, FAULTY, NONE)),
         ("bytes", "Bytes", (BYTE, PEC_RIGHT, PEC_WRONG)),
+        ("warnings", "WRONG PAGE?", (WRONG_PAGE,)),
     )
 
     def __init__(self):
         self.reset()
 
     def reset(self):
-        self.reader, self.parts, self.first = None, None, 0
+        self.reader, self.pages, self.parts, self.first = None, None, None, 0
 
     def start(self):
         self.out_ann = self.register(srd.OUTPUT_ANN)
@@ -55,7 +61,7 @@ class Decoder(srd.Decoder):
         if readings_of(readings) is None:
             raise ValueError("readings: give linear11 or direct/M/B/R, or of a code 8D/linear11, or of an address 58/8D/linear11; + parts them")
         self.address = int(address, 16) if address else None
-        self.reader = Reader(vout, readings)
+        self.reader, self.pages = Reader(vout, readings), Pages()
 
     def decode(self, ss, es, data):
         """What the decoder `i2c` says, one after another. A part is a list of bytes, each with its samples and whether it
@@ -63,7 +69,7 @@ class Decoder(srd.Decoder):
         kind, value = data
         if kind == "START":
             if self.parts:
-                self.told(ss, "no stop")
+                self.told(ss, CUT)
             self.parts, self.first = [[]], ss
         elif self.parts is None:
             return
@@ -86,15 +92,19 @@ class Decoder(srd.Decoder):
         if refusal:
             shown = " / ".join(spaced(part) for part in parts)
             self.put(self.first, last, self.out_ann, [NONE, ["%s: %s" % (refusal, shown), refusal]])
+            self.pages.no_packet(parts[0][0] >> 1 if parts[0] else None, refusal == UNHEARD, refusal in OF_ONE)
             return
         told = self.reader.tell(*parts)
+        wrong = self.pages.packet(told, parts[0], self.is_acknowledged())
+        if wrong:
+            self.put(self.first, last, self.out_ann, [WRONG_PAGE, ["WRONG PAGE? packets %d and %d" % wrong, "WRONG PAGE?"]])
         self.put(self.first, last, self.out_ann, [CLASSES[told.kind], [told.text, told.short]])
         self.put_bytes(parts, told.pec)
 
     def refusal(self, parts, ending):
         """Why bytes are no packet."""
         if len(parts) == 1 and [it[3] for it in self.parts[0]] == [False]:
-            return "no device acknowledged the address"
+            return UNHEARD
         if ending:
             return ending
         if not all(parts):
@@ -102,8 +112,12 @@ class Decoder(srd.Decoder):
         if len(parts) > 2:
             return "%d parts" % len(parts)
         if parts[0][0] & 1:
-            return "a read alone"
+            return ALONE
         return "the second part is no read of the device" if len(parts) == 2 and parts[1][0] != parts[0][0] + 1 else None
+
+    def is_acknowledged(self):
+        """Whether each byte of the packet was acknowledged, but for the last one that the host reads."""
+        return all(it[3] for at, part in enumerate(self.parts) for it in (part[:-1] if at else part))
 
     def put_bytes(self, parts, is_right):
         """A word below each byte, and what the last one is as a PEC, where it stands for one."""
