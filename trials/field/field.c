@@ -52,6 +52,8 @@ static void settle_output(field_part *part, uint8_t at) {
         go_to(part, out, 0, out->off_ms);
     } else if (!out->has_tripped) {
         go_to(part, out, to, out->to == 0 ? out->on_ms : out->ramp_ms);
+    } else {
+        go_to(part, out, 0, 0);
     }
     int64_t volts = field_voltage(part, out);
     if (is_on && !out->has_tripped && volts > field_microvolts(out->held.ov_fault)) trip(part, out, VOUT_OV_FAULT);

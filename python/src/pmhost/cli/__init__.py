@@ -18,14 +18,15 @@ from .._version import __version__
 from ..bus import NoBus
 from ..bus.linux import Calls
 from ..errors import PmhostError
-from . import capture, faults, known, orders, probe, rails, streams, torture
+from . import capture, faults, known, orders, probe, rails, streams, torture, why
+from .again import are_several
 from .answer import Answer
 from .completion import bash
 from .call import Call, Interrupted, complain, interruptible
 from .parser import BadCall, Parser, bus_options, shown
 
 # The modules of the commands, in the order of the help.
-MODULES: list[ModuleType] = [probe, orders, known, rails, faults, torture, capture]
+MODULES: list[ModuleType] = [probe, orders, why, known, rails, faults, torture, capture]
 # The commands that have jobs of their own, between which a + stands: the call has no other command.
 OWN_JOBS = ("faults", "torture")
 
@@ -129,7 +130,7 @@ def run_commands(call: Call) -> int:
         call.begin(arguments)
         is_order = getattr(arguments, "is_order", False)
         status = max(status, is_order and call.no_part(arguments) or int(arguments.run(arguments)))
-    return status
+    return status or (call.ordered.look(call) if are_several(call.commands) else 0)
 
 
 def judged(words: list[str], kernel: Calls | None) -> Call:

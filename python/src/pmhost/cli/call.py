@@ -15,12 +15,14 @@ from ..device import Device
 from ..rails import ONLY, Rails
 from ..reserved import why_reserved
 from . import streams
+from .again import Ordered
 from .answer import Answer, coloured
 from .parser import BEHIND, OPTIONS, BadCall
 from .place import Options, Place
 
 MODEL_ADDRESS, MODEL_OUTPUTS, PASSES = 0x58, 2, 3
 NOTHING = "nothing was written"
+PROBE_TELLS = "; pmhost probe tells why"
 # The options that say where the one part is, and what it has: a board file has them for each part.
 OF_ONE_PART = ("bus", "address", "outputs", "limit", "no_limit", "lacks")
 
@@ -80,7 +82,7 @@ class Call:
         self._rails: Rails | None = None
         self.under_way = self.maybe = self.unsaid = ""
         self.settled: str | Callable[[], str] = NOTHING
-        self.has_answered = False
+        self.has_answered, self.ordered = False, Ordered()
         self.bus: str | None = self._one("bus")
         self.address: int | None = self._one("address")
         self.outputs: int | None = self._one("outputs")
@@ -222,10 +224,13 @@ class Call:
         self.has_answered = True
         return 0
 
-    @staticmethod
-    def nobody(arguments: argparse.Namespace, why: str) -> Answer:
-        """No part answers."""
-        return Answer(said(arguments), "no part", "no part answers, nothing was ordered", 1, why, getattr(arguments, "output", None))
+    def nobody(self, arguments: argparse.Namespace, why: str) -> Answer:
+        """No part answers; or one answers, and not what was asked."""
+        found = Answer(said(arguments), "no part", "no part answers, nothing was ordered", 1, why, getattr(arguments, "output", None))
+        if self.only().is_there():
+            found.end, found.text = "no good answer", "OPERATION of output 0 gave no good answer, nothing was ordered"
+            found.why += PROBE_TELLS
+        return found
 
     def close(self) -> None:
         """Closes the buses that were opened."""

@@ -11,6 +11,7 @@ from ..course import Course, Job
 from ..device import MARGINS, OFF, ON, Device
 from ..errors import Refused
 from ..readings import KINDS
+from ..rails import ONLY
 from ..rounded import Accepting
 from ..states import Step
 from ..survey import OFF_TRIES, TRIES, Nobody, complete, holds_zeros, survey
@@ -266,6 +267,9 @@ def carry_out(arguments: argparse.Namespace, register: str, begin: Callable[[], 
         return call.say(not_told(arguments, part, doubt))
     if step.kind != "done":
         return call.say(tell_bad_end(arguments, part, register, step))
+    held = part.host.confirmed_word(output or 0, register)
+    if held is not None:
+        call.ordered.note(ONLY, output, register, held, said(arguments))
     return call.say(confirmed_alone(arguments, part, register))
 
 
@@ -282,6 +286,7 @@ def run_course(arguments: argparse.Namespace, register: str, course: Course, wan
         is_held = accepting.after(order, step, wanted) or step.kind == "done"
         if is_held and order.word is not None:
             word = accepting.taken.get(order.register, order.word)
+            call.ordered.note(ONLY, output, order.register, word, said(arguments))
             call.maybe, call.settled = "", lambda: (f"{cell_words(arguments, part, order.register, word)} confirmed; what the output commands "
                                                     "wasn't read")
 
@@ -346,6 +351,8 @@ def send_command(arguments: argparse.Namespace) -> int:
     {"clear": lambda: part.host.clear(output), "store": part.host.store, "restore": part.host.restore}[arguments.command]()
     call.maybe = {"clear": f"the faults of output {output} may be cleared or not", "store": STORES,
                   "restore": RESTORES}[arguments.command]
+    if arguments.command == "restore":
+        call.ordered.forget()
     step = part.run()
     found = answer_of(arguments, part, None, step.kind)
     if step.kind != "done":

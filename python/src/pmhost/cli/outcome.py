@@ -12,8 +12,8 @@ from ..states import Step
 from ..survey import FORMAT, Commanded, behind, commanded
 from ..values import CODES, Format
 from .answer import Answer, between, in_digits
-from .call import said
-from .readings import read_notes
+from .call import PROBE_TELLS, said
+from .readings import read_notes, read_protect
 
 DEVICE = "WRITE_PROTECT"
 REGISTERS = tuple(name for name in CODES if name != DEVICE)
@@ -60,6 +60,9 @@ def refused(arguments: argparse.Namespace, part: Device, register: str | None, f
 
 def why_refused(arguments: argparse.Namespace, state: Commanded, letter: str) -> str:
     """Why, with the voltage that is known of it; nothing where none is."""
+    protect = state.only_word(DEVICE)
+    if letter == "P7" and protect is not None:
+        return f"{DEVICE} is {protect:02X}, and the part refuses the order: order {DEVICE} 00 first"
     bound = {"P5": "VOUT_MIN", "P6": "VOUT_MAX"}.get(letter)
     word = None if bound is None else state.only_word(bound)
     if word is not None and state.form is not None:
@@ -69,7 +72,7 @@ def why_refused(arguments: argparse.Namespace, state: Commanded, letter: str) ->
     would = None if letter != "L5" or byte is None else state.would(byte)
     if would is None or state.limits is None:
         return ""
-    return f"the output would command {voltages.shown(would)}, outside {between(*state.limits)}: order what it selects first"
+    return f"it would command {voltages.shown(would)}, OUTSIDE {between(*state.limits)}: order what it selects first"
 
 
 def possible_words(answer: Answer) -> str:
@@ -86,7 +89,7 @@ def tell_bad_end(arguments: argparse.Namespace, part: Device, register: str, ste
     if step.kind == "differs" and step.word is not None:
         found.text = f"{cell_words(arguments, part, register, step.word)} differs"
         found.why = (f"the part holds {in_digits(register, step.word)}: the write was lost, refused, limited or rounded"
-                     f"{with_why(part)}")
+                     f"{with_why(part)}{read_protect(part)}")
     else:
         found.text, found.why = possible_words(found), part.transfers.why() or "no good answer"
     found.why += read_notes(part, arguments.output)
@@ -167,7 +170,7 @@ def course_answer(arguments: argparse.Namespace, part: Device, register: str, co
     if end.kind == "differs" and end.word is not None:
         found.text = f"{cell_words(arguments, part, end.register or register, end.word)} differs"
         found.why = (f"{end.register}: the part holds {in_hexadecimal(end.register, end.word)}: the write was lost, refused, limited or "
-                     f"rounded{with_why(part)}")
+                     f"rounded{with_why(part)}{read_protect(part)}")
     elif end.kind == "source" and end.word is not None:
         found.text = f"OPERATION {end.word:02X} may leave the voltage to another source{avsbus(end.word)}{unordered(has_written)}"
         found.why = "order OPERATION first, as by `on`"
@@ -178,6 +181,7 @@ def course_answer(arguments: argparse.Namespace, part: Device, register: str, co
         found.text, found.why = f"{cell_words(arguments, part, register, found.word)} confirmed; {missed_words(state)}", why_not(state)
     else:
         found.text, found.why = f"{missed_words(state)}{unordered(has_written)}", why_not(state)
+        found.why += PROBE_TELLS * (not has_written and bool(part.transfers.faults))
     found.why += read_notes(part, arguments.output)
     return found
 

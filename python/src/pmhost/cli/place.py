@@ -10,6 +10,7 @@ from ..bus.patient import STEP, timeout_of
 from ..part import ModelPartBus
 from ..parts import MODEL_BUS, BoardPart
 from ..device import Device
+from ..survey import answers
 from ..transfers import Transfers
 from ..voltages import of_microvolts
 
@@ -101,6 +102,10 @@ class Place:
             if now + STEP >= deadline:
                 return transfers.why() or "no good answer"
             clock.until(now + STEP)
+
+    def is_there(self) -> bool:
+        """Whether the part answers a plain read, whatever it makes of PAGE_PLUS."""
+        return answers(self.pmbus())
 
     def unsure_of_last(self, is_long: bool) -> tuple[int, str]:
         """Behind a command that nothing reads back: whether a line is held low, and whether the part answers. The status, 0 where

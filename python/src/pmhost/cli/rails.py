@@ -70,6 +70,8 @@ def board_of(arguments: argparse.Namespace) -> Board:
 
     def after(it: Setting, is_confirmed: bool) -> None:
         call.settled = f"written and confirmed: {', '.join(board.changed())}" if is_confirmed else call.maybe
+        if is_confirmed:
+            call.ordered.note(it.rail.part, it.rail.output, it.register, it.wanted, said(arguments))
         call.maybe = ""
 
     def written(it: Setting) -> str:

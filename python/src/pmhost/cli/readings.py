@@ -5,10 +5,15 @@ import argparse
 
 from .. import readings
 from ..device import Device
+from ..packets import Packet
 from ..readings import KINDS
+from ..reads import Reads
 from ..status import BITS
 from .answer import Answer
 from .call import Call, said
+
+
+PROTECT = Packet("read", 0x10)
 
 
 def tell(arguments: argparse.Namespace) -> int:
@@ -24,16 +29,26 @@ def tell(arguments: argparse.Namespace) -> int:
             part.run()
             form = part.host.format(output or 0)
     found = readings.read(part.bus, part.host.address, output, name, form)
-    row = {"register": name, "word": digits_of(found), "value": None if found.value is None else float(found.value),
-           "unit": KINDS[name].unit or None, "bits": found.bits if found.is_status else None}
     is_good = found.word is not None
     return call.say(Answer(said(arguments), "done" if is_good else "unknown", found.words, 0 if is_good else 1, found.why, output, name,
-                           found.word, rows=[row], restart_seen=part.host.restart_seen))
+                           found.word, rows=[row_of(found)], restart_seen=part.host.restart_seen))
+
+
+def row_of(found: readings.Reading) -> dict[str, object]:
+    """The same by names and numbers."""
+    return {"register": found.name, "word": digits_of(found), "value": None if found.value is None else float(found.value),
+            "unit": KINDS[found.name].unit or None, "bits": found.bits if found.is_status else None}
 
 
 def digits_of(found: readings.Reading) -> str | None:
     """The word in two or four hexadecimal digits."""
     return None if found.word is None else f"{found.word:0{2 * KINDS[found.name].size}X}"
+
+
+def read_protect(part: Device) -> str:
+    """WRITE_PROTECT behind an order that wasn't taken, for the end of a line; nothing where it protects nothing or gives no good answer."""
+    found = Reads(part.bus, part.host.address).packet(PROTECT)
+    return f"; WRITE_PROTECT is {found.payload[0]:02X}" if found.payload and found.payload[0] else ""
 
 
 def read_notes(part: Device, output: int | None) -> str:
