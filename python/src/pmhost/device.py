@@ -8,6 +8,7 @@ from typing import Callable, Iterable, Mapping, ParamSpec, TypeVar
 from .course import SURVEY_TRIES, TRIES, Course, Job, Wanted
 from .errors import Differs, NotDone, Refused, Unknown
 from .host import Host
+from .look import Delivered, Look, Looks, NotDelivered
 from .states import Bus, Known, RailState, Step
 from .transfers import Transfers
 from .values import CODES, NAMES, code_of
@@ -40,17 +41,24 @@ class Device:
     they can be narrowed by `set_limits`. `lacks` names registers that the part doesn't have, as ("VOUT_MIN",). A voltage is a text with
     its unit, as "3.3V" or "850mV", or a Voltage, which is what is given back.
 
+    An order, a survey and a margin look at the rail behind their end, and raise NotDelivered where it doesn't deliver what it is commanded
+    to; `delivered` has what was read last. `looks` says how; None doesn't look.
+
     Several threads may use it: a call waits until that of another thread has ended. `host` itself is for one thread at a time.
     """
 
     def __init__(self, bus: Bus, address: int, outputs: int = 1, passes: int = 3,
-                 limits: Mapping[int, tuple[GivenVoltage, GivenVoltage]] | None = None, lacks: Iterable[str | int] = ()) -> None:
+                 limits: Mapping[int, tuple[GivenVoltage, GivenVoltage]] | None = None, lacks: Iterable[str | int] = (),
+                 looks: Looks | None = Looks()) -> None:
         for name in ("write", "read"):
             if not callable(getattr(bus, name, None)):
                 raise TypeError(f"bus: {bus!r} has no call {name}: see pmhost.Bus")
         lacks = tuple(lacks)
         self.bus, self.host = bus, Host(address, outputs, passes, lacks)
         self.transfers, self.lock = Transfers(), threading.RLock()
+        # How rails are looked at, what was seen last, and the registers beside the host's that the part turned out not to have.
+        self.looks, self.absent = looks, set[str]()
+        self.delivered: Delivered | None = None
         self.lacks = frozenset(NAMES[code_of(register)] for register in lacks)
         for output, pair in dict(limits or {}).items():
             if not isinstance(pair, (tuple, list)) or len(pair) != 2:
@@ -184,9 +192,17 @@ class Device:
     def complete(self, course: Course, before_order: Callable[[Job], None] | None = None,
                  after_order: Callable[[Job, Step], None] | None = None, job: str = "") -> RailState:
         """Carries a course out, as `Host.run_course` does, and says what the output commands then. Raises how it ended where it has not
-        reached what is wanted: a Refused, Differs, NoFormat, OtherSource or Spent, behind the words of a job."""
-        self.transfers = Transfers()
-        self.host.run_course(course, self.bus, self.transfers, before_order, after_order)
+        reached what is wanted: a Refused, Differs, NoFormat, OtherSource or Spent, behind the words of a job; and NotDelivered."""
+        self.transfers, self.delivered = Transfers(), None
+        look = None if self.looks is None else Look(self, course.output, self.looks)
+
+        def before(order: Job) -> None:
+            if look is not None:
+                look.before(course, order)
+            if before_order is not None:
+                before_order(order)
+
+        self.host.run_course(course, self.bus, self.transfers, before if look or before_order else None, after_order)
         try:
             course.end()
         except NotDone as fault:
@@ -194,6 +210,10 @@ class Device:
             possible = self.host.possible_words(course.output, cell) if cell in CODES else None
             raise type(fault)(f"{f'{job}: ' * bool(job)}{fault}{'; ' * bool(why)}{why}", fault.kind, fault.word, possible, cell) \
                 from self.transfers.error
+        if look is not None:
+            self.delivered = look.after(course.turns_off)
+            if self.delivered.is_bad:
+                raise NotDelivered(f"{f'{job}: ' * bool(job)}{self.delivered.why}{self.delivered.words}", self.delivered)
         return self.rail(course.output)
 
     def survey(self, output: int, tries: int = SURVEY_TRIES) -> RailState:

@@ -5,6 +5,7 @@ from dataclasses import dataclass
 from typing import TYPE_CHECKING
 
 from .course import Course, Job
+from .errors import PlanRefused
 from .rails import SETTINGS, Rail
 from .rounded import Accepting
 from .states import Step
@@ -78,7 +79,13 @@ class RailCourse:
         self.judge()
 
     def before(self, order: Job) -> None:
-        """An order is due."""
+        """An order is due. Before the first one the rail is looked at: a goal at or beyond a fault limit stops it."""
+        look = self.board.look_of(self.rail) if self.board.may_write else None
+        if look is not None:
+            try:
+                look.before(self.course, order)
+            except PlanRefused as fault:
+                raise Stopped(f"{self.rail.name}: {fault.said}: {fault.letter} {fault.name}") from None
         if not self.may_order:
             raise Due
         self.board.look(self.rail)
@@ -99,6 +106,16 @@ class RailCourse:
             board.had_restarted.add(rail.part)
         elif step.word is not None and board.has_restarted(rail):
             raise self.stopped(self.unconfirmed(it, step.word, "it restarted, or rounds: --accept takes a word that is near"))
+
+    def deliver(self) -> None:
+        """Looks at what the rail does. Stops where it doesn't deliver."""
+        look = self.board.look_of(self.rail)
+        if look is None:
+            return
+        found = self.board.delivered[self.rail.name] = look.after()
+        self.board.looked_at[self.rail.name] = self.board.orders
+        if found.is_bad:
+            raise Stopped(f"{self.rail.name}: {found.why}")
 
     def judge(self) -> None:
         """Stops where it has ended, and neither as it is wanted nor refused."""

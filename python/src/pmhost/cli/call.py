@@ -12,6 +12,7 @@ from ..bus.linux import ENDING, BusTrace, Calls
 from ..part import ModelPartBus
 from ..parts import MODEL_BUS, BoardPart
 from ..device import Device
+from ..look import Look, Looks
 from ..rails import ONLY, Rails
 from ..reserved import why_reserved
 from . import streams
@@ -22,6 +23,7 @@ from .place import Options, Place
 
 MODEL_ADDRESS, MODEL_OUTPUTS, PASSES = 0x58, 2, 3
 NOTHING = "nothing was written"
+LOOKS = Looks()
 PROBE_TELLS = "; pmhost probe tells why"
 # The options that say where the one part is, and what it has: a board file has them for each part.
 OF_ONE_PART = ("bus", "address", "outputs", "limit", "no_limit", "lacks")
@@ -93,6 +95,9 @@ class Call:
         self.busy_timeout: int | None = self._one("busy_timeout")
         self.is_unlimited, self.is_json, self.is_forced, self.is_shared = (
             bool(self._all(name)) for name in ("no_limit", "json", "force", "share_bus"))
+        self.looks: Looks | None = Looks(self._one("fault_limits") or "refuse", self._one("power_good") or "judge",
+                                         LOOKS.within if self._one("within") is None else self._one("within"),
+                                         LOOKS.settle if self._one("settle") is None else self._one("settle"))
         self.limits: dict[int, tuple[int, int]] = {}
         for output, least, most in self._all("limit"):
             if output in self.limits:
@@ -207,6 +212,10 @@ class Call:
     def part(self) -> Device:
         """The same, through the one host of the call."""
         return self.only().pmbus()
+
+    def look(self, output: int) -> Look | None:
+        """A look at a rail of the one part."""
+        return None if self.looks is None else Look(self.part(), output, self.looks)
 
     def patient(self, busy_timeout: int | None = None) -> ModelPartBus | PatientBus:
         """The bus of the one part, which waits for it where it is busy."""

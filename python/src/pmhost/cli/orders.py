@@ -9,7 +9,7 @@ from typing import Any, Callable
 from .. import probe, voltages
 from ..course import Course, Job
 from ..device import MARGINS, OFF, ON, Device
-from ..errors import Refused
+from ..errors import PlanRefused, Refused
 from ..readings import KINDS
 from ..rails import ONLY
 from ..rounded import Accepting
@@ -20,7 +20,7 @@ from . import readings
 from .answer import Answer, in_digits
 from .call import Call, said
 from .completion import completed_by
-from .outcome import (DEVICE, REGISTERS, VOLTAGES, answer_of, cell_words, confirmed_alone, course_answer, rail_words, read_notes_behind,
+from .outcome import (DEVICE, REGISTERS, VOLTAGES, answer_of, cell_words, confirmed_alone, course_answer, deliver, rail_words, read_notes_behind,
                       refused, tell_bad_end, why_not)
 from .parser import BadCall, bus_options, shown, whole
 
@@ -240,6 +240,9 @@ def survey_output(arguments: argparse.Namespace) -> int:
     found.commanded = state
     if not state.is_well:
         found.status, found.end, found.why = 1, "unsure", why_not(state) + read_notes_behind(call.part(), arguments.output, state)
+    look = call.look(arguments.output)
+    if look is not None and not state.missing:
+        deliver(found, look.after())
     return call.say(found)
 
 
@@ -277,8 +280,11 @@ def run_course(arguments: argparse.Namespace, register: str, course: Course, wan
     """Carries a course out that orders a register, near to these microvolts; the status where it came to no end."""
     call: Call = arguments.call
     part, output, accepting = call.part(), arguments.output, Accepting(call.part(), course, getattr(arguments, "accept", None))
+    look = arguments.look = call.look(output)
 
     def before(order: Job) -> None:
+        if look is not None:
+            look.before(course, order)
         accepting.before(order)
         call.maybe = f"output {output} {order.register} may hold the old or the ordered word"
 
@@ -294,6 +300,8 @@ def run_course(arguments: argparse.Namespace, register: str, course: Course, wan
         complete(part, course, before, after, call.only().ask_operation)
     except Nobody as nobody:
         return call.say(call.nobody(arguments, str(nobody)))
+    except PlanRefused as fault:
+        return call.say(refused(arguments, part, register, fault))
     except NotBelieved as doubt:
         return call.say(not_told(arguments, part, doubt))
     call.has_answered = True

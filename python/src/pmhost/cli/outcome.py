@@ -7,7 +7,8 @@ from typing import Any
 from .. import voltages
 from ..course import Course, CourseEnd, avsbus, in_hexadecimal
 from ..device import Device
-from ..errors import SAYINGS, Refused, refusal
+from ..errors import SAYINGS, PlanRefused, Refused, refusal
+from ..look import Delivered
 from ..states import Step
 from ..survey import FORMAT, Commanded, behind, commanded
 from ..values import CODES, Format
@@ -53,7 +54,9 @@ def answer_of(arguments: argparse.Namespace, part: Device, register: str | None,
 def refused(arguments: argparse.Namespace, part: Device, register: str | None, fault: Refused) -> Answer:
     """The host or a course refused a job: nothing more was sent."""
     refusal, why = f"{fault.letter} {fault.name}", SAYINGS.get(fault.letter, fault.name)
-    if fault.register:
+    if isinstance(fault, PlanRefused) and fault.said:
+        why = f"{fault.said}: {SAYINGS['P8'].rpartition(': ')[2]}"
+    elif fault.register:
         why = f"{fault.register}: {why_refused(arguments, commanded(part, arguments.output or 0), fault.letter) or why}"
     return answer_of(arguments, part, register, "refused", status=1, text=f"refused {refusal}", refusal=refusal, why=why)
 
@@ -109,7 +112,7 @@ def commanded_words(found: Commanded, register: str, microvolts: int | None) -> 
         return "what the output commands isn't known"
     band, wanted = between(found.least, found.greatest), wanted_of(found, register, microvolts)
     if found.is_on is False:
-        words = f"the output is off, and would command {band}"
+        words = f"the output is commanded off, and would command {band}"
     elif not selects(found, register):
         words = f"OPERATION selects {found.selected}: the output commands {band}"
     elif wanted is None or found.is_value(wanted):
@@ -164,7 +167,7 @@ def course_answer(arguments: argparse.Namespace, part: Device, register: str, co
     if end.kind == "refused":
         return refused(arguments, part, register, refusal(end.number, end.register))
     if end.kind == "reached":
-        return reached(arguments, part, register, state, is_accepted)
+        return reached(arguments, part, register, state, is_accepted, course.turns_off)
     found = answer_of(arguments, part, register, ENDS[end.kind], state, status=1)
     has_written, cell = part.transfers.has_written, state.cells.get(end.register or "")
     if end.kind == "differs" and end.word is not None:
@@ -201,7 +204,16 @@ def missed_words(found: Commanded) -> str:
         or "what the output commands isn't known"
 
 
-def reached(arguments: argparse.Namespace, part: Device, register: str, state: Commanded, is_accepted: bool) -> Answer:
+def deliver(found: Answer, delivered: Delivered) -> None:
+    """An answer says what the rail does, and isn't well where this isn't."""
+    found.text += delivered.words
+    found.delivered = delivered
+    if delivered.is_bad:
+        found.status, found.end = 1, "not delivered"
+        found.why += f"{'; ' * bool(found.why)}{delivered.why}"
+
+
+def reached(arguments: argparse.Namespace, part: Device, register: str, state: Commanded, is_accepted: bool, turns_off: bool) -> Answer:
     """The answer to a course that has reached what is wanted: the register's word, and what the output commands."""
     found = answer_of(arguments, part, register, "accepted" if is_accepted else "done", state)
     assert found.word is not None
@@ -209,12 +221,14 @@ def reached(arguments: argparse.Namespace, part: Device, register: str, state: C
     words = f"{register} accepted{cell.removeprefix(register)}" if is_accepted else f"{cell} confirmed"
     if state.form is None:
         found.text = f"{words}; what the output commands isn't known, since its format wasn't learned"
-        return found
-    found.text = f"{words}; {commanded_words(state, register, found.microvolts)}"
+    else:
+        found.text = f"{words}; {commanded_words(state, register, found.microvolts)}"
     # One that is turned off is off, whatever it would command.
-    if arguments.command != "off" and not is_well(state, register, found.microvolts):
+    if state.form is not None and arguments.command != "off" and not is_well(state, register, found.microvolts):
         found.status, found.end, found.why = 1, "cut" if state.is_well else "unsure", why_not(state)
-    if found.restart_seen:
+    if getattr(arguments, "look", None) is not None:
+        deliver(found, arguments.look.after(turns_off))
+    if found.restart_seen and state.form is not None:
         found.text += "; restart seen, or the part rounds" if is_accepted else "; restart seen"
     return found
 

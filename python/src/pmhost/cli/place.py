@@ -79,7 +79,7 @@ class Place:
         """The part on the bus, through a host of its own."""
         if self._pmbus is None:
             bus, part = self.patient(), self.part
-            self._pmbus = Device(bus, part.address, part.outputs, self._options.passes, lacks=part.lacks)
+            self._pmbus = Device(bus, part.address, part.outputs, self._options.passes, lacks=part.lacks, looks=None)
             for output, pair in self.limits.items():
                 self._pmbus.host.set_limits(output, *(of_microvolts(each) for each in pair))
         return self._pmbus

@@ -10,7 +10,7 @@ from ..parts import BadRails
 from ..rail_course import Setting, Stopped
 from ..rails import Rail
 from . import way
-from .answer import Answer, in_digits, number
+from .answer import Answer, delivery_of, in_digits, number
 from .call import Call, said
 from .completion import FILES, completed_by
 from .orders import ACCEPT, STORES
@@ -78,7 +78,7 @@ def board_of(arguments: argparse.Namespace) -> Board:
         others = [name for name in board.changed() if name != it.name]
         return f"; written before: {', '.join(others)}" if others else ""
 
-    board.before_order, board.after_order = before, after
+    board.before_order, board.after_order, board.looks = before, after, call.looks
     return board
 
 
@@ -170,7 +170,7 @@ def end_of(board: Board, rail: Rail, is_dry: bool) -> tuple[str, str]:
     """How a rail ended: a mark, and in words what it commands and which settings aren't as wanted."""
     if rail.name not in board.surveys:
         return "none", "it wasn't surveyed"
-    words = rail_words(board.state(rail))
+    words = rail_words(board.state(rail)) + delivered_words(board, rail)
     if is_dry:
         return "none", f"now: {words}"
     wrong = [f"{it.register} {state_of(board, it, False)}" for it in board.of(rail) if it.state not in AS_WANTED]
@@ -191,9 +191,14 @@ def rail_lines(board: Board, rail: Rail, are_wanted: bool) -> list[str]:
     """What a rail commands, and the margins that aren't selected and that its bounds cut: as these are wanted, or as they are."""
     if rail.name not in board.surveys:
         return []
-    return [f"{rail.name}: {rail_words(board.state(rail))}",
+    return [f"{rail.name}: {rail_words(board.state(rail))}{delivered_words(board, rail)}",
             *(f"{rail.name}: {it.register} {voltages.shown(it.value)} {'will be' if are_wanted else 'is'} cut to {voltages.shown(it.to)}"
               for it in board.cuts(rail, are_wanted))]
+
+
+def delivered_words(board: Board, rail: Rail) -> str:
+    """What a rail does, where it was looked at."""
+    return board.delivered[rail.name].words if rail.name in board.delivered else ""
 
 
 def volts(board: Board, it: Setting, word: int | None) -> float | None:
@@ -211,7 +216,7 @@ def rows(board: Board, is_dry: bool, are_wanted: bool) -> list[dict[str, object]
             "rail": rail.name, "part": rail.part or None, "output": rail.output, "limits": [number(each) for each in rail.limits],
             "selected": known and known.selected, "on": None if known is None else known.is_on,
             "commands": None if known is None or known.least is None else [number(known.least), number(known.greatest)],
-            "within": None if known is None else known.is_within,
+            "within": None if known is None else known.is_within, **delivery_of(board.delivered.get(rail.name)),
             "cut": [{"register": it.register, "word": in_digits(it.register, it.word), "volts": number(it.value), "to": number(it.to)}
                     for it in (board.cuts(rail, are_wanted) if known else [])],
             "settings": [{
