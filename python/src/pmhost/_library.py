@@ -125,7 +125,7 @@ class DeliveryImage(c.Structure):
 
 class DeliveredImage(c.Structure):
     _fields_ = [("kind", c.c_uint8), ("code", c.c_uint8), ("bit", c.c_uint8), ("fault", c.c_uint8), ("has_microvolts", c.c_uint8),
-                ("unused", c.c_uint8 * 3), ("microvolts", c.c_int64)]
+                ("unused", c.c_uint8), ("word", c.c_uint16), ("microvolts", c.c_int64)]
 
 
 class JudgementImage(c.Structure):
