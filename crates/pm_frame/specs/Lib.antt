@@ -7,6 +7,7 @@ pub mod FaultWords
 pub mod LateAnswers
 pub mod Laws
 pub mod Layout
+pub mod PagedRead
 pub mod Pec
 pub mod PlainRead
 pub mod SharedCodes

@@ -6,8 +6,8 @@
 //! bytes of any number, and take exactly the layouts: what they refuse has the fault that comes
 //! first, with its place. A `FrameView` borrows the bytes that were read.
 //!
-//! `read_block` and `read_plain` judge what comes back for reads that are no `Message`: a block, and a plain read, each of up
-//! to 32 bytes of any code.
+//! `read_block`, `read_plain` and `read_paged` judge what comes back for reads that are no `Message`: a block, a plain read, and a
+//! read by PAGE_PLUS, each of up to 32 bytes of any code.
 //!
 //! The PEC betrays damage where the last byte of what was heard isn't the PEC of what stands before
 //! it: `is_betrayed` says so of bytes, and the laws say which damage it always betrays.
@@ -39,6 +39,7 @@ mod frame_view;
 mod laws;
 mod message;
 mod packet_error_code;
+mod paged_read;
 mod places;
 mod plain_read;
 mod received;
@@ -57,6 +58,7 @@ pub use laws::{
 };
 pub use message::{Message, Payload, fits};
 pub use packet_error_code::{is_betrayed, pec, pec_after};
+pub use paged_read::{is_carried, paged_request, read_paged};
 pub use plain_read::{MOST_READ, code_request, read_plain};
 pub use received::{read_answer, read_request, read_write};
 pub use sent::{answer, write_part};

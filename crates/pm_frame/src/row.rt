@@ -3,6 +3,7 @@ ghost use Rattle.pm_table.specs.Commands.{attributes_of, is_known, payload_lengt
 ghost use Rattle.pm_frame.specs.Fault.{codes_of};
 ghost use Rattle.pm_frame.specs.Layout as layout;
 
+use crate::paged_read::is_carried;
 use crate::rules::Direction;
 use pm_table::{Attributes, Code};
 
@@ -59,10 +60,7 @@ impl Row {
     pub(crate) fn is_carried(self) -> bool
         ensures { result ≡ layout.is_carried self.code.0 }
     {
-        !matches!(
-            self.code,
-            Code::PAGE | Code::PAGE_PLUS_WRITE | Code::PAGE_PLUS_READ | Code::COEFFICIENTS
-        )
+        is_carried(self.code.0)
     }
 
     /// Whether a plain packet writes the code.

@@ -50,18 +50,20 @@ extern "C" {
 /* The version of the library, the greater part in the upper byte; pm_version answers that of the one that was linked. */
 #define PM_VERSION 0x0001
 
-/* The versions of the layouts of a host and a course, their sizes in bytes, and the stack that a call takes at most:
+/* The versions of the layouts of a host, a course and a delivery, their sizes in bytes, and the stack that a call takes at most:
  * PM_STACK, and PM_NAME_STACK of pm_refusal_name, in which a loader may bind memmove. docs/c.md has what calls take on each
  * processor, and an archive says its own bound as stack-bytes in its section .comment. */
 #define PM_HOST_VERSION 6
 #define PM_HOST_SIZE 2064
 #define PM_COURSE_VERSION 1
 #define PM_COURSE_SIZE 104
+#define PM_DELIVERY_VERSION 1
+#define PM_DELIVERY_SIZE 66
 #define PM_STACK 2048
 #define PM_NAME_STACK 4096
 
-/* What a call answers: 0, or why it is refused. A refused call changes nothing, but for two: pm_host_frame and pm_course_frame then
- * write PM_NOTHING. pm_pec, pm_host_restart_seen and pm_host_limits_state answer something else: each says what, and what the last
+/* What a call answers: 0, or why it is refused. A refused call changes nothing, but for these: pm_host_frame, pm_course_frame and
+ * pm_delivery_frame then write PM_NOTHING, and pm_delivery_judge that answers P8 says of which limit. pm_pec, pm_host_restart_seen and pm_host_limits_state answer something else: each says what, and what the last
  * answers is no number of these; nor is PM_ENDED, which refuses nothing. pm_refusal_name gives the name of each, and of those of
  * pmpart.h. */
 enum {
@@ -90,6 +92,7 @@ enum {
     PM_P5_BELOW_MIN = 0x65,       /* a word will be below VOUT_MIN as that will be */
     PM_P6_ABOVE_MAX = 0x66,       /* a word will be above VOUT_MAX as that will be */
     PM_P7_PROTECTED = 0x67,       /* WRITE_PROTECT doesn't allow each order that is still to come */
+    PM_P8_BEYOND_FAULT_LIMIT = 0x68, /* a word is at or beyond VOUT_OV_FAULT_LIMIT or VOUT_UV_FAULT_LIMIT: pm_delivery_judge */
     PM_NO_HOST = 0xE0,            /* the memory holds no host of this version */
     PM_NO_CELL = 0xE1,            /* the command code is no cell's */
     PM_OTHER_FRAME = 0xE2,        /* no frame of this kind is being sent */
@@ -99,6 +102,8 @@ enum {
     PM_NO_NAME = 0xE7,            /* the number has no name */
     PM_NO_COURSE = 0xE9,          /* the memory holds no course of this version, or none to which a voltage can be added */
     PM_NO_BAND = 0xEB,            /* OPERATION may be a byte that hands the output's voltage to AVSBus */
+    PM_NO_DELIVERY = 0xEC,        /* the memory holds no delivery of this version */
+    PM_NO_GOAL = 0xED,            /* the course wants no word of this register */
     PM_F1_NOT_OURS = 0x31,        /* F1 to F8: what is wrong with the bytes of a packet */
     PM_F2_SHORT = 0x32,
     PM_F3_LONG = 0x33,
@@ -109,7 +114,7 @@ enum {
     PM_F8_NESTED = 0x38
 };
 
-/* What pm_course_frame and pm_course_next answer where the course has ended. */
+/* What pm_course_frame and pm_course_next answer where the course has ended, and pm_delivery_frame where nothing is left to ask. */
 enum { PM_ENDED = 0x95 };
 
 /* The cells: an output and one of these command codes; with WRITE_PROTECT, which is the device's, the
@@ -241,6 +246,74 @@ typedef struct {
     uint16_t word; /* the word that is ordered; otherwise 0 */
 } pm_course_job;
 
+/* What came of one question of a delivery. Zeros where it wasn't asked; a good answer where `asked` isn't 0 and `fault` is. */
+typedef struct {
+    uint8_t asked; /* how often it was asked */
+    uint8_t fault; /* what was wrong with the last answer: PM_NO_ANSWER, PM_F1_NOT_OURS to PM_F5_WRONG_PEC, 0 where it was good */
+    uint16_t word; /* the word or byte of a good answer, otherwise 0 */
+} pm_heard;
+
+/* What a delivery does about fault limits: a word at or beyond one is refused (P8); it is told alone; they aren't read. */
+enum { PM_FAULT_LIMITS_REFUSE = 0, PM_FAULT_LIMITS_TELL = 1, PM_FAULT_LIMITS_SKIP = 2 };
+
+/* What an output does, and not what its registers hold: a delivery, in memory of yours. Its fields are there to be read, so that what
+ * was heard can be told; the calls alone write them. A call asks first for its mark and version, and answers PM_NO_DELIVERY where one
+ * lacks. It may be copied, and holds no host and no pointer. */
+typedef struct {
+    uint16_t mark, version;
+    uint8_t output;
+    uint8_t look;          /* 0 nothing was looked at, 1 before an order, 2 after one, 3 after one that turned the output off */
+    uint8_t fault_limits;  /* PM_FAULT_LIMITS_REFUSE, or another of these */
+    uint8_t has_read_vout; /* 0 where the part has no READ_VOUT */
+    uint16_t within;       /* thousandths of what the output commands that READ_VOUT may be away from it: 50 are 5 % */
+    uint16_t rounds;       /* how often all is asked at most until the output does what it is to */
+    uint16_t round;        /* which of these it is, from 0 */
+    pm_heard before;       /* STATUS_WORD before the first order */
+    pm_heard ov_fault_limit, ov_warn_limit, uv_warn_limit, uv_fault_limit; /* 40h, 42h, 43h, 44h, in the output's format */
+    pm_heard status_word, status_vout, status_iout, status_input, status_temperature; /* 79h to 7Dh, of this round */
+    pm_heard read_vout;                      /* 8Bh, in the output's format, of this round */
+    pm_heard power_good_on, power_good_off;  /* 5Eh, 5Fh, in the output's format: asked where POWER_GOOD# alone speaks against it */
+} pm_delivery;
+
+typedef char pm_delivery_has_its_size[sizeof(pm_delivery) == PM_DELIVERY_SIZE ? 1 : -1];
+
+/* What an output does. Good ends are PM_DELIVERS, and PM_WENT_OFF after an order that turned it off. */
+enum {
+    PM_NOT_YET = 0,            /* something is left to ask, or nothing was looked at */
+    PM_DELIVERS = 1,           /* OFF and POWER_GOOD# are 0, no fault is new, READ_VOUT is within the limits and near what it commands */
+    PM_COMMANDED_OFF = 2,      /* nothing was asked: the output is commanded off */
+    PM_NOT_KNOWN_ON = 3,       /* nothing was asked: it isn't known whether the output is commanded on */
+    PM_IS_OFF = 4,             /* OFF is 1, though the output is commanded on */
+    PM_NEW_FAULT = 5,          /* the bit `bit` of the register `code` says a fault that didn't stand before the first order, or of which
+                                * that isn't known since STATUS_WORD gave no good answer then (`before.fault`) */
+    PM_OUTSIDE_LIMITS = 6,     /* READ_VOUT lies outside the limits that the host keeps of the output */
+    PM_BEYOND = 7,             /* READ_VOUT is farther than `within` from what the output commands */
+    PM_POWER_GOOD_ALONE = 8,   /* READ_VOUT is right, and POWER_GOOD# is 1: `power_good_on` says at which voltage it would be 0 */
+    PM_NO_POWER_GOOD = 9,      /* POWER_GOOD# is 1, of a part without READ_VOUT */
+    PM_DELIVERY_NOT_KNOWN = 10, /* the register `code` gave no good answer: `fault` says what was wrong with the last one. With READ_VOUT
+                                * and a `fault` of 0: it was good, and what the output commands isn't known */
+    PM_WENT_OFF = 11,          /* OFF is 1 after an order that turned the output off */
+    PM_STILL_ON = 12,          /* OFF is 0 after such an order */
+    PM_BEYOND_FAULT_LIMIT = 13 /* of pm_host_deliver alone: P8, nothing was ordered. `code` and `word` are those of the limit */
+};
+typedef struct {
+    uint8_t kind;
+    uint8_t code;           /* the command code of the register that says so, or 0 */
+    uint8_t bit;            /* of PM_NEW_FAULT, from 0 */
+    uint8_t fault;          /* of PM_DELIVERY_NOT_KNOWN: PM_NO_ANSWER, PM_F1_NOT_OURS to PM_F5_WRONG_PEC */
+    uint8_t has_microvolts; /* 1 where READ_VOUT gave a good answer and is told in `microvolts` */
+    uint8_t unused;
+    uint16_t word;          /* what the register `code` held in this round, where its answer was good; otherwise 0 */
+    int64_t microvolts;     /* READ_VOUT, rounded down; 0 where it isn't told */
+} pm_delivered;
+
+/* Which limits a word is at or beyond: command codes, 0 where there is none, and the words that these registers hold. */
+typedef struct {
+    uint8_t fault;         /* VOUT_OV_FAULT_LIMIT (40h) or VOUT_UV_FAULT_LIMIT (44h) */
+    uint8_t warning;       /* VOUT_OV_WARN_LIMIT (42h) or VOUT_UV_WARN_LIMIT (43h) */
+    uint16_t fault_word, warning_word;
+} pm_judgement;
+
 /* The format of an output's voltages, or of a reading: LINEAR11, which READ_VIN, READ_IOUT and READ_TEMPERATURE_1
  * have, and which no host learns of an output. Microvolts are then millionths of a volt, an ampere or a degree. */
 enum { PM_NO_FORMAT = 0, PM_ULINEAR16 = 1, PM_DIRECT = 2, PM_LINEAR11 = 3 };
@@ -254,12 +327,14 @@ typedef struct {
 /* The version of this library: compare it at start with PM_VERSION, of which the upper byte has to be the same. */
 uint16_t pm_version(void);
 
-/* The sizes and the versions of a pm_host and a pm_course: compare them at start with PM_HOST_SIZE, PM_HOST_VERSION, PM_COURSE_SIZE
- * and PM_COURSE_VERSION. */
+/* The sizes and the versions of a pm_host, a pm_course and a pm_delivery: compare them at start with PM_HOST_SIZE, PM_HOST_VERSION,
+ * PM_COURSE_SIZE, PM_COURSE_VERSION, PM_DELIVERY_SIZE and PM_DELIVERY_VERSION. */
 uint64_t pm_host_size(void);
 uint16_t pm_host_version(void);
 uint64_t pm_course_size(void);
 uint16_t pm_course_version(void);
+uint64_t pm_delivery_size(void);
+uint16_t pm_delivery_version(void);
 
 /* Makes a host, whatever stood in the memory, for the device at this address, 08h to 77h, which has this
  * many outputs, 1 to 8; a job has at most this many passes or tries, 1 to 15. Nothing is known, and no output has
@@ -423,6 +498,56 @@ uint8_t pm_course_next(const pm_course *course, const pm_host *host, pm_course_j
  * written. */
 uint8_t pm_course_job_now(const pm_course *course, pm_course_job *job);
 
+/* The word that a course wants of VOUT_COMMAND, VOUT_MARGIN_HIGH or VOUT_MARGIN_LOW, by the format that the host knows now; of a course
+ * to a byte that leaves the output on, the word that the register is known to hold that the byte selects. PM_NO_GOAL where it has none
+ * of this register. PM_NO_HOST, PM_NO_COURSE, H4, PM_NO_CELL; then nothing is written. */
+uint8_t pm_course_goal(const pm_course *course, const pm_host *host, uint8_t code, uint16_t *word);
+
+/* ---- Delivery: what an output does ---- */
+
+/* A good end of a course says that registers hold what is wanted, and not that the output delivers it: it may have tripped, or a pin
+ * may hold it off. A delivery asks the part, by reads of PAGE_PLUS beside the host's jobs; it writes nothing, and no job is told of
+ * what it hears. pm_host_deliver, at the end of this header, has the loop. */
+
+/* Makes a delivery of an output, whatever stood in the memory. `within` and `rounds` are as in pm_delivery; 1000 thousandths at most
+ * count. H4 for an output above 7; then nothing is written. */
+PM_MUST_USE
+uint8_t pm_delivery_new(pm_delivery *delivery, uint8_t output, uint8_t fault_limits, uint8_t has_read_vout, uint16_t within,
+                        uint16_t rounds);
+
+/* Begins to look at what stands before the first order of a call: STATUS_WORD, and the fault limits and warnings unless they are
+ * skipped. Once a call is enough: limits and `before` stay until it is asked for again. Ask for it before no order that turns the
+ * output off. PM_NO_DELIVERY. */
+PM_MUST_USE
+uint8_t pm_delivery_before(pm_delivery *delivery);
+
+/* Begins to look at what the output does, after a good end: with `off` not 0 after an order that turned it off. Without a look before,
+ * as after a survey, no fault is new. PM_NO_DELIVERY. */
+PM_MUST_USE
+uint8_t pm_delivery_after(pm_delivery *delivery, uint8_t off);
+
+/* The request that is to be sent now, the same until it is told what came back. 0; or PM_ENDED, and then PM_NOTHING, where nothing is
+ * left to ask. Each question is asked at most as many times as the host has passes, until a good answer comes. Where the output
+ * doesn't do yet what it is to, all is asked again, at most `rounds` times: `round` isn't 0 then and `status_word.asked` is, and the
+ * caller waits before it sends that. PM_NO_HOST, PM_NO_DELIVERY, H4, and then PM_NOTHING. */
+PM_MUST_USE
+uint8_t pm_delivery_frame(pm_delivery *delivery, const pm_host *host, pm_sending *sending);
+
+/* That request was sent, and these bytes came back, the read address first; 0 bytes where none came. An answer of nothing but FFh is
+ * one that nobody gave: hand over 0 bytes. PM_NO_HOST, PM_NO_DELIVERY, H4, PM_OTHER_FRAME where no request is to be sent. */
+uint8_t pm_delivery_read_ended(pm_delivery *delivery, const pm_host *host, const uint8_t *bytes, uint64_t count);
+
+/* What the output does: kind PM_NOT_YET until pm_delivery_frame has answered PM_ENDED. PM_NO_HOST, PM_NO_DELIVERY, H4; then nothing is
+ * written. */
+PM_MUST_USE
+uint8_t pm_delivery_verdict(const pm_delivery *delivery, const pm_host *host, pm_delivered *delivered);
+
+/* Which fault limit and which limit of a warning a word of the output's voltage is at or beyond, by its value; a limit that gave no good
+ * answer isn't judged. P8 where that is a fault limit, unless PM_FAULT_LIMITS_TELL: the limit is told in each case. PM_NO_HOST,
+ * PM_NO_DELIVERY, H4, H7 where the format isn't known; then nothing is written. */
+PM_MUST_USE
+uint8_t pm_delivery_judge(const pm_delivery *delivery, const pm_host *host, uint16_t word, pm_judgement *judgement);
+
 /* ---- Names ---- */
 
 /* A name: characters of ASCII, and zeros behind them, so that `text` is a string of C. */
@@ -496,6 +621,20 @@ typedef struct {
 uint8_t pm_read_block(uint8_t address, uint8_t code, const uint8_t *bytes, uint64_t count, pm_block *block);
 uint8_t pm_read_plain(uint8_t address, uint8_t code, uint8_t size, const uint8_t *bytes, uint64_t count, pm_block *block);
 
+/* A read by PAGE_PLUS of any code that it carries, whether it stands in the table of pm_packet_write or not: of a byte (`size` 1), of a
+ * word (2), of so many bytes up to 32, or of a block (0), whose count the answer says. The request; its `answer` is the number of
+ * bytes of a whole one, of a block 35 at most. PM_NO_ADDRESS, PM_NO_PACKET for PAGE, PAGE_PLUS_WRITE, PAGE_PLUS_READ and COEFFICIENTS,
+ * which PAGE_PLUS doesn't carry, and for a greater size; then nothing is written. */
+PM_MUST_USE
+uint8_t pm_paged_request(uint8_t address, uint8_t page, uint8_t code, uint8_t size, pm_sending *frame);
+
+/* What came back for it, the read address first: a count, which is the size that was asked for (F4), so many bytes and the PEC. Of a
+ * block hand over the bytes up to its count + 3, as of pm_read_block. PM_NO_ADDRESS, PM_NO_PACKET as for the request, F1, F2 where no
+ * count came, F4, F2 and F3 by the count, F5; then nothing is written. */
+PM_MUST_USE
+uint8_t pm_read_paged(uint8_t address, uint8_t page, uint8_t code, uint8_t size, const uint8_t *bytes, uint64_t count,
+                      pm_block *block);
+
 /* ---- The loop of a driver ---- */
 
 #if defined __cplusplus || (defined __STDC_VERSION__ && __STDC_VERSION__ >= 199901L)
@@ -514,26 +653,123 @@ enum {
 typedef uint8_t (*pm_write)(void *context, const uint8_t *bytes, uint64_t count);
 typedef uint64_t (*pm_read)(void *context, const uint8_t *request, uint64_t count, uint8_t *answer, uint64_t room);
 
+/* Waits before all is asked again of an output that doesn't do yet what it is to: a ramp takes time. */
+typedef void (*pm_pause)(void *context);
+
+/* Reads the answer to a request, the read address first, and answers how many bytes came with it; 0 where none did. A `read` that says
+ * that more bytes came than there was room for counts as one to which none came. */
+static inline uint64_t pm_answer(const pm_sending *frame, uint8_t *answer, pm_read read, void *context) {
+    uint64_t room = (uint64_t)frame->answer - 1, at;
+    for (at = 0; at <= room; at++)
+        answer[at] = 0;
+    uint64_t came = read(context, frame->bytes, frame->length, answer + 1, room);
+    answer[0] = (uint8_t)(frame->bytes[0] | 1);
+    return came == 0 || came > room ? 0 : came + 1;
+}
+
+/* Asks all that a delivery has to ask. `pause` may be NULL. 0, or why a call was refused. */
+PM_MUST_USE
+static inline uint8_t pm_delivery_ask(pm_delivery *delivery, const pm_host *host, pm_read read, pm_pause pause, void *context) {
+    pm_sending frame;
+    uint8_t answer[8];
+    uint8_t number;
+    while ((number = pm_delivery_frame(delivery, host, &frame)) == PM_OK) {
+        if (pause && delivery->round != 0 && delivery->status_word.asked == 0)
+            pause(context);
+        number = pm_delivery_read_ended(delivery, host, answer, pm_answer(&frame, answer, read, context));
+        if (number != PM_OK)
+            return number;
+    }
+    return number == PM_ENDED ? (uint8_t)PM_OK : number;
+}
+
+/* Judges what a course wants of VOUT_COMMAND and the margins, or what the byte of one selects: the first fault limit, and the first
+ * limit of a warning. 0, P8, or why a call was refused. */
+PM_MUST_USE
+static inline uint8_t pm_delivery_judge_course(const pm_delivery *delivery, const pm_course *course, const pm_host *host,
+                                               pm_judgement *judgement) {
+    static const uint8_t codes[3] = {PM_VOUT_COMMAND, PM_VOUT_MARGIN_HIGH, PM_VOUT_MARGIN_LOW};
+    pm_judgement all = {0, 0, 0, 0}, one;
+    uint8_t refused = PM_OK, number;
+    uint16_t word;
+    int at;
+    for (at = 0; at < 3; at++) {
+        if ((number = pm_course_goal(course, host, codes[at], &word)) == PM_NO_GOAL)
+            continue;
+        if (number == PM_OK)
+            number = pm_delivery_judge(delivery, host, word, &one);
+        if (number != PM_OK && number != PM_P8_BEYOND_FAULT_LIMIT)
+            return number;
+        refused = number == PM_OK ? refused : number;
+        if (all.fault == 0 && one.fault != 0) {
+            all.fault = one.fault;
+            all.fault_word = one.fault_word;
+        }
+        if (all.warning == 0 && one.warning != 0) {
+            all.warning = one.warning;
+            all.warning_word = one.warning_word;
+        }
+    }
+    *judgement = all;
+    return refused;
+}
+
+/* Whether a job turns an output off: nothing is read before it. */
+static inline int pm_is_off_order(const pm_course_job *job) {
+    return job->kind == PM_JOB_ORDER && job->code == PM_OPERATION && (job->word & 0x80) == 0;
+}
+
+/* Whether a course turns its output off: its first job is that order. */
+static inline int pm_is_off_course(const pm_course *course, const pm_host *host) {
+    pm_course_job job;
+    return (pm_course_next(course, host, &job) == PM_OK && pm_is_off_order(&job)) ||
+           (pm_course_job_now(course, &job) == PM_OK && pm_is_off_order(&job));
+}
+
+/* Before a course's first order, which `*is_judged` remembers, unless that turns the output off: what stands before the first order of
+ * the call is asked, and what is wanted is judged. 0 where the course goes on; P8, or why a call was refused. */
+PM_MUST_USE
+static inline uint8_t pm_delivery_before_order(pm_delivery *delivery, const pm_course *course, const pm_host *host, int *is_judged,
+                                               pm_read read, void *context) {
+    pm_course_job next;
+    pm_judgement judgement;
+    uint8_t number = PM_OK;
+    if (*is_judged || pm_course_next(course, host, &next) != PM_OK || next.kind != PM_JOB_ORDER)
+        return PM_OK;
+    *is_judged = 1;
+    if (pm_is_off_order(&next))
+        return PM_OK;
+    if (delivery->before.asked == 0) {
+        number = pm_delivery_before(delivery);
+        if (number == PM_OK)
+            number = pm_delivery_ask(delivery, host, read, NULL, context);
+    }
+    return number == PM_OK ? pm_delivery_judge_course(delivery, course, host, &judgement) : number;
+}
+
 /* Carries a course out, or the host's open job where `course` is NULL, frame after frame, and answers the last step; PM_ENDED of a
- * course; or why a call was refused. A `read` that says that more bytes came than there was room for counts as one to which none
- * came. The loop ends since a job has at most twice as many frames as passes and a course at most its tries of jobs, which is
- * proved; it is C of this header, tried under rows of each kind of fault (trials/c/rows/run_rows.c, trials/course) and under
- * random ones (examples/c/faults.c, examples/c/rail.c), and isn't proved. */
-static inline pm_step pm_carry_out(pm_host *host, pm_course *course, pm_write write, pm_read read, void *context) {
+ * course; or why a call was refused. With a `delivery`, which may be NULL, fault limits are read and judged before the course's first
+ * order, and P8 stops it there, with nothing ordered. The loop ends since a job has at most twice as many frames as passes and a course
+ * at most its tries of jobs, which is proved; it is C of this header, tried under rows of each kind of fault (trials/c/rows/run_rows.c,
+ * trials/course) and under random ones (examples/c/faults.c, examples/c/rail.c), and isn't proved. */
+static inline pm_step pm_carry_out(pm_host *host, pm_course *course, pm_delivery *delivery, pm_write write, pm_read read,
+                                   void *context) {
     pm_step step = {PM_UNKNOWN, 0};
     pm_sending frame;
+    uint8_t answer[8];
     uint8_t number;
-    while ((number = course ? pm_course_frame(course, host, &frame) : pm_host_frame(host, &frame)) == PM_OK &&
-           frame.kind != PM_NOTHING) {
+    int is_judged = !(course && delivery);
+    for (;;) {
+        number = is_judged ? (uint8_t)PM_OK : pm_delivery_before_order(delivery, course, host, &is_judged, read, context);
+        if (number == PM_OK)
+            number = course ? pm_course_frame(course, host, &frame) : pm_host_frame(host, &frame);
+        if (number != PM_OK || frame.kind == PM_NOTHING)
+            break;
         if (frame.kind == PM_WRITE) {
             uint8_t acked = write(context, frame.bytes, frame.length) == PM_ACKED;
             step = course ? pm_course_write_ended(course, host, acked) : pm_host_write_ended(host, acked);
         } else {
-            uint8_t answer[8] = {0, 0, 0, 0, 0, 0, 0, 0};
-            uint64_t room = (uint64_t)frame.answer - 1;
-            uint64_t came = read(context, frame.bytes, frame.length, answer + 1, room);
-            uint64_t count = came == 0 || came > room ? 0 : came + 1;
-            answer[0] = (uint8_t)(frame.bytes[0] | 1);
+            uint64_t count = pm_answer(&frame, answer, read, context);
             step = course ? pm_course_read_ended(course, host, answer, count) : pm_host_read_ended(host, answer, count);
         }
     }
@@ -545,18 +781,58 @@ static inline pm_step pm_carry_out(pm_host *host, pm_course *course, pm_write wr
 /* Carries the open job out, and says how it ended: PM_UNKNOWN where none was open, PM_NO_HOST where the memory holds no host. */
 PM_MUST_USE
 static inline pm_step pm_host_run(pm_host *host, pm_write write, pm_read read, void *context) {
-    return pm_carry_out(host, NULL, write, read, context);
+    return pm_carry_out(host, NULL, NULL, write, read, context);
+}
+
+/* How a course ended once it was carried out: PM_REFUSED also where a call was refused with this number. */
+PM_MUST_USE
+static inline pm_course_end pm_course_end_of(const pm_course *course, uint16_t number) {
+    pm_course_end end = {0, 0, 0, 0, 0, 0};
+    if (pm_course_ended(course, &end) != PM_OK || end.kind == 0) {
+        end.kind = PM_REFUSED;
+        end.number = (uint8_t)number;
+    }
+    return end;
 }
 
 /* Carries a course out, and says how it ended: PM_REFUSED also where the memory holds no host (PM_NO_HOST) or no course
- * (PM_NO_COURSE). */
+ * (PM_NO_COURSE). What its output does then isn't asked: pm_host_deliver does. */
 PM_MUST_USE
 static inline pm_course_end pm_host_run_course(pm_host *host, pm_course *course, pm_write write, pm_read read, void *context) {
-    pm_course_end end = {0, 0, 0, 0, 0, 0};
-    pm_step step = pm_carry_out(host, course, write, read, context);
-    if (pm_course_ended(course, &end) != PM_OK || end.kind == 0) {
+    pm_step step = pm_carry_out(host, course, NULL, write, read, context);
+    return pm_course_end_of(course, step.kind);
+}
+
+/* The same with a delivery of the course's output. A course that ended well has done what is wanted where `delivered` is PM_DELIVERS, or
+ * PM_WENT_OFF of one that turned the output off; an output that is commanded off isn't asked. PM_REFUSED with P8, and
+ * PM_BEYOND_FAULT_LIMIT, where nothing was ordered since what is wanted is at or beyond a fault limit; the course itself goes on, once
+ * that was moved and the delivery made anew. After a bad end `delivered` is PM_NOT_YET. Each call of one chain hands over the same
+ * delivery of an output, so that it knows which faults stood before the chain. */
+PM_MUST_USE
+static inline pm_course_end pm_host_deliver(pm_host *host, pm_course *course, pm_delivery *delivery, pm_write write, pm_read read,
+                                            pm_pause pause, void *context, pm_delivered *delivered) {
+    pm_delivered none = {0, 0, 0, 0, 0, 0, 0, 0};
+    pm_judgement judgement = {0, 0, 0, 0};
+    uint8_t is_off = (uint8_t)pm_is_off_course(course, host);
+    pm_step step = pm_carry_out(host, course, delivery, write, read, context);
+    pm_course_end end = pm_course_end_of(course, step.kind);
+    uint8_t number = PM_OK;
+    *delivered = none;
+    if (step.kind == PM_P8_BEYOND_FAULT_LIMIT && pm_delivery_judge_course(delivery, course, host, &judgement) == step.kind) {
+        delivered->kind = PM_BEYOND_FAULT_LIMIT;
+        delivered->code = judgement.fault;
+        delivered->word = judgement.fault_word;
+    }
+    if (end.kind != PM_REACHED)
+        return end;
+    number = pm_delivery_after(delivery, is_off);
+    if (number == PM_OK)
+        number = pm_delivery_ask(delivery, host, read, pause, context);
+    if (number == PM_OK)
+        number = pm_delivery_verdict(delivery, host, delivered);
+    if (number != PM_OK) {
         end.kind = PM_REFUSED;
-        end.number = (uint8_t)step.kind;
+        end.number = number;
     }
     return end;
 }

@@ -30,6 +30,12 @@ pub const NO_COURSE: u8 = 0xE9;
 /// Another than the output's registers may decide its voltage.
 pub const NO_BAND: u8 = 0xEB;
 
+/// The memory holds no delivery.
+pub const NO_DELIVERY: u8 = 0xEC;
+
+/// The course has no goal of this register.
+pub const NO_GOAL: u8 = 0xED;
+
 /// An output's voltage lies within its limits.
 pub const WITHIN_YES: u8 = 0x91;
 

@@ -7,7 +7,8 @@ ghost use Rattle.pm_frame.specs.PlainRead.{IsPlainAnswer};
 ghost use Rattle.pm_host_c.specs.Packets.{HasBlock, block_of, plain_read_number, read_number};
 
 use crate::numbers::{ACCEPTED, NO_ADDRESS, NO_PACKET};
-use pm_frame::{MOST_READ, read_block, read_plain};
+use crate::sending_image::SendingImage;
+use pm_frame::{MOST_READ, is_carried, paged_request, read_block, read_paged, read_plain};
 use pm_table::address_ok;
 
 /// The payload of such an answer, without a count and the packet error code.
@@ -69,6 +70,65 @@ pub extern "C" fn pm_read_plain(
         }
         Err(fault) => fault.number(),
     }
+}
+
+/// The request of a read of any code by PAGE_PLUS: of a byte (1), a word (2), or so many bytes up to 32; or of a block, whose count
+/// nobody says before (0). E3h, E4h for a code that PAGE_PLUS doesn't carry and for more bytes.
+#[unsafe(no_mangle)]
+pub extern "C" fn pm_paged_request(
+    address: u8,
+    page: u8,
+    code: u8,
+    size: u8,
+    frame: &mut SendingImage,
+) -> u8 {
+    if !address_ok(address) {
+        return NO_ADDRESS;
+    }
+    if !is_carried(code) || MOST_READ < usize::from(size) {
+        return NO_PACKET;
+    }
+    frame.put_paged(&paged_request(address, page, code), whole_answer(size));
+    ACCEPTED
+}
+
+/// What came back for a read of a code by PAGE_PLUS, the read address first, then the count. E3h, E4h as for the request, F1 to F5.
+#[unsafe(no_mangle)]
+pub extern "C" fn pm_read_paged(
+    address: u8,
+    page: u8,
+    code: u8,
+    size: u8,
+    bytes: &[u8],
+    block: &mut BlockImage,
+) -> u8 {
+    if !address_ok(address) {
+        return NO_ADDRESS;
+    }
+    if !is_carried(code) || MOST_READ < usize::from(size) {
+        return NO_PACKET;
+    }
+    match read_paged(address, page, code, asked_size(size), bytes) {
+        Ok(found) => {
+            *block = BlockImage::of(found);
+            ACCEPTED
+        }
+        Err(fault) => fault.number(),
+    }
+}
+
+// The count that is asked for; none of a block.
+fn asked_size(size: u8) -> Option<usize> {
+    if size == 0 {
+        None
+    } else {
+        Some(usize::from(size))
+    }
+}
+
+// How many bytes a whole answer has at most: the read address, the count, the payload and the packet error code.
+fn whole_answer(size: u8) -> u8 {
+    if size == 0 { 35 } else { size + 3 }
 }
 
 impl BlockImage {

@@ -50,6 +50,16 @@ impl SendingImage {
     }
 }
 
+impl SendingImage {
+    /// The request of a read by PAGE_PLUS is to be sent, to which a whole answer has so many bytes.
+    pub(crate) fn put_paged(&mut self, request: &[u8; 5], answer: u8) {
+        self.kind = 2;
+        self.length = 5;
+        self.answer = answer;
+        self.bytes[..5].copy_from_slice(request);
+    }
+}
+
 /// Copies a frame to the front of the bytes, and answers how many it has.
 pub(crate) fn copy_frame(bytes: &mut [u8; 16], frame: &Frame) -> u8
     ensures length { result ≡ length frame.now.items }

@@ -1,0 +1,33 @@
+//! What a rail does, beside what its registers hold: a good end of an order says that a register has a word, and this says whether
+//! the output delivers it.
+//!
+//! A [`Delivery`] is a machine without I/O, of plain numbers. It reads by PAGE_PLUS alone, beside the host's jobs: no job is told of
+//! its answers. Before the first order it asks for STATUS_WORD and the fault limits, and [`Delivery::judge`] says which of these a
+//! word is at or beyond. After a good end it asks for STATUS_WORD and READ_VOUT, and [`Delivery::verdict`] says what the rail does.
+//!
+//! Tests: crates/pm_host_tests
+#![tactic(auto)]
+
+mod answers;
+mod beyond;
+mod delivery;
+mod due;
+mod fault;
+mod heard;
+mod question;
+mod reading;
+mod status;
+mod verdict;
+
+pub use answers::{answer_of, request};
+pub use beyond::{Judgement, Limit};
+pub use delivery::{
+    Delivery, LIMITS_REFUSE, LIMITS_SKIP, LIMITS_TELL, LOOK_AFTER, LOOK_BEFORE, LOOK_NOWHERE,
+    LOOK_OFF,
+};
+pub use due::Due;
+pub use fault::{DeliveryFault, NO_ANSWER};
+pub use heard::Heard;
+pub use question::Question;
+pub use reading::Reading;
+pub use verdict::Verdict;

@@ -1,0 +1,63 @@
+use pm_table::Code;
+
+/// A register that is read.
+#[derive(Clone, Copy, Debug, PartialEq, Eq)]
+pub enum Question {
+    /// STATUS_WORD (79h) before the first order.
+    Before,
+    /// VOUT_OV_FAULT_LIMIT (40h).
+    OvFaultLimit,
+    /// VOUT_OV_WARN_LIMIT (42h).
+    OvWarnLimit,
+    /// VOUT_UV_WARN_LIMIT (43h).
+    UvWarnLimit,
+    /// VOUT_UV_FAULT_LIMIT (44h).
+    UvFaultLimit,
+    /// STATUS_WORD (79h) after an order.
+    StatusWord,
+    /// STATUS_VOUT (7Ah).
+    StatusVout,
+    /// STATUS_IOUT (7Bh).
+    StatusIout,
+    /// STATUS_INPUT (7Ch).
+    StatusInput,
+    /// STATUS_TEMPERATURE (7Dh).
+    StatusTemperature,
+    /// READ_VOUT (8Bh).
+    ReadVout,
+    /// POWER_GOOD_ON (5Eh).
+    PowerGoodOn,
+    /// POWER_GOOD_OFF (5Fh).
+    PowerGoodOff,
+}
+
+impl Question {
+    /// The command code of the register.
+    pub fn code(self) -> Code {
+        match self {
+            Question::Before | Question::StatusWord => Code(0x79),
+            Question::OvFaultLimit => Code(0x40),
+            Question::OvWarnLimit => Code(0x42),
+            Question::UvWarnLimit => Code(0x43),
+            Question::UvFaultLimit => Code(0x44),
+            Question::StatusVout => Code(0x7A),
+            Question::StatusIout => Code(0x7B),
+            Question::StatusInput => Code(0x7C),
+            Question::StatusTemperature => Code(0x7D),
+            Question::ReadVout => Code(0x8B),
+            Question::PowerGoodOn => Code(0x5E),
+            Question::PowerGoodOff => Code(0x5F),
+        }
+    }
+
+    /// How many bytes the register has, 1 or 2.
+    pub fn size(self) -> usize {
+        match self {
+            Question::StatusVout
+            | Question::StatusIout
+            | Question::StatusInput
+            | Question::StatusTemperature => 1,
+            _ => 2,
+        }
+    }
+}

@@ -1,0 +1,219 @@
+/* pm_host_deliver beside rows of its own, over a small part that trips: what a course ends as, what the output does then, and how many
+ * transfers that took. It prints each row that differs, and a count. Volts are of ULINEAR16 with the exponent -12. */
+#include "pmhost.h"
+#include <stdio.h>
+#include <string.h>
+
+/* What is wrong with the part:
+ *   t  it trips where it is to command VOUT_OV_FAULT_LIMIT or more     r  its RUN pin is low
+ *   g  power good begins at 1.2 V                                      o  VOUT_OV_FAULT was latched before
+ *   w  a warning of VOUT_UV comes with each order                      u  a fault of VOUT_UV comes with each order
+ *   l  READ_VOUT is 90 % of what is commanded                          s  STATUS_WORD gives no answer
+ *   v  READ_VOUT gives no answer                                       p  READ_VOUT comes with another PEC
+ *   m  it ramps: READ_VOUT is right and power good there after three rounds
+ *   n  it stays on when it is turned off                               f  the fault limits give no answer
+ *   b  STATUS_WORD gives no answer before an order                     i  a fault of IOUT_OC comes, STATUS_IOUT gives no answer
+ *   h  READ_VOUT is 4 % above what is commanded                        c  BUSY and CML come with each order */
+typedef struct {
+    const char *name;
+    char call;           /* s set to 1.1 V, S set to 1.3 V, n on, o off, m margin high (1.15 V), y survey, O survey of an output off */
+    const char *wrong;
+    uint8_t fault_limits, has_read_vout;
+    uint16_t rounds;
+    uint8_t end, number; /* of the course */
+    uint8_t kind, code, bit, fault;
+    uint16_t word;
+    int64_t microvolts;  /* -1 where none is told */
+    int reads, writes, pauses;
+} row;
+
+enum { REFUSE, TELL, SKIP };
+#define NONE (-1)
+
+/* The numbers are those that firmware compiles in: they stand here by hand. */
+static const row rows[] = {
+    {"a set that goes well", 's', "", REFUSE, 1, 5, 1, 0, 1, 0, 0, 0, 0, 1100097, 20, 1, 0},
+    {"the same without fault limits", 's', "", SKIP, 1, 5, 1, 0, 1, 0, 0, 0, 0, 1100097, 16, 1, 0},
+    {"a goal at VOUT_OV_FAULT_LIMIT", 'S', "t", REFUSE, 1, 5, 2, 0x68, 13, 0x40, 0, 0, 0x14CD, NONE, 11, 0, 0},
+    {"the same, told alone", 'S', "t", TELL, 1, 5, 1, 0, 4, 0x79, 0, 0, 0x8860, NONE, 20, 1, 0},
+    {"the same, not read", 'S', "t", SKIP, 1, 5, 1, 0, 4, 0x79, 0, 0, 0x8860, NONE, 16, 1, 0},
+    {"fault limits that give no answer", 'S', "tf", REFUSE, 1, 5, 1, 0, 4, 0x79, 0, 0, 0x8860, NONE, 22, 1, 0},
+    {"a margin beyond a fault limit", 'm', "t", REFUSE, 1, 5, 1, 0, 1, 0, 0, 0, 0, 1149902, 20, 1, 0},
+    {"a RUN pin that is low", 's', "r", REFUSE, 1, 5, 1, 0, 4, 0x79, 0, 0, 0x0840, NONE, 23, 1, 4},
+    {"power good that begins above", 's', "g", REFUSE, 1, 3, 1, 0, 8, 0x79, 0, 0, 0x0800, 1100097, 26, 1, 2},
+    {"power good of a part without READ_VOUT", 's', "g", REFUSE, 0, 3, 1, 0, 9, 0x79, 0, 0, 0x0800, NONE, 21, 1, 2},
+    {"a part without READ_VOUT", 's', "v", REFUSE, 0, 3, 1, 0, 1, 0, 0, 0, 0, NONE, 19, 1, 0},
+    {"a fault that was latched before", 's', "o", REFUSE, 1, 5, 1, 0, 1, 0, 0, 0, 0, 1100097, 20, 1, 0},
+    {"a new warning", 's', "w", REFUSE, 1, 5, 1, 0, 1, 0, 0, 0, 0, 1100097, 21, 1, 0},
+    {"a new fault", 's', "u", REFUSE, 1, 5, 1, 0, 5, 0x7A, 4, 0, 0x10, NONE, 20, 1, 0},
+    {"a new fault of a register that gives no answer", 's', "i", REFUSE, 1, 2, 1, 0, 10, 0x7B, 0, 1, 0, 1100097, 26, 1, 1},
+    {"BUSY and CML", 's', "c", REFUSE, 1, 5, 1, 0, 1, 0, 0, 0, 0, 1100097, 20, 1, 0},
+    {"READ_VOUT at 90 %", 's', "l", REFUSE, 1, 3, 1, 0, 7, 0x8B, 0, 0, 0x0FD7, 989990, 24, 1, 2},
+    {"READ_VOUT at 104 %", 's', "h", REFUSE, 1, 3, 1, 0, 1, 0, 0, 0, 0, 1144042, 20, 1, 0},
+    {"a ramp", 's', "m", REFUSE, 1, 5, 1, 0, 1, 0, 0, 0, 0, 1100097, 26, 1, 3},
+    {"a ramp that is longer than the rounds", 's', "m", REFUSE, 1, 2, 1, 0, 6, 0x8B, 0, 0, 0x0119, 68603, 22, 1, 1},
+    {"STATUS_WORD that gives no answer", 's', "s", REFUSE, 1, 2, 1, 0, 10, 0x79, 0, 1, 0, NONE, 23, 1, 1},
+    {"READ_VOUT that gives no answer", 's', "v", REFUSE, 1, 2, 1, 0, 10, 0x8B, 0, 1, 0, NONE, 24, 1, 1},
+    {"READ_VOUT with another PEC", 's', "p", REFUSE, 1, 1, 1, 0, 10, 0x8B, 0, 0x35, 0, NONE, 21, 1, 0},
+    {"an older fault, and no answer before the order", 's', "bo", REFUSE, 1, 5, 1, 0, 5, 0x79, 5, 0, 0x8020, NONE, 21, 1, 0},
+    {"on", 'n', "", REFUSE, 1, 5, 1, 0, 1, 0, 0, 0, 0, 1000000, 19, 1, 0},
+    {"on, with a RUN pin that is low", 'n', "r", REFUSE, 1, 2, 1, 0, 4, 0x79, 0, 0, 0x0840, NONE, 19, 1, 1},
+    {"off", 'o', "", REFUSE, 1, 5, 1, 0, 11, 0, 0, 0, 0, NONE, 2, 1, 0},
+    {"off, and it stays on", 'o', "n", REFUSE, 1, 3, 1, 0, 12, 0x79, 0, 0, 0, NONE, 4, 1, 2},
+    {"off, and STATUS_WORD gives no answer", 'o', "s", REFUSE, 1, 1, 1, 0, 10, 0x79, 0, 1, 0, NONE, 3, 1, 0},
+    {"a survey", 'y', "", REFUSE, 1, 5, 1, 0, 1, 0, 0, 0, 0, 1000000, 7, 0, 0},
+    {"a survey with a RUN pin that is low", 'y', "r", REFUSE, 1, 1, 1, 0, 4, 0x79, 0, 0, 0x0840, NONE, 6, 0, 0},
+    {"a survey of an output that is off", 'O', "", REFUSE, 1, 5, 1, 0, 2, 0, 0, 0, 0, NONE, 5, 0, 0},
+};
+
+static const row *now;
+static int reads, writes, pauses, status_words, has_ordered;
+static uint16_t operation, command, high = 0x1266; /* 1.15 V */
+
+static int is(char what) { return strchr(now->wrong, what) != NULL; }
+
+static uint16_t commanded(void) { return operation == 0xA8 ? high : command; }
+
+static int is_off(void) { return is('r') || (is('t') && commanded() >= 0x14CD) || (operation < 0x80 && !is('n')); }
+
+static uint16_t status_word(void) {
+    uint16_t word = 0;
+    if (is_off())
+        word |= 0x0840;
+    if (operation >= 0x80 && is('t') && commanded() >= 0x14CD)
+        word |= 0x8020;
+    if (is('o'))
+        word |= 0x8020;
+    if (is('g') || (is('m') && has_ordered && status_words < 4))
+        word |= 0x0800;
+    if (has_ordered && (is('w') || is('u')))
+        word |= 0x8000;
+    if (has_ordered && is('i'))
+        word |= 0x4000;
+    if (has_ordered && is('c'))
+        word |= 0x0082;
+    return word;
+}
+
+static uint16_t read_vout(void) {
+    uint16_t word = is_off() ? 0 : commanded();
+    if (is('l'))
+        word = (uint16_t)(word * 9 / 10);
+    if (is('h'))
+        word = (uint16_t)(word * 104 / 100);
+    return is('m') && status_words < 4 ? word / 16 : word;
+}
+
+/* The bytes of a register; 0 where it gives none. */
+static int held(uint8_t code, uint16_t *word) {
+    switch (code) {
+    case 0x01: *word = operation; return 1;
+    case 0x20: *word = 0x14; return 1;
+    case 0x21: *word = command; return 2;
+    case 0x24: *word = 0x2000; return 2;
+    case 0x25: *word = high; return 2;
+    case 0x26: *word = 0x0E66; return 2;
+    case 0x2B: *word = 0x0800; return 2;
+    case 0x40: *word = 0x14CD; return is('f') ? 0 : 2; /* 1.3 V */
+    case 0x42: *word = 0x1333; return 2;
+    case 0x43: *word = 0x0CCD; return 2;
+    case 0x44: *word = 0x0B33; return is('f') ? 0 : 2;
+    case 0x5E: *word = 0x1333; return 2;
+    case 0x5F: *word = 0x1266; return 2;
+    case 0x79:
+        if (has_ordered || now->call == 'y')
+            status_words++;
+        *word = status_word();
+        return is('s') || (is('b') && !has_ordered) ? 0 : 2;
+    case 0x7A: *word = is('u') ? 0x10 : 0x20; return 1;
+    case 0x7B: *word = 0x80; return is('i') ? 0 : 1;
+    case 0x8B: *word = read_vout(); return is('v') ? 0 : 2;
+    default: return 0;
+    }
+}
+
+static uint8_t put(void *context, const uint8_t *bytes, uint64_t count) {
+    (void)context;
+    (void)count;
+    writes++;
+    if (bytes[1] != 0x05)
+        return PM_NOT_ACKED;
+    has_ordered = 1;
+    if (bytes[4] == 0x01)
+        operation = bytes[5];
+    if (bytes[4] == 0x21)
+        command = (uint16_t)(bytes[5] | bytes[6] << 8);
+    return PM_ACKED;
+}
+
+static uint64_t ask(void *context, const uint8_t *request, uint64_t count, uint8_t *answer, uint64_t room) {
+    uint8_t all[16];
+    uint16_t word = 0;
+    int size, at = 0;
+    (void)context;
+    (void)room;
+    reads++;
+    memcpy(all, request, count);
+    size = request[1] == 0x10 ? 1 : held(request[4], &word);
+    if (size == 0)
+        return 0;
+    if (request[1] == 0x06)
+        answer[at++] = (uint8_t)size;
+    answer[at++] = (uint8_t)word;
+    if (size == 2)
+        answer[at++] = (uint8_t)(word >> 8);
+    all[count] = request[0] | 1;
+    memcpy(all + count + 1, answer, at);
+    answer[at] = (uint8_t)(pm_pec(all, count + 1 + at) ^ (request[4] == 0x8B && is('p')));
+    return at + 1;
+}
+
+static void rest(void *context) {
+    (void)context;
+    pauses++;
+}
+
+static int begin(pm_course *course) {
+    switch (now->call) {
+    case 's': return pm_course_microvolts(course, 0, PM_VOUT_COMMAND, 1100000, 40);
+    case 'S': return pm_course_microvolts(course, 0, PM_VOUT_COMMAND, 1300000, 40);
+    case 'n': return pm_course_power(course, 0, 0x80, 40);
+    case 'o': return pm_course_power(course, 0, 0x00, 40);
+    case 'm': return pm_course_power(course, 0, 0xA8, 40);
+    default: return pm_course_survey(course, 0, 40);
+    }
+}
+
+static int differs(const pm_course_end *end, const pm_delivered *said) {
+    return end->kind != now->end || end->number != now->number || said->kind != now->kind || said->code != now->code
+        || said->bit != now->bit || said->fault != now->fault || said->word != now->word
+        || (said->has_microvolts ? said->microvolts : NONE) != now->microvolts || reads != now->reads || writes != now->writes
+        || pauses != now->pauses;
+}
+
+int main(void) {
+    int failed = 0, at, count = (int)(sizeof rows / sizeof *rows);
+    for (at = 0; at < count; at++) {
+        pm_host host;
+        pm_course course;
+        pm_delivery delivery;
+        pm_delivered said;
+        pm_course_end end = {0, 0, 0, 0, 0, 0};
+        now = rows + at;
+        reads = writes = pauses = status_words = has_ordered = 0;
+        operation = now->call == 'n' || now->call == 'O' ? 0x00 : 0x80;
+        command = 0x1000;
+        if (pm_host_new(&host, 0x58, 1, 2) != 0 || pm_host_set_limits(&host, 0, 500000, 2000000) != 0 || begin(&course) != 0
+            || pm_delivery_new(&delivery, 0, now->fault_limits, now->has_read_vout, 50, now->rounds) != 0)
+            return 1;
+        end = pm_host_deliver(&host, &course, &delivery, put, ask, rest, NULL, &said);
+        if (differs(&end, &said)) {
+            failed++;
+            printf("%s: end %d %02X, kind %d %02X bit %d fault %02X word %04X, %lld, reads %d writes %d pauses %d\n", now->name, end.kind,
+                   end.number, said.kind, said.code, said.bit, said.fault, said.word,
+                   (long long)(said.has_microvolts ? said.microvolts : NONE), reads, writes, pauses);
+        }
+    }
+    printf("%d rows passed, %d failed\n", count - failed, failed);
+    return failed != 0;
+}
