@@ -17,7 +17,7 @@ from .device import Device
 from .errors import SAYINGS, Refused, refusal
 from .look import Delivered, Look, Looks
 from .parts import BoardPart
-from .rail_course import PROTECT, RailCourse, Setting, Stopped
+from .rail_course import OUTSIDE, PROTECT, RailCourse, Setting, Stopped
 from .rails import BOUNDS, MARGINS, SETTINGS, WORDS, Rail
 from .reads import Reads
 from .states import Step
@@ -63,7 +63,7 @@ class Board:
     # By rail the words of the margins that its file doesn't have, as they were read before the first order.
     margins: dict[str, dict[str, int]] = field(default_factory=dict)
     # By rail why it couldn't be read, or doesn't deliver: where nothing is ordered all are told at the end.
-    faults: dict[str, str] = field(default_factory=dict)
+    faults: dict[str, Stopped] = field(default_factory=dict)
     # The parts of which a restart had been seen before, or is looked for no more.
     had_restarted: set[str] = field(default_factory=set)
 
@@ -87,9 +87,8 @@ class Board:
         """Keeps why parts aren't there as the fault of their rails."""
         for name, part in self.described.items():
             if why := self.why_not_there(name, part):
-                self.faults.update({rail.name: why for rail in self.rails if rail.part == name})
-                if not any(rail.part == name for rail in self.rails):
-                    self.faults[f"part {name}"] = why
+                stopped = Stopped(why)
+                self.faults.update({rail.name: stopped for rail in self.rails if rail.part == name} or {f"part {name}": stopped})
 
     def why_not_there(self, name: str, part: BoardPart) -> str:
         """Why a part isn't the one that the file says: nothing where it is."""
@@ -253,7 +252,8 @@ class Board:
             if self.courses[rail.name].course.ended is None:
                 self.courses[rail.name].go(True)
                 self.judge_refused(rail)
-                self.courses[rail.name].deliver()
+                if why := self.courses[rail.name].deliver():
+                    raise Stopped(why)
         for rail in self.rails:
             if self.read_at[rail.name] != self.orders:
                 self.look_at(rail)
@@ -275,17 +275,20 @@ class Board:
             try:
                 read(rail)
             except Stopped as stopped:
-                self.faults[rail.name] = str(stopped)
+                self.faults[rail.name] = stopped
 
     def finish(self) -> None:
         """Stops where a setting isn't as it is wanted, or a rail doesn't command its voltage within its limits, or doesn't deliver it."""
         self.take()
-        for rail in self.rails:
-            if rail.name in self.courses and self.looked_at.get(rail.name) != self.orders:
-                self.keep_fault(rail, lambda each: self.courses[each.name].deliver())
-        wrong = [it.name for it in self.settings if it.state not in AS_WANTED and it.rail.name in self.surveys]
-        unsure = [f"{rail.name}: {why}" for rail in self.rails if rail.name in self.surveys and not wrong and (why := self.why_not_well(rail))]
-        faults = [f"not as wanted: {', '.join(wrong)}"] * bool(wrong) + [*dict.fromkeys(self.faults.values())] + unsure
+        read = [rail for rail in self.rails if rail.name in self.courses and rail.name not in self.faults]
+        wrong = [it.name for it in self.settings if it.state not in AS_WANTED and it.rail in read]
+        unsure = [f"{rail.name}: {why}" for rail in read if not wrong and (why := self.why_not_well(rail))]
+        silent = [*dict.fromkeys(self.faults.values())]
+        dead = [why for rail in read if self.looked_at.get(rail.name) != self.orders and (why := self.courses[rail.name].deliver())
+                and why not in unsure]
+        faults = [f"not as wanted: {', '.join(wrong)}"] * bool(wrong) + [str(each) for each in silent] + unsure + dead
+        if len(faults) == len(silent) == 1:
+            raise silent[0]
         if faults:
             raise Stopped("; ".join(faults))
 
@@ -297,7 +300,7 @@ class Board:
             known = {True: "the output is on", False: "the output is off", None: "whether the output is on isn't known"}
             return f"{known[found.is_on]}, and is to be {'on' if rail.is_on else 'off'}"
         if not found.is_well:
-            return ("the output commands a voltage outside its limits" if found.limits_state == "outside" else
+            return (OUTSIDE if found.limits_state == "outside" else
                     "the output isn't known to command a voltage within its limits")
         if rail.is_on and found.selected != SETTINGS["volts"]:
             return f"OPERATION selects {found.selected}, and not {SETTINGS['volts']}"

@@ -131,7 +131,7 @@ class Delivered:
 
 def name_of_bit(found: Verdict) -> str:
     """The name of the bit that says a fault."""
-    return ", ".join(names_of(found.register or "STATUS_WORD", 1 << found.bit))
+    return ", ".join(names_of(found.register, 1 << found.bit)) if found.register in BITS else ""
 
 
 class Look:

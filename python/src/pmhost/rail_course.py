@@ -16,6 +16,7 @@ if TYPE_CHECKING:
     from .apply import Board
 
 PROTECT = "WRITE_PROTECT"
+OUTSIDE = "the output commands a voltage outside its limits"
 
 
 class Stopped(Exception):
@@ -107,15 +108,15 @@ class RailCourse:
         elif step.word is not None and board.has_restarted(rail):
             raise self.stopped(self.unconfirmed(it, step.word, "it restarted, or rounds: --accept takes a word that is near"))
 
-    def deliver(self) -> None:
-        """Looks at what the rail does. Stops where it doesn't deliver."""
+    def deliver(self) -> str:
+        """Looks at what the rail does: why it doesn't deliver, nothing where it does."""
         look = self.board.look_of(self.rail)
         if look is None:
-            return
+            return ""
         found = self.board.delivered[self.rail.name] = look.after()
         self.board.looked_at[self.rail.name] = self.board.orders
-        if found.is_bad:
-            raise Stopped(f"{self.rail.name}: {found.why}")
+        is_outside = found.verdict.kind == "outside" and self.board.state(self.rail).limits_state == "outside"
+        return f"{self.rail.name}: {OUTSIDE if is_outside else found.why}" if found.is_bad else ""
 
     def judge(self) -> None:
         """Stops where it has ended, and neither as it is wanted nor refused."""

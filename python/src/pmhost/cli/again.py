@@ -33,17 +33,17 @@ class Ordered:
             part.host.check(output or 0, register)
             if part.run().kind != "done":
                 why = part.transfers.why() or "no good answer"
-                return self._told(call, "unknown", f"whether {where}{whose} still holds what {command} ordered isn't known: {why}")
+                return self._told(call, command, "unknown", f"whether {where}{whose} still holds its word isn't known: {why}")
             held = part.host.confirmed_word(output or 0, register)
             if held != word:
-                return self._told(call, "restarted", f"{name or 'the part'} restarted after {command}: {where} is "
-                                                     f"{in_digits(register, held)}, and was {in_digits(register, word)}")
+                return self._told(call, command, "restarted", f"{name or 'the part'} restarted after {' '.join(command.split()[:2])}: {where} is "
+                                                              f"{in_digits(register, held)}, and was {in_digits(register, word)}")
         return 0
 
     @staticmethod
-    def _told(call: Call, end: str, why: str) -> int:
-        """Says it in one line. The status."""
-        return call.say(Answer(call.under_way, end, status=1, why=why))
+    def _told(call: Call, command: str, end: str, why: str) -> int:
+        """Says it in one line of the command that ordered the register. The status."""
+        return call.say(Answer(command, end, status=1, why=why))
 
 
 def are_several(commands: list[argparse.Namespace]) -> bool:

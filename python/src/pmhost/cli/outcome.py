@@ -9,6 +9,7 @@ from ..course import Course, CourseEnd, avsbus, in_hexadecimal
 from ..device import Device
 from ..errors import SAYINGS, PlanRefused, Refused, refusal
 from ..look import Delivered
+from ..rail_course import OUTSIDE
 from ..states import Step
 from ..survey import FORMAT, Commanded, behind, commanded
 from ..values import CODES, Format
@@ -208,7 +209,8 @@ def deliver(found: Answer, delivered: Delivered) -> None:
     """An answer says what the rail does, and isn't well where this isn't."""
     found.text += delivered.words
     found.delivered = delivered
-    if delivered.is_bad:
+    # An output that commands a voltage outside its limits is told as that.
+    if delivered.is_bad and not (found.status and delivered.verdict.kind == "outside"):
         found.status, found.end = 1, "not delivered"
         found.why += f"{'; ' * bool(found.why)}{delivered.why}"
 
@@ -257,6 +259,5 @@ def why_not(found: Commanded) -> str:
     if found.selected is None:
         return "OPERATION holds a word that selects no register"
     if found.limits is not None and found.limits_state != "within":
-        return "the output isn't known to command a voltage within its limits" if found.limits_state != "outside" else \
-            "the output commands a voltage outside its limits"
+        return OUTSIDE if found.limits_state == "outside" else "the output isn't known to command a voltage within its limits"
     return "the output doesn't command what was ordered: VOUT_MAX or VOUT_MIN cuts it"
