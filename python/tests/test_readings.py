@@ -36,7 +36,9 @@ CODES = {
     "READ_VIN": 0x88, "READ_IIN": 0x89, "READ_VOUT": 0x8B, "READ_IOUT": 0x8C, "READ_TEMPERATURE_1": 0x8D, "READ_TEMPERATURE_2": 0x8E,
     "READ_TEMPERATURE_3": 0x8F, "READ_DUTY_CYCLE": 0x94, "READ_FREQUENCY": 0x95, "READ_POUT": 0x96, "READ_PIN": 0x97, "STATUS_BYTE": 0x78,
     "STATUS_WORD": 0x79, "STATUS_VOUT": 0x7A, "STATUS_IOUT": 0x7B, "STATUS_INPUT": 0x7C, "STATUS_TEMPERATURE": 0x7D, "STATUS_CML": 0x7E,
-    "STATUS_OTHER": 0x7F, "STATUS_MFR_SPECIFIC": 0x80, "STATUS_FANS_1_2": 0x81, "STATUS_FANS_3_4": 0x82,
+    "STATUS_OTHER": 0x7F, "STATUS_MFR_SPECIFIC": 0x80, "STATUS_FANS_1_2": 0x81, "STATUS_FANS_3_4": 0x82, "ON_OFF_CONFIG": 0x02,
+    "VOUT_OV_FAULT_LIMIT": 0x40, "VOUT_OV_WARN_LIMIT": 0x42, "VOUT_UV_WARN_LIMIT": 0x43, "VOUT_UV_FAULT_LIMIT": 0x44, "POWER_GOOD_ON": 0x5E,
+    "POWER_GOOD_OFF": 0x5F,
 }
 
 
@@ -53,8 +55,9 @@ class Bits(unittest.TestCase):
 
     def test_codes_and_lengths(self):
         self.assertEqual({name: kind.code for name, kind in KINDS.items()}, CODES)
-        self.assertEqual({name for name, kind in KINDS.items() if kind.size == 1}, {name for name in BY_HAND if name != "STATUS_WORD"})
-        self.assertEqual({name for name, kind in KINDS.items() if not kind.unit}, set(BY_HAND))
+        self.assertEqual({name for name, kind in KINDS.items() if kind.size == 1},
+                         {"ON_OFF_CONFIG", *(name for name in BY_HAND if name != "STATUS_WORD")})
+        self.assertEqual({name for name, kind in KINDS.items() if not kind.unit}, {"ON_OFF_CONFIG", *BY_HAND})
 
 
 class Odd(ModelPartBus):
@@ -151,7 +154,7 @@ class OtherReads(unittest.TestCase):
             read_block(0x78, 0x99, b"")
 
     def test_bytes_of_a_page(self):
-        """An answer by PAGE_PLUS to a code outside the command table, which Python judges."""
+        """An answer by PAGE_PLUS to a code outside the command table."""
         part = Telemetry()
         for cut, why in ((0, ""), (1, "F2 Short"), (2, "F2 Short")):
             with self.subTest(cut=cut), mock.patch.object(part, "answer", lambda request, payload: Telemetry.answer(

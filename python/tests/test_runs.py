@@ -4,6 +4,8 @@ import tempfile
 import unittest
 
 from pmhost import FrameRefused, read_answer, read_request, read_write
+from pmhost.packets import Packet, read_paged
+from pmhost.reads import is_known
 from pmhost.bus.linux import ENDING
 
 from .runs import blocks, ran
@@ -12,6 +14,10 @@ from .runs import blocks, ran
 NOT_WHOLE = ("WithoutPec", "FloatingPagePlus", "busy.Ones30", "busy.Ones150", "busy.OnesAlone", "busy.Zeros0At48",
              "busy.Zeros1At48", "busy.Zeros2At48", "busy.ProtectedAt48", "busy.ZerosFromProtectAt48", "busy.ZerosToProtectAt48",
              "busy.ZerosOnceAt48")
+
+
+# The codes that the library reads by a packet of its table.
+READ_CODES = {code for code in range(256) if is_known(Packet("PAGE_PLUS_READ", code))}
 
 
 class Blocks(unittest.TestCase):
@@ -49,7 +55,9 @@ class Blocks(unittest.TestCase):
             front, slash, back = line.partition(" / ")
             frame = bytes.fromhex(front)
             try:
-                if slash:
+                if slash and frame[4:5] and frame[1] == 0x06 and frame[4] not in READ_CODES:
+                    read_paged(frame[0] >> 1, frame[3], frame[4], bytes.fromhex(back)[1], bytes.fromhex(back))
+                elif slash:
                     read_answer(frame[0] >> 1, read_request(frame[0] >> 1, frame), bytes.fromhex(back))
                 else:
                     read_write(frame[0] >> 1, frame)

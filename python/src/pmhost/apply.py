@@ -252,7 +252,7 @@ class Board:
             if self.courses[rail.name].course.ended is None:
                 self.courses[rail.name].go(True)
                 self.judge_refused(rail)
-                if why := self.courses[rail.name].deliver():
+                if why := self.why_dead(rail):
                     raise Stopped(why)
         for rail in self.rails:
             if self.read_at[rail.name] != self.orders:
@@ -284,13 +284,19 @@ class Board:
         wrong = [it.name for it in self.settings if it.state not in AS_WANTED and it.rail in read]
         unsure = [f"{rail.name}: {why}" for rail in read if not wrong and (why := self.why_not_well(rail))]
         silent = [*dict.fromkeys(self.faults.values())]
-        dead = [why for rail in read if self.looked_at.get(rail.name) != self.orders and (why := self.courses[rail.name].deliver())
-                and why not in unsure]
+        dead = [why for rail in read if self.looked_at.get(rail.name) != self.orders and (why := self.why_dead(rail)) and why not in unsure]
         faults = [f"not as wanted: {', '.join(wrong)}"] * bool(wrong) + [str(each) for each in silent] + unsure + dead
         if len(faults) == len(silent) == 1:
             raise silent[0]
         if faults:
             raise Stopped("; ".join(faults))
+
+    def why_dead(self, rail: Rail) -> str:
+        """Why a rail doesn't deliver. Stopped where something was ordered and its part restarted, which is told then."""
+        why = self.courses[rail.name].deliver()
+        if why and self.orders:
+            self.look_at(rail)
+        return why
 
     def why_not_well(self, rail: Rail) -> str:
         """Why a rail isn't as the file has it, though its registers are: nothing where it is."""
