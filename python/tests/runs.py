@@ -2,6 +2,7 @@
 
 A file has a block for each run, a blank line between them. The lines of a block, of which `words` and `status` must stand there:
 
+    name: TEXT           what the run shows
     words: WORDS         the command line; `FILE` is the file of rails of the block
     mishaps: M M*3 ..    what befalls the transfers (kernel.py), one of them three times here
     part: KIND [M M ..] [coefficients m b R]     the kind of part, and VOUT_MODEs in hexadecimal; `odd.KIND` of odd_parts.py,
@@ -87,7 +88,7 @@ class Run:
             # `ok*6` stands for six of them.
             several = (word.partition("*") for word in text.split())
             self.mishaps = " ".join(" ".join([word] * int(count or 1)) for word, _, count in several)
-        elif key in ("words", "part", "held", "writes", "looks", "volts"):
+        elif key in ("name", "words", "part", "held", "writes", "looks", "volts"):
             setattr(self, key, text)
         elif key in ("out", "err"):
             setattr(self, key, f"{getattr(self, key)}{text}\n")
@@ -114,7 +115,7 @@ class Run:
             part.converter.set((None if output == "None" else int(output), CODES[register]), int(word, 16))
         for *place, output, name, word in self.fields:
             part = next(part for (_, address), part in parts.items() if not place or address == int(place[0], 16))
-            part.set(name, int(word, 16 if name.isupper() or name == "lacks" else 10), 0 if output == "-" else int(output))
+            part.set(name, int(word, 16 if name.upper() == name or name in ("lacks", "pin_command") else 10), 0 if output == "-" else int(output))
         return parts
 
     def over(self, parts):

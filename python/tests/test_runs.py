@@ -36,15 +36,19 @@ class Blocks(unittest.TestCase):
         self.assertGreater(len(found), 0)
         folder = self.enterContext(tempfile.TemporaryDirectory())
         for run in found:
-            with self.subTest(run=run.words, mishaps=run.mishaps, part=run.part):
+            with self.subTest(name=run.name, run=run.words, mishaps=run.mishaps, part=run.part):
                 got = ran(run, folder)
                 self.assertEqual((got.status, got.out, got.err), (run.status, run.out, run.err))
                 self.assertEqual(got.found, run.wanted)
+                self.look_at_rails(run, got)
                 self.assertEqual(got.kernel.opened, 0, "the bus wasn't closed")
                 self.assertEqual(got.kernel.mishaps, [], "transfers are missing")
                 for comment in run.comments:
                     self.assertIn(f"# failed: {comment}\n", got.trace)
                 self.look_at(got.trace, run.mishaps, run.part)
+
+    def look_at_rails(self, run, got):
+        """What the rails do; the rows of other files have none."""
 
     def look_at(self, trace, mishaps, part):
         """Each line of the trace is a frame, or a comment; and without damage each is a good one."""

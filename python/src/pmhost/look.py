@@ -116,10 +116,12 @@ class Delivered:
             return f"; {read} is OUTSIDE {voltages.shown(self.limits[0])} to {voltages.shown(self.limits[1])}{self._rest()}"
         if kind == "not known":
             return f"; delivery not known: {found.register} gave no good answer{': ' * bool(found.fault)}{found.fault}"
-        begins = "power good is missing" if self.power_good_on is None else f"power good begins at {voltages.shown(self.power_good_on)}"
+        begins, there = self.power_good_on, found.microvolts
+        missing = ("power good is missing" if begins is None else f"power good begins at {voltages.shown(begins)}" if there is None or there < begins
+                   else f"power good is missing, and begins at {voltages.shown(begins)}")
         return {"off": f"; {self.status_words}: the rail is off", "fault": f"; {self.status_words}: {name_of_bit(found)} came with this call",
                 "beyond": f"; {read} is more than {self.how.within / 10:g}% away from that{self._rest()}",
-                "power good alone": f"; {read}; {self.status_words}: {begins}",
+                "power good alone": f"; {read}; {self.status_words}: {missing}",
                 "no power good": f"; {self.status_words}: power good is missing",
                 "still on": f"; commanded off, and the part says that it is on: {self.status_words}"}.get(kind, f"; {kind}")
 
