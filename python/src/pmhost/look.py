@@ -6,10 +6,10 @@ from typing import TYPE_CHECKING, Optional
 
 from . import clock, voltages
 from .bus.ones import is_ones
-from .delivery import LIMITS, NAMES, Delivery, Verdict, goal_of
+from .delivery import FAULT_LIMITS, LIMITS, NAMES, Delivery, Verdict, goal_of
 from .errors import NotDone, PlanRefused
 from .status import BITS, names_of
-from .values import CODES, Format
+from .values import CODES, Format, whole
 
 if TYPE_CHECKING:
     from .course import Course, Job
@@ -35,6 +35,13 @@ class Looks:
     power_good: str = "judge"
     within: int = 50
     settle: int = 630
+
+    def __post_init__(self) -> None:
+        for name, words in (("fault_limits", FAULT_LIMITS), ("power_good", ("judge", "tell"))):
+            if getattr(self, name) not in words:
+                raise ValueError(f"{name}: {getattr(self, name)!r} isn't one of {', '.join(words)}")
+        whole(self.within, 0, 1000, "within", "thousandths")
+        whole(self.settle, 0, 60_000, "settle", "milliseconds")
 
     @property
     def rounds(self) -> int:
