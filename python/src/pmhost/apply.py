@@ -28,6 +28,18 @@ from .values import Format
 AS_WANTED = ("confirmed", "accepted")
 
 
+def why_other_model(device: Device, part: BoardPart) -> str:
+    """Why a part isn't the model that a board file says: nothing where it is, or the file doesn't say."""
+    if not part.model:
+        return ""
+    read = Reads(device.bus, part.address).block(probe.MFR_BLOCKS["MFR_MODEL"])
+    if read.payload is None:
+        return f"{part.name}: MFR_MODEL gave no good answer ({read.why}), and has to begin with \"{part.model}\""
+    if not read.payload.startswith(part.model.encode("ascii")):
+        return f"{part.name}: MFR_MODEL is {probe.block_words(read.payload)}, and has to begin with \"{part.model}\""
+    return ""
+
+
 @dataclass
 class Board:
     """The rails of a file, and the parts that have them, by their names. `described` has what a board file says of its parts; why a
@@ -95,14 +107,7 @@ class Board:
         if why := self.ask_operation(name):
             return (f"{name}: OPERATION of output 0 gave no good answer at {part.place}: {why}; pmhost probe tells why"
                     if answers(self.parts[name]) else f"{name}: no part answers at {part.place}: {why}")
-        if not part.model:
-            return ""
-        read = Reads(self.parts[name].bus, part.address).block(probe.MFR_BLOCKS["MFR_MODEL"])
-        if read.payload is None:
-            return f"{name}: MFR_MODEL gave no good answer ({read.why}), and has to begin with \"{part.model}\""
-        if not read.payload.startswith(part.model.encode("ascii")):
-            return f"{name}: MFR_MODEL is {probe.block_words(read.payload)}, and has to begin with \"{part.model}\""
-        return ""
+        return why_other_model(self.parts[name], part)
 
     # ---- What is wanted ----
 

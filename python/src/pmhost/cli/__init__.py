@@ -18,7 +18,7 @@ from .._version import __version__
 from ..bus import NoBus
 from ..bus.linux import Calls
 from ..errors import PmhostError
-from . import capture, faults, known, orders, probe, rails, streams, torture, why
+from . import capture, faults, known, names, orders, probe, rails, streams, torture, why
 from .again import are_several
 from .answer import Answer
 from .completion import bash
@@ -86,17 +86,31 @@ def parts_of(words: list[str]) -> list[list[str]]:
 
 def commands_of(words: list[str]) -> list[argparse.Namespace]:
     """The commands of a command line, each with its own words as `said`."""
-    whole, commands = parser()
-    options, found = options_of(whole), []
+    options, found = options_of(parser()[0]), list[argparse.Namespace]()
     for part in parts_of(words):
         for word in () if part[:1] and part[0] in OWN_JOBS else part:
             if word.startswith("--") and word.partition("=")[0] not in options:
                 raise BadCall(f"{shown(word)}: no such option; --help tells which there are")
-        arguments = whole.parse_args(part)
-        has_value = valued(whole) | valued(commands[arguments.command])
-        arguments.said = " ".join([arguments.command, *words_behind(arguments.command, part, has_value)])
-        found.append(arguments)
+        found += [read_command(each, named) for each, named in names.expanded(part, all_valued())]
     return found
+
+
+def read_command(part: list[str], named: names.Named | None) -> argparse.Namespace:
+    """A command by its own words, which may be about a rail of a file."""
+    whole, commands = parser()
+    arguments = whole.parse_args(part)
+    has_value = valued(whole) | valued(commands[arguments.command])
+    arguments.said = " ".join([arguments.command, *words_behind(arguments.command, part, has_value)])
+    if named is not None:
+        names.attach(arguments, named)
+    return arguments
+
+
+@functools.cache
+def all_valued() -> set[str]:
+    """The options behind which a value stands, of any command."""
+    whole, commands = parser()
+    return valued(whole).union(*map(valued, commands.values()))
 
 
 def valued(found: argparse.ArgumentParser) -> set[str]:
@@ -125,11 +139,11 @@ def run_commands(call: Call) -> int:
     """The status of a call's commands."""
     status = 0
     for arguments in call.commands:
-        if status and not getattr(arguments, "is_question", False):
+        if status and not getattr(arguments, "is_question", False) and not getattr(arguments, "goes_on", False):
             continue
         call.begin(arguments)
         is_order = getattr(arguments, "is_order", False)
-        status = max(status, is_order and call.no_part(arguments) or int(arguments.run(arguments)))
+        status = max(status, call.other_model(arguments) or is_order and call.no_part(arguments) or int(arguments.run(arguments)))
     return status or (call.ordered.look(call) if are_several(call.commands) else 0)
 
 

@@ -7,13 +7,14 @@ import signal
 import sys
 from typing import Any, Callable, Iterator
 
+from ..apply import why_other_model
 from ..bus import LinuxBus, PatientBus, Trace
 from ..bus.linux import ENDING, BusTrace, Calls
 from ..part import ModelPartBus
 from ..parts import MODEL_BUS, BoardPart
 from ..device import Device
 from ..look import Look, Looks
-from ..rails import ONLY, Rails
+from ..rails import ONLY, Rail, Rails
 from ..reserved import why_reserved
 from . import streams
 from .again import Ordered
@@ -84,7 +85,9 @@ class Call:
         self._rails: Rails | None = None
         self.under_way = self.maybe = self.unsaid = ""
         self.settled: str | Callable[[], str] = NOTHING
-        self.has_answered, self.ordered = False, Ordered()
+        # The parts that have answered, and the rail that the command under way names, which a file has.
+        self.has_answered, self.identified, self.ordered = set[str](), set[str](), Ordered()
+        self.named: Rail | None = None
         self.bus: str | None = self._one("bus")
         self.address: int | None = self._one("address")
         self.outputs: int | None = self._one("outputs")
@@ -167,7 +170,10 @@ class Call:
         self._rails = found
 
     def judge_write(self, arguments: argparse.Namespace, more: str = "") -> None:
-        """What is written goes to a part of a known number of outputs, at an address that a part may have. `more` is asked for beside it."""
+        """What is written goes to a part of a known number of outputs, at an address that a part may have. `more` is asked for beside it. A file
+        has both."""
+        if self._rails is not None and self._rails.is_board:
+            return
         if self.address is not None and (why := why_reserved(self.address)):
             raise BadCall(f"{said(arguments)}: {why}")
         if self.outputs is None:
@@ -177,7 +183,8 @@ class Call:
         """An order that may change a voltage has limits, or is meant to have none."""
         self.judge_write(arguments, ", and a --limit O:LEAST:MOST for the output, or --no-limit")
         output = arguments.output
-        if output is not None and output not in self.limits and not self.is_unlimited:
+        is_named = getattr(arguments, "named", None) is not None
+        if output is not None and not is_named and output not in self.limits and not self.is_unlimited:
             raise BadCall(f"{said(arguments)}: give --limit {output}:LEAST:MOST, what the load tolerates, as "
                           f"--limit {output}:3.135V:3.465V, or --no-limit; `probe` tells the outputs for --outputs")
 
@@ -201,9 +208,14 @@ class Call:
                 self._places = {ONLY: Place(only, self.limits, options, self._trace, self.outputs or max(MODEL_OUTPUTS, self.counted()))}
         return self._places
 
+    @property
+    def part_name(self) -> str:
+        """The name of the part that the command under way is about."""
+        return ONLY if self.named is None else self.named.part
+
     def only(self) -> Place:
-        """The one part of a call that has no board file."""
-        return self.places()[ONLY]
+        """The one part of a call that has no board file; with one that of the rail that the command names."""
+        return self.places()[self.part_name]
 
     def bus_at(self, address: int) -> LinuxBus:
         """The bus of the call, opened for an address. NoBus."""
@@ -224,13 +236,24 @@ class Call:
     def no_part(self, arguments: argparse.Namespace) -> int:
         """Before the first command that writes something without a course the part has to answer. 0, or the status where it doesn't:
         nothing was ordered. Those of a board file are looked for by its own command."""
-        is_board = self._rails is not None and self._rails.is_board
-        if is_board or self.has_answered or getattr(arguments, "dry_run", False):
+        is_board = self._rails is not None and self._rails.is_board and self.named is None
+        if is_board or self.part_name in self.has_answered or getattr(arguments, "dry_run", False):
             return 0
         why = self.only().ask_operation()
         if why:
             return self.say(self.nobody(arguments, why))
-        self.has_answered = True
+        self.has_answered.add(self.part_name)
+        return 0
+
+    def other_model(self, arguments: argparse.Namespace) -> int:
+        """Before the first command about a rail of a part that a file has, this has to be the model that the file says. 0, or the status."""
+        place = None if self.named is None else self.only()
+        if place is None or self.part_name in self.identified or getattr(arguments, "is_question", False):
+            return 0
+        why = why_other_model(place.pmbus(), place.part)
+        if why:
+            return self.say(Answer(said(arguments), "other part", "", 1, f"{why}: nothing was ordered", getattr(arguments, "output", None)))
+        self.identified.add(self.part_name)
         return 0
 
     def nobody(self, arguments: argparse.Namespace, why: str) -> Answer:
@@ -253,10 +276,11 @@ class Call:
     def begin(self, arguments: argparse.Namespace) -> None:
         """A command is under way, of which nothing was sent."""
         self.under_way, self.maybe, self.settled = said(arguments), "", NOTHING
+        self.named = getattr(arguments, "named", None)
 
     def say(self, answer: Answer) -> int:
         """Prints an answer, and on standard error why it is a bad one. Its status."""
-        place = answer.place()
+        place = answer.place() if self.named is None or answer.output is None else f" {self.named.name}"
         lines = [answer.as_json()] if self.is_json else [f"{answer.command.split()[0]}{place}: {answer.text}"] if answer.text else []
         self.say_lines(lines)
         if answer.why:

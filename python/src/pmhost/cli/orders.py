@@ -11,7 +11,6 @@ from ..course import Course, Job
 from ..device import MARGINS, OFF, ON, Device
 from ..errors import PlanRefused, Refused
 from ..readings import KINDS
-from ..rails import ONLY
 from ..rounded import Accepting
 from ..states import Step
 from ..survey import OFF_TRIES, TRIES, Nobody, complete, holds_zeros, survey
@@ -272,7 +271,7 @@ def carry_out(arguments: argparse.Namespace, register: str, begin: Callable[[], 
         return call.say(tell_bad_end(arguments, part, register, step))
     held = part.host.confirmed_word(output or 0, register)
     if held is not None:
-        call.ordered.note(ONLY, output, register, held, said(arguments))
+        call.ordered.note(call.part_name, output, register, held, said(arguments))
     return call.say(confirmed_alone(arguments, part, register))
 
 
@@ -292,7 +291,7 @@ def run_course(arguments: argparse.Namespace, register: str, course: Course, wan
         is_held = accepting.after(order, step, wanted) or step.kind == "done"
         if is_held and order.word is not None:
             word = accepting.taken.get(order.register, order.word)
-            call.ordered.note(ONLY, output, order.register, word, said(arguments))
+            call.ordered.note(call.part_name, output, order.register, word, said(arguments))
             call.maybe, call.settled = "", lambda: (f"{cell_words(arguments, part, order.register, word)} confirmed; what the output commands "
                                                     "wasn't read")
 
@@ -304,7 +303,7 @@ def run_course(arguments: argparse.Namespace, register: str, course: Course, wan
         return call.say(refused(arguments, part, register, fault))
     except NotBelieved as doubt:
         return call.say(not_told(arguments, part, doubt))
-    call.has_answered = True
+    call.has_answered.add(call.part_name)
     return accepting
 
 

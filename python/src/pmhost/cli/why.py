@@ -32,7 +32,8 @@ def why(arguments: argparse.Namespace) -> int:
     found = Answer(said(arguments), "fault" if because else "told", because or well(seen), 1 if because else 0, output=arguments.output,
                    commanded=seen.state, rows=[row_of(it) for it in seen.found.values()], restart_seen=call.part().host.restart_seen)
     if not call.is_json:
-        call.say_lines([f"why {arguments.output}: {line}" for line in lines_of(seen)])
+        where = arguments.output if call.named is None else call.named.name
+        call.say_lines([f"why {where}: {line}" for line in lines_of(seen)])
     return call.say(found)
 
 
