@@ -54,8 +54,8 @@ class Clock:
 # No test waits. Where a row doesn't give --busy-timeout, none is had: its mishaps befall the frames of its jobs alone.
 CLOCK = Clock()
 clock.until = CLOCK.until
-TIMEOUT, LONG_TIMEOUT = patient.TIMEOUT, patient.LONG_TIMEOUT
-patient.TIMEOUT = patient.LONG_TIMEOUT = 0
+TIMEOUT, LONG_TIMEOUT, STORE_TIMEOUT = patient.TIMEOUT, patient.LONG_TIMEOUT, patient.STORE_TIMEOUT
+patient.TIMEOUT = patient.LONG_TIMEOUT = patient.STORE_TIMEOUT = 0
 DATA = os.path.join(os.path.dirname(os.path.abspath(__file__)), "data")
 
 

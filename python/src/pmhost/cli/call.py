@@ -27,7 +27,7 @@ NOTHING = "nothing was written"
 LOOKS = Looks()
 PROBE_TELLS = "; pmhost probe tells why"
 # The options that say where the one part is, and what it has: a board file has them for each part.
-OF_ONE_PART = ("bus", "address", "outputs", "limit", "no_limit", "lacks")
+OF_ONE_PART = ("bus", "address", "outputs", "limit", "no_limit", "lacks", "ready")
 
 
 class Interrupted(BaseException):
@@ -154,8 +154,8 @@ class Call:
         """What the parts have, and the limits, by a file of rails, is so of the whole call; a board file says where the parts are,
         too. BadCall."""
         for name in OF_ONE_PART if found.is_board else OF_ONE_PART[2:]:
-            if self._all(name):
-                what = {"lacks": "it stands", "bus": "buses and addresses stand", "address": "buses and addresses stand"}.get(
+            if self._all(name) and (name != "ready" or found.is_board):
+                what = {"lacks": "it stands", "ready": "it stands", "bus": "buses and addresses stand", "address": "buses and addresses stand"}.get(
                     name, "outputs and limits stand")
                 raise BadCall(f"{OPTIONS[name][0][-1]}: {what} in the file of {arguments.command}")
         if self._rails is not None and found.made_for() != self._rails.made_for():
@@ -204,7 +204,7 @@ class Call:
                 self._places = {part.name: Place(part, limits, options, BusTrace(self._trace, part.bus))
                                 for part, limits in self._rails.made_for()}
             else:
-                only = BoardPart(ONLY, self.bus or "", self.address or MODEL_ADDRESS, self.counted(), "", self.lacks)
+                only = BoardPart(ONLY, self.bus or "", self.address or MODEL_ADDRESS, self.counted(), "", self.lacks, self._one("ready"))
                 self._places = {ONLY: Place(only, self.limits, options, self._trace, self.outputs or max(MODEL_OUTPUTS, self.counted()))}
         return self._places
 

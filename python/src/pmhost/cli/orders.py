@@ -366,7 +366,7 @@ def send_command(arguments: argparse.Namespace) -> int:
         found.status, found.text = 1, "unknown"
         found.why = (part.transfers.why() or "no good answer") + readings.read_notes(part, output)
         return call.say(found)
-    status, why = call.only().unsure_of_last(arguments.command != "clear")
+    status, why = call.only().unsure_of_last(arguments.command)
     found = answer_of(arguments, part, None, "unknown" if status else "acknowledged", status=status, why=why)
     found.text = found.end
     return call.say(found)

@@ -120,6 +120,14 @@ def percent_of(word: str) -> int:
     return thousandths
 
 
+def ready_of(word: str) -> tuple[int, int]:
+    """A command code and bits."""
+    try:
+        return parts.ready_of(word)
+    except ValueError as fault:
+        raise argparse.ArgumentTypeError(f"ready {fault}") from None
+
+
 def bus_of(word: str) -> str:
     """`model`, or the number of a bus of Linux."""
     found = BUS.match(word)
@@ -184,8 +192,8 @@ OPTIONS: dict[str, tuple[tuple[str, ...], dict[str, Any]]] = {
     "json": (("--json",), {"const": True, "help": "one object a command"}),
     "delay": (("--delay",), {"type": time_of(10, "delay"), "metavar": "TIME", "help": "how long to wait before each transfer, as 5ms"}),
     "busy_timeout": (("--busy-timeout",), {"type": time_of(60, "busy-timeout"), "metavar": "TIME",
-                                           "help": "how long to wait for a busy part behind each write; if left out 200ms, and 1s "
-                                                   "behind store and restore"}),
+                                           "help": "how long to wait for a busy part behind each write; if left out 200ms, 1s "
+                                                   "behind a restore, and 5s behind a store"}),
     "fault_limits": (("--fault-limits",), {"choices": ("refuse", "tell", "skip"),
                                            "help": "refuses a voltage at or beyond a fault limit of the part, which is so if left out, says "
                                                    "so alone, or doesn't read them"}),
@@ -195,6 +203,9 @@ OPTIONS: dict[str, tuple[tuple[str, ...], dict[str, Any]]] = {
                                         "help": "how far READ_VOUT may be from what is commanded, 5%% if left out"}),
     "settle": (("--settle",), {"type": time_of(60, "settle"), "metavar": "TIME",
                                "help": "how long a rail may take until it delivers, or is off, 630ms if left out"}),
+    "ready": (("--ready",), {"type": ready_of, "metavar": "CODE:MASK",
+                             "help": "the part is ready where its byte of this code has these bits, as EF:60, which is asked in the place of "
+                                     "CAPABILITY"}),
     "share_bus": (("--share-bus",), {"const": True, "help": "drives an address that another program drives"}),
     "force": (("--force",), {"const": True, "help": "drives a part that a driver of the kernel holds"}),
 }

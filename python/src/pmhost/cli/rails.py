@@ -122,7 +122,7 @@ def store(call: Call, board: Board, found: Answer) -> None:
         call.maybe = f"{f'{name}: ' * bool(name)}{STORES}{f'; stored before: ' * bool(stored)}{', '.join(stored)}"
         try:
             board.store(name)
-            found.status, found.why = call.places()[name].unsure_of_last(True)
+            found.status, found.why = call.places()[name].unsure_of_last("store")
         except Stopped as stopped:
             found.status, found.why = 1, told_of(board, stopped)
         if found.status:
