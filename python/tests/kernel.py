@@ -39,7 +39,8 @@ from plain.packets import CODES, write_message
 FILE = 77
 # What a rail answers: its limits, which nothing reaches, and READ_VOUT; and what else is asked beside the host's jobs.
 RAIL = {0x40: 0xFFFF, 0x42: 0xFFFF, 0x43: 0, 0x44: 0, 0x8B: None}
-LOOKS = {*RAIL, 0x5E, 0x5F, 0x79, 0x7B, 0x7C, 0x7D}
+TEMPERATURE = 0x8D
+LOOKS = {*RAIL, 0x5E, 0x5F, 0x79, 0x7B, 0x7C, 0x7D, TEMPERATURE}
 WRITES, READS = CODES["PAGE_PLUS_WRITE"], CODES["PAGE_PLUS_READ"]
 SIGNALS = {
     "sigint": lambda: os.kill(os.getpid(), signal.SIGINT), "sigterm": lambda: os.kill(os.getpid(), signal.SIGTERM),
@@ -49,8 +50,10 @@ SIGNALS = {
 
 
 def is_look(frame, ending):
-    """Whether a request asks what a rail does, or for the limits that trip it, which no job of the host does."""
-    return ending == "restart" and list(frame[1:3]) == [READS, 2] and frame[4:5] and frame[4] in LOOKS
+    """Whether a request asks what a rail does, for the limits that trip it, or for the temperature, which no job of the host does."""
+    if ending != "restart":
+        return False
+    return list(frame[1:3]) == [READS, 2] and frame[4:5] and frame[4] in LOOKS or list(frame[1:]) == [TEMPERATURE]
 
 
 class Both:
@@ -107,7 +110,7 @@ class Part:
 
     def hear(self, frame, ending):
         """The bytes of an answer, or None where the part doesn't acknowledge the frame."""
-        found = self.rail(frame) if is_look(frame, ending) else None
+        found = self.rail(frame) if is_look(frame, ending) and len(frame) == 5 else None
         if found:
             return found
         reply = self.converter.hear(frame, ending)

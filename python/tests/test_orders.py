@@ -120,7 +120,7 @@ class Orders(unittest.TestCase):
             behind = part.lines[part.lines.index("restart") + 1:]
             with self.subTest(order=orders[number]):
                 self.assertEqual(self.places(behind), [orders[number]])
-                self.assertEqual(status, 1)
+                self.assertEqual(status, 3)
                 self.assertIn("the part restarted meanwhile: nothing that was read before holds: run this again; stays changed", err)
 
     def test_a_restart_seen_behind_an_order_without_a_good_answer_is_told(self):
@@ -129,7 +129,7 @@ class Orders(unittest.TestCase):
         part = kernel.Part()
         part.converter.set((0, 0x21), 0x1900)
         _, status, _, err = self.apply(text, ["ok"] * first + ["ok", "lost"] * 3 + ["ok", "restart"], part)
-        self.assertEqual(status, 1)
+        self.assertEqual(status, 3)
         self.assertIn("the part restarted meanwhile: nothing that was read before holds: run this again; stays changed, or may be: a.volts", err)
 
     def test_a_part_of_another_format_is_left_alone(self):
@@ -149,9 +149,9 @@ class Orders(unittest.TestCase):
                 if status == 0 and place < len(part.lines) - 2:
                     held = [part.converter.cells[cell] for cell in ((0, 0x21), (0, 0x24), (0, 0x2B), (1, 0x21), (1, 0x24))]
                     self.assertEqual(held, [0x1800, 0x2000, 0x1000, 0x3000, 0x4800])
-                elif status == 1:
+                elif status == 3:
                     self.assertIn("the part restarted meanwhile", err)
-        self.assertEqual(ends, {0, 1})
+        self.assertEqual(ends, {0, 3})
 
     def test_limits_reach_the_host(self):
         more = ["+", "band", "0", "+", "set", "1", "4.9V", "+", "band", "1"]

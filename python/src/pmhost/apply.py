@@ -17,7 +17,7 @@ from .device import Device
 from .errors import SAYINGS, Refused, refusal
 from .look import Delivered, Look, Looks
 from .parts import BoardPart
-from .rail_course import OUTSIDE, PROTECT, RailCourse, Setting, Stopped
+from .rail_course import OUTSIDE, PROTECT, RailCourse, Restarted, Setting, Stopped
 from .rails import BOUNDS, MARGINS, SETTINGS, WORDS, Rail
 from .reads import Reads
 from .states import Step
@@ -215,7 +215,7 @@ class Board:
             raise Stopped(f"{rail.name}: its format was {probe.format_words(self.format(rail))}, and is {probe.format_words(form)} now: "
                           "the part is another one, or VOUT_MODE was written: run this again")
         if self.has_restarted(rail):
-            raise Stopped(f"{rail.part or 'the part'} restarted meanwhile: nothing that was read before holds: run this again")
+            raise Restarted(f"{rail.part or 'the part'} restarted meanwhile: nothing that was read before holds: run this again")
 
     def judge_refused(self, rail: Rail) -> None:
         """Stops where the course of a rail is refused."""
@@ -318,6 +318,11 @@ class Board:
         if rail.is_on and not found.is_value(self.format(rail).microvolts(wanted)):
             return "the output isn't known to command its voltage"
         return ""
+
+    def is_cut(self, rail: Rail) -> bool:
+        """Whether a rail would command another voltage than the word of its register."""
+        found = self.state(rail)
+        return found.value is not None and not found.is_value(found.value)
 
     def store(self, name: str) -> None:
         """Sends STORE_USER_ALL to a part, once. Stopped."""

@@ -27,6 +27,10 @@ class Stopped(Exception):
         self.part, self.output = part, output
 
 
+class Restarted(Stopped):
+    """A part restarted meanwhile, which is all that went wrong: the same call again may end well."""
+
+
 class Due(Exception):
     """An order is due, and none is to be sent yet."""
 

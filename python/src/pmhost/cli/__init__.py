@@ -41,7 +41,8 @@ command's words, those of one command behind its name. After a command that does
 and band are answered.
 
 The status is 0 where every command ended well, 1 where one didn't, 2 where the call can't be carried out or a stream
-fails (1 of capture), and 130 after an interruption, which says what is now unknown."""
+fails (1 of capture), 3 where a part restarted and nothing else went wrong, so that the same call may end well, and 130 after
+an interruption, which says what is now unknown."""
 BAD_CALL, INTERRUPTED = 2, 130
 
 
@@ -87,7 +88,8 @@ def parts_of(words: list[str]) -> list[list[str]]:
 def commands_of(words: list[str]) -> list[argparse.Namespace]:
     """The commands of a command line, each with its own words as `said`."""
     options, found = options_of(parser()[0]), list[argparse.Namespace]()
-    for part in parts_of(words):
+    # argparse would take the file behind a bare --store for its value.
+    for part in parts_of([rails.STORE_ALL if word == "--store=always" else word for word in words]):
         for word in () if part[:1] and part[0] in OWN_JOBS else part:
             if word.startswith("--") and word.partition("=")[0] not in options:
                 raise BadCall(f"{shown(word)}: no such option; --help tells which there are")

@@ -11,6 +11,10 @@ if TYPE_CHECKING:
     from .call import Call
 
 
+# The status where a part restarted, and nothing else went wrong.
+RESTARTED = 3
+
+
 class Ordered:
     """The words that the commands of a call ordered and that were read back, by part, output and register, each with its command."""
 
@@ -26,24 +30,24 @@ class Ordered:
         self._words = {}
 
     def look(self, call: Call) -> int:
-        """Reads each of them once more. The status: 1 where one holds another word, or gives no good answer."""
+        """Reads each of them once more. The status: RESTARTED where one holds another word, 1 where one gives no good answer."""
         for (name, output, register), (word, command) in self._words.items():
             part, where = call.places()[name].pmbus(), register if output is None else f"{register} of output {output}"
             whose = f" of {name}" * bool(name)
             part.host.check(output or 0, register)
             if part.run().kind != "done":
                 why = part.transfers.why() or "no good answer"
-                return self._told(call, command, "unknown", f"whether {where}{whose} still holds its word isn't known: {why}")
+                return self._told(call, command, "unknown", 1, f"whether {where}{whose} still holds its word isn't known: {why}")
             held = part.host.confirmed_word(output or 0, register)
             if held != word:
-                return self._told(call, command, "restarted", f"{name or 'the part'} restarted after {' '.join(command.split()[:2])}: {where} is "
+                return self._told(call, command, "restarted", RESTARTED, f"{name or 'the part'} restarted after {' '.join(command.split()[:2])}: {where} is "
                                                               f"{in_digits(register, held)}, and was {in_digits(register, word)}")
         return 0
 
     @staticmethod
-    def _told(call: Call, command: str, end: str, why: str) -> int:
+    def _told(call: Call, command: str, end: str, status: int, why: str) -> int:
         """Says it in one line of the command that ordered the register. The status."""
-        return call.say(Answer(command, end, status=1, why=why))
+        return call.say(Answer(command, end, status=status, why=why))
 
 
 def are_several(commands: list[argparse.Namespace]) -> bool:

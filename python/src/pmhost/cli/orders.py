@@ -13,6 +13,7 @@ from ..errors import PlanRefused, Refused
 from ..readings import KINDS
 from ..rounded import Accepting
 from ..states import Step
+from ..stores import too_hot
 from ..survey import OFF_TRIES, TRIES, Nobody, complete, holds_zeros, survey
 from ..zeros import NotBelieved, guard
 from . import readings
@@ -355,6 +356,9 @@ def send_command(arguments: argparse.Namespace) -> int:
     """A command that nothing reads back: clear, store, restore. It is acknowledged where the part answers behind it, too."""
     call: Call = arguments.call
     part, output = call.part(), arguments.output
+    hot = too_hot(part) if arguments.command == "store" and not call.is_forced else ""
+    if hot:
+        return call.say(answer_of(arguments, part, None, "refused", status=1, text="nothing is stored", why=f"{hot}: --force stores all the same"))
     {"clear": lambda: part.host.clear(output), "store": part.host.store, "restore": part.host.restore}[arguments.command]()
     call.maybe = {"clear": f"the faults of output {output} may be cleared or not", "store": STORES,
                   "restore": RESTORES}[arguments.command]

@@ -207,7 +207,8 @@ OPTIONS: dict[str, tuple[tuple[str, ...], dict[str, Any]]] = {
                              "help": "the part is ready where its byte of this code has these bits, as EF:60, which is asked in the place of "
                                      "CAPABILITY"}),
     "share_bus": (("--share-bus",), {"const": True, "help": "drives an address that another program drives"}),
-    "force": (("--force",), {"const": True, "help": "drives a part that a driver of the kernel holds"}),
+    "force": (("--force",), {"const": True, "help": "drives a part that a driver of the kernel holds; and stores where the part is too hot, or a "
+                                                    "rail is cut"}),
 }
 BEHIND = "_behind"
 
