@@ -87,6 +87,11 @@ class Api(unittest.TestCase):
         with self.assertRaisesRegex(NotDelivered, "VOUT_OV_FAULT.*: the rail is off; VOUT_COMMAND 1.050048V is at or beyond VOUT_OV_FAULT_LIMIT"):
             device.set_voltage(0, "1.05V")
 
+    def test_nothing_is_read_before_an_off(self):
+        part, device = self.device()
+        device.turn_off(0)
+        self.assertEqual(part.lines, ["B0 05 03 00 01 00 8B", "B0 06 02 00 01 /", "B0 06 02 00 79 /"])
+
     def test_off_of_a_part_that_stays_on_is_raised(self):
         _, device = self.device(("ON_OFF_CONFIG", 0x16))
         with self.assertRaisesRegex(NotDelivered, "commanded off, and the part says that it is on"):
