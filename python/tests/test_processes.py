@@ -8,7 +8,9 @@ import sys
 import tempfile
 import unittest
 
-from .running import needs_tool, with_signals
+from pmhost import _library
+
+from .running import DATA, needs_tool, stored, with_signals
 from .runs import called
 
 HERE = os.path.dirname(os.path.abspath(__file__))
@@ -116,6 +118,16 @@ class Processes(unittest.TestCase):
         self.assertEqual((ended.returncode, ended.stdout), (2, ""))
         self.assertRegex(ended.stderr, r"\Apmhost: /nowhere\.so: .*; `pip install ./python` makes this package's library, .*\n\Z")
 
+    def test_help_version_completion_and_captures_need_no_library(self):
+        capture = stored(DATA, "captures/sharpest.linux")
+        for words, wanted in (("--help", "usage: pmhost"), ("--version", "pmhost "), ("--completion", "# bash completion"),
+                              ("capture --help", "usage: pmhost capture"), ("capture linux", "14 70 6C")):
+            with self.subTest(words=words):
+                ended = subprocess.run([sys.executable, "-B", "-m", "pmhost", *words.split()], check=False, text=True, input=capture,
+                                       env={**os.environ, "PMHOST_LIBRARY": "/nowhere.so"}, stderr=subprocess.PIPE, stdout=subprocess.PIPE)
+                self.assertEqual((ended.returncode, ended.stderr), (0, ""))
+                self.assertTrue(ended.stdout.startswith(wanted), ended.stdout)
+
     @needs_tool("gcc")
     def test_the_command_with_another_library_says_so_in_one_line(self):
         """A part's library alone has no call of a host."""
@@ -127,6 +139,23 @@ class Processes(unittest.TestCase):
                                    env={**os.environ, "PMHOST_LIBRARY": other}, stderr=subprocess.PIPE, stdout=subprocess.PIPE)
         self.assertEqual((ended.returncode, ended.stdout), (2, ""))
         self.assertRegex(ended.stderr, r"\Apmhost: .*libpmpart\.so is another library than this package is for: it has no pm_\w+\n\Z")
+
+    @needs_tool("gcc")
+    def test_a_library_of_another_size_is_refused(self):
+        """A library that has every call of this one, and answers its numbers but for one."""
+        numbers = {"pm_version": _library.VERSION, "pm_host_version": _library.HOST_VERSION, "pm_host_size": _library.HOST_SIZE,
+                   "pm_course_version": _library.COURSE_VERSION, "pm_course_size": _library.COURSE_SIZE, "pm_part_size": _library.PART_SIZE}
+        with tempfile.TemporaryDirectory() as folder:
+            for name, number in numbers.items():
+                with self.subTest(name=name):
+                    says = {**dict.fromkeys(_library.CALLS, 0), **numbers, name: number + 0x100}
+                    other = os.path.join(folder, f"{name}.so")
+                    subprocess.run(["gcc", "-shared", "-fPIC", "-x", "c", "-", "-o", other], check=True, text=True,
+                                   input="".join(f"unsigned long {each}(void) {{ return {it}; }}\n" for each, it in says.items()))
+                    ended = subprocess.run([sys.executable, "-B", "-m", "pmhost", "-b", "model", "read", "0"], check=False, text=True,
+                                           env={**os.environ, "PMHOST_LIBRARY": other}, stderr=subprocess.PIPE, stdout=subprocess.PIPE)
+                    self.assertEqual((ended.returncode, ended.stdout), (2, ""))
+                    self.assertRegex(ended.stderr, rf"\Apmhost: .*{name}\.so is another library than this package is for: it says .*\n\Z")
 
     def test_an_interruption_before_the_command_begins_tells_no_traceback(self):
         """A module that is imported while the package is interrupts the process."""

@@ -1,17 +1,30 @@
 //! What came back for a question.
 
-use crate::fault::NO_ANSWER;
+ghost use Rattle.std.specs.Prelude.{◌≡◌, ◌≤◌, length};
+ghost use Rattle.pm_frame.specs.PagedRead.{paged_request as spec_paged_request};
+ghost use Rattle.pm_table.specs.Address.{IsAddress};
+ghost use Rattle.pm_delivery.specs.Questions.{answer_in, question_code, question_size, word_in};
+
 use crate::question::Question;
 use pm_frame::{paged_request, read_paged};
 
+/// The number of an answer that didn't come.
+pub const NO_ANSWER: u8 = 1;
+
 /// What is sent before the repeated start to ask a question of an output of the device of this address.
-pub fn request(addr: u8, output: u8, question: Question) -> [u8; 5] {
+pub fn request(addr: u8, output: u8, question: Question) -> [u8; 5]
+    requires { IsAddress addr }
+    ensures { result ≡ spec_paged_request addr output (question_code question) }
+{
     paged_request(addr, output, question.code().0)
 }
 
 /// What the bytes that came back say, the read address first: the word or byte of a good answer, or the number of what was wrong,
 /// 1 where none came.
-pub fn answer_of(addr: u8, output: u8, question: Question, bytes: &[u8]) -> Result<u16, u8> {
+pub fn answer_of(addr: u8, output: u8, question: Question, bytes: &[u8]) -> Result<u16, u8>
+    requires { IsAddress addr }
+    ensures { result ≡ answer_in addr output question bytes.now }
+{
     if bytes.is_empty() {
         return Err(NO_ANSWER);
     }
@@ -28,11 +41,12 @@ pub fn answer_of(addr: u8, output: u8, question: Question, bytes: &[u8]) -> Resu
 }
 
 // The word of one byte or two, the low one first.
-fn word_of(payload: &[u8]) -> u16 {
-    let low = u16::from(payload[0]);
-    if payload.len() < 2 {
-        low
-    } else {
-        low + u16::from(payload[1]) * 256
+fn word_of(payload: &[u8]) -> u16
+    ensures { result ≡ word_in payload.now }
+{
+    match payload {
+        [] => 0,
+        [low] => u16::from(*low),
+        [low, high, ..] => u16::from(*low) + u16::from(*high) * 256,
     }
 }

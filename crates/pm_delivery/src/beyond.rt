@@ -1,16 +1,19 @@
 //! Words at or beyond fault limits.
 
+ghost use Rattle.std.specs.Prelude.{◌≡◌};
+ghost use Rattle.pm_num.specs.AnyFormat.{shape_of};
+ghost use Rattle.pm_delivery.specs.Beyond.{judgement_of, lower as spec_lower, reaches as spec_reaches, refusal_of, upper as spec_upper};
+
 use crate::delivery::{Delivery, LIMITS_TELL};
 use crate::fault::DeliveryFault;
 use crate::question::Question;
 use pm_num::AnyFormat;
-use pm_table::Code;
 
-/// A limit that a word is at or beyond: the command code of its register, and the word that this holds.
+/// A limit that a word is at or beyond: its register, and the word that this holds.
 #[derive(Clone, Copy, Debug, PartialEq, Eq)]
 pub struct Limit {
-    /// VOUT_OV_FAULT_LIMIT (40h), VOUT_OV_WARN_LIMIT (42h), VOUT_UV_WARN_LIMIT (43h) or VOUT_UV_FAULT_LIMIT (44h).
-    pub code: Code,
+    /// VOUT_OV_FAULT_LIMIT, VOUT_OV_WARN_LIMIT, VOUT_UV_WARN_LIMIT or VOUT_UV_FAULT_LIMIT.
+    pub register: Question,
     /// The word that it holds, in the format of the output's voltages.
     pub word: u16,
 }
@@ -27,44 +30,53 @@ pub struct Judgement {
 impl Delivery {
     /// Which limits a word of the output's voltage is at or beyond, of those whose answer was good, in the format of the output's
     /// voltages.
-    pub fn judge(&self, format: &AnyFormat, word: u16) -> Judgement {
+    pub fn judge(&self, format: &AnyFormat, word: u16) -> Judgement
+        ensures { result ≡ judgement_of self.now (shape_of format.now) word }
+    {
         Judgement {
             fault: self
-                .reached(Question::OvFaultLimit, format, word, true)
-                .or(self.reached(Question::UvFaultLimit, format, word, false)),
+                .upper(Question::OvFaultLimit, format, word)
+                .or(self.lower(Question::UvFaultLimit, format, word)),
             warning: self
-                .reached(Question::OvWarnLimit, format, word, true)
-                .or(self.reached(Question::UvWarnLimit, format, word, false)),
+                .upper(Question::OvWarnLimit, format, word)
+                .or(self.lower(Question::UvWarnLimit, format, word)),
         }
     }
 
     /// P8 where a word is at or beyond a fault limit, and these aren't told alone.
-    pub fn refuse(&self, judgement: &Judgement) -> Option<DeliveryFault> {
+    pub fn refuse(&self, judgement: &Judgement) -> Option<DeliveryFault>
+        ensures { result ≡ refusal_of self.now judgement.now.fault }
+    {
         match judgement.fault {
             Some(limit) if self.fault_limits != LIMITS_TELL => {
-                Some(DeliveryFault::BeyondFaultLimit(limit.code, limit.word))
+                Some(DeliveryFault::BeyondFaultLimit(limit.register, limit.word))
             }
             _ => None,
         }
     }
 
-    // A limit that a word is at or beyond: above it, or below.
-    fn reached(
-        &self,
-        question: Question,
-        format: &AnyFormat,
-        word: u16,
-        is_upper: bool,
-    ) -> Option<Limit> {
-        let heard = self.heard(question);
-        let is_inside = if is_upper {
-            format.is_above(heard.word, word)
-        } else {
-            format.is_above(word, heard.word)
-        };
+    // An upper limit that a word is at or above.
+    fn upper(&self, register: Question, format: &AnyFormat, word: u16) -> Option<Limit>
+        ensures { result ≡ spec_upper self.now register (shape_of format.now) word }
+    {
+        self.reached(register, format.is_above(self.heard(register).word, word))
+    }
+
+    // A lower limit that a word is at or below.
+    fn lower(&self, register: Question, format: &AnyFormat, word: u16) -> Option<Limit>
+        ensures { result ≡ spec_lower self.now register (shape_of format.now) word }
+    {
+        self.reached(register, format.is_above(word, self.heard(register).word))
+    }
+
+    // A limit that gave a good answer, where a word isn't inside it.
+    fn reached(&self, register: Question, is_inside: bool) -> Option<Limit>
+        ensures { result ≡ spec_reaches self.now register is_inside }
+    {
+        let heard = self.heard(register);
         if heard.is_good() && !is_inside {
             Some(Limit {
-                code: question.code(),
+                register,
                 word: heard.word,
             })
         } else {

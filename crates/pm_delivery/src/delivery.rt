@@ -1,10 +1,16 @@
+ghost use Rattle.std.specs.Prelude.{◌≡◌, find, option_map, true, false};
+ghost use Rattle.pm_delivery.specs.Deliveries.{again, fault_bit, has as spec_has, has_vout as spec_has_vout, heard_of, in_round, is_new as spec_is_new, is_off as spec_is_off, lacks_power_good as spec_lacks_power_good};
+ghost use Rattle.pm_delivery.specs.Deliveries.{looking_after, looking_before, new_delivery, new_fault as spec_new_fault, next_round as spec_next_round, status_fault as spec_status_fault, with_heard};
+ghost use Rattle.pm_delivery.specs.Heard.{heard_after};
+ghost use Rattle.pm_delivery.specs.StatusBits.{status_word_faults};
+
 use crate::heard::Heard;
 use crate::question::Question;
 use crate::status::{
-    INPUT, IOUT_POUT, OFF, POWER_GOOD_NOT, STATUS_INPUT_FAULTS, STATUS_IOUT_FAULTS,
-    STATUS_TEMPERATURE_FAULTS, STATUS_VOUT_FAULTS, STATUS_WORD_FAULTS, TEMPERATURE, VOUT, has_bit,
+    INPUT, IOUT_OC_FAULT, IOUT_POUT, OFF, POWER_GOOD_NOT, STATUS_INPUT_FAULTS, STATUS_IOUT_FAULTS,
+    STATUS_TEMPERATURE_FAULTS, STATUS_VOUT_FAULTS, TEMPERATURE, VIN_UV_FAULT, VOUT, VOUT_OV_FAULT,
+    first_bit, has_bit,
 };
-use pm_table::Code;
 
 /// What is looked at: nothing, what stands before an order, what an output does after an order that leaves it on, or after one
 /// that turns it off.
@@ -74,6 +80,15 @@ pub struct Delivery {
     pub power_good_off: Heard,
 }
 
+/// A bit that says a fault: the register, and the bit's number.
+#[derive(Clone, Copy, Debug, PartialEq, Eq)]
+pub struct FaultBit {
+    /// STATUS_WORD or a status register.
+    pub register: Question,
+    /// The number, from 0.
+    pub place: u8,
+}
+
 impl Delivery {
     /// Of this output nothing was asked. READ_VOUT may be this many thousandths of what the output commands away from it (50 are
     /// 5 %), and all is asked at most so often.
@@ -83,7 +98,9 @@ impl Delivery {
         has_read_vout: bool,
         within: u16,
         rounds: u16,
-    ) -> Delivery {
+    ) -> Delivery
+        ensures { result ≡ new_delivery output fault_limits has_read_vout within rounds }
+    {
         Delivery {
             output,
             look: LOOK_NOWHERE,
@@ -108,14 +125,23 @@ impl Delivery {
         }
     }
 
+    /// Whether READ_VOUT is one of the part's registers.
+    pub fn has_vout(&self) -> bool
+        ensures { result ≡ spec_has_vout self.now }
+    {
+        self.has_read_vout != 0
+    }
+
     /// Looks at what stands before an order: what was heard before and after an earlier one is forgotten.
-    pub fn look_before(&mut self) {
+    pub fn look_before(&mut self)
+        ensures { self.new ≡ looking_before self.old }
+    {
         *self = Delivery {
             look: LOOK_BEFORE,
             ..Delivery::new(
                 self.output,
                 self.fault_limits,
-                self.has_read_vout != 0,
+                self.has_vout(),
                 self.within,
                 self.rounds,
             )
@@ -123,18 +149,24 @@ impl Delivery {
     }
 
     /// Looks at what the output does: what was heard of that earlier is forgotten, and what stood before the first order is kept.
-    pub fn look_after(&mut self, is_off: bool) {
+    pub fn look_after(&mut self, is_off: bool)
+        ensures { self.new ≡ looking_after self.old is_off }
+    {
         self.look = if is_off { LOOK_OFF } else { LOOK_AFTER };
         self.begin_round(0);
     }
 
     /// A further round begins.
-    pub fn begin_again(&mut self) {
-        self.begin_round(self.round.saturating_add(1));
+    pub fn begin_again(&mut self)
+        ensures { self.new ≡ again self.old }
+    {
+        self.begin_round(next_round(self.round));
     }
 
     // A round begins: what was heard in the one before is forgotten.
-    fn begin_round(&mut self, round: u16) {
+    fn begin_round(&mut self, round: u16)
+        ensures { self.new ≡ in_round self.old round }
+    {
         self.round = round;
         self.status_word = Heard::NOTHING;
         self.status_vout = Heard::NOTHING;
@@ -147,7 +179,9 @@ impl Delivery {
     }
 
     /// What came of a question.
-    pub fn heard(&self, question: Question) -> Heard {
+    pub fn heard(&self, question: Question) -> Heard
+        ensures { result ≡ heard_of self.now question }
+    {
         match question {
             Question::Before => self.before,
             Question::OvFaultLimit => self.ov_fault_limit,
@@ -166,7 +200,9 @@ impl Delivery {
     }
 
     /// An answer to a question: its payload, or the number of what was wrong.
-    pub fn hear(&mut self, question: Question, answer: Result<u16, u8>) {
+    pub fn hear(&mut self, question: Question, answer: Result<u16, u8>)
+        ensures { self.new ≡ with_heard self.old question (heard_after (heard_of self.old question) answer) }
+    {
         let heard = self.heard(question).after(answer);
         match question {
             Question::Before => self.before = heard,
@@ -186,65 +222,103 @@ impl Delivery {
     }
 
     /// Whether this bit of STATUS_WORD is 1.
-    pub(crate) fn has(&self, place: u16) -> bool {
+    pub(crate) fn has(&self, place: u8) -> bool
+        ensures { result ≡ spec_has self.now place }
+    {
         self.status_word.is_good() && has_bit(self.status_word.word, place)
     }
 
     /// Whether this bit of STATUS_WORD is 1 and wasn't known to be before the first order. Where nothing was asked before, since
     /// nothing is ordered, no bit is new.
-    pub fn is_new(&self, place: u16) -> bool {
+    pub fn is_new(&self, place: u8) -> bool
+        ensures { result ≡ spec_is_new self.now place }
+    {
         self.has(place)
             && self.before.asked != 0
             && !(self.before.is_good() && has_bit(self.before.word, place))
     }
 
-    /// The fault that is new, as its register's command code and the number of its bit: of STATUS_WORD, or of a status register
-    /// whose summary in STATUS_WORD is new.
-    pub fn new_fault(&self) -> Option<(Code, u16)> {
-        if let Some(place) = self.first_new() {
-            return Some((Question::StatusWord.code(), place));
-        }
-        self.fault_of(Question::StatusVout, VOUT, &STATUS_VOUT_FAULTS)
-            .or(self.fault_of(Question::StatusIout, IOUT_POUT, &STATUS_IOUT_FAULTS))
-            .or(self.fault_of(Question::StatusInput, INPUT, &STATUS_INPUT_FAULTS))
-            .or(self.fault_of(
-                Question::StatusTemperature,
-                TEMPERATURE,
-                &STATUS_TEMPERATURE_FAULTS,
-            ))
+    /// The fault that is new: of STATUS_WORD itself, or of a status register whose summary in STATUS_WORD is new.
+    pub fn new_fault(&self) -> Option<FaultBit>
+        ensures { result ≡ spec_new_fault self.now }
+    {
+        self.status_word_fault().or(
+            self.status_fault(Question::StatusVout, VOUT, &STATUS_VOUT_FAULTS)
+                .or(
+                    self.status_fault(Question::StatusIout, IOUT_POUT, &STATUS_IOUT_FAULTS)
+                        .or(
+                            self.status_fault(Question::StatusInput, INPUT, &STATUS_INPUT_FAULTS)
+                                .or(self.status_fault(
+                                    Question::StatusTemperature,
+                                    TEMPERATURE,
+                                    &STATUS_TEMPERATURE_FAULTS,
+                                )),
+                        ),
+                ),
+        )
     }
 
     // The first fault of STATUS_WORD itself that is new.
-    fn first_new(&self) -> Option<u16> {
-        for place in &STATUS_WORD_FAULTS {
-            if self.is_new(*place) {
-                return Some(*place);
-            }
+    fn status_word_fault(&self) -> Option<FaultBit>
+        ensures { result ≡ option_map (fault_bit Question.StatusWord) (find (spec_is_new self.now) status_word_faults) }
+    {
+        fault_in(Question::StatusWord, self.first_new())
+    }
+
+    // The first bit of these faults that is new.
+    fn first_new(&self) -> Option<u8>
+        ensures { result ≡ find (spec_is_new self.now) status_word_faults }
+    {
+        if self.is_new(VOUT_OV_FAULT) {
+            Some(VOUT_OV_FAULT)
+        } else if self.is_new(IOUT_OC_FAULT) {
+            Some(IOUT_OC_FAULT)
+        } else if self.is_new(VIN_UV_FAULT) {
+            Some(VIN_UV_FAULT)
+        } else {
+            None
         }
-        None
     }
 
     // The first fault of a status register whose summary in STATUS_WORD is new.
-    fn fault_of(&self, question: Question, summary: u16, places: &[u16]) -> Option<(Code, u16)> {
-        let heard = self.heard(question);
+    fn status_fault(&self, register: Question, summary: u8, places: &[u8]) -> Option<FaultBit>
+        ensures { result ≡ spec_status_fault self.now register summary places.now }
+    {
+        let heard = self.heard(register);
         if !(self.is_new(summary) && heard.is_good()) {
             return None;
         }
-        for place in places {
-            if has_bit(heard.word, *place) {
-                return Some((question.code(), *place));
-            }
-        }
-        None
+        fault_in(register, first_bit(heard.word, places))
     }
 
     /// Whether the output is off by STATUS_WORD.
-    pub(crate) fn is_off(&self) -> bool {
+    pub(crate) fn is_off(&self) -> bool
+        ensures { result ≡ spec_is_off self.now }
+    {
         self.has(OFF)
     }
 
     /// Whether power good is missing by STATUS_WORD.
-    pub(crate) fn lacks_power_good(&self) -> bool {
+    pub(crate) fn lacks_power_good(&self) -> bool
+        ensures { result ≡ spec_lacks_power_good self.now }
+    {
         self.has(POWER_GOOD_NOT)
     }
+}
+
+// A fault of a register, where there is one.
+fn fault_in(register: Question, place: Option<u8>) -> Option<FaultBit>
+    ensures { result ≡ option_map (fault_bit register) place }
+{
+    match place {
+        Some(place) => Some(FaultBit { register, place }),
+        None => None,
+    }
+}
+
+// The round after one; 65535 is the last number.
+fn next_round(round: u16) -> u16
+    ensures { result ≡ spec_next_round round }
+{
+    if round < 65535 { round + 1 } else { 65535 }
 }

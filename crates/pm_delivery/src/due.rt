@@ -1,5 +1,9 @@
 //! What is asked next.
 
+ghost use Rattle.std.specs.Prelude.{◌≡◌};
+ghost use Rattle.pm_delivery.specs.Due.{again_or, asked as spec_asked, asks, asks_limits, asks_of, asks_vout, can_decide as spec_can_decide, due_after as spec_due_after, due_before as spec_due_before};
+ghost use Rattle.pm_delivery.specs.Due.{due_by as spec_due_by, due_in_round as spec_due_in_round, due_of, due_off as spec_due_off, due_on as spec_due_on, due_or as spec_due_or, due_round_over, is_left as spec_is_left};
+
 use crate::delivery::{Delivery, LIMITS_SKIP, LOOK_AFTER, LOOK_BEFORE, LOOK_OFF};
 use crate::question::Question;
 use crate::reading::Reading;
@@ -21,20 +25,21 @@ pub enum Due {
 impl Delivery {
     /// What is due, where each question is asked at most so often until a good answer comes, of an output with this power whose
     /// last reading of READ_VOUT stands so.
-    pub fn due(&self, passes: u8, power: Power, reading: Reading) -> Due {
+    pub fn due(&self, passes: u8, power: Power, reading: Reading) -> Due
+        ensures { result ≡ due_of self.now passes power reading }
+    {
         match self.look {
             LOOK_BEFORE => asked(self.due_before(passes)),
-            LOOK_AFTER => match power {
-                Power::On => self.due_after(passes, reading),
-                _ => Due::Nothing,
-            },
+            LOOK_AFTER => self.due_on(passes, power, reading),
             LOOK_OFF => self.due_off(passes),
             _ => Due::Nothing,
         }
     }
 
     // A question that is to be asked, where no good answer came and it was asked fewer times than this.
-    fn ask(&self, question: Question, passes: u8) -> Option<Question> {
+    fn ask(&self, question: Question, passes: u8) -> Option<Question>
+        ensures { result ≡ asks self.now passes question }
+    {
         if self.heard(question).is_due(passes) {
             Some(question)
         } else {
@@ -43,95 +48,167 @@ impl Delivery {
     }
 
     // What is asked before an order.
-    fn due_before(&self, passes: u8) -> Option<Question> {
-        if let Some(question) = self.ask(Question::Before, passes) {
-            return Some(question);
-        }
+    fn due_before(&self, passes: u8) -> Option<Question>
+        ensures { result ≡ spec_due_before self.now passes }
+    {
+        self.ask(Question::Before, passes)
+            .or(self.ask_limits(passes))
+    }
+
+    // The fault limits and those of warnings, unless they are skipped.
+    fn ask_limits(&self, passes: u8) -> Option<Question>
+        ensures { result ≡ asks_limits self.now passes }
+    {
         if self.fault_limits == LIMITS_SKIP {
             return None;
         }
-        self.ask(Question::OvFaultLimit, passes)
-            .or(self.ask(Question::OvWarnLimit, passes))
-            .or(self.ask(Question::UvWarnLimit, passes))
-            .or(self.ask(Question::UvFaultLimit, passes))
+        self.ask(Question::OvFaultLimit, passes).or(
+            self.ask(Question::OvWarnLimit, passes).or(
+                self.ask(Question::UvWarnLimit, passes)
+                    .or(self.ask(Question::UvFaultLimit, passes)),
+            ),
+        )
     }
 
     // What is due after an order that turned the output off.
-    fn due_off(&self, passes: u8) -> Due {
-        if let Some(question) = self.ask(Question::StatusWord, passes) {
-            Due::Ask(question)
-        } else if self.is_off() {
-            Due::Nothing
-        } else {
-            self.again(None)
+    fn due_off(&self, passes: u8) -> Due
+        ensures { result ≡ spec_due_off self.now passes }
+    {
+        due_or(
+            self.ask(Question::StatusWord, passes),
+            if self.is_off() {
+                Due::Nothing
+            } else {
+                self.again_or(None)
+            },
+        )
+    }
+
+    // What is due of an output with this power.
+    fn due_on(&self, passes: u8, power: Power, reading: Reading) -> Due
+        ensures { result ≡ spec_due_on self.now passes power reading }
+    {
+        match power {
+            Power::On => self.due_after(passes, reading),
+            Power::Off | Power::NotKnown => Due::Nothing,
         }
     }
 
     // What is due of an output that is commanded on.
-    fn due_after(&self, passes: u8, reading: Reading) -> Due {
-        if let Some(question) = self.due_in_round(passes) {
-            return Due::Ask(question);
-        }
+    fn due_after(&self, passes: u8, reading: Reading) -> Due
+        ensures { result ≡ spec_due_after self.now passes reading }
+    {
+        due_or(self.due_in_round(passes), self.due_at_end(passes, reading))
+    }
+
+    // What is due once a round has ended.
+    fn due_at_end(&self, passes: u8, reading: Reading) -> Due
+        ensures { result ≡ due_round_over self.now passes reading }
+    {
         if self.new_fault().is_some() {
-            return Due::Nothing;
+            Due::Nothing
+        } else {
+            self.due_by(passes, self.verdict_on(reading))
         }
-        match self.verdict_on(reading) {
+    }
+
+    // The same by the round's verdict.
+    fn due_by(&self, passes: u8, verdict: Verdict) -> Due
+        ensures { result ≡ spec_due_by self.now passes verdict }
+    {
+        match verdict {
             Verdict::Delivers => Due::Nothing,
-            Verdict::PowerGoodAlone => self.again(
+            Verdict::PowerGoodAlone => self.again_or(
                 self.ask(Question::PowerGoodOn, passes)
                     .or(self.ask(Question::PowerGoodOff, passes)),
             ),
-            _ => self.again(None),
+            _ => self.again_or(None),
         }
     }
 
     // A further round where one is left; otherwise what is asked last.
-    fn again(&self, last: Option<Question>) -> Due {
-        if self.round < self.rounds && self.rounds - self.round > 1 {
+    fn again_or(&self, last: Option<Question>) -> Due
+        ensures { result ≡ again_or self.now last }
+    {
+        if self.is_left() {
             Due::Again
         } else {
             asked(last)
         }
     }
 
-    // What is asked in each round: STATUS_WORD, each status register whose summary is new, and READ_VOUT where the output isn't off
-    // and no fault is new.
-    fn due_in_round(&self, passes: u8) -> Option<Question> {
-        self.ask(Question::StatusWord, passes)
-            .or(self.ask_of(Question::StatusVout, VOUT, passes))
-            .or(self.ask_of(Question::StatusIout, IOUT_POUT, passes))
-            .or(self.ask_of(Question::StatusInput, INPUT, passes))
-            .or(self.ask_of(Question::StatusTemperature, TEMPERATURE, passes))
-            .or(self.ask_vout(passes))
+    // Whether a further round is left.
+    fn is_left(&self) -> bool
+        ensures { result ≡ spec_is_left self.now }
+    {
+        self.round < self.rounds && 1 < self.rounds - self.round
+    }
+
+    // What is asked in each round: STATUS_WORD, each status register whose summary is new, and READ_VOUT where it can decide.
+    fn due_in_round(&self, passes: u8) -> Option<Question>
+        ensures { result ≡ spec_due_in_round self.now passes }
+    {
+        self.ask(Question::StatusWord, passes).or(
+            self.ask_of(Question::StatusVout, VOUT, passes).or(
+                self.ask_of(Question::StatusIout, IOUT_POUT, passes).or(
+                    self.ask_of(Question::StatusInput, INPUT, passes).or(
+                        self.ask_of(Question::StatusTemperature, TEMPERATURE, passes)
+                            .or(self.ask_vout(passes)),
+                    ),
+                ),
+            ),
+        )
     }
 
     // A status register that is asked where its summary in STATUS_WORD is new.
-    fn ask_of(&self, question: Question, summary: u16, passes: u8) -> Option<Question> {
+    fn ask_of(&self, register: Question, summary: u8, passes: u8) -> Option<Question>
+        ensures { result ≡ asks_of self.now passes register summary }
+    {
         if self.is_new(summary) {
-            self.ask(question, passes)
+            self.ask(register, passes)
         } else {
             None
         }
     }
 
     // READ_VOUT, where it can decide.
-    fn ask_vout(&self, passes: u8) -> Option<Question> {
-        if self.has_read_vout == 0
-            || !self.status_word.is_good()
-            || self.is_off()
-            || self.new_fault().is_some()
-        {
-            None
-        } else {
+    fn ask_vout(&self, passes: u8) -> Option<Question>
+        ensures { result ≡ asks_vout self.now passes }
+    {
+        if self.can_decide() {
             self.ask(Question::ReadVout, passes)
+        } else {
+            None
         }
+    }
+
+    // Whether READ_VOUT can decide: the part has it, the output isn't off, and no fault is new.
+    fn can_decide(&self) -> bool
+        ensures { result ≡ spec_can_decide self.now }
+    {
+        self.has_vout()
+            && self.status_word.is_good()
+            && !self.is_off()
+            && self.new_fault().is_none()
     }
 }
 
 // A question that is asked, where there is one.
-fn asked(question: Option<Question>) -> Due {
+fn asked(question: Option<Question>) -> Due
+    ensures { result ≡ spec_asked question }
+{
     match question {
         Some(question) => Due::Ask(question),
         None => Due::Nothing,
+    }
+}
+
+// A question that is asked first, where there is one.
+fn due_or(question: Option<Question>, due: Due) -> Due
+    ensures { result ≡ spec_due_or question due }
+{
+    match question {
+        Some(question) => Due::Ask(question),
+        None => due,
     }
 }

@@ -1,4 +1,5 @@
-use crate::fault::NO_ANSWER;
+ghost use Rattle.std.specs.Prelude.{◌≡◌};
+ghost use Rattle.pm_delivery.specs.Heard.{asked_more as spec_asked_more, heard_after, is_due, is_good};
 
 /// What came of one question, as plain numbers. What was never asked has zeros.
 #[repr(C)]
@@ -21,18 +22,24 @@ impl Heard {
     };
 
     /// Whether a good answer came.
-    pub fn is_good(self) -> bool {
+    pub fn is_good(self) -> bool
+        ensures { result ≡ is_good self }
+    {
         self.asked != 0 && self.fault == 0
     }
 
     /// Whether it is to be asked: no good answer came, and it was asked fewer times than this.
-    pub(crate) fn is_due(self, passes: u8) -> bool {
+    pub(crate) fn is_due(self, passes: u8) -> bool
+        ensures { result ≡ is_due passes self }
+    {
         !self.is_good() && self.asked < passes
     }
 
     /// The same after one answer more: its payload, a byte or a word with its low byte first, or the number of what was wrong.
-    pub(crate) fn after(self, answer: Result<u16, u8>) -> Heard {
-        let asked = self.asked.saturating_add(1);
+    pub(crate) fn after(self, answer: Result<u16, u8>) -> Heard
+        ensures { result ≡ heard_after self answer }
+    {
+        let asked = asked_more(self.asked);
         match answer {
             Ok(word) => Heard {
                 asked,
@@ -46,4 +53,11 @@ impl Heard {
             },
         }
     }
+}
+
+// How often it was asked, once more; 255 at most.
+fn asked_more(asked: u8) -> u8
+    ensures { result ≡ spec_asked_more asked }
+{
+    if asked < 255 { asked + 1 } else { 255 }
 }

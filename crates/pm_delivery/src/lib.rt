@@ -19,14 +19,14 @@ mod reading;
 mod status;
 mod verdict;
 
-pub use answers::{answer_of, request};
+pub use answers::{NO_ANSWER, answer_of, request};
 pub use beyond::{Judgement, Limit};
 pub use delivery::{
-    Delivery, LIMITS_REFUSE, LIMITS_SKIP, LIMITS_TELL, LOOK_AFTER, LOOK_BEFORE, LOOK_NOWHERE,
-    LOOK_OFF,
+    Delivery, FaultBit, LIMITS_REFUSE, LIMITS_SKIP, LIMITS_TELL, LOOK_AFTER, LOOK_BEFORE,
+    LOOK_NOWHERE, LOOK_OFF,
 };
 pub use due::Due;
-pub use fault::{DeliveryFault, NO_ANSWER};
+pub use fault::DeliveryFault;
 pub use heard::Heard;
 pub use question::Question;
 pub use reading::Reading;

@@ -1,3 +1,6 @@
+ghost use Rattle.std.specs.Prelude.{◌≡◌};
+ghost use Rattle.pm_delivery.specs.Questions.{question_code, question_size};
+
 use pm_table::Code;
 
 /// A register that is read.
@@ -33,7 +36,9 @@ pub enum Question {
 
 impl Question {
     /// The command code of the register.
-    pub fn code(self) -> Code {
+    pub fn code(self) -> Code
+        ensures { result.0 ≡ question_code self }
+    {
         match self {
             Question::Before | Question::StatusWord => Code(0x79),
             Question::OvFaultLimit => Code(0x40),
@@ -51,7 +56,9 @@ impl Question {
     }
 
     /// How many bytes the register has, 1 or 2.
-    pub fn size(self) -> usize {
+    pub fn size(self) -> usize
+        ensures { result ≡ question_size self }
+    {
         match self {
             Question::StatusVout
             | Question::StatusIout

@@ -1,5 +1,9 @@
 //! How READ_VOUT stands beside what an output commands.
 
+ghost use Rattle.std.specs.Prelude.{◌≡◌, ◌≤◌, ◌<◌, ◌^◌, unsigned_abs, None};
+ghost use Rattle.pm_host.specs.Image.{held};
+ghost use Rattle.pm_delivery.specs.Reading.{is_below as spec_is_below, is_beyond as spec_is_beyond, is_more as spec_is_more, over as spec_over, reading_in, reading_of as spec_reading_of, share as spec_share};
+
 use crate::delivery::Delivery;
 use pm_host::State;
 use pm_limits::{Band, Limits, PartRegisters, Within, band_in, within_limits};
@@ -18,12 +22,15 @@ pub enum Reading {
     Right,
 }
 
-/// The most thousandths that a reading may be away.
+// The most thousandths that a reading may be away.
 const MOST_WITHIN: u16 = 1000;
 
 impl Delivery {
     /// How READ_VOUT stands, by what the host holds beside its open job. The output's number is below 8.
-    pub fn reading(&self, state: &State, part: PartRegisters, limits: Option<Limits>) -> Reading {
+    pub fn reading(&self, state: &State, part: PartRegisters, limits: Option<Limits>) -> Reading
+        requires { self.now.output < 8 }
+        ensures { result ≡ reading_in part limits (held None state.now) self.now }
+    {
         if !self.read_vout.is_good() {
             return Reading::NotKnown;
         }
@@ -34,23 +41,25 @@ impl Delivery {
             return Reading::NotKnown;
         };
         reading_of(
-            &format.value_of(self.read_vout.word),
-            &band,
             limits,
             self.within,
+            &format.value_of(self.read_vout.word),
+            &band,
         )
     }
 }
 
-// How a reading stands beside a band and limits.
-fn reading_of(value: &Frac, band: &Band, limits: Option<Limits>, within: u16) -> Reading {
+// How a reading stands beside limits and a band.
+fn reading_of(limits: Option<Limits>, within: u16, value: &Frac, band: &Band) -> Reading
+    ensures { result ≡ spec_reading_of limits within value.now band.now }
+{
     let read = Band {
         least: *value,
         greatest: *value,
     };
     if within_limits(limits, Some(read)) != Within::Yes {
         Reading::Outside
-    } else if is_below(value, &band.least, within) || is_beyond(value, &band.greatest, within) {
+    } else if is_below(within, value, &band.least) || is_beyond(within, value, &band.greatest) {
         Reading::Beyond
     } else {
         Reading::Right
@@ -58,15 +67,47 @@ fn reading_of(value: &Frac, band: &Band, limits: Option<Limits>, within: u16) ->
 }
 
 // Whether a value is below another one by more than so many thousandths of that.
-fn is_below(value: &Frac, from: &Frac, within: u16) -> bool {
-    let share = i128::from(within.min(MOST_WITHIN));
-    let lowered = from.num() * 1000 - share * from.num().abs();
-    value.num() * (from.den() * 1000) < lowered * value.den()
+fn is_below(within: u16, value: &Frac, from: &Frac) -> bool
+    ensures { result ≡ spec_is_below within value.now from.now }
+{
+    let (own, other) = (over(value, from), over(from, value));
+    is_more(within, other, other - own)
 }
 
 // Whether a value is above another one by more than so many thousandths of that.
-fn is_beyond(value: &Frac, from: &Frac, within: u16) -> bool {
-    let share = i128::from(within.min(MOST_WITHIN));
-    let raised = from.num() * 1000 + share * from.num().abs();
-    raised * value.den() < value.num() * (from.den() * 1000)
+fn is_beyond(within: u16, value: &Frac, from: &Frac) -> bool
+    ensures { result ≡ spec_is_beyond within value.now from.now }
+{
+    let (own, other) = (over(value, from), over(from, value));
+    is_more(within, other, own - other)
+}
+
+// Whether so many thousandths of a number's size are less than a gap.
+fn is_more(within: u16, of: i128, gap: i128) -> bool
+    requires of { unsigned_abs of ≤ 2 ^ 110 }
+    requires gap { unsigned_abs gap ≤ 2 ^ 111 }
+    ensures { result ≡ spec_is_more within of gap }
+{
+    let thousandths = of.unsigned_abs() * u128::from(share(within));
+    (thousandths as i128) < 1000 * gap
+}
+
+// How many thousandths a reading may be away.
+fn share(within: u16) -> u16
+    ensures value { result ≡ spec_share within }
+    ensures most { result ≤ 1000 }
+{
+    if MOST_WITHIN < within {
+        MOST_WITHIN
+    } else {
+        within
+    }
+}
+
+// The numerator of the first of two fractions over the product of their denominators.
+fn over(p: &Frac, q: &Frac) -> i128
+    ensures value { result ≡ spec_over p.now q.now }
+    ensures size { unsigned_abs result ≤ 2 ^ 110 }
+{
+    p.num() * q.den()
 }

@@ -1,12 +1,17 @@
 //! What a rail does.
 
+ghost use Rattle.std.specs.Prelude.{◌≡◌};
+ghost use Rattle.pm_delivery.specs.Ended.{once_over, verdict_at as spec_verdict_at, verdict_of};
+ghost use Rattle.pm_delivery.specs.Verdict.{is_unanswered as spec_is_unanswered, not_known as spec_not_known, unanswered as spec_unanswered, verdict_by as spec_verdict_by, verdict_off as spec_verdict_off, verdict_on as spec_verdict_on, verdict_sound as spec_verdict_sound, verdict_with as spec_verdict_with};
+ghost use Rattle.pm_delivery.specs.Deliveries.{new_fault};
+ghost use Rattle.pm_table.specs.Rules.{rule};
+
 use crate::delivery::{Delivery, LOOK_AFTER, LOOK_OFF};
 use crate::due::Due;
 use crate::question::Question;
 use crate::reading::Reading;
 use crate::status::{INPUT, IOUT_POUT, TEMPERATURE, VOUT};
 use pm_rail::Power;
-use pm_table::Code;
 
 /// What a rail does, by the last answers.
 #[derive(Clone, Copy, Debug, PartialEq, Eq)]
@@ -21,8 +26,8 @@ pub enum Verdict {
     NotKnownOn,
     /// OFF is 1, though the output is commanded on.
     IsOff,
-    /// This bit of the register with this command code says a fault that wasn't there before the first order.
-    NewFault(Code, u16),
+    /// The bit of this number of this register says a fault that wasn't known to be there before the first order.
+    NewFault(Question, u8),
     /// READ_VOUT lies outside the output's limits.
     OutsideLimits,
     /// READ_VOUT is farther from what the output commands than it may be.
@@ -31,9 +36,9 @@ pub enum Verdict {
     PowerGoodAlone,
     /// POWER_GOOD# is 1 of a part that has no READ_VOUT.
     NoPowerGood,
-    /// The register with this command code gave no good answer: the number says what was wrong with the last one. 0 of READ_VOUT
-    /// where that was good, and what the output commands isn't known.
-    NotKnown(Code, u8),
+    /// This register gave no good answer: the number says what was wrong with the last one. 0 of READ_VOUT where that was good, and
+    /// what the output commands isn't known.
+    NotKnown(Question, u8),
     /// OFF is 1 after an order that turned the output off.
     WentOff,
     /// OFF is 0 after an order that turned the output off.
@@ -43,28 +48,21 @@ pub enum Verdict {
 impl Delivery {
     /// What the rail does, where each question is asked at most so often until a good answer comes, of an output with this power
     /// whose last reading of READ_VOUT stands so.
-    pub fn verdict(&self, passes: u8, power: Power, reading: Reading) -> Verdict {
+    pub fn verdict(&self, passes: u8, power: Power, reading: Reading) -> Verdict
+        ensures { result ≡ verdict_of self.now passes power reading }
+    {
+        let due = self.due(passes, power, reading);
         match self.look {
-            LOOK_AFTER => match power {
-                Power::Off => Verdict::CommandedOff,
-                Power::NotKnown => Verdict::NotKnownOn,
-                Power::On => self.ended(passes, power, reading, self.verdict_on(reading)),
-            },
-            LOOK_OFF => self.ended(passes, power, reading, self.verdict_off()),
-            _ => Verdict::NotYet,
-        }
-    }
-
-    // A verdict, where nothing is to be asked any more.
-    fn ended(&self, passes: u8, power: Power, reading: Reading, verdict: Verdict) -> Verdict {
-        match self.due(passes, power, reading) {
-            Due::Nothing => verdict,
+            LOOK_AFTER => verdict_at(power, due, self.verdict_on(reading)),
+            LOOK_OFF => ended(due, self.verdict_off()),
             _ => Verdict::NotYet,
         }
     }
 
     // What a rail does that was turned off.
-    fn verdict_off(&self) -> Verdict {
+    fn verdict_off(&self) -> Verdict
+        ensures { result ≡ spec_verdict_off self.now }
+    {
         if !self.status_word.is_good() {
             self.not_known(Question::StatusWord)
         } else if self.is_off() {
@@ -74,59 +72,113 @@ impl Delivery {
         }
     }
 
-    // What a rail does that is commanded on, by the answers of this round.
-    pub(crate) fn verdict_on(&self, reading: Reading) -> Verdict {
+    /// What a rail does that is commanded on, by the answers of this round.
+    pub(crate) fn verdict_on(&self, reading: Reading) -> Verdict
+        ensures { result ≡ spec_verdict_on self.now reading }
+    {
         if !self.status_word.is_good() {
-            return self.not_known(Question::StatusWord);
+            self.not_known(Question::StatusWord)
+        } else if self.is_off() {
+            Verdict::IsOff
+        } else {
+            self.verdict_sound(reading)
         }
-        if self.is_off() {
-            return Verdict::IsOff;
-        }
-        if let Some((code, place)) = self.new_fault() {
-            return Verdict::NewFault(code, place);
-        }
-        if let Some(question) = self.unanswered() {
-            return self.not_known(question);
-        }
-        self.verdict_by(reading)
     }
 
-    // What a rail does by its reading, where nothing else speaks against it but power good.
-    fn verdict_by(&self, reading: Reading) -> Verdict {
-        if self.has_read_vout == 0 {
-            return if self.lacks_power_good() {
-                Verdict::NoPowerGood
-            } else {
-                Verdict::Delivers
-            };
+    // The same where it isn't off.
+    fn verdict_sound(&self, reading: Reading) -> Verdict
+        ensures { result ≡ spec_verdict_sound self.now reading (new_fault self.now) }
+    {
+        if let Some(fault) = self.new_fault() {
+            return Verdict::NewFault(fault.register, fault.place);
         }
+        match self.unanswered() {
+            Some(register) => self.not_known(register),
+            None => self.verdict_by(reading),
+        }
+    }
+
+    // What a rail does by its reading and power good, where nothing else speaks against it.
+    fn verdict_by(&self, reading: Reading) -> Verdict
+        ensures { result ≡ spec_verdict_by self.now reading }
+    {
+        if self.has_vout() {
+            self.verdict_with(reading)
+        } else if self.lacks_power_good() {
+            Verdict::NoPowerGood
+        } else {
+            Verdict::Delivers
+        }
+    }
+
+    // The same of a part with READ_VOUT.
+    fn verdict_with(&self, reading: Reading) -> Verdict
+        ensures { result ≡ spec_verdict_with self.now reading }
+    {
         match reading {
             Reading::NotKnown => self.not_known(Question::ReadVout),
             Reading::Outside => Verdict::OutsideLimits,
             Reading::Beyond => Verdict::Beyond,
-            Reading::Right if self.lacks_power_good() => Verdict::PowerGoodAlone,
-            Reading::Right => Verdict::Delivers,
+            Reading::Right => {
+                if self.lacks_power_good() {
+                    Verdict::PowerGoodAlone
+                } else {
+                    Verdict::Delivers
+                }
+            }
         }
     }
 
     // A register without a good answer.
-    fn not_known(&self, question: Question) -> Verdict {
-        Verdict::NotKnown(question.code(), self.heard(question).fault)
+    fn not_known(&self, register: Question) -> Verdict
+        ensures { result ≡ spec_not_known self.now register }
+    {
+        Verdict::NotKnown(register, self.heard(register).fault)
     }
 
     // A status register whose summary in STATUS_WORD is new, and that gave no good answer.
-    fn unanswered(&self) -> Option<Question> {
-        self.unanswered_of(Question::StatusVout, VOUT)
-            .or(self.unanswered_of(Question::StatusIout, IOUT_POUT))
-            .or(self.unanswered_of(Question::StatusInput, INPUT))
-            .or(self.unanswered_of(Question::StatusTemperature, TEMPERATURE))
+    fn unanswered(&self) -> Option<Question>
+        ensures { result ≡ spec_unanswered self.now }
+    {
+        self.unanswered_of(Question::StatusVout, VOUT).or(
+            self.unanswered_of(Question::StatusIout, IOUT_POUT).or(
+                self.unanswered_of(Question::StatusInput, INPUT).or(self.unanswered_of(
+                    Question::StatusTemperature,
+                    TEMPERATURE,
+                )),
+            ),
+        )
     }
 
-    fn unanswered_of(&self, question: Question, summary: u16) -> Option<Question> {
-        if self.is_new(summary) && !self.heard(question).is_good() {
-            Some(question)
+    // Such a register, where this is one.
+    fn unanswered_of(&self, register: Question, summary: u8) -> Option<Question>
+        ensures { result ≡ rule (spec_is_unanswered self.now register summary) register }
+    {
+        if self.is_new(summary) && !self.heard(register).is_good() {
+            Some(register)
         } else {
             None
         }
+    }
+}
+
+// A verdict of an output with this power.
+fn verdict_at(power: Power, due: Due, verdict: Verdict) -> Verdict
+    ensures { result ≡ spec_verdict_at power due verdict }
+{
+    match power {
+        Power::Off => Verdict::CommandedOff,
+        Power::NotKnown => Verdict::NotKnownOn,
+        Power::On => ended(due, verdict),
+    }
+}
+
+// A verdict, where nothing is due.
+fn ended(due: Due, verdict: Verdict) -> Verdict
+    ensures { result ≡ once_over due verdict }
+{
+    match due {
+        Due::Nothing => verdict,
+        Due::Ask(_) | Due::Again => Verdict::NotYet,
     }
 }

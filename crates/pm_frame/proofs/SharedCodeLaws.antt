@@ -1,7 +1,7 @@
 -- Messages that share their packet error code.
 use Rattle.std.proofs.Common.{◌≡◌, ◌↔◌, ℕ, ◌+◌, ◌*◌, ◌<◌, ◌^◌, List, [], ◌∷◌, ◌++◌, length, bit_xor, refl, sym, ap, ap₂, ◌∙◌, arith}
 use Rattle.std.proofs.lemmas.Nat.{xor_lt}
-use Rattle.std.specs.Int.Bits.{xor_self, xor_zero_l, xor_zero_r}
+use Rattle.std.specs.Int.Bits.{xor_self}
 use Rattle.pm_table.specs.Codes as command
 use Rattle.pm_frame.specs.declared.message.Message.TheVariants.{PagePlusWrite, ReadCommand, PagePlusRead}
 use Rattle.pm_frame.specs.declared.message.Payload.{Payload}

@@ -118,6 +118,10 @@ pub record BeginsIn (old : GuardImage) (job : Asked) (new : GuardImage) : Type 0
   pub registers : new.registers ≡ old.registers
   pub written : IsMemory old → IsMemory new
 
+-- a course whose job the host or its limits refuse has ended
+abbrev pub refused_in : CourseImage → ℕ → Asked → CourseImage
+refused_in was number job = option_map_or (λ c. course_image (refused_by c number job)) (course_in was) was
+
 -- How a course hands out its next frame: that of its open job, or the first of the job that it says, which begins; or it has ended,
 -- as it says or since the host or its limits refuse that job.
 pub data HandsOut (old : GuardImage) (was : CourseImage) : ℕ → GuardImage → CourseImage → SendingImage → Type 0 where

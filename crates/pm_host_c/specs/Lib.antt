@@ -2,6 +2,8 @@
 pub mod Course
 pub mod CourseEnd
 pub mod CourseImage
+pub mod Delivery
+pub mod Goal
 pub mod Guard
 pub mod Host
 pub mod Known
@@ -10,6 +12,7 @@ pub mod Memory
 pub mod Names
 pub mod Numbers
 pub mod Packets
+pub mod Paged
 pub mod Rail
 pub mod Sizes
 pub mod Voltages

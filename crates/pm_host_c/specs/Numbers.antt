@@ -1,5 +1,5 @@
 -- The numbers that calls answer, of which no two mean two things: 0 where nothing is refused; a refusal's own,
--- which stands beside its words; E0h to E4h, E6h, E7h, E9h and EBh for what only a caller in C can ask wrongly; 91h
+-- which stands beside its words; E0h to E4h, E6h, E7h, E9h and EBh to EDh for what only a caller in C can ask wrongly; 91h
 -- to 93h for where a voltage lies; and 95h for a course that has ended. This project's own choice.
 use Rattle.std.specs.Prelude.{ℕ, Bool, if◌then◌else◌, Option, Some, None}
 use Rattle.pm_host.specs.declared.fault.HostFault.{HostFault}
@@ -46,6 +46,14 @@ no_course = 0xE9
 -- another than the output's registers may decide its voltage
 abbrev pub no_band_there : ℕ
 no_band_there = 0xEB
+
+-- the memory holds no delivery
+abbrev pub no_delivery : ℕ
+no_delivery = 0xEC
+
+-- the course has no goal of the register
+abbrev pub no_goal : ℕ
+no_goal = 0xED
 
 -- an output's voltage lies within its limits, or outside them, or it isn't known
 abbrev pub within_yes : ℕ

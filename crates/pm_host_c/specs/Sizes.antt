@@ -39,3 +39,11 @@ library_version = 0x0001
 -- of its last answer and its end
 abbrev pub course_size : ℕ
 course_size = 6 * word_size + 5 * (2 * word_size) + 5 * 8 + 8 + 7 + 6 + 5 + 6
+
+-- what came of a question: two bytes and a word
+abbrev pub heard_size : ℕ
+heard_size = 2 + word_size
+
+-- a delivery: the mark, the version, four bytes, three words, and thirteen questions
+abbrev pub delivery_size : ℕ
+delivery_size = 2 * word_size + 4 + 3 * word_size + 13 * heard_size

@@ -4,7 +4,7 @@ ghost use Rattle.std.specs.Prelude.{◌≡◌, ◌≢◌, ◌<◌, not, ◌==◌
 ghost use Rattle.pm_host.specs.Transcript.{Finished, Got};
 ghost use Rattle.pm_host.specs.Told.{entry_told};
 ghost use Rattle.pm_course.specs.FrameCourse.{to_byte, to_survey};
-ghost use Rattle.pm_host_c.specs.Course.{begun_number, guard_at, job_answer, kept_number, voltage_begun, voltage_number, voltage_register, want_number, wanted_more, words_course, HandsOut, SaysIn, TellsCourse, WouldBegin};
+ghost use Rattle.pm_host_c.specs.Course.{begun_number, guard_at, job_answer, kept_number, refused_in, voltage_begun, voltage_number, voltage_register, want_number, wanted_more, words_course, HandsOut, SaysIn, TellsCourse, WouldBegin};
 ghost use Rattle.pm_host_c.specs.CourseEnd.{end_answer};
 ghost use Rattle.pm_host_c.specs.Guard.{guard_of};
 ghost use Rattle.pm_host_c.specs.CourseImage.{course_image, course_in, course_version, job_image};
@@ -238,7 +238,6 @@ pub extern "C" fn pm_course_frame(
             return ACCEPTED;
         }
     }
-    let mut refused = asked;
     match says(host, stage, &mut asked) {
         CourseNext::Ended(_) => {
             *course = CourseImage::of(&asked);
@@ -252,12 +251,21 @@ pub extern "C" fn pm_course_frame(
                 pm_host_frame(host, sending);
                 ACCEPTED
             } else {
-                refused.refused(number, job);
-                *course = CourseImage::of(&refused);
+                refuse(course, number, job);
                 sending.clear();
                 ENDED
             }
         }
+    }
+}
+
+// A course ends, since the host or its limits refuse the job that it said, by this number.
+fn refuse(course: &mut CourseImage, number: u8, job: Job)
+    ensures { course.new ≡ refused_in course.old number job }
+{
+    if let Some(mut asked) = course.course() {
+        asked.refused(number, job);
+        *course = CourseImage::of(&asked);
     }
 }
 

@@ -1,14 +1,19 @@
 //! What a rail does, as plain numbers.
 
-use crate::delivery::{reading_in, refusal};
+ghost use Rattle.std.specs.Prelude.{◌≡◌, ◌≢◌, ◌<◌, is_some, IfSome};
+ghost use Rattle.pm_delivery.specs.Beyond.{judgement_of};
+ghost use Rattle.pm_host.specs.Summary.{format_at};
+ghost use Rattle.pm_host_c.specs.Delivery.{asked_number, idle, is_told, judge_number, judged_number, judgement_after, judgement_by, judgement_image, limit_code};
+ghost use Rattle.pm_host_c.specs.Delivery.{limit_word, said as spec_said, said_by as spec_said_by, verdict_at, verdict_numbers, word_of as spec_word_of, IsDelivered, IsTold};
+
+use crate::delivery::{power, reading, refusal};
 use crate::delivery_image::DeliveryImage;
 use crate::guard_image::GuardImage;
 use crate::numbers::ACCEPTED;
 use crate::voltages::put_floor;
-use pm_delivery::{Delivery, Judgement, Limit, Verdict};
+use pm_delivery::{Delivery, Judgement, Limit, Question, Verdict};
 use pm_host::HostFault;
 use pm_num::NumFormat;
-use pm_rail::power_in;
 
 /// What a rail does, as plain numbers. It has no padding.
 #[repr(C)]
@@ -54,73 +59,94 @@ pub extern "C" fn pm_delivery_verdict(
     delivery: &DeliveryImage,
     host: &GuardImage,
     delivered: &mut DeliveredImage,
-) -> u8 {
+) -> u8
+    ensures number { result ≡ asked_number host.now delivery.now }
+    ensures said { result ≡ 0 → IsDelivered host.now delivery.now.delivery delivered.new }
+    ensures refused { result ≢ 0 → delivered.new ≡ delivered.old }
+{
     let number = refusal(delivery, host);
     if number != ACCEPTED {
         return number;
     }
-    let mut said = numbers_of(verdict_in(&delivery.delivery, host));
-    said.word = word_at(&delivery.delivery, said.code);
-    if put_reading(&delivery.delivery, host, &mut said.microvolts) {
-        said.has_microvolts = 1;
-    }
-    *delivered = said;
+    *delivered = delivered_in(&delivery.delivery, host);
     ACCEPTED
 }
 
+// What the rail does, with its reading.
+fn delivered_in(delivery: &Delivery, host: &GuardImage) -> DeliveredImage
+    requires { delivery.now.output < 8 }
+    ensures { IsDelivered host.now delivery.now result }
+{
+    let verdict = verdict(delivery, host);
+    let mut image = numbers_of(verdict);
+    image.word = word_of(delivery, said_by(verdict));
+    match told(delivery, host) {
+        Some(microvolts) => {
+            image.has_microvolts = 1;
+            image.microvolts = microvolts;
+            image
+        }
+        None => image,
+    }
+}
+
 // What the rail does.
-fn verdict_in(delivery: &Delivery, host: &GuardImage) -> Verdict {
-    let power = power_in(&host.host.state, delivery.output);
-    delivery.verdict(host.host.state.passes, power, reading_in(delivery, host))
+fn verdict(delivery: &Delivery, host: &GuardImage) -> Verdict
+    requires { delivery.now.output < 8 }
+    ensures { result ≡ verdict_at host.now delivery.now }
+{
+    delivery.verdict(
+        host.host.state.passes,
+        power(delivery, host),
+        reading(delivery, host),
+    )
 }
 
 // READ_VOUT in microvolts, where it gave a good answer and its format is known.
-fn put_reading(delivery: &Delivery, host: &GuardImage, microvolts: &mut i64) -> bool {
+fn told(delivery: &Delivery, host: &GuardImage) -> Option<i64>
+    requires { delivery.now.output < 8 }
+    ensures told { is_some result ≡ is_told (format_at (idle host.now) delivery.now.output) delivery.now }
+    ensures floor { IsTold (format_at (idle host.now) delivery.now.output) delivery.now result }
+{
     if !delivery.read_vout.is_good() {
-        return false;
+        return None;
     }
-    match host.host.state.format(delivery.output).format() {
-        Some(format) => {
-            put_floor(&format.value_of(delivery.read_vout.word), microvolts) == ACCEPTED
-        }
-        None => false,
+    let Some(format) = host.host.state.format(delivery.output).format() else {
+        return None;
+    };
+    let mut microvolts = 0;
+    if put_floor(&format.value_of(delivery.read_vout.word), &mut microvolts) == ACCEPTED {
+        Some(microvolts)
+    } else {
+        None
     }
 }
 
 // The numbers of a verdict.
-fn numbers_of(verdict: Verdict) -> DeliveredImage {
+fn numbers_of(verdict: Verdict) -> DeliveredImage
+    ensures { result ≡ verdict_numbers verdict }
+{
     match verdict {
         Verdict::NotYet => said(0, 0, 0, 0),
         Verdict::Delivers => said(1, 0, 0, 0),
         Verdict::CommandedOff => said(2, 0, 0, 0),
         Verdict::NotKnownOn => said(3, 0, 0, 0),
-        Verdict::IsOff => said(4, 0x79, 0, 0),
-        Verdict::NewFault(code, place) => said(5, code.0, place as u8, 0),
-        Verdict::OutsideLimits => said(6, 0x8B, 0, 0),
-        Verdict::Beyond => said(7, 0x8B, 0, 0),
-        Verdict::PowerGoodAlone => said(8, 0x79, 0, 0),
-        Verdict::NoPowerGood => said(9, 0x79, 0, 0),
-        Verdict::NotKnown(code, fault) => said(10, code.0, 0, fault),
+        Verdict::IsOff => said(4, Question::StatusWord.code().0, 0, 0),
+        Verdict::NewFault(register, place) => said(5, register.code().0, place, 0),
+        Verdict::OutsideLimits => said(6, Question::ReadVout.code().0, 0, 0),
+        Verdict::Beyond => said(7, Question::ReadVout.code().0, 0, 0),
+        Verdict::PowerGoodAlone => said(8, Question::StatusWord.code().0, 0, 0),
+        Verdict::NoPowerGood => said(9, Question::StatusWord.code().0, 0, 0),
+        Verdict::NotKnown(register, fault) => said(10, register.code().0, 0, fault),
         Verdict::WentOff => said(11, 0, 0, 0),
-        Verdict::StillOn => said(12, 0x79, 0, 0),
-    }
-}
-
-// What the register that decides held in this round; 0 of none.
-fn word_at(delivery: &Delivery, code: u8) -> u16 {
-    match code {
-        0x79 => delivery.status_word.word,
-        0x7A => delivery.status_vout.word,
-        0x7B => delivery.status_iout.word,
-        0x7C => delivery.status_input.word,
-        0x7D => delivery.status_temperature.word,
-        0x8B => delivery.read_vout.word,
-        _ => 0,
+        Verdict::StillOn => said(12, Question::StatusWord.code().0, 0, 0),
     }
 }
 
 // Numbers without a reading.
-fn said(kind: u8, code: u8, bit: u8, fault: u8) -> DeliveredImage {
+fn said(kind: u8, code: u8, bit: u8, fault: u8) -> DeliveredImage
+    ensures { result ≡ spec_said kind code bit fault }
+{
     DeliveredImage {
         kind,
         code,
@@ -133,6 +159,34 @@ fn said(kind: u8, code: u8, bit: u8, fault: u8) -> DeliveredImage {
     }
 }
 
+// The register that a verdict is said by.
+fn said_by(verdict: Verdict) -> Option<Question>
+    ensures { result ≡ spec_said_by verdict }
+{
+    match verdict {
+        Verdict::IsOff | Verdict::PowerGoodAlone | Verdict::NoPowerGood | Verdict::StillOn => {
+            Some(Question::StatusWord)
+        }
+        Verdict::OutsideLimits | Verdict::Beyond => Some(Question::ReadVout),
+        Verdict::NewFault(register, _) | Verdict::NotKnown(register, _) => Some(register),
+        Verdict::NotYet
+        | Verdict::Delivers
+        | Verdict::CommandedOff
+        | Verdict::NotKnownOn
+        | Verdict::WentOff => None,
+    }
+}
+
+// What a register held in this round; 0 of none.
+fn word_of(delivery: &Delivery, register: Option<Question>) -> u16
+    ensures { result ≡ spec_word_of delivery.now register }
+{
+    match register {
+        Some(register) => delivery.heard(register).word,
+        None => 0,
+    }
+}
+
 /// Which limits a word of the output's voltage is at or beyond, of those that gave a good answer. P8 where that is a fault limit, and
 /// fault limits aren't told alone; what it is at or beyond is told then too. E0h, ECh, H4, H7; then nothing is written.
 #[unsafe(no_mangle)]
@@ -141,17 +195,36 @@ pub extern "C" fn pm_delivery_judge(
     host: &GuardImage,
     word: u16,
     judgement: &mut JudgementImage,
-) -> u8 {
+) -> u8
+    ensures number { let refusal = asked_number host.now delivery.now in
+        result ≡ judge_number refusal (format_at (idle host.now) delivery.now.delivery.output) delivery.now.delivery word }
+    ensures judgement { let refusal = asked_number host.now delivery.now in
+        judgement.new ≡ judgement_after refusal (format_at (idle host.now) delivery.now.delivery.output) delivery.now.delivery word judgement.old }
+{
     let number = refusal(delivery, host);
     if number != ACCEPTED {
         return number;
     }
-    let Some(format) = host.host.state.format(delivery.delivery.output).format() else {
+    judge_in(&delivery.delivery, host, word, judgement)
+}
+
+// The same of an output that is there.
+fn judge_in(
+    delivery: &Delivery,
+    host: &GuardImage,
+    word: u16,
+    judgement: &mut JudgementImage,
+) -> u8
+    requires { delivery.now.output < 8 }
+    ensures number { result ≡ judged_number (format_at (idle host.now) delivery.now.output) delivery.now word }
+    ensures judgement { judgement.new ≡ judgement_by (format_at (idle host.now) delivery.now.output) delivery.now word judgement.old }
+{
+    let Some(format) = host.host.state.format(delivery.output).format() else {
         return HostFault::FormatUnknown.number();
     };
-    let judged = delivery.delivery.judge(&format, word);
+    let judged = delivery.judge(&format, word);
     *judgement = JudgementImage::of(&judged);
-    match delivery.delivery.refuse(&judged) {
+    match delivery.refuse(&judged) {
         Some(fault) => fault.number(),
         None => ACCEPTED,
     }
@@ -159,26 +232,32 @@ pub extern "C" fn pm_delivery_judge(
 
 impl JudgementImage {
     // The numbers of a judgement.
-    fn of(judgement: &Judgement) -> JudgementImage {
+    fn of(judgement: &Judgement) -> JudgementImage
+        ensures { result ≡ judgement_image judgement.now }
+    {
         JudgementImage {
             fault: code_of(judgement.fault),
             warning: code_of(judgement.warning),
-            fault_word: word_of(judgement.fault),
-            warning_word: word_of(judgement.warning),
+            fault_word: limit_word(judgement.fault),
+            warning_word: limit_word(judgement.warning),
         }
     }
 }
 
 // The command code of a limit, 0 of none.
-fn code_of(limit: Option<Limit>) -> u8 {
+fn code_of(limit: Option<Limit>) -> u8
+    ensures { result ≡ limit_code limit }
+{
     match limit {
-        Some(limit) => limit.code.0,
+        Some(limit) => limit.register.code().0,
         None => 0,
     }
 }
 
 // The word of a limit, 0 of none.
-fn word_of(limit: Option<Limit>) -> u16 {
+fn limit_word(limit: Option<Limit>) -> u16
+    ensures { result ≡ limit_word limit }
+{
     match limit {
         Some(limit) => limit.word,
         None => 0,

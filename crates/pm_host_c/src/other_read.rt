@@ -3,7 +3,9 @@
 
 ghost use Rattle.std.specs.Prelude.{◌≡◌, ◌≢◌, ◌≤◌, length};
 ghost use Rattle.pm_frame.specs.BlockRead.{block_fault, IsBlockAnswer};
+ghost use Rattle.pm_frame.specs.PagedRead.{IsPagedAnswer};
 ghost use Rattle.pm_frame.specs.PlainRead.{IsPlainAnswer};
+ghost use Rattle.pm_host_c.specs.Paged.{paged_answer, paged_number, read_paged_number, size_asked, IsPagedSending};
 ghost use Rattle.pm_host_c.specs.Packets.{HasBlock, block_of, plain_read_number, read_number};
 
 use crate::numbers::{ACCEPTED, NO_ADDRESS, NO_PACKET};
@@ -81,7 +83,11 @@ pub extern "C" fn pm_paged_request(
     code: u8,
     size: u8,
     frame: &mut SendingImage,
-) -> u8 {
+) -> u8
+    ensures number { result ≡ paged_number address code size }
+    ensures frame { result ≡ 0 → IsPagedSending address page code (paged_answer size) frame.new }
+    ensures refused { result ≢ 0 → frame.new ≡ frame.old }
+{
     if !address_ok(address) {
         return NO_ADDRESS;
     }
@@ -101,7 +107,12 @@ pub extern "C" fn pm_read_paged(
     size: u8,
     bytes: &[u8],
     block: &mut BlockImage,
-) -> u8 {
+) -> u8
+    ensures number { result ≡ read_paged_number address page code size bytes.now }
+    ensures said { result ≡ 0 → IsPagedAnswer address page code (size_asked size) (block_of block.new) bytes.now }
+    ensures block { result ≡ 0 → HasBlock block.new }
+    ensures refused { result ≢ 0 → block.new ≡ block.old }
+{
     if !address_ok(address) {
         return NO_ADDRESS;
     }
@@ -118,7 +129,9 @@ pub extern "C" fn pm_read_paged(
 }
 
 // The count that is asked for; none of a block.
-fn asked_size(size: u8) -> Option<usize> {
+fn asked_size(size: u8) -> Option<usize>
+    ensures { result ≡ size_asked size }
+{
     if size == 0 {
         None
     } else {
@@ -127,7 +140,10 @@ fn asked_size(size: u8) -> Option<usize> {
 }
 
 // How many bytes a whole answer has at most: the read address, the count, the payload and the packet error code.
-fn whole_answer(size: u8) -> u8 {
+fn whole_answer(size: u8) -> u8
+    requires { size ≤ 32 }
+    ensures { result ≡ paged_answer size }
+{
     if size == 0 { 35 } else { size + 3 }
 }
 

@@ -52,7 +52,11 @@ impl SendingImage {
 
 impl SendingImage {
     /// The request of a read by PAGE_PLUS is to be sent, to which a whole answer has so many bytes.
-    pub(crate) fn put_paged(&mut self, request: &[u8; 5], answer: u8) {
+    pub(crate) fn put_paged(&mut self, request: &[u8; 5], answer: u8)
+        ensures kind { self.new.kind ≡ 2 }
+        ensures answer { self.new.answer ≡ answer }
+        ensures frame { take self.new.length self.new.bytes ≡ request.now }
+    {
         self.kind = 2;
         self.length = 5;
         self.answer = answer;

@@ -2,11 +2,14 @@
 import ctypes as c
 import os
 import sys
-from typing import NoReturn
+from typing import Any, NoReturn
 
 from ._started import is_command
 
 PATH = os.environ.get("PMHOST_LIBRARY") or os.path.join(os.path.dirname(os.path.abspath(__file__)), "libpmhost.so")
+
+# Asked while the package is imported: later the first argument is another.
+OF_COMMAND = is_command()
 
 VERSION = 0x0001
 HOST_VERSION = 6
@@ -14,27 +17,16 @@ HOST_SIZE = 2064
 COURSE_VERSION = 1
 COURSE_SIZE = 104
 DELIVERY_VERSION = 1
+PART_SIZE = 372
 CELLS = 49
 
 
 def _stop(why: str) -> NoReturn:
     """Says why there is no library: in a line to the user of the command, and else as an ImportError."""
-    if not is_command():
+    if not OF_COMMAND:
         raise ImportError(why) from None
     sys.stderr.write(f"pmhost: {why}\n")
     sys.exit(2)
-
-
-def _load() -> c.CDLL:
-    try:
-        loaded = c.CDLL(PATH)
-        loaded.pm_part_size.restype = c.c_uint64
-    except (OSError, AttributeError) as fault:
-        _stop(f"{fault}; `pip install ./python` makes this package's library, PMHOST_LIBRARY names another")
-    return loaded
-
-
-_loaded = _load()
 
 
 class HostImage(c.Structure):
@@ -160,8 +152,8 @@ class ConfigImage(c.Structure):
 
 
 class PartImage(c.Structure):
-    # A part of the library's own size: nothing here looks into it.
-    _fields_ = [("memory", c.c_uint16 * (_loaded.pm_part_size() // 2))]
+    # Nothing here looks into it.
+    _fields_ = [("memory", c.c_uint16 * (PART_SIZE // 2))]
 
 
 class ReplyImage(c.Structure):
@@ -255,19 +247,38 @@ CALLS = {
 }
 
 
-def _library() -> c.CDLL:
+def _load() -> c.CDLL:
+    """The library, whose calls, versions and sizes are those that this package is for."""
+    try:
+        loaded = c.CDLL(PATH)
+        getattr(loaded, "pm_part_size")
+    except (OSError, AttributeError) as fault:
+        _stop(f"{fault}; `pip install ./python` makes this package's library, PMHOST_LIBRARY names another")
     for name, (answers, takes) in CALLS.items():
-        if not hasattr(_loaded, name):
+        if not hasattr(loaded, name):
             _stop(f"{PATH} is another library than this package is for: it has no {name}")
-        call = getattr(_loaded, name)
+        call = getattr(loaded, name)
         call.restype, call.argtypes = answers, takes
-    found = (_loaded.pm_version() >> 8, _loaded.pm_host_version(), _loaded.pm_host_size(),
-             _loaded.pm_course_version(), _loaded.pm_course_size(), _loaded.pm_delivery_version(), _loaded.pm_delivery_size())
+    found = (loaded.pm_version() >> 8, loaded.pm_host_version(), loaded.pm_host_size(), loaded.pm_course_version(), loaded.pm_course_size(),
+             loaded.pm_delivery_version(), loaded.pm_delivery_size(), loaded.pm_part_size())
     wanted = (VERSION >> 8, HOST_VERSION, c.sizeof(HostImage), COURSE_VERSION, c.sizeof(CourseImage), DELIVERY_VERSION,
-              c.sizeof(DeliveryImage))
+              c.sizeof(DeliveryImage), c.sizeof(PartImage))
     if found != wanted:
         _stop(f"{PATH} is another library than this package is for: it says {found}, and not {wanted}")
-    return _loaded
+    return loaded
 
 
-library = _library()
+class Library:
+    """The library's calls. The first that is asked for loads it, so that what needs none, as `pmhost --help`, runs without."""
+
+    def __getattr__(self, name: str) -> Any:
+        if name not in CALLS:
+            raise AttributeError(name)
+        loaded = _load()
+        vars(self).update({each: getattr(loaded, each) for each in CALLS})
+        return vars(self)[name]
+
+
+library = Library()
+if not OF_COMMAND:
+    library.pm_version()

@@ -1,11 +1,12 @@
 use Rattle.std.proofs.Common.{◌≡◌, ◌≢◌, ◌∙◌, true, Option, Some, None, Ok, ap, sym, subst, refl, rules}
+use Rattle.std.specs.Option.{option_map_or}
 use Rattle.pm_host.specs.declared.stage.Stage.{Stage}
 use Rattle.pm_host.specs.Image.{held, host_of}
 use Rattle.pm_limits.specs.Guard.{Guarded}
 use Rattle.pm_course.specs.declared.course_end.CourseNext.{CourseNext}
 use Rattle.pm_course.specs.declared.course_end.CourseNext.TheVariants.{Job, Ended}
 use Rattle.pm_host_c.specs.declared.course_image.CourseImage.{CourseImage}
-use Rattle.pm_host_c.specs.Course.{BeginsIn, HandsOut, SaysIn, again, begun, guard_at, no_course_there, no_host_there, over, refused}
+use Rattle.pm_host_c.specs.Course.{BeginsIn, HandsOut, SaysIn, again, begun, guard_at, no_course_there, no_host_there, over, refused, refused_in}
 use Rattle.pm_host_c.specs.CourseImage.{course_image}
 use Rattle.pm_host_c.specs.Guard.{guard_of}
 use Rattle.pm_host.specs.Summary.{Summary}
@@ -86,9 +87,11 @@ returns-else-number-eq-ACCEPTED c =
     subst (λ (n : CourseNext). SaysIn g c.in-Some.asked n c.says.new.course) c.in-Job.is c.says.ensures in
     let stays : c.begin-number.new.host ≡ c.args.host.now = c.begin-number.ensures.refused c.if-number-eq-ACCEPTED.false in
     let isnt : number ≢ accepted = λ is. c.if-number-eq-ACCEPTED.false (c.begin-number.ensures.number ∙ is) in
-    let is : c.of-else-number-eq-ACCEPTED.result ≡ course_image (refused_by c.in-Some.asked number job) =
-    c.of-else-number-eq-ACCEPTED.ensures
-    ∙ ap (λ (f : FrameCourse). course_image f) (c.refused.ensures ∙ ap (λ n. refused_by c.in-Some.asked n job) c.begin-number.ensures.number) in
+    let is : c.refuse.new.course ≡ course_image (refused_by c.in-Some.asked number job) =
+    c.refuse.ensures
+    ∙ ap (λ n. refused_in c.args.course.now n job) c.begin-number.ensures.number
+    ∙ ap (λ (at : Option FrameCourse). option_map_or (λ (was : FrameCourse). course_image (refused_by was number job)) at c.args.course.now)
+    (sym c.course.ensures ∙ c.in-Some.is) in
     subst
     (λ (i : CourseImage). HandsOut c.args.host.now c.args.course.now 149 c.begin-number.new.host i c.clear-else-number-eq-ACCEPTED.new.self)
     (sym is)
