@@ -80,14 +80,13 @@ class PatientBus:
     def write(self, frame: bytes) -> bool:
         """Sends a packet, again where its address wasn't acknowledged, and waits until the part is ready. The end is that of the
         last try."""
-        busy_timeout = self.busy_timeout(frame)
-        deadline = clock.until() + busy_timeout / 1000
+        deadline = clock.until() + self.busy_timeout(frame) / 1000
         try:
             is_acknowledged = self._write(frame, deadline)
         except OSError:
-            self._wait_for_part(frame[0], busy_timeout, deadline)
+            self._wait_for_part(frame[0], deadline)
             raise
-        self._wait_for_part(frame[0], busy_timeout, deadline)
+        self._wait_for_part(frame[0], deadline)
         return is_acknowledged
 
     def read(self, request: bytes, count: int) -> bytes:
@@ -110,10 +109,10 @@ class PatientBus:
                 if fault.errno != UNHEARD or is_command(frame, STORE_USER_ALL) or not waits.wait():
                     raise
 
-    def _wait_for_part(self, address_byte: int, busy_timeout: int, deadline: float) -> None:
+    def _wait_for_part(self, address_byte: int, deadline: float) -> None:
         """Asks whether the part is ready until it is, or the time is over; with none nothing is asked."""
         waits = Waits(deadline)
-        while busy_timeout and waits.wait() and not self._is_ready(address_byte):
+        while waits.wait() and not self._is_ready(address_byte):
             pass
 
     def _is_ready(self, address_byte: int) -> bool:
