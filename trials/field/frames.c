@@ -89,7 +89,7 @@ static uint8_t word_of(const field_part *part, uint8_t code, uint8_t at, uint16_
     case 0x44: *word = out->held.uv_fault; return 2;
     case 0x5E: *word = out->held.good_on; return 2;
     case 0x5F: *word = out->held.good_off; return 2;
-    case STATUS_BYTE: *word = status_word_of(part, at) & 0xFF; return 1;
+    case STATUS_BYTE: *word = (uint16_t)(status_word_of(part, at) & 0xFF); return 1;
     case STATUS_WORD: *word = status_word_of(part, at); return 2;
     case STATUS_VOUT: *word = status_vout_of(part, at); return 1;
     case STATUS_IOUT: *word = out->iout; return 1;
