@@ -1,9 +1,11 @@
 """Readings and status registers: what `read` tells of them, and what is told behind a job that ended badly."""
+import os
 import unittest
 from decimal import Decimal
 from unittest import mock
 
 from pmhost import (Format, FrameRefused, MemoryRefused, Output, ModelPart, ModelPartBus, Device, code_request, pec, read_block, read_plain, readings)
+from pmhost import CODES as CODES_OF_HOST, codes
 from pmhost.readings import KINDS, Reading
 from pmhost.reads import Read, Reads
 from pmhost.status import BITS, names_of
@@ -58,6 +60,29 @@ class Bits(unittest.TestCase):
         self.assertEqual({name for name, kind in KINDS.items() if kind.size == 1},
                          {"ON_OFF_CONFIG", *(name for name in BY_HAND if name != "STATUS_WORD")})
         self.assertEqual({name for name, kind in KINDS.items() if not kind.unit}, {"ON_OFF_CONFIG", *BY_HAND})
+
+
+class Codes(unittest.TestCase):
+    @unittest.skipUnless(os.path.isdir(os.path.join(ROOT, "trials")), "the package stands alone")
+    def test_other_codes_have_the_names_of_pmb_decode(self):
+        """Of those the table for sigrok is made by the built program; what is read here is what isn't a host's register, nor a reading."""
+        space = {}
+        exec(stored(ROOT, "trials", "sigrok", "pmbus", "tables.py"), space)  # pylint: disable=exec-used
+        self.assertEqual({it.code: name for name, it in codes.CODES.items()},
+                         {code: space["NAMES"].get(code) for code in (it.code for it in codes.CODES.values())})
+        left = set(space["NAMES"].values()) - set(codes.CODES) - set(KINDS) - set(CODES_OF_HOST)
+        self.assertEqual(left, {
+            "CLEAR_FAULTS", "PAGE_PLUS_WRITE", "PAGE_PLUS_READ", "ZONE_CONFIG", "ZONE_ACTIVE", "STORE_DEFAULT_ALL", "RESTORE_DEFAULT_ALL",
+            "STORE_DEFAULT_CODE", "RESTORE_DEFAULT_CODE", "STORE_USER_ALL", "RESTORE_USER_ALL", "STORE_USER_CODE", "RESTORE_USER_CODE", "QUERY",
+            "SMBALERT_MASK", "COEFFICIENTS", "READ_KWH_IN", "READ_KWH_OUT", "READ_KWH_CONFIG", "MFR_SPECIFIC_COMMAND_EXT", "PMBUS_COMMAND_EXT"})
+
+    def test_sizes_by_hand(self):
+        rows = {"PAGE": "00 byte", "VOUT_OV_FAULT_RESPONSE": "41 byte", "OT_FAULT_LIMIT": "4F word", "TON_DELAY": "60 word", "MFR_SERIAL": "9E block",
+                "MFR_VOUT_MAX": "A5 word", "USER_DATA_15": "BF block", "PMBUS_REVISION": "98 byte", "READ_EIN": "86 block", "MFR_MAX_TEMP_1": "C0 word"}
+        for name, wanted in rows.items():
+            self.assertEqual(f"{codes.CODES[name].code:02X} {codes.CODES[name].kind}", wanted)
+        self.assertEqual((codes.code_of("dd:word"), codes.code_of("9E:block").code, codes.code_of("DD:long"), codes.code_of("DD")),
+                         (codes.Code("dd:word", 0xDD, "word"), 0x9E, None, None))
 
 
 class Odd(ModelPartBus):

@@ -153,7 +153,7 @@ static int is_voltage(uint8_t code) {
 /* Writes a register that this file has. 0 where it has none of this code. */
 static int take_own(field_part *part, packet said, uint8_t at) {
     field_words *held = &part->out[at].held;
-    uint16_t word = said.count > 1 ? (uint16_t)(said.data[0] | said.data[1] << 8) : said.count ? said.data[0] : 0, protect = 0;
+    uint16_t protect = 0, word = (uint16_t)(said.count > 1 ? said.data[0] | said.data[1] << 8 : said.count ? said.data[0] : 0);
     uint16_t *places[] = {&held->ov_fault, 0, &held->ov_warn, &held->uv_warn, &held->uv_fault};
     uint16_t *place = said.code >= 0x40 && said.code <= 0x44 ? places[said.code - 0x40] : said.code == 0x5E ? &held->good_on
         : said.code == 0x5F ? &held->good_off : said.code == ON_OFF_CONFIG ? &held->on_off_config : 0;

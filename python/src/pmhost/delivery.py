@@ -21,8 +21,8 @@ FAULT_LIMITS = {"refuse": 0, "tell": 1, "skip": 2}
 VERDICTS = ("not yet", "delivers", "commanded off", "not known to be on", "off", "fault", "outside", "beyond", "power good alone",
             "no power good", "not known", "went off", "still on")
 # The registers that are asked for, by their command codes.
-NAMES = {0x40: "VOUT_OV_FAULT_LIMIT", 0x42: "VOUT_OV_WARN_LIMIT", 0x43: "VOUT_UV_WARN_LIMIT", 0x44: "VOUT_UV_FAULT_LIMIT", 0x5E: "POWER_GOOD_ON",
-         0x5F: "POWER_GOOD_OFF", 0x79: "STATUS_WORD", 0x7A: "STATUS_VOUT", 0x7B: "STATUS_IOUT", 0x7C: "STATUS_INPUT",
+NAMES = {0x40: "VOUT_OV_FAULT_LIMIT", 0x42: "VOUT_OV_WARN_LIMIT", 0x43: "VOUT_UV_WARN_LIMIT", 0x44: "VOUT_UV_FAULT_LIMIT",
+         0x5E: "POWER_GOOD_ON", 0x5F: "POWER_GOOD_OFF", 0x79: "STATUS_WORD", 0x7A: "STATUS_VOUT", 0x7B: "STATUS_IOUT", 0x7C: "STATUS_INPUT",
          0x7D: "STATUS_TEMPERATURE", 0x8B: "READ_VOUT"}
 # The fault and warning limits, by their fields.
 LIMITS = {"ov_fault_limit": 0x40, "ov_warn_limit": 0x42, "uv_warn_limit": 0x43, "uv_fault_limit": 0x44}
@@ -40,8 +40,8 @@ class Heard:
 
 @dataclass(frozen=True)
 class Verdict:
-    """What a rail does, one of VERDICTS; the register that says so, of a fault the number of its bit, and of `not known` what was wrong with the
-    last answer. `microvolts` is READ_VOUT, None where it isn't known."""
+    """What a rail does, one of VERDICTS; the register that says so, of a fault the number of its bit, and of `not known` what was wrong
+    with the last answer. `microvolts` is READ_VOUT, None where it isn't known."""
 
     kind: str
     register: Optional[str] = None

@@ -27,8 +27,8 @@ FAULTS = {"VOUT", "IOUT_POUT", "INPUT", "VOUT_OV_FAULT", "IOUT_OC_FAULT", "VIN_U
 
 @dataclass(frozen=True)
 class Looks:
-    """How rails are looked at. `fault_limits` refuses a voltage at or beyond a fault limit (`refuse`), says so alone (`tell`), or doesn't read
-    them (`skip`). `power_good` judges a rail whose power good alone is missing (`judge`), or says so (`tell`). READ_VOUT may be `within`
+    """How rails are looked at. `fault_limits` refuses a voltage at or beyond a fault limit (`refuse`), says so alone (`tell`), or doesn't
+    read them (`skip`). `power_good` judges a rail whose power good alone is missing (`judge`), or says so (`tell`). READ_VOUT may be `within`
     thousandths away from what is commanded, and a rail is given `settle` milliseconds until it delivers."""
 
     fault_limits: str = "refuse"
@@ -66,8 +66,9 @@ class NotDelivered(NotDone):
 
 @dataclass
 class Delivered:
-    """What a rail does, by its last answers. `is_absent` says that the part has no STATUS_WORD, and `is_told` that this was said before; `status` is STATUS_WORD, `before` what it was before the first order; `registers` has the status
-    registers that were read, `notes` what is said of limits."""
+    """What a rail does, by its last answers. `is_absent` says that the part has no STATUS_WORD, and `is_told` that this was said before;
+    `status` is STATUS_WORD, `before` what it was before the first order; `registers` has the status registers that were read, `notes` what is
+    said of limits."""
 
     output: int
     verdict: Verdict
@@ -124,8 +125,10 @@ class Delivered:
         if kind == "not known":
             return f"; delivery not known: {found.register} gave no good answer{': ' * bool(found.fault)}{found.fault}"
         begins, there = self.power_good_on, found.microvolts
-        missing = ("power good is missing" if begins is None else f"power good begins at {voltages.shown(begins)}" if there is None or there < begins
-                   else f"power good is missing, and begins at {voltages.shown(begins)}")
+        missing = "power good is missing"
+        if begins is not None:
+            is_below = there is None or there < begins
+            missing = f"power good {'' if is_below else 'is missing, and '}begins at {voltages.shown(begins)}"
         return {"off": f"; {self.status_words}: the rail is off", "fault": f"; {self.status_words}: {name_of_bit(found)} came with this call",
                 "beyond": f"; {read} is more than {self.how.within / 10:g}% away from that{self._rest()}",
                 "power good alone": f"; {read}; {self.status_words}: {missing}",

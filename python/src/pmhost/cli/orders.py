@@ -7,6 +7,7 @@ import re
 from typing import Any, Callable
 
 from .. import probe, voltages
+from ..codes import CODES, code_of
 from ..course import Course, Job
 from ..device import MARGINS, OFF, ON, Device
 from ..errors import PlanRefused, Refused
@@ -43,6 +44,15 @@ def register_of(names: tuple[str, ...]) -> Callable[[str], str]:
             raise argparse.ArgumentTypeError(f"register {word}: give {word.upper()}")
         raise argparse.ArgumentTypeError(f"register {shown(word)}: give one of {', '.join(names)}")
     return judge
+
+
+def read_register_of(word: str) -> str:
+    """The judge of what `read` takes: a register's name, any other one of the standard, or a code in hexadecimal digits."""
+    known = (*REGISTERS, DEVICE, *KINDS, *CODES)
+    if word in known or code_of(word) is not None:
+        return word
+    give = word.upper() if word.upper() in known else "a name of the standard, as READ_VOUT, or a code, as DD:word, 9E:block or EF:byte"
+    raise argparse.ArgumentTypeError(f"register {shown(word)}: give {give}")
 
 
 def voltage_of(word: str) -> int:
@@ -92,8 +102,9 @@ def add(commands: Any) -> None:
     bus_options(found)
     found = command("read", read, "reads a register, a reading or a status register, and tells what it says", judge_read)
     found.add_argument("output", **device | {"help": f"the output, from 0; or - for {DEVICE}, readings and status registers"})
-    completed_by(found.add_argument("register", metavar="REG", nargs="?", type=register_of((*REGISTERS, DEVICE, *KINDS)),
-                                    help=f"VOUT_COMMAND if left out, with - {DEVICE}"), (*REGISTERS, DEVICE, *KINDS))
+    completed_by(found.add_argument("register", metavar="REG", nargs="?", type=read_register_of,
+                                    help=f"VOUT_COMMAND if left out, with - {DEVICE}; any name of the standard, or a code as DD:word, 9E:block "
+                                         "or EF:byte"), (*REGISTERS, DEVICE, *KINDS, *CODES))
     bus_options(found)
     found = command("survey", survey_output, "reads what decides what an output commands, and tells that")
     found.add_argument("output", **output)
@@ -164,8 +175,13 @@ def judge_device(arguments: argparse.Namespace, more: str = " alone") -> None:
 def judge_read(arguments: argparse.Namespace) -> None:
     if arguments.register is None:
         arguments.register = DEVICE if arguments.output is None else "VOUT_COMMAND"
-    if arguments.register not in KINDS:
+    if arguments.register not in KINDS and not is_other(arguments.register):
         judge_device(arguments, ", readings and status registers")
+
+
+def is_other(register: str) -> bool:
+    """Whether a register is one that no job of the host reads, nor is a reading or a status register."""
+    return register not in (*REGISTERS, DEVICE, *KINDS)
 
 
 def judge_word(arguments: argparse.Namespace) -> None:
@@ -209,6 +225,8 @@ def read(arguments: argparse.Namespace) -> int:
     """A register's word, as it was just read."""
     if arguments.register in KINDS:
         return readings.tell(arguments)
+    if is_other(arguments.register):
+        return readings.tell_code(arguments)
     call: Call = arguments.call
     part, register = call.part(), arguments.register
     if register in VOLTAGES:
