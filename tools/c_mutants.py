@@ -22,7 +22,8 @@ class Copy:
 
     def __init__(self, folder, built):
         self.folder, self.built, self.sound = folder, built, {}
-        for each in ("crates/pm_host_c/include", "crates/pm_device_c/include", "examples/c", "trials/c/rows", "trials/course", "rust"):
+        for each in ("crates/pm_host_c/include", "crates/pm_device_c/include", "examples/c", "trials/c/rows", "trials/course", "trials/field",
+                     "rust"):
             shutil.copytree(os.path.join(ROOT, each), os.path.join(folder, each), ignore=shutil.ignore_patterns("target"))
 
     def run(self, *words, **environment):
@@ -65,6 +66,8 @@ class Copy:
             return self.warns(row)
         if test == "course rows":
             return self.course_row(row)
+        if test == "field rows":
+            return self.field_row(row)
         if test == "patient_rows.c":
             return self.patient_row(row)
         if test == "i2c_dev.c":
@@ -86,6 +89,12 @@ class Copy:
         """Whether this row of courses is right."""
         self.program("courses", "trials/course/rows.c")
         status, text = self.run("timeout", "60", "./courses", "trials/course/rows.txt")
+        return status in (0, 1) and f"\n{name}: " not in "\n" + text
+
+    def field_row(self, name):
+        """Whether this row over the part in the field is right."""
+        self.program("field_program", *(f"trials/field/{each}.c" for each in ("rows", "field", "frames")))
+        status, text = self.run("timeout", "60", "./field_program", "trials/field/rows.txt")
         return status in (0, 1) and f"\n{name}: " not in "\n" + text
 
     def warns(self, call):
