@@ -273,7 +273,7 @@ impl Course {
             (0, _) => None,
             (1, _) => Some(Ok(())),
             (3, Some(register)) => Some(Err(NotReached::Differs { register, word: found.word })),
-            (4, _) => Some(Err(NotReached::Spent { cell, fault: fault_of(found.fault), error })),
+            (4, _) => Some(Err(NotReached::Spent { cell, fault: AnswerFault::of(found.fault.to_le_bytes()[0]), error })),
             (5, _) => Some(Err(NotReached::NoFormat { mode: found.word.to_le_bytes()[0] })),
             (6, _) => Some(Err(NotReached::OtherSource { byte: found.word.to_le_bytes()[0] })),
             _ => Some(Err(NotReached::Refused { refusal: Refusal::of(found.number), cell })),
@@ -296,6 +296,15 @@ impl Course {
         (number == 0).then(|| self.job_of(found)).flatten()
     }
 
+    /// The word that it wants of VOUT_COMMAND or of a margin, by the format that the host knows now; of a course to a byte that leaves the
+    /// output on the word that the register is known to hold that the byte selects. `None` where it has none of this register.
+    #[must_use]
+    pub fn goal(&self, host: &Host, register: Register) -> Option<u16> {
+        let mut word = 0;
+        let number = unsafe { ffi::pm_course_goal(&self.image, &host.image, register.code(), &mut word) };
+        (number == 0).then_some(word)
+    }
+
     fn job_of(&self, found: ffi::CourseJobImage) -> Option<Job> {
         let cell = Cell::of(self.output, found.code);
         match found.kind {
@@ -307,12 +316,15 @@ impl Course {
     }
 }
 
-fn fault_of(number: u16) -> Option<AnswerFault> {
-    match number.to_le_bytes()[0] {
-        0 => None,
-        1 => Some(AnswerFault::NoAnswer),
-        2 => Some(AnswerFault::NotAcknowledged),
-        number => Some(AnswerFault::Bad(Refusal::of(number))),
+impl AnswerFault {
+    /// The fault of a number; `None` where the answer was good.
+    pub(crate) fn of(number: u8) -> Option<AnswerFault> {
+        match number {
+            0 => None,
+            1 => Some(AnswerFault::NoAnswer),
+            2 => Some(AnswerFault::NotAcknowledged),
+            number => Some(AnswerFault::Bad(Refusal::of(number))),
+        }
     }
 }
 

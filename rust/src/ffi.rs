@@ -6,6 +6,8 @@ pub const HOST_VERSION: u16 = 6;
 pub const HOST_SIZE: usize = 2064;
 pub const COURSE_VERSION: u16 = 1;
 pub const COURSE_SIZE: usize = 104;
+pub const DELIVERY_VERSION: u16 = 1;
+pub const DELIVERY_SIZE: usize = 66;
 pub const CELLS: usize = 49;
 pub const PART_SIZE: usize = 372;
 
@@ -149,6 +151,63 @@ pub struct CourseJobImage {
 
 #[repr(C)]
 #[derive(Clone, Copy, Default)]
+pub struct HeardImage {
+    pub asked: u8,
+    pub fault: u8,
+    pub word: u16,
+}
+
+#[repr(C)]
+#[derive(Clone, Copy, Default)]
+pub struct DeliveryImage {
+    pub mark: u16,
+    pub version: u16,
+    pub output: u8,
+    pub look: u8,
+    pub fault_limits: u8,
+    pub has_read_vout: u8,
+    pub within: u16,
+    pub rounds: u16,
+    pub round: u16,
+    pub before: HeardImage,
+    pub ov_fault_limit: HeardImage,
+    pub ov_warn_limit: HeardImage,
+    pub uv_warn_limit: HeardImage,
+    pub uv_fault_limit: HeardImage,
+    pub status_word: HeardImage,
+    pub status_vout: HeardImage,
+    pub status_iout: HeardImage,
+    pub status_input: HeardImage,
+    pub status_temperature: HeardImage,
+    pub read_vout: HeardImage,
+    pub power_good_on: HeardImage,
+    pub power_good_off: HeardImage,
+}
+
+#[repr(C)]
+#[derive(Clone, Copy, Default)]
+pub struct DeliveredImage {
+    pub kind: u8,
+    pub code: u8,
+    pub bit: u8,
+    pub fault: u8,
+    pub has_microvolts: u8,
+    pub unused: u8,
+    pub word: u16,
+    pub microvolts: i64,
+}
+
+#[repr(C)]
+#[derive(Clone, Copy, Default)]
+pub struct JudgementImage {
+    pub fault: u8,
+    pub warning: u8,
+    pub fault_word: u16,
+    pub warning_word: u16,
+}
+
+#[repr(C)]
+#[derive(Clone, Copy, Default)]
 pub struct NameImage {
     pub text: [u8; 32],
 }
@@ -222,7 +281,7 @@ pub struct ReplyImage {
 }
 
 const _: () = assert!(size_of::<HostImage>() == HOST_SIZE && size_of::<PartImage>() == PART_SIZE);
-const _: () = assert!(size_of::<CourseImage>() == COURSE_SIZE);
+const _: () = assert!(size_of::<CourseImage>() == COURSE_SIZE && size_of::<DeliveryImage>() == DELIVERY_SIZE);
 
 extern "C" {
     pub fn pm_version() -> u16;
@@ -264,6 +323,23 @@ extern "C" {
     pub fn pm_course_ended(course: &CourseImage, end: &mut CourseEndImage) -> u8;
     pub fn pm_course_next(course: &CourseImage, host: &HostImage, next: &mut CourseJobImage) -> u8;
     pub fn pm_course_job_now(course: &CourseImage, now: &mut CourseJobImage) -> u8;
+    pub fn pm_course_goal(course: &CourseImage, host: &HostImage, code: u8, word: &mut u16) -> u8;
+    pub fn pm_delivery_size() -> u64;
+    pub fn pm_delivery_version() -> u16;
+    pub fn pm_delivery_new(
+        delivery: &mut DeliveryImage,
+        output: u8,
+        fault_limits: u8,
+        has_read_vout: u8,
+        within: u16,
+        rounds: u16,
+    ) -> u8;
+    pub fn pm_delivery_before(delivery: &mut DeliveryImage) -> u8;
+    pub fn pm_delivery_after(delivery: &mut DeliveryImage, off: u8) -> u8;
+    pub fn pm_delivery_frame(delivery: &mut DeliveryImage, host: &HostImage, sending: &mut SendingImage) -> u8;
+    pub fn pm_delivery_read_ended(delivery: &mut DeliveryImage, host: &HostImage, bytes: *const u8, count: u64) -> u8;
+    pub fn pm_delivery_verdict(delivery: &DeliveryImage, host: &HostImage, delivered: &mut DeliveredImage) -> u8;
+    pub fn pm_delivery_judge(delivery: &DeliveryImage, host: &HostImage, word: u16, judgement: &mut JudgementImage) -> u8;
     pub fn pm_refusal_name(number: u8, name: &mut NameImage) -> u8;
     pub fn pm_end_name(kind: u16, name: &mut NameImage) -> u8;
     pub fn pm_microvolts(format: &FormatImage, word: u16, microvolts: &mut i64) -> u8;
@@ -283,6 +359,16 @@ extern "C" {
     ) -> u8;
     pub fn pm_read_block(address: u8, code: u8, bytes: *const u8, count: u64, block: &mut BlockImage) -> u8;
     pub fn pm_read_plain(address: u8, code: u8, size: u8, bytes: *const u8, count: u64, block: &mut BlockImage) -> u8;
+    pub fn pm_paged_request(address: u8, page: u8, code: u8, size: u8, frame: &mut SendingImage) -> u8;
+    pub fn pm_read_paged(
+        address: u8,
+        page: u8,
+        code: u8,
+        size: u8,
+        bytes: *const u8,
+        count: u64,
+        block: &mut BlockImage,
+    ) -> u8;
     pub fn pm_part_size() -> u64;
     pub fn pm_part_new(part: &mut PartImage, config: &ConfigImage) -> u8;
     pub fn pm_part_hear(part: &mut PartImage, bytes: *const u8, count: u64, is_request: u8, reply: &mut ReplyImage) -> u8;

@@ -4,6 +4,7 @@
 
 mod bus;
 mod course;
+mod delivery;
 mod done;
 mod ffi;
 mod host;
@@ -22,6 +23,9 @@ mod refusal;
 
 pub use bus::{Bus, Operation};
 pub use course::{AnswerFault, Course, NotReached, COURSE_TRIES};
+pub use delivery::{
+    Delivery, DeliveryOptions, FaultLimits, Judgement, Limit, NotDelivered, Verdict, DELIVERS_WITHIN, DELIVERY_ROUNDS,
+};
 pub use done::{Done, NotDone};
 pub use host::{Band, Cell, Host, Known, Limits, LimitsState, Possible, Register, Sending, Step};
 pub use jobs::Job;

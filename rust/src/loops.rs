@@ -70,8 +70,21 @@ impl<'a> Frames<'a> {
     /// Sends frame after frame over a bus until none is left: the last step, `None` where there was no frame. A store, which wears
     /// the part's memory, is sent once: its later passes are told as not acknowledged, unsent.
     pub(crate) fn carry_out<B: Bus>(&mut self, bus: &mut B, failures: &mut Failures<B::Error>) -> Result<Option<Step>, Refusal> {
+        self.carry_out_until(bus, failures, |_, _| false)
+    }
+
+    /// The same, until this holds of a course and its host before a frame.
+    pub(crate) fn carry_out_until<B: Bus>(
+        &mut self,
+        bus: &mut B,
+        failures: &mut Failures<B::Error>,
+        is_far: impl Fn(&Course, &Host) -> bool,
+    ) -> Result<Option<Step>, Refusal> {
         let (mut last, mut has_stored) = (None, false);
         loop {
+            if self.course.as_ref().is_some_and(|course| is_far(course, self.host)) {
+                return Ok(last);
+            }
             last = Some(match self.frame() {
                 Sending::Nothing => return Ok(last),
                 Sending::Write(_) if has_stored => self.write_ended(false)?,

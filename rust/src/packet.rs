@@ -225,6 +225,32 @@ impl Block {
         Ok(Block { length: found.length.min(32), bytes: found.bytes })
     }
 
+    /// The request of a read by PAGE_PLUS of any code that it carries: of a byte (1), of a word (2), of so many bytes up to 32, or of a
+    /// block (0), whose count the answer says. NoAddress; NoPacket for a code that PAGE_PLUS doesn't carry, and for a greater size.
+    ///
+    /// ```
+    /// # use pmhost::Block;
+    /// let request = Block::paged_request(0x58, 0, 0x40, 2)?; // VOUT_OV_FAULT_LIMIT of output 0
+    /// assert_eq!(&*request, [0xB0, 0x06, 0x02, 0x00, 0x40]);
+    /// assert_eq!(&*Block::read_paged(0x58, 0, 0x40, 2, &[0xB1, 0x02, 0xCD, 0x3C, 0x4F])?, [0xCD, 0x3C]);
+    /// # Ok::<(), pmhost::Refusal>(())
+    /// ```
+    pub fn paged_request(address: u8, page: u8, code: u8, size: u8) -> Result<Bytes, Refusal> {
+        let mut frame = ffi::SendingImage::default();
+        // SAFETY: the reference is valid, and overlaps nothing.
+        accepted(unsafe { ffi::pm_paged_request(address, page, code, size, &mut frame) })?;
+        Ok(Bytes::of(frame.length, frame.bytes))
+    }
+
+    /// What came back for it, the read address first, then the count. NoAddress, NoPacket as for the request; F1 to F5, of which F4 is
+    /// another count than asked for.
+    pub fn read_paged(address: u8, page: u8, code: u8, size: u8, bytes: &[u8]) -> Result<Block, Refusal> {
+        let (mut found, count) = (ffi::BlockImage::default(), bytes.len() as u64);
+        // SAFETY: the slice's pointer and count are its own, and what is written overlaps nothing.
+        accepted(unsafe { ffi::pm_read_paged(address, page, code, size, bytes.as_ptr(), count, &mut found) })?;
+        Ok(Block { length: found.length.min(32), bytes: found.bytes })
+    }
+
     /// What came back for a plain read of any code that asks for `size` bytes, at most 32: the read address first. F1 to F3, F5;
     /// NoPacket where more were asked for.
     pub fn read_plain(address: u8, code: u8, size: u8, bytes: &[u8]) -> Result<Block, Refusal> {

@@ -119,6 +119,8 @@ refusals! {
     P6AboveMax = 0x66,
     /// P7: WRITE_PROTECT doesn't allow each order that is still to come.
     P7Protected = 0x67,
+    /// P8: a word is at or beyond VOUT_OV_FAULT_LIMIT or VOUT_UV_FAULT_LIMIT.
+    P8BeyondFaultLimit = 0x68,
     /// V1: a part has 1 to 8 outputs.
     V1OutputCount = 0x51,
     /// V2: OPERATION or WRITE_PROTECT doesn't accept its start word.
@@ -153,6 +155,10 @@ refusals! {
     NoCourse = 0xE9,
     /// OPERATION may be a byte that hands the output's voltage to AVSBus.
     NoBand = 0xEB,
+    /// The memory holds no delivery. Of one that is made: the linked library's have another layout than this crate's.
+    NoDelivery = 0xEC,
+    /// The course wants no word of this register.
+    NoGoal = 0xED,
 }
 
 impl fmt::Display for Refusal {

@@ -21,6 +21,9 @@ use Rattle.pm_limits.specs.declared.fault.LimitFault.TheVariants.{MissingRegiste
 use Rattle.pm_limits.specs.declared.fault.LimitFault.TheVariants.{Host}
 use Rattle.pm_limits.specs.declared.fault.LimitFault.TheVariants as limits
 use Rattle.pm_limits.specs.FaultWords.{limit_fault_number, limit_fault_words}
+use Rattle.pm_delivery.specs.declared.fault.DeliveryFault.{DeliveryFault}
+use Rattle.pm_delivery.specs.declared.fault.DeliveryFault.TheVariants.{BeyondFaultLimit}
+use Rattle.pm_delivery.specs.FaultWords.{delivery_fault_number, delivery_fault_words}
 use Rattle.pm_rail.specs.declared.fault.PlanFault.{PlanFault}
 use Rattle.pm_rail.specs.declared.fault.PlanFault.TheVariants as plan
 use Rattle.pm_rail.specs.FaultWords.{plan_fault_number, plan_fault_words}
@@ -69,6 +72,10 @@ converter device.BadPage = refl
 converter device.Protected = refl
 converter device.Nested = refl
 converter device.ReadOnly = refl
+
+-- under its number each refusal of a delivery, for whatever limit, has its own words
+pub delivery : (fault : DeliveryFault) → refusal_words (delivery_fault_number fault) ≡ Some (delivery_fault_words fault)
+delivery (BeyondFaultLimit register word) = refl
 
 -- under its number each fault of a configuration has its own words
 pub config : (fault : ConfigFault) → refusal_words (config_fault_number fault) ≡ Some (config_fault_words fault)

@@ -1,5 +1,5 @@
 -- What the calls of a delivery answer and write, by the definitions of pm_delivery. This project's own choice.
-use Rattle.std.specs.Prelude.{◌≡◌, ◌≢◌, ℕ, ℤ, pos, ◌==◌, ◌&&◌, ◌+◌, not, nat_lt, if◌then◌else◌, Bool, List, slice_index_or}
+use Rattle.std.specs.Prelude.{◌≡◌, ◌≢◌, ℕ, ℤ, pos, ◌==◌, ◌&&◌, ◌+◌, not, nat_lt, if◌then◌else◌, Bool, false, List, slice_index_or}
 use Rattle.std.specs.Prelude.{Option, Some, None, is_some, IfSome, IsSomeAnd}
 use Rattle.std.specs.Option.{option_map_or}
 use Rattle.pm_num.specs.AnyFormat.{Shape, shape_value}
@@ -195,17 +195,23 @@ abbrev pub is_told : Option Shape → Delivery → Bool
 is_told shape d = is_good d.read_vout && is_near shape d.read_vout.word
 
 -- it is rounded down
-abbrev pub IsTold : Option Shape → Delivery → Option ℤ → Type 0
-IsTold shape d told = IfSome told (λ x. IsSomeAnd shape (λ s. IsFloor (shape_value s d.read_vout.word) x))
+abbrev pub IsFloorOf : Option Shape → ℕ → Option ℤ → Type 0
+IsFloorOf shape word told = IfSome told (λ x. IsSomeAnd shape (λ s. IsFloor (shape_value s word) x))
 
--- every number that is written
+abbrev pub IsTold : Option Shape → Delivery → Option ℤ → Type 0
+IsTold shape d told = IsFloorOf shape d.read_vout.word told
+
+-- numbers with the word of a register, and with a reading
+abbrev pub with_reading : DeliveredImage → ℕ → Option ℤ → DeliveredImage
+with_reading numbers word None = record numbers { word = word }
+with_reading numbers word (Some x) = record numbers { word = word; has_microvolts = 1; microvolts = x }
+
+-- Every number that is written: those of the verdict, the word of the register that says it, and the reading, where that is told.
 pub record IsDelivered (host : GuardImage) (d : Delivery) (image : DeliveredImage) : Type 0 where
-  pub numbers : record image { has_microvolts = 0; word = 0; microvolts = pos 0 } ≡ verdict_numbers (verdict_at host d)
-  pub word : image.word ≡ word_of d (said_by (verdict_at host d))
-  pub told : image.has_microvolts ≡ flag (is_told (format_at (idle host) d.output) d)
-  pub microvolts : image.has_microvolts ≡ 1
-      → IsSomeAnd (format_at (idle host) d.output) (λ s. IsFloor (shape_value s d.read_vout.word) image.microvolts)
-  pub none : image.has_microvolts ≡ 0 → image.microvolts ≡ pos 0
+  pub reading : Option ℤ
+  pub written : image ≡ with_reading (verdict_numbers (verdict_at host d)) (word_of d (said_by (verdict_at host d))) reading
+  pub told : is_some reading ≡ is_told (format_at (idle host) d.output) d
+  pub floor : IsTold (format_at (idle host) d.output) d reading
 
 -- which limits a word is at or beyond
 abbrev pub limit_code : Option Limit → ℕ

@@ -2,6 +2,7 @@
 -- choice.
 use Rattle.std.specs.Prelude.{◌≡◌, ℕ, List, [], ◌∷◌, ◌==◌, ◌/◌, if◌then◌else◌, find, length, take, drop, replicate, codes, Option, Some}
 use Rattle.std.specs.Prelude.{None, option_map, is_none}
+use Rattle.std.specs.Option.{option_or}
 use Rattle.pm_num.specs.declared.fault.NumFault.TheVariants.{ZeroSlope, ExponentRange, BelowLeast, AboveGreatest, TooLarge}
 use Rattle.pm_frame.specs.declared.fault.FrameFault.{FrameFault}
 use Rattle.pm_frame.specs.declared.fault.FrameFault.TheVariants.{NotOurs, Short, Long, WrongCount, WrongPec, UnknownCode, WrongDirection}
@@ -23,6 +24,10 @@ use Rattle.pm_rail.specs.declared.fault.PlanFault.{PlanFault}
 use Rattle.pm_rail.specs.declared.fault.PlanFault.TheVariants as plan
 use Rattle.pm_rail.specs.FaultWords.{plan_fault_number, plan_fault_words}
 use Rattle.pm_device.specs.FaultWords.{config_fault_number, config_fault_words, device_fault_number, device_fault_words}
+use Rattle.pm_delivery.specs.declared.fault.DeliveryFault.{DeliveryFault}
+use Rattle.pm_delivery.specs.declared.fault.DeliveryFault.TheVariants.{BeyondFaultLimit}
+use Rattle.pm_delivery.specs.declared.question.Question.TheVariants.{OvFaultLimit}
+use Rattle.pm_delivery.specs.FaultWords.{delivery_fault_number, delivery_fault_words}
 use Rattle.pm_limits.specs.declared.fault.LimitFault.{LimitFault}
 use Rattle.pm_limits.specs.declared.fault.LimitFault.TheVariants.{LimitsInverted, BelowLimit, AboveLimit, NotKnownWithin, LimitsWidened}
 use Rattle.pm_limits.specs.declared.fault.LimitFault.TheVariants.{MissingRegister, Host}
@@ -62,6 +67,10 @@ abbrev pub plan_faults : List PlanFault
 plan_faults =
     plan.FormatUnknown ∷ plan.NotKnown Protect ∷ plan.BelowMin VoutCommand ∷ plan.AboveMax VoutCommand ∷ plan.Protected VoutCommand ∷ []
 
+-- every refusal of a delivery, for some limit
+abbrev pub delivery_faults : List DeliveryFault
+delivery_faults = BeyondFaultLimit OvFaultLimit 0 ∷ []
+
 -- the words of the fault that has a number
 abbrev pub limit_words : ℕ → Option (List ℕ)
 limit_words n = option_map limit_fault_words (find (λ fault. limit_fault_number fault == n) limit_faults)
@@ -78,7 +87,10 @@ config_words n = option_map config_fault_words (find (λ fault. config_fault_num
 abbrev pub plan_words : ℕ → Option (List ℕ)
 plan_words n = option_map plan_fault_words (find (λ fault. plan_fault_number fault == n) plan_faults)
 
--- what only a caller in C can ask wrongly, of a host, a course or a part
+abbrev pub delivery_words : ℕ → Option (List ℕ)
+delivery_words n = option_map delivery_fault_words (find (λ fault. delivery_fault_number fault == n) delivery_faults)
+
+-- what only a caller in C can ask wrongly, of a host, a course, a delivery or a part
 abbrev pub own_words : ℕ → Option (List ℕ)
 own_words n =
     if n == 0xE0 then Some (codes "NoHost")
@@ -91,7 +103,9 @@ own_words n =
     else (if n == 0xE7 then Some (codes "NoName")
     else (if n == 0xE8 then Some (codes "NoReading")
     else (if n == 0xE9 then Some (codes "NoCourse")
-    else (if n == 0xEB then Some (codes "NoBand") else None))))))))))
+    else (if n == 0xEB then Some (codes "NoBand")
+    else (if n == 0xEC then Some (codes "NoDelivery")
+    else (if n == 0xED then Some (codes "NoGoal") else None))))))))))))
 
 -- the words of a refusal, of which each kind has numbers that begin with a digit of its own
 abbrev pub refusal_words : ℕ → Option (List ℕ)
@@ -102,7 +116,7 @@ refusal_words n =
     else (if n / 16 == 3 then frame_words n
     else (if n / 16 == 4 then device_words n
     else (if n / 16 == 5 then config_words n
-    else (if n / 16 == 6 then plan_words n
+    else (if n / 16 == 6 then option_or (plan_words n) (delivery_words n)
     else (if n / 16 == 14 then own_words n else None)))))))
 
 -- how a job stands, in the words of its lines
@@ -135,4 +149,5 @@ pub record RefusalsAreNamed : Type 0 where
   pub device : (fault : DeviceFault) → refusal_words (device_fault_number fault) ≡ Some (device_fault_words fault)
   pub config : (fault : ConfigFault) → refusal_words (config_fault_number fault) ≡ Some (config_fault_words fault)
   pub plan : (fault : PlanFault) → refusal_words (plan_fault_number fault) ≡ Some (plan_fault_words fault)
+  pub delivery : (fault : DeliveryFault) → refusal_words (delivery_fault_number fault) ≡ Some (delivery_fault_words fault)
   pub step : (step : Step) → end_words (step_kind step) ≡ Some (step_words step)

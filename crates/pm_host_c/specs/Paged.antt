@@ -35,7 +35,7 @@ read_paged_number address page code size bytes =
     else no_address
 
 -- the request is to be sent, to which a whole answer has so many bytes
-pub record IsPagedSending (address page code answer : ℕ) (sending : SendingImage) : Type 0 where
+pub record IsPagedSending (address page code whole : ℕ) (sending : SendingImage) : Type 0 where
   pub kind : sending.kind ≡ 2
-  pub answer : sending.answer ≡ answer
+  pub answer : sending.answer ≡ whole
   pub frame : take sending.length sending.bytes ≡ paged_request address page code

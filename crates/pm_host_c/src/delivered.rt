@@ -1,10 +1,12 @@
 //! What a rail does, as plain numbers.
 
-ghost use Rattle.std.specs.Prelude.{◌≡◌, ◌≢◌, ◌<◌, is_some, IfSome};
+ghost use Rattle.std.specs.Prelude.{◌≡◌, ◌≢◌, ◌<◌, is_some, Some, None};
 ghost use Rattle.pm_delivery.specs.Beyond.{judgement_of};
+ghost use Rattle.pm_host.specs.Image.{held};
 ghost use Rattle.pm_host.specs.Summary.{format_at};
-ghost use Rattle.pm_host_c.specs.Delivery.{asked_number, idle, is_told, judge_number, judged_number, judgement_after, judgement_by, judgement_image, limit_code};
-ghost use Rattle.pm_host_c.specs.Delivery.{limit_word, said as spec_said, said_by as spec_said_by, verdict_at, verdict_numbers, word_of as spec_word_of, IsDelivered, IsTold};
+ghost use Rattle.pm_num.specs.AnyFormat.{shape_of};
+ghost use Rattle.pm_host_c.specs.Delivery.{asked_number, idle, is_near, is_told, judge_number, judged_number, judgement_after, judgement_by, judgement_image, limit_code};
+ghost use Rattle.pm_host_c.specs.Delivery.{limit_word, said as spec_said, said_by as spec_said_by, verdict_at, verdict_numbers, word_of as spec_word_of, with_reading as spec_with_reading, IsDelivered, IsFloorOf, IsTold};
 
 use crate::delivery::{power, reading, refusal};
 use crate::delivery_image::DeliveryImage;
@@ -12,8 +14,8 @@ use crate::guard_image::GuardImage;
 use crate::numbers::ACCEPTED;
 use crate::voltages::put_floor;
 use pm_delivery::{Delivery, Judgement, Limit, Question, Verdict};
-use pm_host::HostFault;
-use pm_num::NumFormat;
+use pm_host::{HostFault, State};
+use pm_num::{AnyFormat, NumFormat};
 
 /// What a rail does, as plain numbers. It has no padding.
 #[repr(C)]
@@ -78,16 +80,27 @@ fn delivered_in(delivery: &Delivery, host: &GuardImage) -> DeliveredImage
     ensures { IsDelivered host.now delivery.now result }
 {
     let verdict = verdict(delivery, host);
-    let mut image = numbers_of(verdict);
-    image.word = word_of(delivery, said_by(verdict));
-    match told(delivery, host) {
+    with_reading(
+        numbers_of(verdict),
+        word_of(delivery, said_by(verdict)),
+        told(delivery, host),
+    )
+}
+
+// Numbers with the word of a register, and with a reading.
+fn with_reading(numbers: DeliveredImage, word: u16, told: Option<i64>) -> DeliveredImage
+    ensures { result ≡ spec_with_reading numbers word told }
+{
+    let mut image = numbers;
+    image.word = word;
+    match told {
         Some(microvolts) => {
             image.has_microvolts = 1;
             image.microvolts = microvolts;
-            image
         }
-        None => image,
+        None => {}
     }
+    image
 }
 
 // What the rail does.
@@ -108,14 +121,32 @@ fn told(delivery: &Delivery, host: &GuardImage) -> Option<i64>
     ensures told { is_some result ≡ is_told (format_at (idle host.now) delivery.now.output) delivery.now }
     ensures floor { IsTold (format_at (idle host.now) delivery.now.output) delivery.now result }
 {
-    if !delivery.read_vout.is_good() {
-        return None;
+    if delivery.read_vout.is_good() {
+        floor_at(&host.host.state, delivery.output, delivery.read_vout.word)
+    } else {
+        None
     }
-    let Some(format) = host.host.state.format(delivery.output).format() else {
-        return None;
-    };
+}
+
+// A word of an output's voltage in microvolts, rounded down, where its format is known.
+fn floor_at(state: &State, output: u8, word: u16) -> Option<i64>
+    requires { output < 8 }
+    ensures told { is_some result ≡ is_near (format_at (held None state.now) output) word }
+    ensures floor { IsFloorOf (format_at (held None state.now) output) word result }
+{
+    match state.format(output).format() {
+        Some(format) => floor_of(&format, word),
+        None => None,
+    }
+}
+
+// The same in a format.
+fn floor_of(format: &AnyFormat, word: u16) -> Option<i64>
+    ensures told { is_some result ≡ is_near (Some (shape_of format.now)) word }
+    ensures floor { IsFloorOf (Some (shape_of format.now)) word result }
+{
     let mut microvolts = 0;
-    if put_floor(&format.value_of(delivery.read_vout.word), &mut microvolts) == ACCEPTED {
+    if put_floor(&format.value_of(word), &mut microvolts) == ACCEPTED {
         Some(microvolts)
     } else {
         None
@@ -209,12 +240,7 @@ pub extern "C" fn pm_delivery_judge(
 }
 
 // The same of an output that is there.
-fn judge_in(
-    delivery: &Delivery,
-    host: &GuardImage,
-    word: u16,
-    judgement: &mut JudgementImage,
-) -> u8
+fn judge_in(delivery: &Delivery, host: &GuardImage, word: u16, judgement: &mut JudgementImage) -> u8
     requires { delivery.now.output < 8 }
     ensures number { result ≡ judged_number (format_at (idle host.now) delivery.now.output) delivery.now word }
     ensures judgement { judgement.new ≡ judgement_by (format_at (idle host.now) delivery.now.output) delivery.now word judgement.old }

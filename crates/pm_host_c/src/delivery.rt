@@ -86,10 +86,20 @@ pub extern "C" fn pm_delivery_frame(
         return number;
     }
     match due(&delivery.delivery, host) {
-        Due::Ask(question) => put(host.host.state.address, delivery.delivery.output, question, sending),
+        Due::Ask(question) => put(
+            host.host.state.address,
+            delivery.delivery.output,
+            question,
+            sending,
+        ),
         Due::Again => {
             delivery.delivery.begin_again();
-            put(host.host.state.address, delivery.delivery.output, Question::StatusWord, sending)
+            put(
+                host.host.state.address,
+                delivery.delivery.output,
+                Question::StatusWord,
+                sending,
+            )
         }
         Due::Nothing => {
             sending.clear();
@@ -150,7 +160,10 @@ fn put(address: u8, output: u8, question: Question, sending: &mut SendingImage) 
     ensures zero { result ≡ 0 }
     ensures sending { IsAsking address output (Some question) sending.new }
 {
-    sending.put_paged(&request(address, output, question), question.size() as u8 + 3);
+    sending.put_paged(
+        &request(address, output, question),
+        question.size() as u8 + 3,
+    );
     ACCEPTED
 }
 
@@ -159,7 +172,11 @@ fn due(delivery: &Delivery, host: &GuardImage) -> Due
     requires { delivery.now.output < 8 }
     ensures { result ≡ due_at host.now delivery.now }
 {
-    delivery.due(host.host.state.passes, power(delivery, host), reading(delivery, host))
+    delivery.due(
+        host.host.state.passes,
+        power(delivery, host),
+        reading(delivery, host),
+    )
 }
 
 /// Whether the output is on.

@@ -1,8 +1,9 @@
 //! The names of the numbers that calls answer, each from the type whose number it is.
 ghost use Rattle.std.specs.Prelude.{◌≡◌, ◌≢◌, ◌≤◌, length, option_map, IfSome, IsSomeAnd};
-ghost use Rattle.pm_host_c.specs.Names.{config_words, device_words, end_words, frame_words, limit_words, own_words, plan_words, refusal_words as spec_refusal_words, named_number, HasText};
+ghost use Rattle.pm_host_c.specs.Names.{config_words, delivery_words, device_words, end_words, frame_words, limit_words, own_words, plan_words, refusal_words as spec_refusal_words, named_number, HasText};
 
 use crate::numbers::{ACCEPTED, NO_NAME};
+use pm_delivery::{DeliveryFault, Question};
 use pm_device::{ConfigFault, DeviceFault};
 use pm_frame::FrameFault;
 use pm_host::HostFault;
@@ -92,7 +93,7 @@ fn refusal_words(number: u8) -> Option<&'static str>
         3 => words_of_frame(number),
         4 => words_of_device(number),
         5 => words_of_config(number),
-        6 => words_of_plan(number),
+        6 => words_of_plan(number).or(words_of_delivery(number)),
         14 => words_of_own(number),
         _ => None,
     }
@@ -201,7 +202,19 @@ fn words_of_plan(number: u8) -> Option<&'static str>
     Some(fault.words())
 }
 
-// The words of what only a caller in C can ask wrongly, of a host, a course or a part.
+// The words of why nothing is ordered though a plan would.
+#[inline(never)]
+fn words_of_delivery(number: u8) -> Option<&'static str>
+    ensures words { option_map (λ words. words.now) result ≡ delivery_words number }
+    ensures short { IfSome result (λ words. length words.now ≤ 31) }
+{
+    match number {
+        0x68 => Some(DeliveryFault::BeyondFaultLimit(Question::OvFaultLimit, 0).words()),
+        _ => None,
+    }
+}
+
+// The words of what only a caller in C can ask wrongly, of a host, a course, a delivery or a part.
 #[inline(never)]
 fn words_of_own(number: u8) -> Option<&'static str>
     ensures words { option_map (λ words. words.now) result ≡ own_words number }
@@ -219,6 +232,8 @@ fn words_of_own(number: u8) -> Option<&'static str>
         0xE8 => Some("NoReading"),
         0xE9 => Some("NoCourse"),
         0xEB => Some("NoBand"),
+        0xEC => Some("NoDelivery"),
+        0xED => Some("NoGoal"),
         _ => None,
     }
 }

@@ -57,11 +57,18 @@ impl SendingImage {
         ensures answer { self.new.answer ≡ answer }
         ensures frame { take self.new.length self.new.bytes ≡ request.now }
     {
+        copy_request(&mut self.bytes, request);
         self.kind = 2;
         self.length = 5;
         self.answer = answer;
-        self.bytes[..5].copy_from_slice(request);
     }
+}
+
+// Copies a request to the front of the bytes.
+fn copy_request(bytes: &mut [u8; 16], request: &[u8; 5])
+    ensures { take 5 bytes.new ≡ request.now }
+{
+    bytes[..5].copy_from_slice(request);
 }
 
 /// Copies a frame to the front of the bytes, and answers how many it has.

@@ -1,6 +1,7 @@
 //! Each call on its good path, and refusals; over the model part, whole and with faults.
 
 mod course_rows;
+mod delivery;
 mod ends;
 mod formats;
 #[cfg(target_os = "linux")]

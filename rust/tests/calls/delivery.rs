@@ -1,0 +1,160 @@
+//! What an output does, over the model part with a layer that trips: rows with their words, written by hand.
+
+use pmhost::*;
+
+/// The model part behind a layer that has fault limits, STATUS_WORD and READ_VOUT of its own. `wrong` has what is wrong with it:
+/// `t` it trips at 1.3 V and above, `r` its RUN pin is low, `n` it stays on, `l` READ_VOUT is 90 %, `s` STATUS_WORD gives no answer,
+/// `v` READ_VOUT gives none, `f` the fault limits give none, `g` power good is missing, `u` a fault of VOUT_UV comes with an order,
+/// `o` VOUT_OV_FAULT stands from the beginning.
+struct Rail {
+    part: Part,
+    wrong: &'static str,
+    has_ordered: bool,
+    writes: u32,
+}
+
+impl Rail {
+    fn of(wrong: &'static str, operation: u8) -> Rail {
+        let part = Part::new(0x58, &[Output { operation, max: 0x2000, ..Output::default() }], (1, 0, 3)).unwrap();
+        Rail { part, wrong, has_ordered: false, writes: 0 }
+    }
+
+    fn is(&self, what: char) -> bool {
+        self.wrong.contains(what)
+    }
+
+    fn commanded(&self) -> u16 {
+        self.part.word(Cell::Output(0, Register::VoutCommand)).unwrap()
+    }
+
+    fn is_on(&self) -> bool {
+        self.part.word(Cell::Output(0, Register::Operation)).unwrap() >= 0x80
+    }
+
+    fn status(&self) -> u16 {
+        let trips = self.is('t') && self.is_on() && self.commanded() >= 0x14CD;
+        let is_off = trips || self.is('r') || !(self.is_on() || self.is('n'));
+        u16::from(is_off) * 0x0840
+            | u16::from(trips || self.is('o')) * 0x8020
+            | u16::from(self.is('g')) * 0x0800
+            | u16::from(self.is('u') && self.has_ordered) * 0x8000
+    }
+
+    /// The bytes of a register of the layer; `None` of another one, or where it gives no answer.
+    fn held(&self, code: u8) -> Option<Option<(u16, usize)>> {
+        let volts = if self.status() & 0x40 != 0 { 0 } else { self.commanded() };
+        let read = if self.is('l') { volts * 9 / 10 } else { volts };
+        Some(match code {
+            0x40 => (!self.is('f')).then_some((0x14CD, 2)),
+            0x42 => (!self.is('f')).then_some((0x1333, 2)),
+            0x43 => (!self.is('f')).then_some((0x0B33, 2)),
+            0x44 => (!self.is('f')).then_some((0x0A66, 2)),
+            0x5E => Some((0x1333, 2)),
+            0x5F => Some((0x1266, 2)),
+            0x79 => (!self.is('s')).then_some((self.status(), 2)),
+            0x7A => Some((if self.is('u') { 0x10 } else { 0x80 }, 1)),
+            0x8B => (!self.is('v')).then_some((read, 2)),
+            _ => return None,
+        })
+    }
+}
+
+impl Bus for Rail {
+    type Error = NoAnswer;
+
+    fn transaction(&mut self, address: u8, operations: &mut [Operation<'_>]) -> Result<(), NoAnswer> {
+        if let [Operation::Write(request), Operation::Read(answer)] = operations {
+            if let [0x06, 0x02, page, code] = **request {
+                if let Some(held) = self.held(code) {
+                    let (word, size) = held.ok_or(NoAnswer)?;
+                    let mut whole = vec![address << 1, 0x06, 0x02, page, code, address << 1 | 1, size as u8];
+                    whole.extend_from_slice(&word.to_le_bytes()[..size]);
+                    whole.push(pec(&whole));
+                    answer.copy_from_slice(&whole[6..]);
+                    return Ok(());
+                }
+            }
+        } else {
+            self.has_ordered = true;
+            self.writes += 1;
+        }
+        self.part.transaction(address, operations)
+    }
+}
+
+/// What a course ends as and the rail does, in words, and how many writes there were.
+fn delivered(wrong: &'static str, what: &str, fault_limits: FaultLimits) -> (String, u32) {
+    let mut rail = Rail::of(wrong, if what == "on" { 0x00 } else { 0x80 });
+    let mut host = Host::new(0x58, 1, 2).unwrap();
+    host.set_limits(0, Limits { least: 500_000, most: 2_000_000 }).unwrap();
+    let mut course = match what {
+        "on" => Course::power(0, 0x80, COURSE_TRIES),
+        "off" => Course::power(0, 0x00, COURSE_TRIES),
+        "survey" => Course::survey(0, COURSE_TRIES),
+        microvolts => Course::voltage(0, Register::VoutCommand, microvolts.parse().unwrap(), COURSE_TRIES),
+    }
+    .unwrap();
+    let options = DeliveryOptions { fault_limits, has_read_vout: true, rounds: 3, ..DeliveryOptions::default() };
+    let mut delivery = Delivery::new(0, &options).unwrap();
+    let said = match host.deliver(&mut course, &mut delivery, &mut rail, || ()) {
+        Ok(verdict) => verdict.to_string(),
+        Err(why) => why.to_string(),
+    };
+    (said, rail.writes)
+}
+
+#[test]
+fn an_end_says_what_the_rail_does() {
+    use FaultLimits::{Refuse, Skip, Tell};
+    let tripped = "STATUS_WORD 8860 VOUT, POWER_GOOD#, OFF, VOUT_OV_FAULT: the rail is off";
+    let refused = "refused: P8 BeyondFaultLimit: at or beyond VOUT_OV_FAULT_LIMIT 14CD, which would trip the rail";
+    for (wrong, what, limits, said, writes) in [
+        ("", "1100000", Refuse, "delivers 1.100097V", 1),
+        ("t", "1300000", Refuse, refused, 0),
+        ("t", "1300000", Tell, tripped, 1),
+        ("t", "1300000", Skip, tripped, 1),
+        ("tf", "1300000", Refuse, tripped, 1),
+        ("t", "1299000", Refuse, "delivers 1.299072V", 1),
+        ("", "650000", Refuse, "refused: P8 BeyondFaultLimit: at or beyond VOUT_UV_FAULT_LIMIT 0A66, which would trip the rail", 0),
+        ("r", "1100000", Refuse, "STATUS_WORD 0840 POWER_GOOD#, OFF: the rail is off", 1),
+        ("r", "survey", Refuse, "STATUS_WORD 0840 POWER_GOOD#, OFF: the rail is off", 0),
+        ("r", "on", Refuse, "STATUS_WORD 0840 POWER_GOOD#, OFF: the rail is off", 1),
+        ("u", "1100000", Refuse, "STATUS_VOUT 10 VOUT_UV_FAULT: VOUT_UV_FAULT came with this call", 1),
+        ("o", "1100000", Refuse, "delivers 1.100097V", 1),
+        ("o", "survey", Refuse, "delivers 1V", 0),
+        ("g", "1100000", Refuse, "READ_VOUT 1.100097V, and power good is missing", 1),
+        ("l", "1100000", Refuse, "READ_VOUT 0.98999V, too far from what the output commands", 1),
+        ("s", "1100000", Refuse, "delivery not known: STATUS_WORD gave no good answer: no answer", 1),
+        ("v", "1100000", Refuse, "delivery not known: READ_VOUT gave no good answer: no answer", 1),
+        ("", "off", Refuse, "off", 1),
+        ("n", "off", Refuse, "commanded off, and the part says that it is on", 1),
+        ("", "on", Refuse, "delivers 1V", 1),
+    ] {
+        assert_eq!(delivered(wrong, what, limits), (said.to_string(), writes), "{wrong:?} {what}");
+    }
+}
+
+#[test]
+fn a_read_of_any_code_is_judged() {
+    let came = [0xB1, 0x02, 0xCD, 0x3C, 0x4F];
+    assert_eq!(&*Block::read_paged(0x58, 0, 0x40, 2, &came).unwrap(), [0xCD, 0x3C]);
+    assert_eq!(&*Block::read_paged(0x58, 0, 0x40, 0, &came).unwrap(), [0xCD, 0x3C]);
+    for (page, code, size, bytes, why) in [
+        (1, 0x40, 2, &came[..], Refusal::F5WrongPec),
+        (0, 0x44, 2, &came[..], Refusal::F5WrongPec),
+        (0, 0x40, 1, &came[..], Refusal::F4WrongCount),
+        (0, 0x40, 2, &came[..4], Refusal::F2Short),
+        (0, 0x40, 2, &came[..1], Refusal::F2Short),
+        (0, 0x40, 2, &[][..], Refusal::F1NotOurs),
+        (0, 0x40, 2, &[0xB1, 0xFF, 0xFF, 0xFF, 0xFF][..], Refusal::F4WrongCount),
+        (0, 0x00, 1, &came[..], Refusal::NoPacket),
+        (0, 0x05, 1, &came[..], Refusal::NoPacket),
+        (0, 0x06, 1, &came[..], Refusal::NoPacket),
+        (0, 0x30, 1, &came[..], Refusal::NoPacket),
+        (0, 0x40, 33, &came[..], Refusal::NoPacket),
+    ] {
+        assert_eq!(Block::read_paged(0x58, page, code, size, bytes).err(), Some(why), "{page} {code:02X} {size}");
+    }
+    assert_eq!(Block::paged_request(0x58, 0, 0x30, 2), Err(Refusal::NoPacket));
+    assert_eq!(Block::paged_request(0x07, 0, 0x40, 2), Err(Refusal::NoAddress));
+}
