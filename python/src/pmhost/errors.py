@@ -159,8 +159,6 @@ class OtherSource(NotDone):
 def name_of(number: int) -> str:
     """The letter and the name of a refusal, as `H6 TooUncertain`."""
     name = NameImage()
-    if number == 0x68:
-        return "P8 BeyondFaultLimit"  # TEMPORARY
     if library.pm_refusal_name(number, ctypes.byref(name)):
         return f"number {number:02X}h"
     text: bytes = name.text
