@@ -3,7 +3,7 @@ import signal
 import tempfile
 import unittest
 
-from pmhost import FrameRefused, read_answer, read_request, read_write
+from pmhost import FrameRefused, read_answer, read_plain, read_request, read_write
 from pmhost.packets import Packet, read_paged
 from pmhost.reads import is_known
 from pmhost.bus.linux import ENDING
@@ -17,6 +17,7 @@ NOT_WHOLE = ("WithoutPec", "FloatingPagePlus", "busy.Ones30", "busy.Ones150", "b
 
 
 # The codes that the library reads by a packet of its table.
+PLAIN_CODES = {code for code in range(256) if is_known(Packet("read", code))}
 READ_CODES = {code for code in range(256) if is_known(Packet("PAGE_PLUS_READ", code))}
 
 
@@ -61,6 +62,9 @@ class Blocks(unittest.TestCase):
             try:
                 if slash and frame[4:5] and frame[1] == 0x06 and frame[4] not in READ_CODES:
                     read_paged(frame[0] >> 1, frame[3], frame[4], bytes.fromhex(back)[1], bytes.fromhex(back))
+                elif slash and len(frame) == 2 and frame[1] not in PLAIN_CODES:
+                    came = bytes.fromhex(back)
+                    read_plain(frame[0] >> 1, frame[1], len(came) - 2, came)
                 elif slash:
                     read_answer(frame[0] >> 1, read_request(frame[0] >> 1, frame), bytes.fromhex(back))
                 else:

@@ -104,7 +104,7 @@ def add(commands: Any) -> None:
     found.add_argument("output", **device | {"help": f"the output, from 0; or - for {DEVICE}, readings and status registers"})
     completed_by(found.add_argument("register", metavar="REG", nargs="?", type=read_register_of,
                                     help=f"VOUT_COMMAND if left out, with - {DEVICE}; any name of the standard, or a code as DD:word, 9E:block "
-                                         "or EF:byte"), (*REGISTERS, DEVICE, *KINDS, *CODES))
+                                         "or EF:byte"), tuple(dict.fromkeys((*REGISTERS, DEVICE, *KINDS, *CODES))))
     bus_options(found)
     found = command("survey", survey_output, "reads what decides what an output commands, and tells that")
     found.add_argument("output", **output)
