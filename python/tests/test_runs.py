@@ -63,7 +63,9 @@ class Blocks(unittest.TestCase):
                 if slash and frame[4:5] and frame[1] == 0x06 and frame[4] not in READ_CODES:
                     read_paged(frame[0] >> 1, frame[3], frame[4], bytes.fromhex(back)[1], bytes.fromhex(back))
                 elif slash and len(frame) == 2 and frame[1] not in PLAIN_CODES:
+                    # A block is asked for in its whole length, and ends where its count says.
                     came = bytes.fromhex(back)
+                    came = came[:came[1] + 3] if len(came) > 4 else came
                     read_plain(frame[0] >> 1, frame[1], len(came) - 2, came)
                 elif slash:
                     read_answer(frame[0] >> 1, read_request(frame[0] >> 1, frame), bytes.fromhex(back))
