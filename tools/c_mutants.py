@@ -22,7 +22,7 @@ class Copy:
     def __init__(self, folder, built):
         self.folder, self.built, self.sound = folder, built, {}
         for each in ("crates/pm_host_c/include", "crates/pm_device_c/include", "examples/c", "trials/c/rows", "trials/course",
-                     "trials/delivery", "rust"):
+                     "trials/delivery", "trials/field", "rust"):
             shutil.copytree(os.path.join(ROOT, each), os.path.join(folder, each), ignore=shutil.ignore_patterns("target"))
 
     def run(self, *words, **environment):
@@ -67,6 +67,8 @@ class Copy:
             return self.course_row(row)
         if test == "delivery rows":
             return self.delivery_row(row)
+        if test == "field rows":
+            return self.field_row(row)
         if test in ("patient_rows.c", "target_rows.c"):
             return self.own_row(test, row)
         if test == "i2c_dev.c":
@@ -94,6 +96,12 @@ class Copy:
         """Whether this row of deliveries is right."""
         self.program("deliveries", "trials/delivery/rows.c")
         return f"\n{name}: " not in "\n" + self.run("timeout", "60", "./deliveries")[1]
+
+    def field_row(self, name):
+        """Whether this row over the part in the field is right."""
+        self.program("field_program", *(f"trials/field/{each}.c" for each in ("rows", "field", "frames")))
+        status, text = self.run("timeout", "60", "./field_program", "trials/field/rows.txt")
+        return status in (0, 1) and f"\n{name}: " not in "\n" + text
 
     def warns(self, call):
         """Whether gcc warns of this call alone on a line."""

@@ -58,6 +58,6 @@ class Faulty(ModelPartBus):
 def rails(bus_type=ModelPartBus, **named):
     """A part with two learned rails; output 0 has limits of 3.2 to 3.465 V."""
     part = ModelPart(ADDRESS, RAILS)
-    pmbus = Device(bus_type(part), ADDRESS, outputs=2, **{"limits": {0: ("3.2V", "3.465V")}, **named})
+    pmbus = Device(bus_type(part), ADDRESS, outputs=2, **{"limits": {0: ("3.2V", "3.465V")}, "looks": None, **named})
     pmbus.learn_all()
     return pmbus

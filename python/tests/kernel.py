@@ -28,7 +28,7 @@ import errno
 import os
 import signal
 
-from pmhost import Output, ModelPart as ProvedPart, PartRefused, SetupRefused
+from pmhost import Output, ModelPart as ProvedPart, PartRefused, SetupRefused, pec
 from pmhost.bus.linux import I2C_FUNC_I2C, I2C_FUNCS, I2C_M_RD, I2C_RDWR, I2C_SLAVE, Messages
 
 from . import plain_model  # noqa: F401
@@ -37,12 +37,23 @@ from plain.converter import COMMAND, HIGH, LOW, MAX, MIN, OPERATION, Converter
 from plain.packets import CODES, write_message
 
 FILE = 77
+# What a rail answers: its limits, which nothing reaches, and READ_VOUT; and what else is asked beside the host's jobs.
+RAIL = {0x40: 0xFFFF, 0x42: 0xFFFF, 0x43: 0, 0x44: 0, 0x8B: None}
+TEMPERATURE = 0x8D
+LOOKS = {*RAIL, 0x5E, 0x5F, 0x79, 0x7B, 0x7C, 0x7D, TEMPERATURE}
 WRITES, READS = CODES["PAGE_PLUS_WRITE"], CODES["PAGE_PLUS_READ"]
 SIGNALS = {
     "sigint": lambda: os.kill(os.getpid(), signal.SIGINT), "sigterm": lambda: os.kill(os.getpid(), signal.SIGTERM),
     "sigquit": lambda: os.kill(os.getpid(), signal.SIGQUIT), "sighup": lambda: os.kill(os.getpid(), signal.SIGHUP),
     "group": lambda: os.killpg(os.getpgid(0), signal.SIGINT),
 }
+
+
+def is_look(frame, ending):
+    """Whether a request asks what a rail does, for the limits that trip it, or for the temperature, which no job of the host does."""
+    if ending != "restart":
+        return False
+    return list(frame[1:3]) == [READS, 2] and frame[4:5] and frame[4] in LOOKS or list(frame[1:]) == [TEMPERATURE]
 
 
 class Both:
@@ -99,12 +110,29 @@ class Part:
 
     def hear(self, frame, ending):
         """The bytes of an answer, or None where the part doesn't acknowledge the frame."""
+        found = self.rail(frame) if is_look(frame, ending) and len(frame) == 5 else None
+        if found:
+            return found
         reply = self.converter.hear(frame, ending)
         self.lines.append(" ".join(f"{byte:02X}" for byte in frame) + (" /" if ending == "restart" else ""))
         self.answers.append(reply_words(reply))
         if ending == "restart":
             return reply if isinstance(reply, list) else None
         return None if reply == "silent" else []
+
+    def rail(self, request):
+        """What a rail answers that delivers what its output commands, and that no limit trips; nothing of what the converter answers."""
+        output, code = request[3:]
+        plain = self.converter.plain
+        if code not in RAIL or output not in plain.outputs or request[0] != 2 * plain.address:
+            return None
+        word, is_direct = RAIL[code], plain.setup["outputs"][output][0] == 0x40
+        if is_direct and word is not None:
+            word ^= 0x8000 if plain.setup["coefficients"][0] > 0 else 0x7FFF
+        if word is None:
+            word = plain.cells[output, plain.commanding(output)] if plain.is_on(output) else 0
+        came = [request[0] | 1, 2, word & 0xFF, word >> 8]
+        return [*came, pec(bytes([*request, *came]))]
 
     def hear_stranger(self, frame, ending):
         """What it answers to a frame that arrives at another address: nothing, where it is as it should be."""
@@ -198,7 +226,10 @@ class Absent(Part):
 
 
 class FakeKernel:
-    """The calls of pmhost.bus.linux.Kernel. `faults` has the kernel's error for a path that is opened and for each request."""
+    """The calls of pmhost.bus.linux.Kernel. Mishaps befall the frames of the host's jobs, and where `strikes_looks` those that ask what a rail
+    does, too. `faults` has the kernel's error for a path that is opened and for each request."""
+
+    strikes_looks = False
 
     def __init__(self, part, mishaps=(), faults=None, functions=I2C_FUNC_I2C):
         self.part, self.mishaps, self.faults, self.functions = part, list(mishaps), faults or {}, functions
@@ -248,7 +279,9 @@ class FakeKernel:
         sent, back = messages[0], messages[1] if len(messages) == 2 else None
         assert not sent.flags and (back is None or back.flags == I2C_M_RD and back.addr == sent.addr)
         frame = [2 * sent.addr, *ctypes.string_at(sent.buf, sent.len)]
-        mishap = self.mishaps.pop(0) if self.mishaps else "ok"
+        ending = "stop" if back is None else "restart"
+        spared = not self.strikes_looks and is_look(frame, ending)
+        mishap = self.mishaps.pop(0) if self.mishaps and not spared else "ok"
         if mishap == "restart":
             self.part.restart()
         SIGNALS.get(mishap, int)()
@@ -258,7 +291,6 @@ class FakeKernel:
             self.fail(errno.ETIMEDOUT if mishap == "hung" else errno.ENXIO)
         if mishap in ("short0", "short1"):
             return 0 if mishap == "short0" else 1
-        ending = "stop" if back is None else "restart"
         if mishap == "twice":
             self.part.hear(frame, ending)
         answer = self.part.hear(frame, ending)

@@ -1,7 +1,7 @@
 """Parts that aren't as they should be, as FakeKernel hears them: the proved part, with one thing in front of it that differs."""
 import errno
 
-from pmhost import ModelPart, Output, PartRefused, pec
+from pmhost import ModelPart, Output, PartRefused, ideal, pec
 
 ADDRESS = 0x58
 CLEAR_FAULTS, PAGE_PLUS_WRITE, PAGE_PLUS_READ, ON_OFF_CONFIG = 0x03, 0x05, 0x06, 0x02
@@ -36,7 +36,7 @@ class Proved:
     def asked(self, request):
         """The answer to a request."""
         try:
-            return list(self.part.hear(request, True)) or None
+            return list(ideal.answer(self.part, request) or self.part.hear(request, True)) or None
         except PartRefused:
             return None
 

@@ -2,10 +2,11 @@
 
 A file has a block for each run, a blank line between them. The lines of a block, of which `words` and `status` must stand there:
 
+    name: TEXT           what the run shows
     words: WORDS         the command line; `FILE` is the file of rails of the block
     mishaps: M M*3 ..    what befalls the transfers (kernel.py), one of them three times here
     part: KIND [M M ..] [coefficients m b R]     the kind of part, and VOUT_MODEs in hexadecimal; `odd.KIND` of odd_parts.py,
-                         `busy.KIND` of busy.py
+                         `busy.KIND` of busy.py, `field.Field` of field.py
     board: BUS ADDRESS KIND ..                   one of several parts (board_kernel.py), in the place of `part`
     cell: O REG WORD     a word that the part holds at first; of one of several parts with its address in front
     fault: WHAT ERRNO    the kernel's error for `open`, `slave` or `lock`
@@ -14,6 +15,9 @@ A file has a block for each run, a blank line between them. The lines of a block
     writes: N            how many writes the part heard, 0 if left out; of several parts those of each
     comment: TEXT        a line of the trace
     toml: TEXT           a line of the file of rails
+    looks: struck        mishaps befall the reads that ask what a rail does, too
+    field: O NAME WORD   what a part of field.py has at first, by the names of trials/field/field.h; - for the device
+    volts: V V ..        at how many volts the rails of such a part are behind the run
     status: N            the status
     out: TEXT, err: TEXT     a line of standard output, of standard error
 """
@@ -50,8 +54,8 @@ class Clock:
 # No test waits. Where a row doesn't give --busy-timeout, none is had: its mishaps befall the frames of its jobs alone.
 CLOCK = Clock()
 clock.until = CLOCK.until
-TIMEOUT, LONG_TIMEOUT = patient.TIMEOUT, patient.LONG_TIMEOUT
-patient.TIMEOUT = patient.LONG_TIMEOUT = 0
+TIMEOUT, LONG_TIMEOUT, STORE_TIMEOUT = patient.TIMEOUT, patient.LONG_TIMEOUT, patient.STORE_TIMEOUT
+patient.TIMEOUT = patient.LONG_TIMEOUT = patient.STORE_TIMEOUT = 0
 DATA = os.path.join(os.path.dirname(os.path.abspath(__file__)), "data")
 
 
@@ -65,6 +69,9 @@ class Run:
     part: str = "Part"
     board: list = field(default_factory=list)
     cells: list = field(default_factory=list)
+    looks: str = ""
+    fields: list = field(default_factory=list)
+    volts: str = ""
     faults: dict = field(default_factory=dict)
     functions: int = I2C_FUNC_I2C
     held: str = "1000"
@@ -81,7 +88,7 @@ class Run:
             # `ok*6` stands for six of them.
             several = (word.partition("*") for word in text.split())
             self.mishaps = " ".join(" ".join([word] * int(count or 1)) for word, _, count in several)
-        elif key in ("words", "part", "held", "writes"):
+        elif key in ("name", "words", "part", "held", "writes", "looks", "volts"):
             setattr(self, key, text)
         elif key in ("out", "err"):
             setattr(self, key, f"{getattr(self, key)}{text}\n")
@@ -92,8 +99,8 @@ class Run:
         elif key == "fault":
             what, name = text.split()
             self.faults[{"open": "open", "lock": "lock", "slave": I2C_SLAVE}[what]] = getattr(errno, name)
-        elif key == "cell":
-            self.cells.append(text.split())
+        elif key in ("cell", "field"):
+            {"cell": self.cells, "field": self.fields}[key].append(text.split())
         else:
             {"comment": self.comments, "toml": self.toml, "board": self.board}[key].append(text)
 
@@ -106,14 +113,20 @@ class Run:
         for *place, output, register, word in self.cells:
             part = next(part for (_, address), part in parts.items() if not place or address == int(place[0], 16))
             part.converter.set((None if output == "None" else int(output), CODES[register]), int(word, 16))
+        for *place, output, name, word in self.fields:
+            part = next(part for (_, address), part in parts.items() if not place or address == int(place[0], 16))
+            part.set(name, int(word, 16 if name.upper() == name or name in ("lacks", "pin_command") else 10), 0 if output == "-" else int(output))
         return parts
 
     def over(self, parts):
         """The stand-in for the kernel."""
-        if not self.board:
-            return kernel.FakeKernel(parts[7, 0x58], self.mishaps.split(), self.faults, self.functions)
-        buses = {bus: {address: part for (other, address), part in parts.items() if other == bus} for bus, _ in parts}
-        return BoardKernel(buses, self.mishaps.split(), faults=self.faults)
+        if self.board:
+            buses = {bus: {address: part for (other, address), part in parts.items() if other == bus} for bus, _ in parts}
+            found = BoardKernel(buses, self.mishaps.split(), faults=self.faults)
+        else:
+            found = kernel.FakeKernel(parts[7, 0x58], self.mishaps.split(), self.faults, self.functions)
+        found.strikes_looks = self.looks == "struck"
+        return found
 
     def made_part(self):
         """The one part of a run without several."""
@@ -134,7 +147,7 @@ def made(words, **more):
         more["coefficients"], rest = tuple(int(each) for each in rest[at + 1:at + 4]), rest[:at]
     if rest:
         more["modes"] = tuple(int(each, 16) for each in rest)
-    module = "kernel" if "." not in kind else {"odd": "odd_parts", "busy": "busy"}[kind.partition(".")[0]]
+    module = "kernel" if "." not in kind else {"odd": "odd_parts", "busy": "busy", "field": "field"}[kind.partition(".")[0]]
     return getattr(importlib.import_module(f".{module}", __package__), kind.rpartition(".")[2])(**more)
 
 

@@ -48,7 +48,8 @@ class Examples(unittest.TestCase):
             part.converter.set((0, CODES[register]), word)
         status, out, err = called([*BUS, "margin", "0", "high"], kernel.FakeKernel(part))
         self.assertEqual((status, out), (1, "margin 0: OPERATION A8 on, margin high confirmed; CUT: the output commands 3.3125V, within "
-                                            "3.135V to 3.465V\n"))
+                                            "3.135V to 3.465V, delivers 3.3125V; STATUS_WORD 8001 VOUT, NONE_OF_THE_ABOVE, STATUS_VOUT 08 "
+                                            "VOUT_MAX_MIN\n"))
 
     def test_the_board_with_several_parts(self):
         text = section("board-file", "A board with several parts")
@@ -109,12 +110,12 @@ class Cases(unittest.TestCase):
         words = {"OPERATION": 0xA8, "VOUT_MARGIN_HIGH": 0x4000}
         self.assertEqual(self.ran(self.part(**words), "set", "0", "3.3V"), (
             1, "set 0: VOUT_COMMAND 34CD 3.300048V confirmed; OPERATION selects VOUT_MARGIN_HIGH: the output commands 4V, OUTSIDE 3.135V "
-            "to 3.465V", "set 0 3.3V: the output commands a voltage outside its limits"))
+            "to 3.465V; READ_VOUT 4V is OUTSIDE 3.135V to 3.465V", "set 0 3.3V: the output commands a voltage outside its limits"))
         for command, more in (("apply", "; stays changed, or may be: io.volts"), ("verify", "")):
             part = self.part(**words, **({} if command == "apply" else {"VOUT_COMMAND": 0x34CD}))
             self.assertEqual(self.ran(part, command, "FILE"), (
-                1, "io: OPERATION selects VOUT_MARGIN_HIGH: the output commands 4V, OUTSIDE 3.135V to 3.465V",
-                f"{command} FILE: io: the output commands a voltage outside its limits{more}"))
+                1, "io: OPERATION selects VOUT_MARGIN_HIGH: the output commands 4V, OUTSIDE 3.135V to 3.465V; READ_VOUT 4V is OUTSIDE 3.135V to "
+                "3.465V", f"{command} FILE: io: the output commands a voltage outside its limits{more}"))
 
     def test_a_maximum_below_the_word(self):
         self.assertEqual(self.ran(self.part(VOUT_MAX=0x2800), "set", "0", "3.3V"), (
@@ -124,16 +125,17 @@ class Cases(unittest.TestCase):
             "apply FILE: io.volts: 3.300048V is above VOUT_MAX, which is 2.5V, and not in the file: P6 AboveMax; nothing was ordered of "
             "io"))
         self.assertEqual(self.ran(self.part(VOUT_MAX=0x2800, VOUT_COMMAND=0x34CD), "verify", "FILE"), (
-            1, "io: CUT: the output commands 2.5V, OUTSIDE 3.135V to 3.465V",
+            1, "io: CUT: the output commands 2.5V, OUTSIDE 3.135V to 3.465V; READ_VOUT 2.5V is OUTSIDE 3.135V to 3.465V; STATUS_WORD 8001 "
+            "VOUT, NONE_OF_THE_ABOVE",
             "verify FILE: io: the output commands a voltage outside its limits"))
 
     def test_an_output_that_is_off(self):
         self.assertEqual(self.ran(self.part(OPERATION=0x00), "set", "0", "3.3V"), (
-            0, "set 0: VOUT_COMMAND 34CD 3.300048V confirmed; the output is off, and would command 3.300048V, within 3.135V to 3.465V", ""))
+            0, "set 0: VOUT_COMMAND 34CD 3.300048V confirmed; the output is commanded off, and would command 3.300048V, within 3.135V to 3.465V", ""))
         for command, more in (("apply", "; stays changed, or may be: io.volts"), ("verify", "")):
             part = self.part(OPERATION=0x00, **({} if command == "apply" else {"VOUT_COMMAND": 0x34CD}))
             self.assertEqual(self.ran(part, command, "FILE"), (
-                1, "io: the output is off, and would command 3.300048V, within 3.135V to 3.465V",
+                1, "io: the output is commanded off, and would command 3.300048V, within 3.135V to 3.465V",
                 f"{command} FILE: io: the output is off, and is to be on{more}"))
 
     def test_apply_does_not_step_over_its_goal(self):

@@ -145,11 +145,11 @@ class Boards(unittest.TestCase):
             file.flush()
             status, out, err = called(["-b", "7", "-a", "58", "apply", file.name, *options], kernel.FakeKernel(board.part, mishaps))
         self.assertEqual(board.part.wrong, [])
-        self.assertIn(status, (0, 1), err)
-        self.assertEqual(status == 1, err != "")
+        self.assertIn(status, (0, 1, 3), err)
+        self.assertEqual(status != 0, err != "")
         lines = board.part.lines
         if "restart" not in lines[-LAST:]:
-            self.assertTrue(status == 1 or board.is_as_wanted(), out)
+            self.assertTrue(status != 0 or board.is_as_wanted(), out)
         if not board.part.has_restarted:
             self.compare(board, out)
         return board, status, out, err
@@ -187,8 +187,10 @@ class Boards(unittest.TestCase):
                 self.assertTrue(is_possible or not written, "something was written, and it can't be reached")
                 cuts += self.compare_cuts(board, out, is_possible)
                 ends.add((is_possible, wanted))
-                if is_possible:
-                    for output, rail in enumerate(board.rails):
+                # It stops at a rail that doesn't deliver.
+                left = err.partition("nothing was ordered of ")[2]
+                for output, rail in enumerate(board.rails if is_possible else []):
+                    if rail.name not in left.strip().split(", "):
                         self.assertEqual(board.part.commands(output), rail.commands(rail.goal()))
         self.assertEqual(ends, {(True, True), (True, False), (False, False)}, "all boards ended alike")
         self.assertGreater(cuts, BOARDS // 10)
@@ -208,7 +210,7 @@ class Boards(unittest.TestCase):
                 mishaps[draw.randint(0, 60)] = "restart"
             with self.subTest(number=number):
                 ends.add(self.run_board(draw, mishaps)[1])
-        self.assertEqual(ends, {0, 1}, "all boards ended alike")
+        self.assertEqual(ends, {0, 1, 3}, "all boards ended alike")
 
     def test_a_board_that_is_as_wanted_is_not_written_to(self):
         draw = random.Random(4)

@@ -66,8 +66,9 @@ class Frames(unittest.TestCase):
 class Jobs(unittest.TestCase):
     def test_a_voltage_is_ordered_in_exact_decimals(self):
         pmbus = rails()
-        self.assertEqual(pmbus.order_voltage(0, "3.3V"), Decimal("3.300048"))
-        self.assertEqual(pmbus.order_voltage(0, Voltage("3.25V")), Decimal("3.25"))
+        pmbus.order_voltage(0, "3.3V")
+        self.assertEqual(pmbus.voltage(0), Decimal("3.300048"))
+        pmbus.order_voltage(0, Voltage("3.25V"))
         self.assertEqual((pmbus.voltage(0), pmbus.bus.part.voltage(0)), (Decimal("3.25"), Decimal("3.25")))
         self.assertIsNone(pmbus.voltage(1))
 
@@ -76,8 +77,16 @@ class Jobs(unittest.TestCase):
         part.learn(0)
         with localcontext() as context:
             context.prec = 3
-            self.assertEqual(str(part.order_voltage(0, "3.3V")), "3.300048V")
-            self.assertEqual(str(part.order_voltage(0, "3.3125V")), "3.3125V")
+            for voltage, held in (("3.3V", "3.300048V"), ("3.3125V", "3.3125V")):
+                part.order_voltage(0, voltage)
+                self.assertEqual(str(part.voltage(0)), held)
+
+    def test_an_order_says_what_the_output_commands(self):
+        """And not the voltage of its word, where VOUT_MAX cuts it."""
+        part = rails()
+        part.order(1, "VOUT_MAX", 0x0F00)
+        part.check_all([1])
+        self.assertEqual(part.order_voltage(1, "1.5V").band, Band(Voltage("937500uV"), Voltage("937500uV")))
 
     def test_registers_that_are_no_voltage_have_no_volts(self):
         part = rails()

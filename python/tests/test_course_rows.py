@@ -8,9 +8,11 @@ import re
 import unittest
 from unittest import mock
 
-from pmhost import Course, Host, Packet, Voltage, cli, pec
+from pmhost import Course, Host, ModelBus, Packet, Voltage, cli, pec
 from pmhost._library import CALLS, library
 from pmhost.cli import orders
+from pmhost.cli.again import Ordered
+from pmhost.cli.call import Call
 from pmhost.cli.place import Place
 from pmhost.course import REGISTERS
 from pmhost.errors import name_of
@@ -213,7 +215,7 @@ class Rows(unittest.TestCase):
 
     def test_by_the_command(self):
         """What it asks for beside its course isn't in the rows: whether a part is there that gave its first job no answer, and what the part
-        noted behind a bad end."""
+        noted behind a bad end; and what the rail does."""
         kept = []
 
         def made(name):
@@ -232,7 +234,9 @@ class Rows(unittest.TestCase):
             out = io.StringIO()
             with contextlib.ExitStack() as stack:
                 for patch in (mock.patch.object(Place, "_made", lambda place: bus), mock.patch.object(Place, "ask_operation", lambda *_: ""),
-                              mock.patch("pmhost.cli.outcome.read_notes", lambda *_: ""),
+                              mock.patch("pmhost.cli.outcome.read_notes", lambda *_: ""), mock.patch.object(Call, "look", lambda *_: None),
+                              mock.patch("pmhost.cli.outcome.read_protect", lambda *_: ""), mock.patch.object(Place, "is_there", lambda _: False),
+                              mock.patch.object(Ordered, "look", lambda *_: 0),
                               mock.patch("pmhost.survey.ask_operation", lambda *_: ""),
                               mock.patch("pmhost.survey.SURVEY_TRIES", row.tries), mock.patch.object(orders, "TRIES", row.tries),
                               mock.patch.object(orders, "OFF_TRIES", row.tries), *map(made, ("survey", "words", "voltage", "power")),
@@ -251,8 +255,24 @@ class Rows(unittest.TestCase):
 
 
 class Costs(unittest.TestCase):
-    def test_a_voltage_costs_fourteen_transfers_and_forty_calls_of_the_host(self):
-        """Of the library's calls those of the model part are its transfers, and two more."""
+    def test_a_good_voltage_costs_seven_transfers_more_than_its_order(self):
+        """Fourteen are the course's. STATUS_WORD and the four limits are read before the order, STATUS_WORD and READ_VOUT behind it; where the
+        limits are skipped three remain."""
+        for more, wanted in (([], 21), (["--fault-limits", "skip"], 17), (["--fault-limits", "tell"], 21)):
+            frames = []
+            with contextlib.ExitStack() as stack:
+                for name in ("write", "read"):
+                    call = getattr(ModelBus, name)
+                    stack.enter_context(mock.patch.object(ModelBus, name, lambda *words, call=call: frames.append(words[1]) or call(*words)))
+                with contextlib.redirect_stdout(io.StringIO()) as out:
+                    status = cli.main(["-b", "model", "--outputs", "2", "--no-limit", *more, "set", "0", "3.3V"])
+            self.assertEqual((status, len(frames)), (0, wanted), out.getvalue())
+            written = next(at for at, frame in enumerate(frames) if frame[1] == 0x05)
+            self.assertEqual([frame[4] for frame in frames[-2:]], [0x79, 0x8B])
+            self.assertEqual([frame[4] for frame in frames[written - (wanted - 16):written]], [0x79, 0x40, 0x42, 0x43, 0x44][:wanted - 16])
+
+    def test_a_voltage_costs_eighty_calls_of_the_library(self):
+        """Of the library's calls those of the model part are its transfers, and what its rail delivers."""
         counted = collections.Counter()
 
         def counting(name):
@@ -270,10 +290,9 @@ class Costs(unittest.TestCase):
                     stack.enter_context(counting(name))
                 with contextlib.redirect_stdout(io.StringIO()) as out:
                     status = cli.main(["-b", "model", "--outputs", "2", *options, "set", "0", "3.3V"])
-            self.assertEqual((status, counted["pm_part_hear"]), (0, 14), out.getvalue())
+            self.assertEqual((status, counted["pm_part_hear"]), (0, 16), out.getvalue())
             of_host = sum(count for name, count in counted.items() if not name.startswith("pm_part_"))
-            self.assertLessEqual(of_host, 40, counted)
-            self.assertEqual({name for name in counted if name.startswith("pm_part_")}, {"pm_part_new", "pm_part_hear"})
+            self.assertLessEqual(of_host, 80, counted)
 
 
 if __name__ == "__main__":

@@ -57,6 +57,11 @@ class Orders(unittest.TestCase):
         return part, status, out, err
 
     @staticmethod
+    def spared(lines):
+        """Without those that ask what a rail does, which no mishap befalls here."""
+        return [line for line in lines if not (line.startswith("B0 06 02 ") and line.endswith(" 79 /"))]
+
+    @staticmethod
     def places(lines):
         """Page and code of each write."""
         return [line.removeprefix(WRITE)[:5] for line in lines if line.startswith(WRITE) and not line.endswith(" /")]
@@ -80,13 +85,14 @@ class Orders(unittest.TestCase):
         _, status, out, err = self.apply(CUT, part=part)
         self.assertEqual((status, err, part.seen), (0, "", seen))
         self.assertEqual(self.places(part.lines), ["00 21", "00 24"])
-        self.assertIn("core: the output commands 3.350097V, within 3V to 3.6V\n", out)
+        self.assertIn("core: the output commands 3.350097V, within 3V to 3.6V, delivers 3.350097V; STATUS_WORD 8001 VOUT, "
+                      "NONE_OF_THE_ABOVE, set before this call\n", out)
 
     def test_a_register_without_an_answer_is_asked_for_again(self):
         part = kernel.Part()
         words = ["-b", "7", "-a", "58", "--outputs", "2", "--no-limit", "set", "0", "3.3V"]
         status, _, err = called(words, kernel.FakeKernel(part, ["ok"] * 11 + ["deaf"] * 3))
-        self.assertEqual((status, err, part.lines[-3:]), (0, "", ["B0 06 02 00 24 /", "B0 06 02 00 2B /", "B0 10 /"]))
+        self.assertEqual((status, err, part.lines[-4:]), (0, "", ["B0 06 02 00 24 /", "B0 06 02 00 2B /", "B0 10 /", "B0 06 02 00 79 /"]))
 
     def test_everything_is_read_before_the_first_write(self):
         part, *_ = self.apply(TWO)
@@ -106,7 +112,7 @@ class Orders(unittest.TestCase):
         """A restart at the read-back of an order whose register held neither the ordered word nor the part's start word: the
         order itself is tried again, and nothing else is written."""
         orders = ["00 21", "00 24", "00 2B", "01 24", "01 21"]
-        first = next(place for place, line in enumerate(self.apply(TWO)[0].lines) if line.startswith(WRITE))
+        first = next(place for place, line in enumerate(self.spared(self.apply(TWO)[0].lines)) if line.startswith(WRITE))
         for number, held in ((0, 0x1900), (1, 0x2200), (2, 0x0900)):
             part = kernel.Part()
             part.converter.set((0, int(orders[number][3:], 16)), held)
@@ -114,16 +120,16 @@ class Orders(unittest.TestCase):
             behind = part.lines[part.lines.index("restart") + 1:]
             with self.subTest(order=orders[number]):
                 self.assertEqual(self.places(behind), [orders[number]])
-                self.assertEqual(status, 1)
+                self.assertEqual(status, 3)
                 self.assertIn("the part restarted meanwhile: nothing that was read before holds: run this again; stays changed", err)
 
     def test_a_restart_seen_behind_an_order_without_a_good_answer_is_told(self):
         text = TWO.partition("max =")[0]
-        first = next(place for place, line in enumerate(self.apply(text)[0].lines) if line.startswith(WRITE))
+        first = next(place for place, line in enumerate(self.spared(self.apply(text)[0].lines)) if line.startswith(WRITE))
         part = kernel.Part()
         part.converter.set((0, 0x21), 0x1900)
         _, status, _, err = self.apply(text, ["ok"] * first + ["ok", "lost"] * 3 + ["ok", "restart"], part)
-        self.assertEqual(status, 1)
+        self.assertEqual(status, 3)
         self.assertIn("the part restarted meanwhile: nothing that was read before holds: run this again; stays changed, or may be: a.volts", err)
 
     def test_a_part_of_another_format_is_left_alone(self):
@@ -136,16 +142,16 @@ class Orders(unittest.TestCase):
     def test_status_0_after_a_restart_means_that_all_is_as_wanted(self):
         """A restart in each place of the run."""
         ends = set()
-        for place in range(len(self.apply(TWO)[0].lines)):
+        for place in range(len(self.spared(self.apply(TWO)[0].lines))):
             part, status, _, err = self.apply(TWO, ["ok"] * place + ["restart"])
             ends.add(status)
             with self.subTest(place=place):
                 if status == 0 and place < len(part.lines) - 2:
                     held = [part.converter.cells[cell] for cell in ((0, 0x21), (0, 0x24), (0, 0x2B), (1, 0x21), (1, 0x24))]
                     self.assertEqual(held, [0x1800, 0x2000, 0x1000, 0x3000, 0x4800])
-                elif status == 1:
+                elif status == 3:
                     self.assertIn("the part restarted meanwhile", err)
-        self.assertEqual(ends, {0, 1})
+        self.assertEqual(ends, {0, 3})
 
     def test_limits_reach_the_host(self):
         more = ["+", "band", "0", "+", "set", "1", "4.9V", "+", "band", "1"]

@@ -5,11 +5,12 @@ import time
 import unittest
 from unittest import mock
 
-from pmhost import Host, LinuxBus, PatientBus, Transfers, clock
+from pmhost import Host, LinuxBus, PatientBus, Transfers, clock, pec
 from pmhost.bus import patient
 
 from . import runs
 from .busy import Deaf30, Timed
+from .field import Field
 from .kernel import FakeKernel, Part
 from .odd_parts import Proved
 
@@ -52,6 +53,11 @@ JOBS = " + ".join([*(f"word {output} VOUT_COMMAND {word:04X}" for output, word i
 WAYS = ((False, False), (True, False), (True, True))
 
 
+def as_shipped():
+    """The times for a busy part are those of the package."""
+    return mock.patch.multiple(patient, TIMEOUT=runs.TIMEOUT, LONG_TIMEOUT=runs.LONG_TIMEOUT, STORE_TIMEOUT=runs.STORE_TIMEOUT)
+
+
 class EightOrders(unittest.TestCase):
     """Eight orders, a store and two checks at a part that is busy behind each write."""
 
@@ -66,7 +72,7 @@ class EightOrders(unittest.TestCase):
         return status, [part.converter.cells[output, 0x21] for output in (0, 1)]
 
     def test_they_end_well(self):
-        with mock.patch.object(patient, "TIMEOUT", runs.TIMEOUT), mock.patch.object(patient, "LONG_TIMEOUT", runs.LONG_TIMEOUT):
+        with as_shipped():
             for milliseconds in (0, 1, 10, 30, 150):
                 for way in WAYS:
                     with self.subTest(milliseconds=milliseconds, way=way):
@@ -82,34 +88,33 @@ class Patience(unittest.TestCase):
     def test_a_write_is_followed_by_one_question(self):
         below = Scripted()
         self.assertIs(below.over(0, 200).write(FRAME), True)
-        self.assertEqual((below.frames, below.times), ([FRAME, ASK], [0, 0]))
+        self.assertEqual((below.frames, below.times), ([FRAME, ASK], [0, 10]))
 
-    def test_the_part_is_asked_each_5_ms_until_it_answers(self):
+    def test_each_wait_is_twice_as_long_until_the_part_answers(self):
         for ends in ((errno.ENXIO, errno.EREMOTEIO, errno.EIO, b""), (b"", b"", b"", errno.ETIMEDOUT)):
             below = Scripted(True, *ends)
             self.assertIs(below.over(0, 200).write(FRAME), True)
-            self.assertEqual((below.frames, below.times), ([FRAME] + [ASK] * 5, [0, 0, 5, 10, 15, 20]))
+            self.assertEqual((below.frames, below.times), ([FRAME] + [ASK] * 5, [0, 10, 30, 70, 150, 200]))
 
     def test_the_patience_has_an_end(self):
-        for milliseconds, asked in ((0, 0), (1, 1), (5, 1), (20, 4), (200, 40)):
+        for milliseconds, asked in ((0, 0), (1, 1), (5, 1), (20, 2), (200, 5), (5000, 9)):
             below = Scripted(True, *[errno.ENXIO] * 1000)
             self.assertIs(below.over(0, milliseconds).write(FRAME), True)
             with self.subTest(milliseconds=milliseconds):
-                self.assertIn(len(below.frames) - 1, (asked, asked + (asked > 1)))
-                self.assertLessEqual(below.times[-1], milliseconds)
+                self.assertEqual((len(below.frames) - 1, below.times[-1]), (asked, milliseconds))
 
     def test_how_long_where_nothing_is_given(self):
-        self.assertEqual((runs.TIMEOUT, runs.LONG_TIMEOUT), (200, 1000))
-        with mock.patch.object(patient, "TIMEOUT", runs.TIMEOUT), mock.patch.object(patient, "LONG_TIMEOUT", runs.LONG_TIMEOUT):
+        self.assertEqual((runs.TIMEOUT, runs.LONG_TIMEOUT, runs.STORE_TIMEOUT), (200, 1000, 5000))
+        with as_shipped():
             bus = PatientBus(Scripted())
-            self.assertEqual([bus.busy_timeout(each) for each in (FRAME, CLEAR, STORE, RESTORE)], [200, 200, 1000, 1000])
+            self.assertEqual([bus.busy_timeout(each) for each in (FRAME, CLEAR, STORE, RESTORE)], [200, 200, 5000, 1000])
             bus = PatientBus(Scripted(), 0, 30)
             self.assertEqual([bus.busy_timeout(each) for each in (FRAME, CLEAR, STORE, RESTORE)], [30] * 4)
 
     def test_a_write_whose_address_nobody_acknowledged_is_sent_again(self):
         below = Scripted(errno.ENXIO, errno.ENXIO, True)
         self.assertIs(below.over(0, 200).write(FRAME), True)
-        self.assertEqual((below.frames, below.times), ([FRAME] * 3 + [ASK], [0, 5, 10, 10]))
+        self.assertEqual((below.frames, below.times), ([FRAME] * 3 + [ASK], [0, 10, 30, 40]))
 
     def test_a_store_is_sent_once(self):
         below = Scripted(errno.ENXIO)
@@ -155,7 +160,7 @@ class Patience(unittest.TestCase):
         bus = below.over(7, 200)
         bus.write(FRAME)
         bus.read(REQUEST, 4)
-        self.assertEqual((below.frames, below.times), ([FRAME, ASK, REQUEST], [7, 14, 21]))
+        self.assertEqual((below.frames, below.times), ([FRAME, ASK, REQUEST], [7, 24, 31]))
 
     def test_an_interrupt_is_not_followed_by_a_question(self):
         class Interrupted(Scripted):
@@ -190,6 +195,29 @@ class Patience(unittest.TestCase):
         for sent in (1, 2):
             host.store()
             self.assertEqual((host.run(below, transfers).kind, len(below.frames)), ("unknown", sent))
+
+    def test_how_many_questions_a_busy_part_is_asked(self):
+        """Behind a store of 440 ms and of 4.1 s; by CAPABILITY, and by the part's own byte, which it answers while it is busy."""
+        for milliseconds, most in ((440, 8), (4100, 12)):
+            for more, noted in (([], True), (["--ready", "EF:60"], False)):
+                part = Field()
+                part.set("store_ms", milliseconds)
+                part.set("busy_kind", 1)
+                with as_shipped(), self.subTest(milliseconds=milliseconds, more=more):
+                    status, out, _ = runs.called(["-b", "7", "-a", "58", "--outputs", "2", *more, "store"], FakeKernel(part))
+                    self.assertEqual((status, out, part.get("stores")), (0, "store: acknowledged\n", 1))
+                    self.assertLessEqual(part.get("questions"), most)
+                    self.assertGreater(part.get("questions"), 2)
+                    status, out, _ = runs.called(["-b", "7", "-a", "58", "read", "0", "STATUS_WORD"], FakeKernel(part))
+                    self.assertEqual(out, f"read 0: STATUS_WORD {'0080 BUSY' if noted else '0000'}\n")
+
+    def test_a_part_is_ready_by_its_own_byte(self):
+        good = bytes.fromhex("40") + bytes([pec(bytes.fromhex("B0EFB140"))])
+        ready = bytes.fromhex("60") + bytes([pec(bytes.fromhex("B0EFB160"))])
+        for answers, asked in (([good, ready], 2), ([ready], 1), ([b"\x60\x00", ready], 2), ([errno.ENXIO, b"", ready], 3)):
+            below = Scripted(True, *answers)
+            self.assertIs(below.over(0, 200, (0xEF, 0x60)).write(FRAME), True)
+            self.assertEqual(below.frames, [FRAME] + [bytes.fromhex("B0EF")] * asked)
 
     def test_no_test_waits(self):
         begun = time.monotonic()

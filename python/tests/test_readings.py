@@ -1,9 +1,11 @@
 """Readings and status registers: what `read` tells of them, and what is told behind a job that ended badly."""
+import os
 import unittest
 from decimal import Decimal
 from unittest import mock
 
 from pmhost import (Format, FrameRefused, MemoryRefused, Output, ModelPart, ModelPartBus, Device, code_request, pec, read_block, read_plain, readings)
+from pmhost import CODES as CODES_OF_HOST, codes
 from pmhost.readings import KINDS, Reading
 from pmhost.reads import Read, Reads
 from pmhost.status import BITS, names_of
@@ -36,7 +38,9 @@ CODES = {
     "READ_VIN": 0x88, "READ_IIN": 0x89, "READ_VOUT": 0x8B, "READ_IOUT": 0x8C, "READ_TEMPERATURE_1": 0x8D, "READ_TEMPERATURE_2": 0x8E,
     "READ_TEMPERATURE_3": 0x8F, "READ_DUTY_CYCLE": 0x94, "READ_FREQUENCY": 0x95, "READ_POUT": 0x96, "READ_PIN": 0x97, "STATUS_BYTE": 0x78,
     "STATUS_WORD": 0x79, "STATUS_VOUT": 0x7A, "STATUS_IOUT": 0x7B, "STATUS_INPUT": 0x7C, "STATUS_TEMPERATURE": 0x7D, "STATUS_CML": 0x7E,
-    "STATUS_OTHER": 0x7F, "STATUS_MFR_SPECIFIC": 0x80, "STATUS_FANS_1_2": 0x81, "STATUS_FANS_3_4": 0x82,
+    "STATUS_OTHER": 0x7F, "STATUS_MFR_SPECIFIC": 0x80, "STATUS_FANS_1_2": 0x81, "STATUS_FANS_3_4": 0x82, "ON_OFF_CONFIG": 0x02,
+    "VOUT_OV_FAULT_LIMIT": 0x40, "VOUT_OV_WARN_LIMIT": 0x42, "VOUT_UV_WARN_LIMIT": 0x43, "VOUT_UV_FAULT_LIMIT": 0x44, "POWER_GOOD_ON": 0x5E,
+    "POWER_GOOD_OFF": 0x5F,
 }
 
 
@@ -53,8 +57,32 @@ class Bits(unittest.TestCase):
 
     def test_codes_and_lengths(self):
         self.assertEqual({name: kind.code for name, kind in KINDS.items()}, CODES)
-        self.assertEqual({name for name, kind in KINDS.items() if kind.size == 1}, {name for name in BY_HAND if name != "STATUS_WORD"})
-        self.assertEqual({name for name, kind in KINDS.items() if not kind.unit}, set(BY_HAND))
+        self.assertEqual({name for name, kind in KINDS.items() if kind.size == 1},
+                         {"ON_OFF_CONFIG", *(name for name in BY_HAND if name != "STATUS_WORD")})
+        self.assertEqual({name for name, kind in KINDS.items() if not kind.unit}, {"ON_OFF_CONFIG", *BY_HAND})
+
+
+class Codes(unittest.TestCase):
+    @unittest.skipUnless(os.path.isdir(os.path.join(ROOT, "trials")), "the package stands alone")
+    def test_other_codes_have_the_names_of_pmb_decode(self):
+        """Of those the table for sigrok is made by the built program; what is read here is what isn't a host's register, nor a reading."""
+        space = {}
+        exec(stored(ROOT, "trials", "sigrok", "pmbus", "tables.py"), space)  # pylint: disable=exec-used
+        self.assertEqual({it.code: name for name, it in codes.CODES.items()},
+                         {code: space["NAMES"].get(code) for code in (it.code for it in codes.CODES.values())})
+        left = set(space["NAMES"].values()) - set(codes.CODES) - set(KINDS) - set(CODES_OF_HOST)
+        self.assertEqual(left, {
+            "CLEAR_FAULTS", "PAGE_PLUS_WRITE", "PAGE_PLUS_READ", "ZONE_CONFIG", "ZONE_ACTIVE", "STORE_DEFAULT_ALL", "RESTORE_DEFAULT_ALL",
+            "STORE_DEFAULT_CODE", "RESTORE_DEFAULT_CODE", "STORE_USER_ALL", "RESTORE_USER_ALL", "STORE_USER_CODE", "RESTORE_USER_CODE", "QUERY",
+            "SMBALERT_MASK", "COEFFICIENTS", "READ_KWH_IN", "READ_KWH_OUT", "READ_KWH_CONFIG", "MFR_SPECIFIC_COMMAND_EXT", "PMBUS_COMMAND_EXT"})
+
+    def test_sizes_by_hand(self):
+        rows = {"PAGE": "00 byte", "VOUT_OV_FAULT_RESPONSE": "41 byte", "OT_FAULT_LIMIT": "4F word", "TON_DELAY": "60 word", "MFR_SERIAL": "9E block",
+                "MFR_VOUT_MAX": "A5 word", "USER_DATA_15": "BF block", "PMBUS_REVISION": "98 byte", "READ_EIN": "86 block", "MFR_MAX_TEMP_1": "C0 word"}
+        for name, wanted in rows.items():
+            self.assertEqual(f"{codes.CODES[name].code:02X} {codes.CODES[name].kind}", wanted)
+        self.assertEqual((codes.code_of("dd:word"), codes.code_of("9E:block").code, codes.code_of("DD:long"), codes.code_of("DD")),
+                         (codes.Code("dd:word", 0xDD, "word"), 0x9E, None, None))
 
 
 class Odd(ModelPartBus):
@@ -151,7 +179,7 @@ class OtherReads(unittest.TestCase):
             read_block(0x78, 0x99, b"")
 
     def test_bytes_of_a_page(self):
-        """An answer by PAGE_PLUS to a code outside the command table, which Python judges."""
+        """An answer by PAGE_PLUS to a code outside the command table."""
         part = Telemetry()
         for cut, why in ((0, ""), (1, "F2 Short"), (2, "F2 Short")):
             with self.subTest(cut=cut), mock.patch.object(part, "answer", lambda request, payload: Telemetry.answer(

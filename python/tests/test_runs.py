@@ -3,7 +3,9 @@ import signal
 import tempfile
 import unittest
 
-from pmhost import FrameRefused, read_answer, read_request, read_write
+from pmhost import FrameRefused, read_answer, read_plain, read_request, read_write
+from pmhost.packets import Packet, read_paged
+from pmhost.reads import is_known
 from pmhost.bus.linux import ENDING
 
 from .runs import blocks, ran
@@ -12,6 +14,11 @@ from .runs import blocks, ran
 NOT_WHOLE = ("WithoutPec", "FloatingPagePlus", "busy.Ones30", "busy.Ones150", "busy.OnesAlone", "busy.Zeros0At48",
              "busy.Zeros1At48", "busy.Zeros2At48", "busy.ProtectedAt48", "busy.ZerosFromProtectAt48", "busy.ZerosToProtectAt48",
              "busy.ZerosOnceAt48")
+
+
+# The codes that the library reads by a packet of its table.
+PLAIN_CODES = {code for code in range(256) if is_known(Packet("read", code))}
+READ_CODES = {code for code in range(256) if is_known(Packet("PAGE_PLUS_READ", code))}
 
 
 class Blocks(unittest.TestCase):
@@ -30,15 +37,19 @@ class Blocks(unittest.TestCase):
         self.assertGreater(len(found), 0)
         folder = self.enterContext(tempfile.TemporaryDirectory())
         for run in found:
-            with self.subTest(run=run.words, mishaps=run.mishaps, part=run.part):
+            with self.subTest(name=run.name, run=run.words, mishaps=run.mishaps, part=run.part):
                 got = ran(run, folder)
                 self.assertEqual((got.status, got.out, got.err), (run.status, run.out, run.err))
                 self.assertEqual(got.found, run.wanted)
+                self.look_at_rails(run, got)
                 self.assertEqual(got.kernel.opened, 0, "the bus wasn't closed")
                 self.assertEqual(got.kernel.mishaps, [], "transfers are missing")
                 for comment in run.comments:
                     self.assertIn(f"# failed: {comment}\n", got.trace)
                 self.look_at(got.trace, run.mishaps, run.part)
+
+    def look_at_rails(self, run, got):
+        """What the rails do; the rows of other files have none."""
 
     def look_at(self, trace, mishaps, part):
         """Each line of the trace is a frame, or a comment; and without damage each is a good one."""
@@ -49,7 +60,14 @@ class Blocks(unittest.TestCase):
             front, slash, back = line.partition(" / ")
             frame = bytes.fromhex(front)
             try:
-                if slash:
+                if slash and frame[4:5] and frame[1] == 0x06 and frame[4] not in READ_CODES:
+                    read_paged(frame[0] >> 1, frame[3], frame[4], bytes.fromhex(back)[1], bytes.fromhex(back))
+                elif slash and len(frame) == 2 and frame[1] not in PLAIN_CODES:
+                    # A block is asked for in its whole length, and ends where its count says.
+                    came = bytes.fromhex(back)
+                    came = came[:came[1] + 3] if len(came) > 4 else came
+                    read_plain(frame[0] >> 1, frame[1], len(came) - 2, came)
+                elif slash:
                     read_answer(frame[0] >> 1, read_request(frame[0] >> 1, frame), bytes.fromhex(back))
                 else:
                     read_write(frame[0] >> 1, frame)

@@ -57,7 +57,7 @@ class Truth(unittest.TestCase):
         told = VOLTS.search(line)
         self.assertIsNotNone(told)
         self.assertEqual(int(Fraction(told[1]) * 10**6), commanded * 10**6 // 1)
-        self.assertEqual("the output is off" in line, not part.converter.is_on(0))
+        self.assertEqual("the output is commanded off" in line, not part.converter.is_on(0))
         cells = part.converter.cells
         if part.converter.is_on(0) and "OPERATION selects" not in line:
             # What decides is what was ordered, and nothing cuts it to another voltage.

@@ -10,11 +10,12 @@ from .running import SOURCE
 SCRIPT = '''from pmhost import Device, Differs, LinuxBus, ModelBus, Unknown, Voltage
 
 
-def order(bus: LinuxBus | ModelBus, voltage: str | Voltage) -> Voltage:
+def order(bus: LinuxBus | ModelBus, voltage: str | Voltage) -> Voltage | None:
     part = Device(bus, 0x58, outputs=2, limits={0: ("3.135V", "3.465V")})
     part.learn(0)
     try:
-        return part.order_voltage(0, voltage)
+        part.order_voltage(0, voltage)
+        return part.voltage(0)
     except Unknown as unknown:
         print(unknown, unknown.__cause__, unknown.possible)
         raise
@@ -23,7 +24,8 @@ def order(bus: LinuxBus | ModelBus, voltage: str | Voltage) -> Voltage:
         raise
 
 
-print(order(ModelBus(0x58), "3.3V").microvolts, [(it.register, it.confirmed) for it in Device(ModelBus(0x58), 0x58).known_cells()])
+found = order(ModelBus(0x58), "3.3V")
+print(found.microvolts if found else "", [(it.register, it.confirmed) for it in Device(ModelBus(0x58), 0x58).known_cells()])
 '''
 
 

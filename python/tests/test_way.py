@@ -152,8 +152,8 @@ class Ways(unittest.TestCase):
         self.assertEqual(rails["io"].rows, [IO_START, IO_ORDERED])
         self.assertEqual([(rail.allowed[-1], rail.wanted[-1]) for rail in rails.values()], [([0.9, 3.6], [3.3]), ([0.9, 1.6], [1.25])])
         self.assertEqual([(rail.end, rail.colour) for rail in rails.values()],
-                         [("the output commands 3.300048V, within 0.9V to 3.6V", drawing.GOOD),
-                          ("the output is off, and would command 1.25V, within 0.9V to 1.6V", drawing.GOOD)])
+                         [("the output commands 3.300048V, within 0.9V to 3.6V, delivers 3.300048V", drawing.GOOD),
+                          ("the output is commanded off, and would command 1.25V, within 0.9V to 1.6V", drawing.GOOD)])
 
     def test_a_dry_run_draws_the_orders_of_the_plan(self):
         said, rails, status, _ = self.drawn(UP, "--dry-run")
@@ -183,7 +183,7 @@ class Ways(unittest.TestCase):
         self.assertEqual(rails["io"].rows, [IO_START])
         self.assertEqual([(rail.end, rail.colour) for rail in rails.values()],
                          [("VOUT_MAX gave no good answer; VOUT_COMMAND differs; VOUT_MAX unknown", drawing.FAULT),
-                          ("the output is off, and would command 1V, within 0.9V to 1.6V; VOUT_COMMAND differs", drawing.FAULT)])
+                          ("the output is commanded off, and would command 1V, within 0.9V to 1.6V; VOUT_COMMAND differs", drawing.FAULT)])
 
     def test_what_may_be_either_is_a_shade_until_a_survey_tells(self):
         """The three read-backs of VOUT_COMMAND aren't good."""
@@ -226,7 +226,7 @@ class Ways(unittest.TestCase):
             self.assertEqual((found, frames, why), ([2, ""], [], f"pmhost: --picture {path}: {said}\n"))
         if os.path.exists("/dev/full"):
             (status, out, why), _ = self.called(UP, "--picture", "/dev/full")
-            self.assertEqual((status, out.splitlines()[-1], why), (2, "io: the output is off, and would command 1.25V, within 0.9V to 1.6V",
+            self.assertEqual((status, out.splitlines()[-1], why), (2, "io: the output is commanded off, and would command 1.25V, within 0.9V to 1.6V",
                                                                    "pmhost: --picture /dev/full: No space left on device\n"))
 
     def test_a_call_that_is_refused_leaves_the_file_as_it_was(self):

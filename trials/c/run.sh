@@ -411,7 +411,8 @@ for each in $compilers; do
         program "$name HAL" examples/c/hal_bus.expected "$compiler $strict" examples/c/hal_bus.c $rest --
         program "$name rail" examples/c/rail.expected "$compiler $strict" examples/c/rail.c $rest --
         case $each in gcc | clang)
-            program "$name firmware" examples/firmware/console.expected "$compiler $strict -Iexamples/firmware" $firmware -- ;;
+            program "$name firmware" examples/firmware/console.expected "$compiler $strict -Iexamples/firmware" $firmware --
+            program "$name field" trials/field/rows.expected "$compiler $strict" trials/field/{rows,field,frames}.c -- trials/field/rows.txt ;;
         esac
         # Random calls over the archive of either compiler write one line, whoever compiled them.
         if [ "$(cat "$folder/same.wanted")" = first ]; then

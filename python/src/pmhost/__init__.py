@@ -16,6 +16,7 @@ from .errors import (Differs, FrameRefused, HostRefused, LimitRefused, MemoryRef
                      PartRefused, PlanRefused, PmhostError, Refused, SetupRefused, Spent, Unknown)
 from .host import Host
 from .packets import Packet, code_request, pec, read_answer, read_block, read_plain, read_request, read_write
+from .look import Delivered, Looks, NotDelivered
 from .part import ModelPart, ModelPartBus, Output
 from .states import Band, Bus, Known, Limits, RailState, Sending, Step
 from .transfers import Transfers
@@ -23,10 +24,10 @@ from .values import CODES, LINEAR11, Format
 from .voltages import Voltage
 
 __all__ = [
-    "Band", "Bus", "CODES", "Course", "CourseEnd", "Device", "Differs", "Format", "FrameRefused", "Host", "HostRefused", "Job",
-    "Known", "LINEAR11", "LimitRefused", "Limits", "LinuxBus", "MemoryRefused", "ModelBus", "ModelPart", "ModelPartBus", "NoBus",
-    "NoFormat", "NoTransfer", "NotDone", "NumberRefused", "OtherSource", "Output", "Packet", "PartRefused", "PatientBus",
-    "PlanRefused", "PmhostError", "RailState", "Refused", "Sending", "SetupRefused", "Smbus2Bus", "Spent", "Step", "Transfers",
-    "Unknown", "Voltage", "Wanted", "__version__", "code_request", "pec", "read_answer", "read_block", "read_plain",
-    "read_request", "read_write",
+    "Band", "Bus", "CODES", "Course", "CourseEnd", "Delivered", "Device", "Differs", "Format", "FrameRefused", "Host",
+    "HostRefused", "Job", "Known", "LINEAR11", "LimitRefused", "Limits", "LinuxBus", "Looks", "MemoryRefused", "ModelBus",
+    "ModelPart", "ModelPartBus", "NoBus", "NoFormat", "NoTransfer", "NotDelivered", "NotDone", "NumberRefused", "OtherSource",
+    "Output", "Packet", "PartRefused", "PatientBus", "PlanRefused", "PmhostError", "RailState", "Refused", "Sending",
+    "SetupRefused", "Smbus2Bus", "Spent", "Step", "Transfers", "Unknown", "Voltage", "Wanted", "__version__", "code_request",
+    "pec", "read_answer", "read_block", "read_plain", "read_request", "read_write",
 ]

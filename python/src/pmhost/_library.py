@@ -16,6 +16,7 @@ HOST_VERSION = 6
 HOST_SIZE = 2064
 COURSE_VERSION = 1
 COURSE_SIZE = 104
+DELIVERY_VERSION = 1
 PART_SIZE = 372
 CELLS = 49
 
@@ -99,6 +100,30 @@ class CourseJobImage(c.Structure):
     _fields_ = [("kind", c.c_uint8), ("code", c.c_uint8), ("word", c.c_uint16)]
 
 
+class HeardImage(c.Structure):
+    _fields_ = [("asked", c.c_uint8), ("fault", c.c_uint8), ("word", c.c_uint16)]
+
+
+# What a delivery asks for, in the order of its memory.
+QUESTIONS = ("before", "ov_fault_limit", "ov_warn_limit", "uv_warn_limit", "uv_fault_limit", "status_word", "status_vout", "status_iout",
+             "status_input", "status_temperature", "read_vout", "power_good_on", "power_good_off")
+
+
+class DeliveryImage(c.Structure):
+    _fields_ = [("mark", c.c_uint16), ("version", c.c_uint16), ("output", c.c_uint8), ("look", c.c_uint8), ("fault_limits", c.c_uint8),
+                ("has_read_vout", c.c_uint8), ("within", c.c_uint16), ("rounds", c.c_uint16), ("round", c.c_uint16)] + [
+                    (name, HeardImage) for name in QUESTIONS]
+
+
+class DeliveredImage(c.Structure):
+    _fields_ = [("kind", c.c_uint8), ("code", c.c_uint8), ("bit", c.c_uint8), ("fault", c.c_uint8), ("has_microvolts", c.c_uint8),
+                ("unused", c.c_uint8), ("word", c.c_uint16), ("microvolts", c.c_int64)]
+
+
+class JudgementImage(c.Structure):
+    _fields_ = [("fault", c.c_uint8), ("warning", c.c_uint8), ("fault_word", c.c_uint16), ("warning_word", c.c_uint16)]
+
+
 class NameImage(c.Structure):
     _fields_ = [("text", c.c_char * 32)]
 
@@ -137,7 +162,7 @@ class ReplyImage(c.Structure):
 
 _u8, _u16, _u64, _i64, _at = c.c_uint8, c.c_uint16, c.c_uint64, c.c_int64, c.POINTER
 _host, _part, _bytes = _at(HostImage), _at(PartImage), c.c_char_p
-_wanted, _course = _at(WantedImage), _at(CourseImage)
+_wanted, _course, _delivery = _at(WantedImage), _at(CourseImage), _at(DeliveryImage)
 
 # Each call: what it answers, and what it takes.
 CALLS = {
@@ -180,6 +205,16 @@ CALLS = {
     "pm_course_write_ended": (StepImage, [_course, _host, _u8]),
     "pm_course_read_ended": (StepImage, [_course, _host, _bytes, _u64]),
     "pm_course_ended": (_u8, [_course, _at(CourseEndImage)]),
+    "pm_course_goal": (_u8, [_course, _host, _u8, _at(_u16)]),
+    "pm_delivery_size": (_u64, []),
+    "pm_delivery_version": (_u16, []),
+    "pm_delivery_new": (_u8, [_delivery, _u8, _u8, _u8, _u16, _u16]),
+    "pm_delivery_before": (_u8, [_delivery]),
+    "pm_delivery_after": (_u8, [_delivery, _u8]),
+    "pm_delivery_frame": (_u8, [_delivery, _host, _at(SendingImage)]),
+    "pm_delivery_read_ended": (_u8, [_delivery, _host, _bytes, _u64]),
+    "pm_delivery_verdict": (_u8, [_delivery, _host, _at(DeliveredImage)]),
+    "pm_delivery_judge": (_u8, [_delivery, _host, _u16, _at(JudgementImage)]),
     "pm_refusal_name": (_u8, [_u8, _at(NameImage)]),
     "pm_end_name": (_u8, [_u16, _at(NameImage)]),
     "pm_microvolts": (_u8, [_at(FormatImage), _u16, _at(_i64)]),
@@ -193,6 +228,8 @@ CALLS = {
     "pm_packet_read_answer": (_u8, [_u8, _at(PacketImage), _bytes, _u64, _at(PayloadImage)]),
     "pm_read_block": (_u8, [_u8, _u8, _bytes, _u64, _at(BlockImage)]),
     "pm_read_plain": (_u8, [_u8, _u8, _u8, _bytes, _u64, _at(BlockImage)]),
+    "pm_paged_request": (_u8, [_u8, _u8, _u8, _u8, _at(SendingImage)]),
+    "pm_read_paged": (_u8, [_u8, _u8, _u8, _u8, _bytes, _u64, _at(BlockImage)]),
     "pm_part_size": (_u64, []),
     "pm_part_new": (_u8, [_part, _at(ConfigImage)]),
     "pm_part_hear": (_u8, [_part, _bytes, _u64, _u8, _at(ReplyImage)]),
@@ -222,9 +259,10 @@ def _load() -> c.CDLL:
             _stop(f"{PATH} is another library than this package is for: it has no {name}")
         call = getattr(loaded, name)
         call.restype, call.argtypes = answers, takes
-    found = (loaded.pm_version() >> 8, loaded.pm_host_version(), loaded.pm_host_size(),
-             loaded.pm_course_version(), loaded.pm_course_size(), loaded.pm_part_size())
-    wanted = VERSION >> 8, HOST_VERSION, c.sizeof(HostImage), COURSE_VERSION, c.sizeof(CourseImage), c.sizeof(PartImage)
+    found = (loaded.pm_version() >> 8, loaded.pm_host_version(), loaded.pm_host_size(), loaded.pm_course_version(), loaded.pm_course_size(),
+             loaded.pm_delivery_version(), loaded.pm_delivery_size(), loaded.pm_part_size())
+    wanted = (VERSION >> 8, HOST_VERSION, c.sizeof(HostImage), COURSE_VERSION, c.sizeof(CourseImage), DELIVERY_VERSION,
+              c.sizeof(DeliveryImage), c.sizeof(PartImage))
     if found != wanted:
         _stop(f"{PATH} is another library than this package is for: it says {found}, and not {wanted}")
     return loaded

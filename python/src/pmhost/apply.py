@@ -15,16 +15,29 @@ from .course import Wanted
 from .cuts import Cut, cuts
 from .device import Device
 from .errors import SAYINGS, Refused, refusal
+from .look import Delivered, Look, Looks
 from .parts import BoardPart
-from .rail_course import PROTECT, RailCourse, Setting, Stopped
+from .rail_course import OUTSIDE, PROTECT, RailCourse, Restarted, Setting, Stopped
 from .rails import BOUNDS, MARGINS, SETTINGS, WORDS, Rail
 from .reads import Reads
 from .states import Step
-from .survey import Commanded, commanded, only_word, read
+from .survey import Commanded, answers, commanded, only_word, read
 from .values import Format
 
 # The states of a setting that holds what is wanted.
 AS_WANTED = ("confirmed", "accepted")
+
+
+def why_other_model(device: Device, part: BoardPart) -> str:
+    """Why a part isn't the model that a board file says: nothing where it is, or the file doesn't say."""
+    if not part.model:
+        return ""
+    read = Reads(device.bus, part.address).block(probe.MFR_BLOCKS["MFR_MODEL"])
+    if read.payload is None:
+        return f"{part.name}: MFR_MODEL gave no good answer ({read.why}), and has to begin with \"{part.model}\""
+    if not read.payload.startswith(part.model.encode("ascii")):
+        return f"{part.name}: MFR_MODEL is {probe.block_words(read.payload)}, and has to begin with \"{part.model}\""
+    return ""
 
 
 @dataclass
@@ -39,6 +52,7 @@ class Board:
     described: dict[str, BoardPart] = field(default_factory=dict)
     ask_operation: Callable[[str], str] = lambda name: ""
     accept: int | None = None
+    looks: Looks | None = None
     wants_store: bool = False
     before_order: Callable[[Setting], None] = lambda setting: None
     after_order: Callable[[Setting, bool], None] = lambda setting, is_confirmed: None
@@ -48,12 +62,20 @@ class Board:
     formats: dict[str, Format] = field(default_factory=dict)
     # The course of each rail, and what was known behind it last.
     courses: dict[str, RailCourse] = field(default_factory=dict)
+    # What each rail was seen to do last.
+    delivered: dict[str, Delivered] = field(default_factory=dict)
+    looked_at: dict[str, int] = field(default_factory=dict)
+    rail_looks: dict[str, Look] = field(default_factory=dict)
+    # Whether this may write: the fault limits are read then before the first order.
+    may_write: bool = False
     surveys: dict[str, Commanded] = field(default_factory=dict)
     orders: int = 0
     # How many orders there had been when a rail was read last.
     read_at: dict[str, int] = field(default_factory=dict)
     # By rail the words of the margins that its file doesn't have, as they were read before the first order.
     margins: dict[str, dict[str, int]] = field(default_factory=dict)
+    # By rail why it couldn't be read, or doesn't deliver: where nothing is ordered all are told at the end.
+    faults: dict[str, Stopped] = field(default_factory=dict)
     # The parts of which a restart had been seen before, or is looked for no more.
     had_restarted: set[str] = field(default_factory=set)
 
@@ -73,18 +95,19 @@ class Board:
         if faults:
             raise Stopped("; ".join(faults))
 
+    def identify_each(self) -> None:
+        """Keeps why parts aren't there as the fault of their rails."""
+        for name, part in self.described.items():
+            if why := self.why_not_there(name, part):
+                stopped = Stopped(why)
+                self.faults.update({rail.name: stopped for rail in self.rails if rail.part == name} or {f"part {name}": stopped})
+
     def why_not_there(self, name: str, part: BoardPart) -> str:
         """Why a part isn't the one that the file says: nothing where it is."""
         if why := self.ask_operation(name):
-            return f"{name}: no part answers at {part.place}: {why}"
-        if not part.model:
-            return ""
-        read = Reads(self.parts[name].bus, part.address).block(probe.MFR_BLOCKS["MFR_MODEL"])
-        if read.payload is None:
-            return f"{name}: MFR_MODEL gave no good answer ({read.why}), and has to begin with \"{part.model}\""
-        if not read.payload.startswith(part.model.encode("ascii")):
-            return f"{name}: MFR_MODEL is {probe.block_words(read.payload)}, and has to begin with \"{part.model}\""
-        return ""
+            return (f"{name}: OPERATION of output 0 gave no good answer at {part.place}: {why}; pmhost probe tells why"
+                    if answers(self.parts[name]) else f"{name}: no part answers at {part.place}: {why}")
+        return why_other_model(self.parts[name], part)
 
     # ---- What is wanted ----
 
@@ -92,16 +115,31 @@ class Board:
         """Learns each rail's format, and finds the words."""
         self.had_restarted = {name for name, part in self.parts.items() if part.restart_seen}
         for rail in self.rails:
-            part = self.on(rail)
-            part.host.learn(rail.output)
-            if part.run().kind != "learned":
-                raise Stopped(f"{rail.name}: its format isn't known: {probe.why_not_learned(part, rail.output)}", rail.part, rail.output)
-            form = part.host.format(rail.output)
-            assert form is not None
-            self.formats[rail.name] = form
+            self.learn_rail(rail)
         for rail in self.rails:
-            words = {key: self.word(rail, key) for key in SETTINGS if key in rail.settings}
-            self.settings += [Setting(rail, key, word, word) for key, word in words.items()]
+            self.find_words(rail)
+
+    def learn_each(self) -> None:
+        """The same, of each rail that had no fault."""
+        self.had_restarted = {name for name, part in self.parts.items() if part.restart_seen}
+        for rail in self.rails:
+            self.keep_fault(rail, self.learn_rail)
+            self.keep_fault(rail, self.find_words)
+
+    def learn_rail(self, rail: Rail) -> None:
+        """Learns a rail's format."""
+        part = self.on(rail)
+        part.host.learn(rail.output)
+        if part.run().kind != "learned":
+            raise Stopped(f"{rail.name}: its format isn't known: {probe.why_not_learned(part, rail.output)}", rail.part, rail.output)
+        form = part.host.format(rail.output)
+        assert form is not None
+        self.formats[rail.name] = form
+
+    def find_words(self, rail: Rail) -> None:
+        """Finds the words of a rail's settings."""
+        words = {key: self.word(rail, key) for key in SETTINGS if key in rail.settings}
+        self.settings += [Setting(rail, key, word, word) for key, word in words.items()]
 
     def word(self, rail: Rail, key: str) -> int:
         """The word of a setting: one that keeps the bound of VOUT_MAX or VOUT_MIN; of a voltage that equals a bound of its rail
@@ -136,6 +174,14 @@ class Board:
 
     # ---- Frames ----
 
+    def look_of(self, rail: Rail) -> Look | None:
+        """The look at a rail, which stays one from its first order to the end."""
+        if self.looks is None:
+            return None
+        if rail.name not in self.rail_looks:
+            self.rail_looks[rail.name] = Look(self.on(rail), rail.output, self.looks)
+        return self.rail_looks[rail.name]
+
     def look_at(self, rail: Rail) -> None:
         """Reads all that a rail's course needs before its first order."""
         self.courses[rail.name] = RailCourse(self, rail)
@@ -169,7 +215,7 @@ class Board:
             raise Stopped(f"{rail.name}: its format was {probe.format_words(self.format(rail))}, and is {probe.format_words(form)} now: "
                           "the part is another one, or VOUT_MODE was written: run this again")
         if self.has_restarted(rail):
-            raise Stopped(f"{rail.part or 'the part'} restarted meanwhile: nothing that was read before holds: run this again")
+            raise Restarted(f"{rail.part or 'the part'} restarted meanwhile: nothing that was read before holds: run this again")
 
     def judge_refused(self, rail: Rail) -> None:
         """Stops where the course of a rail is refused."""
@@ -189,6 +235,7 @@ class Board:
 
     def prepare(self) -> None:
         """Reads and judges everything, and writes nothing."""
+        self.may_write = True
         self.read()
         for rail in self.rails:
             self.judge_refused(rail)
@@ -210,25 +257,51 @@ class Board:
             if self.courses[rail.name].course.ended is None:
                 self.courses[rail.name].go(True)
                 self.judge_refused(rail)
+                if why := self.why_dead(rail):
+                    raise Stopped(why)
         for rail in self.rails:
             if self.read_at[rail.name] != self.orders:
                 self.look_at(rail)
         self.finish()
 
     def verify(self) -> None:
-        """Reads each rail, and orders nothing. Stopped."""
-        self.read()
+        """Reads each rail, goes on where a part or a rail gives no good answer, and orders nothing. Stopped."""
+        self.identify_each()
+        self.learn_each()
+        for rail in self.rails:
+            if rail.name in self.formats:
+                self.keep_fault(rail, self.look_at)
+                self.keep_fault(rail, self.read_margins)
         self.finish()
 
+    def keep_fault(self, rail: Rail, read: Callable[[Rail], None]) -> None:
+        """Reads something of a rail that had no fault; what stops it is told at the end."""
+        if rail.name not in self.faults:
+            try:
+                read(rail)
+            except Stopped as stopped:
+                self.faults[rail.name] = stopped
+
     def finish(self) -> None:
-        """Stops where a setting isn't as it is wanted, or a rail doesn't command its voltage within its limits."""
+        """Stops where a setting isn't as it is wanted, or a rail doesn't command its voltage within its limits, or doesn't deliver it."""
         self.take()
-        wrong = [it.name for it in self.settings if it.state not in AS_WANTED]
-        if wrong:
-            raise Stopped(f"not as wanted: {', '.join(wrong)}")
-        unsure = [f"{rail.name}: {why}" for rail in self.rails if (why := self.why_not_well(rail))]
-        if unsure:
-            raise Stopped("; ".join(unsure))
+        read = [rail for rail in self.rails if rail.name in self.courses and rail.name not in self.faults]
+        wrong = [it.name for it in self.settings if it.state not in AS_WANTED and it.rail in read]
+        unsure = [f"{rail.name}: {why}" for rail in read if not wrong and (why := self.why_not_well(rail))]
+        silent = [*dict.fromkeys(self.faults.values())]
+        dead = [why for rail in read if self.looked_at.get(rail.name) != self.orders and (why := self.why_dead(rail)) and why not in unsure]
+        faults = [f"not as wanted: {', '.join(wrong)}"] * bool(wrong) + [str(each) for each in silent] + unsure + dead
+        if len(faults) == len(silent) == 1:
+            raise silent[0]
+        if faults:
+            raise Stopped("; ".join(faults))
+
+    def why_dead(self, rail: Rail) -> str:
+        """Why a rail doesn't deliver. Stopped where something was ordered and its part restarted, which is told then."""
+        why = self.courses[rail.name].deliver()
+        if why and self.orders:
+            self.look_at(rail)
+        return why
 
     def why_not_well(self, rail: Rail) -> str:
         """Why a rail isn't as the file has it, though its registers are: nothing where it is."""
@@ -238,13 +311,18 @@ class Board:
             known = {True: "the output is on", False: "the output is off", None: "whether the output is on isn't known"}
             return f"{known[found.is_on]}, and is to be {'on' if rail.is_on else 'off'}"
         if not found.is_well:
-            return ("the output commands a voltage outside its limits" if found.limits_state == "outside" else
+            return (OUTSIDE if found.limits_state == "outside" else
                     "the output isn't known to command a voltage within its limits")
         if rail.is_on and found.selected != SETTINGS["volts"]:
             return f"OPERATION selects {found.selected}, and not {SETTINGS['volts']}"
         if rail.is_on and not found.is_value(self.format(rail).microvolts(wanted)):
             return "the output isn't known to command its voltage"
         return ""
+
+    def is_cut(self, rail: Rail) -> bool:
+        """Whether a rail would command another voltage than the word of its register."""
+        found = self.state(rail)
+        return found.value is not None and not found.is_value(found.value)
 
     def store(self, name: str) -> None:
         """Sends STORE_USER_ALL to a part, once. Stopped."""

@@ -3,7 +3,7 @@ from __future__ import annotations
 
 import ctypes
 from dataclasses import dataclass
-from typing import TYPE_CHECKING, Mapping, NoReturn, Optional, Union
+from typing import TYPE_CHECKING, Any, Mapping, NoReturn, Optional, Union
 
 from . import _library as at
 from ._library import library
@@ -91,6 +91,8 @@ class Course:
     def __init__(self, output: int, tries: int) -> None:
         self._image = at.CourseImage()
         self.output, self.tries = whole(output, 0, 7, "output"), whole(tries, 0, 0xFFFF, "tries")
+        # Whether it brings OPERATION to a byte that turns the output off.
+        self.turns_off = False
 
     @classmethod
     def survey(cls, output: int, tries: int = SURVEY_TRIES) -> Course:
@@ -119,12 +121,18 @@ class Course:
         """To a byte of OPERATION. One that turns the output off is ordered at once, before anything is read."""
         made = cls(output, tries)
         accepted(library.pm_course_power(REFERENCE(made._image), output, whole(byte, 0, 0xFF, "byte"), tries))
+        made.turns_off = byte < 0x80
         return made
 
     def want(self, register: str | int, voltage: GivenVoltage) -> None:
         """A voltage is wanted of a register of a course to words or voltages, in the place of what was wanted of it. H5 of a register that
         is no voltage."""
         accepted(library.pm_course_want(REFERENCE(self._image), code_of(register), given_microvolts(voltage)))
+
+    @property
+    def reference(self) -> Any:
+        """Its memory, for the calls of the library."""
+        return REFERENCE(self._image)
 
     # ---- Frames ----
 
@@ -177,6 +185,7 @@ class Course:
         """Another course, which stands where this one does."""
         other = Course(self.output, self.tries)
         other.load(self.save())
+        other.turns_off = self.turns_off
         return other
 
     # ---- Its end ----

@@ -1,15 +1,33 @@
 """Supply voltages over a bus: jobs that are carried out, and voltages with their unit."""
 from __future__ import annotations
 
-from typing import Callable, Iterable, Mapping
+import functools
+import threading
+from typing import Callable, Iterable, Mapping, ParamSpec, TypeVar
 
 from .course import SURVEY_TRIES, TRIES, Course, Job, Wanted
 from .errors import Differs, NotDone, Refused, Unknown
 from .host import Host
+from .look import Delivered, Look, Looks, NotDelivered
 from .states import Bus, Known, RailState, Step
 from .transfers import Transfers
 from .values import CODES, NAMES, code_of
 from .voltages import GivenVoltage, Voltage
+
+
+Words = ParamSpec("Words")
+Made = TypeVar("Made")
+
+
+def alone(call: Callable[Words, Made]) -> Callable[Words, Made]:
+    """A call of a Device that waits until those of other threads have ended."""
+    @functools.wraps(call)
+    def waiting(*words: Words.args, **named: Words.kwargs) -> Made:
+        device = words[0]
+        assert isinstance(device, Device)
+        with device.lock:
+            return call(*words, **named)
+    return waiting
 
 
 # Bytes of OPERATION.
@@ -22,16 +40,25 @@ class Device:
     `limits` gives outputs a least and a most, as {0: ("3.2V", "3.465V")}: no order beyond them leaves this host, and
     they can be narrowed by `set_limits`. `lacks` names registers that the part doesn't have, as ("VOUT_MIN",). A voltage is a text with
     its unit, as "3.3V" or "850mV", or a Voltage, which is what is given back.
+
+    An order, a survey and a margin look at the rail behind their end, and raise NotDelivered where it doesn't deliver what it is commanded
+    to; `delivered` has what was read last. `looks` says how; None doesn't look.
+
+    Several threads may use it: a call waits until that of another thread has ended. `host` itself is for one thread at a time.
     """
 
     def __init__(self, bus: Bus, address: int, outputs: int = 1, passes: int = 3,
-                 limits: Mapping[int, tuple[GivenVoltage, GivenVoltage]] | None = None, lacks: Iterable[str | int] = ()) -> None:
+                 limits: Mapping[int, tuple[GivenVoltage, GivenVoltage]] | None = None, lacks: Iterable[str | int] = (),
+                 looks: Looks | None = Looks()) -> None:
         for name in ("write", "read"):
             if not callable(getattr(bus, name, None)):
                 raise TypeError(f"bus: {bus!r} has no call {name}: see pmhost.Bus")
         lacks = tuple(lacks)
         self.bus, self.host = bus, Host(address, outputs, passes, lacks)
-        self.transfers = Transfers()
+        self.transfers, self.lock = Transfers(), threading.RLock()
+        # How rails are looked at, what was seen last, and the registers beside the host's that the part turned out not to have.
+        self.looks, self.absent = looks, set[str]()
+        self.delivered: Delivered | None = None
         self.lacks = frozenset(NAMES[code_of(register)] for register in lacks)
         for output, pair in dict(limits or {}).items():
             if not isinstance(pair, (tuple, list)) or len(pair) != 2:
@@ -43,20 +70,24 @@ class Device:
 
     # ---- Limits and what is known ----
 
+    @alone
     def set_limits(self, output: int, least: GivenVoltage, most: GivenVoltage) -> None:
         """Gives an output limits, or narrower ones. L1, L6."""
         self.host.set_limits(output, least, most)
 
+    @alone
     def limits(self, output: int) -> tuple[Voltage, Voltage] | None:
         """The limits of an output, None where it has none."""
         found = self.host.limits(output)
         return None if found is None else (found.least, found.most)
 
+    @alone
     def limits_state(self, output: int) -> str:
         """How the output lies to its limits, by what is known: `within`, `outside`, `not known` where that doesn't tell, or `no limits`
         where it has none."""
         return self.host.limits_state(output)
 
+    @alone
     def band(self, output: int) -> tuple[Voltage, Voltage] | None:
         """Which voltages the output may be commanded to, by what is known; None where its format isn't known, or where OPERATION
         may hand its voltage to AVSBus."""
@@ -68,10 +99,12 @@ class Device:
             raise
         return found.least, found.greatest
 
+    @alone
     def rail(self, output: int) -> RailState:
         """What the output commands, by what is known: `survey` reads what that needs."""
         return self.host.rail(output)
 
+    @alone
     def voltage(self, output: int, register: str | int = "VOUT_COMMAND") -> Voltage | None:
         """The voltage of a register whose word is confirmed, rounded down to microvolts; None where none is. A ValueError of a
         register that is no voltage."""
@@ -80,17 +113,20 @@ class Device:
         word, form = self.host.confirmed_word(output, register), self.host.format(output)
         return None if word is None or form is None else form.voltage(word)
 
+    @alone
     def known_cells(self) -> list[Known]:
         """What is known of every register."""
         return self.host.known_cells()
 
     # ---- Jobs ----
 
+    @alone
     def run(self) -> Step:
         """Carries the job out that `host` has open, and says how it ended. `transfers` tells what became of its frames."""
         self.transfers = Transfers()
         return self.host.run(self.bus, self.transfers)
 
+    @alone
     def _do(self, begin: Callable[[], None]) -> Step:
         """Begins a job and carries it out. Whatever interrupts that, the job has ended then."""
         try:
@@ -102,6 +138,7 @@ class Device:
             self.host.give_up()
             raise
 
+    @alone
     def learn(self, output: int) -> str:
         """Learns the format of an output's voltages, and says it: ULINEAR16 or DIRECT."""
         self._ended(self._do(lambda: self.host.learn(output)), f"learn {output}", None)
@@ -109,28 +146,30 @@ class Device:
         assert form is not None
         return form.kind
 
+    @alone
     def learn_all(self) -> None:
         """Learns the formats of all outputs."""
         for output in range(self.host.outputs):
             self.learn(output)
 
-    def order_voltage(self, output: int, voltage: GivenVoltage, register: str | int = "VOUT_COMMAND") -> Voltage:
-        """Orders the word nearest to a voltage, reads it back, and answers the voltage that it stands for.
+    @alone
+    def order_voltage(self, output: int, voltage: GivenVoltage, register: str | int = "VOUT_COMMAND") -> RailState:
+        """Orders the word nearest to a voltage, reads it back, and says what the output commands then, by what is known.
 
         The output's format has to be learned first (H7). Raises a Refused before anything is sent, and Differs or
         Unknown where the word wasn't confirmed."""
         wanted = Voltage(voltage)
         step = self._do(lambda: self.host.order_voltage(output, register, wanted))
         self._ended(step, f"order {output} {wanted}", (output, register))
-        found = self.voltage(output, register)
-        assert found is not None
-        return found
+        return self.rail(output)
 
+    @alone
     def order(self, output: int, register: str | int, word: int) -> None:
         """Orders a word and reads it back."""
         step = self._do(lambda: self.host.order(output, register, word))
         self._ended(step, f"order {output} {NAMES[code_of(register)]}", (output, register))
 
+    @alone
     def check(self, output: int, register: str | int = "VOUT_COMMAND") -> int:
         """Reads a register back, and answers its word."""
         step = self._do(lambda: self.host.check(output, register))
@@ -139,6 +178,7 @@ class Device:
         assert word is not None
         return word
 
+    @alone
     def check_all(self, outputs: Iterable[int] | None = None) -> None:
         """Reads every register that these outputs have back, or those of all."""
         for output in range(self.host.outputs) if outputs is None else outputs:
@@ -148,12 +188,21 @@ class Device:
 
     # ---- Courses ----
 
+    @alone
     def complete(self, course: Course, before_order: Callable[[Job], None] | None = None,
                  after_order: Callable[[Job, Step], None] | None = None, job: str = "") -> RailState:
         """Carries a course out, as `Host.run_course` does, and says what the output commands then. Raises how it ended where it has not
-        reached what is wanted: a Refused, Differs, NoFormat, OtherSource or Spent, behind the words of a job."""
-        self.transfers = Transfers()
-        self.host.run_course(course, self.bus, self.transfers, before_order, after_order)
+        reached what is wanted: a Refused, Differs, NoFormat, OtherSource or Spent, behind the words of a job; and NotDelivered."""
+        self.transfers, self.delivered = Transfers(), None
+        look = None if self.looks is None else Look(self, course.output, self.looks)
+
+        def before(order: Job) -> None:
+            if look is not None:
+                look.before(course, order)
+            if before_order is not None:
+                before_order(order)
+
+        self.host.run_course(course, self.bus, self.transfers, before if look or before_order else None, after_order)
         try:
             course.end()
         except NotDone as fault:
@@ -161,6 +210,10 @@ class Device:
             possible = self.host.possible_words(course.output, cell) if cell in CODES else None
             raise type(fault)(f"{f'{job}: ' * bool(job)}{fault}{'; ' * bool(why)}{why}", fault.kind, fault.word, possible, cell) \
                 from self.transfers.error
+        if look is not None:
+            self.delivered = look.after(course.turns_off)
+            if self.delivered.is_bad:
+                raise NotDelivered(f"{f'{job}: ' * bool(job)}{self.delivered.why}{self.delivered.words}", self.delivered)
         return self.rail(course.output)
 
     def survey(self, output: int, tries: int = SURVEY_TRIES) -> RailState:
@@ -194,23 +247,28 @@ class Device:
 
     # ---- Commands ----
 
+    @alone
     def clear(self, output: int) -> None:
         """Clears the latched faults of an output: acknowledged, and no more than that."""
         self._ended(self._do(lambda: self.host.clear(output)), f"clear {output}", None)
 
+    @alone
     def store(self) -> None:
         """Has the part store its settings: acknowledged, and no more than that."""
         self._ended(self._do(self.host.store), "store", None)
 
+    @alone
     def restore(self) -> None:
         """Has the part bring its stored settings back: acknowledged, and no more than that."""
         self._ended(self._do(self.host.restore), "restore", None)
 
     @property
+    @alone
     def restart_seen(self) -> bool:
         """Whether a restart of the part was seen: what was confirmed before is to be checked again."""
         return self.host.restart_seen
 
+    @alone
     def restart(self) -> None:
         """Forgets all that is known; the limits stay."""
         self.host.restart()

@@ -30,6 +30,7 @@ SAYINGS = {
     "P5": "it would be below VOUT_MIN: order VOUT_MIN first",
     "P6": "it would be above VOUT_MAX: order VOUT_MAX first",
     "P7": "WRITE_PROTECT doesn't allow an order that is still to come: order WRITE_PROTECT 00 first",
+    "P8": "the voltage is at or beyond this fault limit, so that the rail would trip: move the limit first",
     "F1": "bytes of another device, or none",
     "F2": "too few bytes",
     "F3": "too many bytes",
@@ -86,7 +87,15 @@ class LimitRefused(Refused):
 
 
 class PlanRefused(Refused):
-    """P4 to P7: why a course orders nothing."""
+    """P4 to P8: why a course orders nothing. Of P8 `word` is that of the fault limit."""
+
+    word: int = 0
+    said: str = ""
+
+    def say(self, words: str) -> None:
+        """Says in words which voltages these are."""
+        self.said = words
+        self.args = (f"{name_of(self.number)}: {words}: {SAYINGS['P8'].rpartition(': ')[2]}",)
 
 
 class FrameRefused(Refused):

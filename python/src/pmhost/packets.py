@@ -93,6 +93,23 @@ def code_request(address: int, code: int) -> bytes:
     return bytes([whole(address, 0x08, 0x77, "address") << 1, whole(code, 0, 255, "code")])
 
 
+def paged_request(address: int, page: int, code: int, size: int) -> tuple[bytes, int]:
+    """The bytes before the repeated start of a read by PAGE_PLUS of any code, of so many bytes or, with a size of 0, of a block; and how many
+    bytes a whole answer has behind the read address."""
+    found = SendingImage()
+    accepted(library.pm_paged_request(whole(address, 0, 255, "address"), whole(page, 0, 255, "page"), whole(code, 0, 255, "code"),
+                                      whole(size, 0, 32, "size"), ctypes.byref(found)))
+    return bytes(found.bytes[: found.length]), found.answer - 1
+
+
+def read_paged(address: int, page: int, code: int, size: int, data: bytes) -> bytes:
+    """The payload of what came back for it, the read address first, then the count. F1 to F5."""
+    taken, found = frame_bytes(data, MOST), BlockImage()
+    accepted(library.pm_read_paged(whole(address, 0, 255, "address"), whole(page, 0, 255, "page"), whole(code, 0, 255, "code"),
+                                   whole(size, 0, 32, "size"), taken, len(taken), ctypes.byref(found)))
+    return bytes(found.bytes[: found.length])
+
+
 def read_block(address: int, code: int, data: bytes) -> bytes:
     """The payload of what came back for a block of any code, the read address first, then the count, at most 32. F1 to F5."""
     taken, found = frame_bytes(data, MOST), BlockImage()

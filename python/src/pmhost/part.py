@@ -5,9 +5,10 @@ import ctypes
 from dataclasses import dataclass
 from typing import Any, Callable
 
+from . import ideal
 from ._library import ConfigImage, PartImage, ReplyImage, library
 from .errors import PartRefused, accepted, name_of, refusal
-from .values import code_of, frame_bytes, whole
+from .values import Format, code_of, frame_bytes, whole
 from .voltages import Voltage, of_microvolts
 
 SILENT, TAKEN, ANSWERED = 0x81, 0x82, 0x83
@@ -32,6 +33,12 @@ class Output:
 OUTPUT_READINGS = {"READ_VOUT": 0x8B, "READ_IOUT": 0x8C}
 DEVICE_READINGS = {"READ_VIN": 0x88, "READ_TEMPERATURE_1": 0x8D}
 READINGS = OUTPUT_READINGS | DEVICE_READINGS
+
+
+def format_of(mode: int, coefficients: tuple[int, int, int]) -> Format:
+    """The format of an output's voltages, by a VOUT_MODE that the library has taken."""
+    m, b, r = coefficients
+    return Format("DIRECT", r, m, b) if mode == 0x40 else Format("ULINEAR16", (mode & 0x1F ^ 0x10) - 0x10)
 
 
 class ModelPart:
@@ -59,6 +66,9 @@ class ModelPart:
             for name in REGISTERS:
                 setattr(place, name, whole(getattr(output, name), 0, 0xFFFF, f"{name} of output {number}"))
         accepted(library.pm_part_new(ctypes.byref(self._image), ctypes.byref(config)))
+        self.formats = tuple(format_of(output.mode, coefficients) for output in outputs)
+        # The outputs whose READ_VOUT `set_reading` gave a word.
+        self.has_reading: set[int] = set()
 
     @property
     def outputs(self) -> int:
@@ -73,6 +83,7 @@ class ModelPart:
         other = object.__new__(ModelPart)
         other._image = PartImage.from_buffer_copy(self._image)
         other._address, other._outputs = self._address, self._outputs
+        other.formats, other.has_reading = self.formats, set(self.has_reading)
         return other
 
     def __copy__(self) -> ModelPart:
@@ -115,6 +126,8 @@ class ModelPart:
             raise ValueError(f"output: {reading} is the device's: give None")
         place = 0 if reading in DEVICE_READINGS else whole(output, 0, self.outputs - 1, "output")
         accepted(library.pm_part_set_reading(ctypes.byref(self._image), place, READINGS[reading], whole(word, 0, 0xFFFF, "word")))
+        if reading == "READ_VOUT":
+            self.has_reading.add(place)
 
     # ---- What it holds ----
 
@@ -158,7 +171,7 @@ class ModelPart:
 
 
 class ModelPartBus:
-    """A bus with one model part."""
+    """A bus with one model part, whose rails deliver what its outputs command: READ_VOUT is that until `set_reading` gives it a word."""
 
     def __init__(self, part: ModelPart) -> None:
         if not isinstance(part, ModelPart):
@@ -174,7 +187,8 @@ class ModelPartBus:
 
     def read(self, request: bytes, count: int) -> bytes:
         try:
-            return self.part.hear(request, is_request=True)[1 : count + 1]
+            found = ideal.answer(self.part, request) or self.part.hear(request, is_request=True)
+            return found[1 : count + 1]
         except PartRefused:
             return b""
 

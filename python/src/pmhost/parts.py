@@ -6,6 +6,7 @@
     outputs = 2
     model = "LTC3880"         # MFR_MODEL has to begin with this
     lacks = ["VOUT_MIN"]      # registers that the part doesn't have
+    ready = "EF:60"           # the part is ready where its byte EFh has these bits
 
 A multiplexer that the kernel drives is part of the adapter: each of its channels is a bus with a number of its own.
 """
@@ -22,7 +23,8 @@ NAME = re.compile(r"[A-Za-z0-9_.+-]{1,32}\Z")
 MODEL_BUS = "model"
 # The registers that a part may lack.
 MISSABLE = ("VOUT_MAX", "VOUT_MARGIN_HIGH", "VOUT_MARGIN_LOW", "VOUT_MIN")
-KEYS = ("bus", "address", "outputs", "model", "lacks")
+KEYS = ("bus", "address", "outputs", "model", "lacks", "ready")
+READY = re.compile("([0-9A-Fa-f]{2}):([0-9A-Fa-f]{2})")
 MODEL = re.compile(r"[ -~]{1,32}\Z")
 MOST_BUS, MOST_OUTPUTS = 10**9 - 1, 8
 
@@ -34,7 +36,8 @@ class BadRails(Exception):
 @dataclass(frozen=True)
 class BoardPart:
     """A part: its bus, `model` or the number of one of Linux, and its address, which are empty and 0 where the command line has them;
-    how many outputs it has, what its MFR_MODEL begins with, and the registers that it doesn't have."""
+    how many outputs it has, what its MFR_MODEL begins with, the registers that it doesn't have, and the byte and its bits by which it is
+    ready."""
 
     name: str
     bus: str
@@ -42,6 +45,7 @@ class BoardPart:
     outputs: int
     model: str = ""
     lacks: tuple[str, ...] = ()
+    ready: tuple[int, int] | None = None
 
     @property
     def place(self) -> str:
@@ -68,6 +72,14 @@ def address_of(word: str) -> int:
 def is_whole(number: object) -> TypeGuard[int]:
     """Whether it is a whole number, which true and false aren't."""
     return isinstance(number, int) and not isinstance(number, bool)
+
+
+def ready_of(word: str) -> tuple[int, int]:
+    """A command code and bits, as EF:60. A ValueError says what to give."""
+    found = READY.fullmatch(word.strip())
+    if found is None or int(found[2], 16) == 0:
+        raise ValueError(f"{word.strip()!r}: give the code of a byte and the bits of it that are 1 of a part that is ready, as EF:60")
+    return int(found[1], 16), int(found[2], 16)
 
 
 def lacks_of(at: str, names: object) -> tuple[str, ...]:
@@ -105,4 +117,17 @@ def part_of(name: str, table: object) -> BoardPart:
         raise BadRails(f"{at}.outputs: give a whole number from 1 to {MOST_OUTPUTS}")
     if "model" in table and (not isinstance(model, str) or not MODEL.match(model)):
         raise BadRails(f'{at}.model: give what MFR_MODEL begins with, as "LTC3880"')
-    return BoardPart(name, str(bus), found, outputs, model, lacks_of(f"{at}.lacks", table.get("lacks", [])))
+    return BoardPart(name, str(bus), found, outputs, model, lacks_of(f"{at}.lacks", table.get("lacks", [])), ready_in(at, table))
+
+
+def ready_in(at: str, table: dict[str, object]) -> tuple[int, int] | None:
+    """The byte and its bits by which a part is ready, where its table has them."""
+    ready = table.get("ready")
+    if ready is None:
+        return None
+    if not isinstance(ready, str):
+        raise BadRails(f'{at}.ready: {ready}: give a text, as "EF:60"')
+    try:
+        return ready_of(ready)
+    except ValueError as fault:
+        raise BadRails(f"{at}.ready: {fault}") from None

@@ -5,6 +5,7 @@ from dataclasses import dataclass
 from typing import TYPE_CHECKING
 
 from .course import Course, Job
+from .errors import PlanRefused
 from .rails import SETTINGS, Rail
 from .rounded import Accepting
 from .states import Step
@@ -15,6 +16,7 @@ if TYPE_CHECKING:
     from .apply import Board
 
 PROTECT = "WRITE_PROTECT"
+OUTSIDE = "the output commands a voltage outside its limits"
 
 
 class Stopped(Exception):
@@ -23,6 +25,10 @@ class Stopped(Exception):
     def __init__(self, why: str, part: str | None = None, output: int | None = None) -> None:
         super().__init__(why)
         self.part, self.output = part, output
+
+
+class Restarted(Stopped):
+    """A part restarted meanwhile, which is all that went wrong: the same call again may end well."""
 
 
 class Due(Exception):
@@ -78,7 +84,13 @@ class RailCourse:
         self.judge()
 
     def before(self, order: Job) -> None:
-        """An order is due."""
+        """An order is due. Before the first one the rail is looked at: a goal at or beyond a fault limit stops it."""
+        look = self.board.look_of(self.rail) if self.board.may_write else None
+        if look is not None:
+            try:
+                look.before(self.course, order)
+            except PlanRefused as fault:
+                raise Stopped(f"{self.rail.name}: {fault.said}: {fault.letter} {fault.name}") from None
         if not self.may_order:
             raise Due
         self.board.look(self.rail)
@@ -99,6 +111,16 @@ class RailCourse:
             board.had_restarted.add(rail.part)
         elif step.word is not None and board.has_restarted(rail):
             raise self.stopped(self.unconfirmed(it, step.word, "it restarted, or rounds: --accept takes a word that is near"))
+
+    def deliver(self) -> str:
+        """Looks at what the rail does: why it doesn't deliver, nothing where it does."""
+        look = self.board.look_of(self.rail)
+        if look is None:
+            return ""
+        found = self.board.delivered[self.rail.name] = look.after()
+        self.board.looked_at[self.rail.name] = self.board.orders
+        is_outside = found.verdict.kind == "outside" and self.board.state(self.rail).limits_state == "outside"
+        return f"{self.rail.name}: {OUTSIDE if is_outside else found.why}" if found.is_bad else ""
 
     def judge(self) -> None:
         """Stops where it has ended, and neither as it is wanted nor refused."""

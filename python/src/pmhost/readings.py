@@ -34,10 +34,12 @@ KINDS = {
     "READ_FREQUENCY": Kind(0x95, 2, "kHz"), "STATUS_BYTE": Kind(0x78, 1), "STATUS_WORD": Kind(0x79, 2), "STATUS_VOUT": Kind(0x7A, 1),
     "STATUS_IOUT": Kind(0x7B, 1), "STATUS_INPUT": Kind(0x7C, 1), "STATUS_TEMPERATURE": Kind(0x7D, 1), "STATUS_CML": Kind(0x7E, 1),
     "STATUS_OTHER": Kind(0x7F, 1), "STATUS_MFR_SPECIFIC": Kind(0x80, 1), "STATUS_FANS_1_2": Kind(0x81, 1),
-    "STATUS_FANS_3_4": Kind(0x82, 1),
+    "STATUS_FANS_3_4": Kind(0x82, 1), "ON_OFF_CONFIG": Kind(0x02, 1), "VOUT_OV_FAULT_LIMIT": Kind(0x40, 2, "V"),
+    "VOUT_OV_WARN_LIMIT": Kind(0x42, 2, "V"), "VOUT_UV_WARN_LIMIT": Kind(0x43, 2, "V"), "VOUT_UV_FAULT_LIMIT": Kind(0x44, 2, "V"),
+    "POWER_GOOD_ON": Kind(0x5E, 2, "V"), "POWER_GOOD_OFF": Kind(0x5F, 2, "V"),
 }
-# The reading in the format of its output's voltages.
-IN_OUTPUTS_FORMAT = "READ_VOUT"
+# Those in the format of their output's voltages.
+IN_OUTPUTS_FORMAT = {name for name, kind in KINDS.items() if kind.unit == "V" and name != "READ_VIN"}
 
 
 @dataclass
@@ -66,7 +68,7 @@ class Reading:
 
 
 def read(bus: Bus, address: int, output: int | None, name: str, form: Format | None) -> Reading:
-    """A reading of an output, or of the device. `form` is the learned format of the output's voltages; None is none. READ_VOUT of no
+    """A reading of an output, or of the device. `form` is the learned format of the output's voltages; None is none. A voltage of no
     output has its word alone, since the part's PAGE decides whose it is."""
     reads, kind = Reads(bus, address), KINDS[name]
     answer = reads.code(kind.code, kind.size, output)
@@ -75,15 +77,15 @@ def read(bus: Bus, address: int, output: int | None, name: str, form: Format | N
     word = int.from_bytes(answer.payload, "little")
     if name in BITS:
         return Reading(name, word, bits=names_of(name, word))
-    found = None if output is None and name == IN_OUTPUTS_FORMAT else format_of(reads, name, form)
+    found = None if not kind.unit or output is None and name in IN_OUTPUTS_FORMAT else format_of(reads, name, form)
     micro = None if found is None else found.told(word)
     return Reading(name, word, None if micro is None else decimal_of(micro))
 
 
 def format_of(reads: Reads, name: str, form: Format | None) -> Format | None:
-    """The format of a reading: that of the output's voltages for READ_VOUT; otherwise LINEAR11 beside ULINEAR16, and beside DIRECT
+    """The format of a reading: that of the output's voltages for these; otherwise LINEAR11 beside ULINEAR16, and beside DIRECT
     what COEFFICIENTS answers for this code. None where it isn't known."""
-    if form is None or name == IN_OUTPUTS_FORMAT:
+    if form is None or name in IN_OUTPUTS_FORMAT:
         return form
     return LINEAR11 if form.kind != "DIRECT" else coefficients_of(reads.coefficients(KINDS[name].code, OF_READING))
 

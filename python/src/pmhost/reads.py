@@ -11,13 +11,13 @@ from typing import Callable
 from . import clock
 from .bus.ones import NOBODY, NoAnswer, is_ones
 from .errors import FrameRefused, Refused
-from .packets import Packet, code_request, pec, read_answer, read_block, read_plain
+from .packets import Packet, code_request, paged_request, pec, read_answer, read_block, read_paged, read_plain
 from .states import Bus
 
 TRIES = 3
 # Seconds before a request is sent again, since the part may be busy.
 PAUSE = 0.01
-PAGE_PLUS_READ, MOST_BLOCK = 0x06, 32
+MOST_BLOCK = 32
 
 
 @dataclass(frozen=True)
@@ -32,10 +32,6 @@ class Read:
     def has_answer(self) -> bool:
         """Whether anything came, good or not."""
         return self.payload is not None or bool(self.came)
-
-
-class NotGood(Exception):
-    """What is wrong with an answer."""
 
 
 def is_known(asked: Packet) -> bool:
@@ -100,9 +96,9 @@ class Reads:
         return self.plain(code, size) if page is None else self.of_page(page, code, size)
 
     def of_page(self, page: int, code: int, size: int) -> Read:
-        """So many bytes of a page by PAGE_PLUS, of any code."""
-        request = bytes([self.address << 1, PAGE_PLUS_READ, 2, page, code])
-        return self._try(request, size + 2, lambda came: self._counted(request, came, size))
+        """So many bytes of a page by PAGE_PLUS, of any code; with a size of 0 a block."""
+        request, count = paged_request(self.address, page, code, size)
+        return self._try(request, count, lambda came: read_paged(self.address, page, code, size, came))
 
     def plain(self, code: int, size: int) -> Read:
         """So many bytes of the device, of any code."""
@@ -122,17 +118,6 @@ class Reads:
     def _read_address(self) -> bytes:
         return bytes([self.address << 1 | 1])
 
-    def _counted(self, request: bytes, came: bytes, size: int) -> bytes:
-        """The payload of an answer by PAGE_PLUS to a code outside the command table, which the library doesn't read: so many bytes behind
-        their count."""
-        if came[1] != size:
-            raise NotGood("F4 WrongCount")
-        if len(came) < size + 3:
-            raise NotGood("F2 Short")
-        if came[1:] != self.with_pec(request, came[1:]):
-            raise NotGood("F5 WrongPec")
-        return came[2:-1]
-
     def _try(self, request: bytes, count: int, payload: Callable[[bytes], bytes]) -> Read:
         """What three tries give; `payload` judges what came behind the read address, which stands in front."""
         last, why = b"", ""
@@ -149,6 +134,4 @@ class Reads:
                 return Read(payload(self._read_address() + came), came)
             except FrameRefused as wrong:
                 last, why = came, f"{wrong.letter} {wrong.name}"
-            except NotGood as wrong:
-                last, why = came, str(wrong)
         return Read(None, last, why)

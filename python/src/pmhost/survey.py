@@ -10,11 +10,14 @@ from .course import Course, CourseEnd, Job, avsbus
 from .device import MARGINS, ON, Device
 from .errors import LimitRefused
 from .host import Host
+from .packets import Packet
+from .reads import Reads
 from .states import Known, Step
 from .transfers import Transfers
 from .values import CODES, Format
 from .zeros import ADDRESS, REGISTER, Believing
 
+CAPABILITY = Packet("read", 0x19)
 # What stands among the registers that are missed for a format that isn't spoken here.
 FORMAT = "format"
 # A survey reads at most seven registers, each once, and but for one once more where an answer surprises; and the format.
@@ -179,6 +182,11 @@ def ask_operation(part: Device) -> str:
     host, transfers = Host(part.host.address, 1, part.host.passes), Transfers()
     host.check(0, "OPERATION")
     return "" if host.run(part.bus, transfers).kind == "done" else transfers.why() or "no good answer"
+
+
+def answers(part: Device) -> bool:
+    """Whether a part answers a plain read of CAPABILITY at all, good or not."""
+    return Reads(part.bus, part.host.address).packet(CAPABILITY).has_answer
 
 
 def holds_zeros(part: Device) -> bool:

@@ -1,9 +1,10 @@
 """A bus that waits for a busy part: one that doesn't acknowledge, or reads as ones, for a while behind a write.
 
-The wait stands at the end of a write's call, so that the next transfer meets a part that is ready: CAPABILITY is read again and
-again until an answer came. A write whose address nobody acknowledged was heard by nobody, and is sent again, but for a store: some
-adapters of the kernel say the same of a byte behind the address, and a store wears the memory. A read that may have been heard
-is never repeated.
+The wait stands at the end of a write's call, so that the next transfer meets a part that is ready: after 10 ms CAPABILITY is read, and then
+after twice the wait each time, until an answer came; or a byte of the part's own, until its bits say that it is ready. A part may note each
+question that comes while it is busy, and pull SMBALERT#, so that few are asked. A write whose address nobody acknowledged was heard by
+nobody, and is sent again after such waits, but for a store: some adapters of the kernel say the same of a byte behind the address, and a
+store wears the memory. A read that may have been heard is never repeated.
 """
 from __future__ import annotations
 
@@ -11,21 +12,38 @@ import errno
 from typing import Protocol
 
 from .. import clock
+from ..errors import FrameRefused
+from ..packets import read_plain
 
 CAPABILITY, STORE_USER_ALL, RESTORE_USER_ALL = 0x19, 0x15, 0x16
-# Seconds between two questions.
-STEP = 0.005
-# For how many milliseconds a busy part is waited for behind a write, and behind a store and a restore.
-TIMEOUT, LONG_TIMEOUT = 200, 1000
+# Seconds before the first question; each further wait is twice as long.
+FIRST_WAIT = 0.01
+# For how many milliseconds a busy part is waited for behind a write, behind a restore, and behind a store.
+TIMEOUT, LONG_TIMEOUT, STORE_TIMEOUT = 200, 1000, 5000
 # What the kernel's adapters say of a write whose address wasn't acknowledged. EREMOTEIO and EIO are said of a byte behind it, too:
 # the part may have heard it then.
 UNHEARD = errno.ENXIO
 
 
-def timeout_of(given: int | None, is_long: bool) -> int:
-    """How many milliseconds a busy part is waited for: those that were given, or else those of a store and a restore, or of another
-    write."""
-    return given if given is not None else LONG_TIMEOUT if is_long else TIMEOUT
+def timeout_of(given: int | None, command: str = "") -> int:
+    """How many milliseconds a busy part is waited for: those that were given, or else those of a `store`, a `restore`, or another write."""
+    return given if given is not None else {"store": STORE_TIMEOUT, "restore": LONG_TIMEOUT}.get(command, TIMEOUT)
+
+
+class Waits:
+    """Waits up to a moment of the clock: 10 ms, then twice as long each time. The last one ends at that moment."""
+
+    def __init__(self, deadline: float) -> None:
+        self._deadline, self._next = deadline, FIRST_WAIT
+
+    def wait(self) -> bool:
+        """Waits, where the moment isn't there yet; otherwise False at once."""
+        now = clock.until()
+        if now >= self._deadline:
+            return False
+        clock.until(min(now + self._next, self._deadline))
+        self._next *= 2
+        return True
 
 
 def is_command(frame: bytes, code: int) -> bool:
@@ -45,29 +63,30 @@ class Bare(Protocol):
 
 class PatientBus:
     """A bus over another one. `delay` is the wait before each transfer and `busy_timeout` how long it waits for a busy part behind
-    each write, both in milliseconds; without `busy_timeout` 200, and 1,000 behind a store and a restore."""
+    each write, both in milliseconds; without `busy_timeout` 200, 1,000 behind a restore and 5,000 behind a store. `ready` is a command code
+    and bits: the part is ready where a plain read of this byte has all of these bits, by a right packet error code."""
 
-    def __init__(self, bus: Bare, delay: int = 0, busy_timeout: int | None = None) -> None:
-        self.bus, self.delay, self._busy_timeout = bus, delay, busy_timeout
+    def __init__(self, bus: Bare, delay: int = 0, busy_timeout: int | None = None, ready: tuple[int, int] | None = None) -> None:
+        self.bus, self.delay, self._busy_timeout, self.ready = bus, delay, busy_timeout, ready
 
     def __repr__(self) -> str:
         return f"PatientBus({self.bus!r}, {self.delay}, {self._busy_timeout})"
 
     def busy_timeout(self, frame: bytes) -> int:
         """For how many milliseconds a busy part is waited for behind a frame."""
-        return timeout_of(self._busy_timeout, is_command(frame, STORE_USER_ALL) or is_command(frame, RESTORE_USER_ALL))
+        command = "store" if is_command(frame, STORE_USER_ALL) else "restore" if is_command(frame, RESTORE_USER_ALL) else ""
+        return timeout_of(self._busy_timeout, command)
 
     def write(self, frame: bytes) -> bool:
         """Sends a packet, again where its address wasn't acknowledged, and waits until the part is ready. The end is that of the
         last try."""
-        busy_timeout = self.busy_timeout(frame)
-        deadline = clock.until() + busy_timeout / 1000
+        deadline = clock.until() + self.busy_timeout(frame) / 1000
         try:
             is_acknowledged = self._write(frame, deadline)
         except OSError:
-            self._wait_for_part(frame[0], busy_timeout, deadline)
+            self._wait_for_part(frame[0], deadline)
             raise
-        self._wait_for_part(frame[0], busy_timeout, deadline)
+        self._wait_for_part(frame[0], deadline)
         return is_acknowledged
 
     def read(self, request: bytes, count: int) -> bytes:
@@ -80,29 +99,30 @@ class PatientBus:
             clock.wait(self.delay / 1000)
         return self.bus
 
-    @staticmethod
-    def _is_left(deadline: float) -> bool:
-        """Whether a further try begins before the deadline, after the wait before it."""
-        now = clock.until()
-        return now + STEP < deadline and clock.until(now + STEP) < deadline
-
     def _write(self, frame: bytes, deadline: float) -> bool:
         """Sends a packet until somebody acknowledged the address, or the time is over."""
+        waits = Waits(deadline)
         while True:
             try:
                 return self._settled().write(frame)
             except OSError as fault:
-                if fault.errno != UNHEARD or is_command(frame, STORE_USER_ALL) or not self._is_left(deadline):
+                if fault.errno != UNHEARD or is_command(frame, STORE_USER_ALL) or not waits.wait():
                     raise
 
-    def _wait_for_part(self, address_byte: int, busy_timeout: int, deadline: float) -> None:
-        """Asks for CAPABILITY until an answer came that isn't of ones, or the time is over; with none nothing is asked."""
-        while busy_timeout and not self._is_ready(address_byte):
-            if not self._is_left(deadline):
-                return
+    def _wait_for_part(self, address_byte: int, deadline: float) -> None:
+        """Asks whether the part is ready until it is, or the time is over; with none nothing is asked."""
+        waits = Waits(deadline)
+        while waits.wait() and not self._is_ready(address_byte):
+            pass
 
     def _is_ready(self, address_byte: int) -> bool:
+        """Whether an answer came that isn't of ones; of a part with a byte of its own, whether that has all bits."""
+        code, mask = self.ready or (CAPABILITY, 0)
         try:
-            return bool(self._settled().read(bytes([address_byte, CAPABILITY]), 2))
-        except OSError:
+            came = self._settled().read(bytes([address_byte, code]), 2)
+            if not self.ready or not came:
+                return bool(came)
+            payload = read_plain(address_byte >> 1, code, 1, bytes([address_byte | 1]) + came)
+        except (OSError, FrameRefused):
             return False
+        return payload[0] & mask == mask

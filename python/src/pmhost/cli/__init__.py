@@ -18,14 +18,15 @@ from .._version import __version__
 from ..bus import NoBus
 from ..bus.linux import Calls
 from ..errors import PmhostError
-from . import capture, faults, known, orders, probe, rails, streams, torture
+from . import capture, faults, known, names, orders, probe, rails, streams, torture, why
+from .again import are_several
 from .answer import Answer
 from .completion import bash
 from .call import Call, Interrupted, complain, interruptible
 from .parser import BadCall, Parser, bus_options, shown
 
 # The modules of the commands, in the order of the help.
-MODULES: list[ModuleType] = [probe, orders, known, rails, faults, torture, capture]
+MODULES: list[ModuleType] = [probe, orders, why, known, rails, faults, torture, capture]
 # The commands that have jobs of their own, between which a + stands: the call has no other command.
 OWN_JOBS = ("faults", "torture")
 
@@ -40,7 +41,8 @@ command's words, those of one command behind its name. After a command that does
 and band are answered.
 
 The status is 0 where every command ended well, 1 where one didn't, 2 where the call can't be carried out or a stream
-fails (1 of capture), and 130 after an interruption, which says what is now unknown."""
+fails (1 of capture), 3 where a part restarted and nothing else went wrong, so that the same call may end well, and 130 after
+an interruption, which says what is now unknown."""
 BAD_CALL, INTERRUPTED = 2, 130
 
 
@@ -85,17 +87,32 @@ def parts_of(words: list[str]) -> list[list[str]]:
 
 def commands_of(words: list[str]) -> list[argparse.Namespace]:
     """The commands of a command line, each with its own words as `said`."""
-    whole, commands = parser()
-    options, found = options_of(whole), []
-    for part in parts_of(words):
+    options, found = options_of(parser()[0]), list[argparse.Namespace]()
+    # argparse would take the file behind a bare --store for its value.
+    for part in parts_of([rails.STORE_ALL if word == "--store=always" else word for word in words]):
         for word in () if part[:1] and part[0] in OWN_JOBS else part:
             if word.startswith("--") and word.partition("=")[0] not in options:
                 raise BadCall(f"{shown(word)}: no such option; --help tells which there are")
-        arguments = whole.parse_args(part)
-        has_value = valued(whole) | valued(commands[arguments.command])
-        arguments.said = " ".join([arguments.command, *words_behind(arguments.command, part, has_value)])
-        found.append(arguments)
+        found += [read_command(each, named) for each, named in names.expanded(part, all_valued())]
     return found
+
+
+def read_command(part: list[str], named: names.Named | None) -> argparse.Namespace:
+    """A command by its own words, which may be about a rail of a file."""
+    whole, commands = parser()
+    arguments = whole.parse_args(part)
+    has_value = valued(whole) | valued(commands[arguments.command])
+    arguments.said = " ".join([arguments.command, *words_behind(arguments.command, part, has_value)])
+    if named is not None:
+        names.attach(arguments, named)
+    return arguments
+
+
+@functools.cache
+def all_valued() -> set[str]:
+    """The options behind which a value stands, of any command."""
+    whole, commands = parser()
+    return valued(whole).union(*map(valued, commands.values()))
 
 
 def valued(found: argparse.ArgumentParser) -> set[str]:
@@ -124,12 +141,12 @@ def run_commands(call: Call) -> int:
     """The status of a call's commands."""
     status = 0
     for arguments in call.commands:
-        if status and not getattr(arguments, "is_question", False):
+        if status and not getattr(arguments, "is_question", False) and not getattr(arguments, "goes_on", False):
             continue
         call.begin(arguments)
         is_order = getattr(arguments, "is_order", False)
-        status = max(status, is_order and call.no_part(arguments) or int(arguments.run(arguments)))
-    return status
+        status = max(status, call.other_model(arguments) or is_order and call.no_part(arguments) or int(arguments.run(arguments)))
+    return status or (call.ordered.look(call) if are_several(call.commands) else 0)
 
 
 def judged(words: list[str], kernel: Calls | None) -> Call:

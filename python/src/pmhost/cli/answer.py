@@ -10,6 +10,7 @@ from decimal import Decimal
 
 from .. import voltages
 from ..readings import KINDS
+from ..look import Delivered
 from ..survey import Commanded
 
 GREEN, RED, PLAIN = "\033[32m", "\033[31m", "\033[0m"
@@ -36,6 +37,7 @@ class Answer:
     microvolts: int | None = None
     possible: tuple[int, ...] | None = None
     commanded: Commanded | None = None
+    delivered: Delivered | None = None
     restart_seen: bool | None = None
     refusal: str | None = None
     rows: list[dict[str, object]] = field(default_factory=list)
@@ -56,7 +58,14 @@ class Answer:
             "selected": found.selected, "on": found.is_on,
             "commands": None if found.least is None else [number(found.least), number(found.greatest)],
             "limits": None if found.limits is None else [number(each) for each in found.limits],
-            "within": found.is_within, "missing": sorted(found.missing), "restart_seen": self.restart_seen, "rows": self.rows})
+            "within": found.is_within, **delivery_of(self.delivered), "missing": sorted(found.missing), "restart_seen": self.restart_seen, "rows": self.rows})
+
+
+def delivery_of(found: Delivered | None) -> dict[str, object]:
+    """What a rail does: the verdict, READ_VOUT in volts, and STATUS_WORD; each None where nothing was looked at."""
+    if found is None:
+        return {"delivery": None, "read_vout": None, "status_word": None}
+    return {"delivery": found.verdict.kind, "read_vout": number(found.verdict.microvolts), "status_word": in_digits(None, found.status)}
 
 
 def number(microvolts: int | None) -> float | None:

@@ -7,22 +7,27 @@ import signal
 import sys
 from typing import Any, Callable, Iterator
 
+from ..apply import why_other_model
 from ..bus import LinuxBus, PatientBus, Trace
 from ..bus.linux import ENDING, BusTrace, Calls
 from ..part import ModelPartBus
 from ..parts import MODEL_BUS, BoardPart
 from ..device import Device
-from ..rails import ONLY, Rails
+from ..look import Look, Looks
+from ..rails import ONLY, Rail, Rails
 from ..reserved import why_reserved
 from . import streams
+from .again import Ordered
 from .answer import Answer, coloured
 from .parser import BEHIND, OPTIONS, BadCall
 from .place import Options, Place
 
 MODEL_ADDRESS, MODEL_OUTPUTS, PASSES = 0x58, 2, 3
 NOTHING = "nothing was written"
+LOOKS = Looks()
+PROBE_TELLS = "; pmhost probe tells why"
 # The options that say where the one part is, and what it has: a board file has them for each part.
-OF_ONE_PART = ("bus", "address", "outputs", "limit", "no_limit", "lacks")
+OF_ONE_PART = ("bus", "address", "outputs", "limit", "no_limit", "lacks", "ready")
 
 
 class Interrupted(BaseException):
@@ -80,7 +85,9 @@ class Call:
         self._rails: Rails | None = None
         self.under_way = self.maybe = self.unsaid = ""
         self.settled: str | Callable[[], str] = NOTHING
-        self.has_answered = False
+        # The parts that have answered, and the rail that the command under way names, which a file has.
+        self.has_answered, self.identified, self.ordered = set[str](), set[str](), Ordered()
+        self.named: Rail | None = None
         self.bus: str | None = self._one("bus")
         self.address: int | None = self._one("address")
         self.outputs: int | None = self._one("outputs")
@@ -91,6 +98,9 @@ class Call:
         self.busy_timeout: int | None = self._one("busy_timeout")
         self.is_unlimited, self.is_json, self.is_forced, self.is_shared = (
             bool(self._all(name)) for name in ("no_limit", "json", "force", "share_bus"))
+        self.looks: Looks | None = Looks(self._one("fault_limits") or "refuse", self._one("power_good") or "judge",
+                                         LOOKS.within if self._one("within") is None else self._one("within"),
+                                         LOOKS.settle if self._one("settle") is None else self._one("settle"))
         self.limits: dict[int, tuple[int, int]] = {}
         for output, least, most in self._all("limit"):
             if output in self.limits:
@@ -144,8 +154,8 @@ class Call:
         """What the parts have, and the limits, by a file of rails, is so of the whole call; a board file says where the parts are,
         too. BadCall."""
         for name in OF_ONE_PART if found.is_board else OF_ONE_PART[2:]:
-            if self._all(name):
-                what = {"lacks": "it stands", "bus": "buses and addresses stand", "address": "buses and addresses stand"}.get(
+            if self._all(name) and (name != "ready" or found.is_board):
+                what = {"lacks": "it stands", "ready": "it stands", "bus": "buses and addresses stand", "address": "buses and addresses stand"}.get(
                     name, "outputs and limits stand")
                 raise BadCall(f"{OPTIONS[name][0][-1]}: {what} in the file of {arguments.command}")
         if self._rails is not None and found.made_for() != self._rails.made_for():
@@ -160,7 +170,10 @@ class Call:
         self._rails = found
 
     def judge_write(self, arguments: argparse.Namespace, more: str = "") -> None:
-        """What is written goes to a part of a known number of outputs, at an address that a part may have. `more` is asked for beside it."""
+        """What is written goes to a part of a known number of outputs, at an address that a part may have. `more` is asked for beside it. A file
+        has both."""
+        if self._rails is not None and self._rails.is_board:
+            return
         if self.address is not None and (why := why_reserved(self.address)):
             raise BadCall(f"{said(arguments)}: {why}")
         if self.outputs is None:
@@ -170,7 +183,8 @@ class Call:
         """An order that may change a voltage has limits, or is meant to have none."""
         self.judge_write(arguments, ", and a --limit O:LEAST:MOST for the output, or --no-limit")
         output = arguments.output
-        if output is not None and output not in self.limits and not self.is_unlimited:
+        is_named = getattr(arguments, "named", None) is not None
+        if output is not None and not is_named and output not in self.limits and not self.is_unlimited:
             raise BadCall(f"{said(arguments)}: give --limit {output}:LEAST:MOST, what the load tolerates, as "
                           f"--limit {output}:3.135V:3.465V, or --no-limit; `probe` tells the outputs for --outputs")
 
@@ -190,13 +204,18 @@ class Call:
                 self._places = {part.name: Place(part, limits, options, BusTrace(self._trace, part.bus))
                                 for part, limits in self._rails.made_for()}
             else:
-                only = BoardPart(ONLY, self.bus or "", self.address or MODEL_ADDRESS, self.counted(), "", self.lacks)
+                only = BoardPart(ONLY, self.bus or "", self.address or MODEL_ADDRESS, self.counted(), "", self.lacks, self._one("ready"))
                 self._places = {ONLY: Place(only, self.limits, options, self._trace, self.outputs or max(MODEL_OUTPUTS, self.counted()))}
         return self._places
 
+    @property
+    def part_name(self) -> str:
+        """The name of the part that the command under way is about."""
+        return ONLY if self.named is None else self.named.part
+
     def only(self) -> Place:
-        """The one part of a call that has no board file."""
-        return self.places()[ONLY]
+        """The one part of a call that has no board file; with one that of the rail that the command names."""
+        return self.places()[self.part_name]
 
     def bus_at(self, address: int) -> LinuxBus:
         """The bus of the call, opened for an address. NoBus."""
@@ -206,6 +225,10 @@ class Call:
         """The same, through the one host of the call."""
         return self.only().pmbus()
 
+    def look(self, output: int) -> Look | None:
+        """A look at a rail of the one part."""
+        return None if self.looks is None else Look(self.part(), output, self.looks)
+
     def patient(self, busy_timeout: int | None = None) -> ModelPartBus | PatientBus:
         """The bus of the one part, which waits for it where it is busy."""
         return self.only().patient(busy_timeout)
@@ -213,19 +236,33 @@ class Call:
     def no_part(self, arguments: argparse.Namespace) -> int:
         """Before the first command that writes something without a course the part has to answer. 0, or the status where it doesn't:
         nothing was ordered. Those of a board file are looked for by its own command."""
-        is_board = self._rails is not None and self._rails.is_board
-        if is_board or self.has_answered or getattr(arguments, "dry_run", False):
+        is_board = self._rails is not None and self._rails.is_board and self.named is None
+        if is_board or self.part_name in self.has_answered or getattr(arguments, "dry_run", False):
             return 0
         why = self.only().ask_operation()
         if why:
             return self.say(self.nobody(arguments, why))
-        self.has_answered = True
+        self.has_answered.add(self.part_name)
         return 0
 
-    @staticmethod
-    def nobody(arguments: argparse.Namespace, why: str) -> Answer:
-        """No part answers."""
-        return Answer(said(arguments), "no part", "no part answers, nothing was ordered", 1, why, getattr(arguments, "output", None))
+    def other_model(self, arguments: argparse.Namespace) -> int:
+        """Before the first command about a rail of a part that a file has, this has to be the model that the file says. 0, or the status."""
+        place = None if self.named is None else self.only()
+        if place is None or self.part_name in self.identified or getattr(arguments, "is_question", False):
+            return 0
+        why = why_other_model(place.pmbus(), place.part)
+        if why:
+            return self.say(Answer(said(arguments), "other part", "", 1, f"{why}: nothing was ordered", getattr(arguments, "output", None)))
+        self.identified.add(self.part_name)
+        return 0
+
+    def nobody(self, arguments: argparse.Namespace, why: str) -> Answer:
+        """No part answers; or one answers, and not what was asked."""
+        found = Answer(said(arguments), "no part", "no part answers, nothing was ordered", 1, why, getattr(arguments, "output", None))
+        if self.only().is_there():
+            found.end, found.text = "no good answer", "OPERATION of output 0 gave no good answer, nothing was ordered"
+            found.why += PROBE_TELLS
+        return found
 
     def close(self) -> None:
         """Closes the buses that were opened."""
@@ -239,10 +276,11 @@ class Call:
     def begin(self, arguments: argparse.Namespace) -> None:
         """A command is under way, of which nothing was sent."""
         self.under_way, self.maybe, self.settled = said(arguments), "", NOTHING
+        self.named = getattr(arguments, "named", None)
 
     def say(self, answer: Answer) -> int:
         """Prints an answer, and on standard error why it is a bad one. Its status."""
-        place = answer.place()
+        place = answer.place() if self.named is None or answer.output is None else f" {self.named.name}"
         lines = [answer.as_json()] if self.is_json else [f"{answer.command.split()[0]}{place}: {answer.text}"] if answer.text else []
         self.say_lines(lines)
         if answer.why:

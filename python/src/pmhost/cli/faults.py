@@ -105,7 +105,8 @@ class JobsCall(Call):
         for name, given in (("outputs", asked.count), ("passes", asked.tries)):
             if given is not None and self._all(name):
                 raise BadCall(f"faults: {OPTIONS[name][0][-1]}: it is given twice")
-        self.bus, self.is_unlimited = MODEL_BUS, True
+        # Its part has registers alone, and no rail to look at.
+        self.bus, self.is_unlimited, self.looks = MODEL_BUS, True, None
         self.passes = self._one("passes") or asked.tries or PASSES
         self.outputs = self.outputs or asked.count or MODEL_OUTPUTS
         self.is_counted = asked.count is not None

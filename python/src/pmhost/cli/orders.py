@@ -7,19 +7,21 @@ import re
 from typing import Any, Callable
 
 from .. import probe, voltages
+from ..codes import CODES, code_of
 from ..course import Course, Job
 from ..device import MARGINS, OFF, ON, Device
-from ..errors import Refused
+from ..errors import PlanRefused, Refused
 from ..readings import KINDS
 from ..rounded import Accepting
 from ..states import Step
+from ..stores import too_hot
 from ..survey import OFF_TRIES, TRIES, Nobody, complete, holds_zeros, survey
 from ..zeros import NotBelieved, guard
 from . import readings
 from .answer import Answer, in_digits
 from .call import Call, said
 from .completion import completed_by
-from .outcome import (DEVICE, REGISTERS, VOLTAGES, answer_of, cell_words, confirmed_alone, course_answer, rail_words, read_notes_behind,
+from .outcome import (DEVICE, REGISTERS, VOLTAGES, answer_of, cell_words, confirmed_alone, course_answer, deliver, rail_words, read_notes_behind,
                       refused, tell_bad_end, why_not)
 from .parser import BadCall, bus_options, shown, whole
 
@@ -42,6 +44,15 @@ def register_of(names: tuple[str, ...]) -> Callable[[str], str]:
             raise argparse.ArgumentTypeError(f"register {word}: give {word.upper()}")
         raise argparse.ArgumentTypeError(f"register {shown(word)}: give one of {', '.join(names)}")
     return judge
+
+
+def read_register_of(word: str) -> str:
+    """The judge of what `read` takes: a register's name, any other one of the standard, or a code in hexadecimal digits."""
+    known = (*REGISTERS, DEVICE, *KINDS, *CODES)
+    if word in known or code_of(word) is not None:
+        return word
+    give = word.upper() if word.upper() in known else "a name of the standard, as READ_VOUT, or a code, as DD:word, 9E:block or EF:byte"
+    raise argparse.ArgumentTypeError(f"register {shown(word)}: give {give}")
 
 
 def voltage_of(word: str) -> int:
@@ -91,8 +102,9 @@ def add(commands: Any) -> None:
     bus_options(found)
     found = command("read", read, "reads a register, a reading or a status register, and tells what it says", judge_read)
     found.add_argument("output", **device | {"help": f"the output, from 0; or - for {DEVICE}, readings and status registers"})
-    completed_by(found.add_argument("register", metavar="REG", nargs="?", type=register_of((*REGISTERS, DEVICE, *KINDS)),
-                                    help=f"VOUT_COMMAND if left out, with - {DEVICE}"), (*REGISTERS, DEVICE, *KINDS))
+    completed_by(found.add_argument("register", metavar="REG", nargs="?", type=read_register_of,
+                                    help=f"VOUT_COMMAND if left out, with - {DEVICE}; any name of the standard, or a code as DD:word, 9E:block "
+                                         "or EF:byte"), tuple(dict.fromkeys((*REGISTERS, DEVICE, *KINDS, *CODES))))
     bus_options(found)
     found = command("survey", survey_output, "reads what decides what an output commands, and tells that")
     found.add_argument("output", **output)
@@ -163,8 +175,13 @@ def judge_device(arguments: argparse.Namespace, more: str = " alone") -> None:
 def judge_read(arguments: argparse.Namespace) -> None:
     if arguments.register is None:
         arguments.register = DEVICE if arguments.output is None else "VOUT_COMMAND"
-    if arguments.register not in KINDS:
+    if arguments.register not in KINDS and not is_other(arguments.register):
         judge_device(arguments, ", readings and status registers")
+
+
+def is_other(register: str) -> bool:
+    """Whether a register is one that no job of the host reads, nor is a reading or a status register."""
+    return register not in (*REGISTERS, DEVICE, *KINDS)
 
 
 def judge_word(arguments: argparse.Namespace) -> None:
@@ -208,6 +225,8 @@ def read(arguments: argparse.Namespace) -> int:
     """A register's word, as it was just read."""
     if arguments.register in KINDS:
         return readings.tell(arguments)
+    if is_other(arguments.register):
+        return readings.tell_code(arguments)
     call: Call = arguments.call
     part, register = call.part(), arguments.register
     if register in VOLTAGES:
@@ -239,6 +258,9 @@ def survey_output(arguments: argparse.Namespace) -> int:
     found.commanded = state
     if not state.is_well:
         found.status, found.end, found.why = 1, "unsure", why_not(state) + read_notes_behind(call.part(), arguments.output, state)
+    look = call.look(arguments.output)
+    if look is not None and not state.missing:
+        deliver(found, look.after())
     return call.say(found)
 
 
@@ -266,6 +288,9 @@ def carry_out(arguments: argparse.Namespace, register: str, begin: Callable[[], 
         return call.say(not_told(arguments, part, doubt))
     if step.kind != "done":
         return call.say(tell_bad_end(arguments, part, register, step))
+    held = part.host.confirmed_word(output or 0, register)
+    if held is not None:
+        call.ordered.note(call.part_name, output, register, held, said(arguments))
     return call.say(confirmed_alone(arguments, part, register))
 
 
@@ -273,8 +298,11 @@ def run_course(arguments: argparse.Namespace, register: str, course: Course, wan
     """Carries a course out that orders a register, near to these microvolts; the status where it came to no end."""
     call: Call = arguments.call
     part, output, accepting = call.part(), arguments.output, Accepting(call.part(), course, getattr(arguments, "accept", None))
+    look = arguments.look = call.look(output)
 
     def before(order: Job) -> None:
+        if look is not None:
+            look.before(course, order)
         accepting.before(order)
         call.maybe = f"output {output} {order.register} may hold the old or the ordered word"
 
@@ -282,6 +310,7 @@ def run_course(arguments: argparse.Namespace, register: str, course: Course, wan
         is_held = accepting.after(order, step, wanted) or step.kind == "done"
         if is_held and order.word is not None:
             word = accepting.taken.get(order.register, order.word)
+            call.ordered.note(call.part_name, output, order.register, word, said(arguments))
             call.maybe, call.settled = "", lambda: (f"{cell_words(arguments, part, order.register, word)} confirmed; what the output commands "
                                                     "wasn't read")
 
@@ -289,9 +318,11 @@ def run_course(arguments: argparse.Namespace, register: str, course: Course, wan
         complete(part, course, before, after, call.only().ask_operation)
     except Nobody as nobody:
         return call.say(call.nobody(arguments, str(nobody)))
+    except PlanRefused as fault:
+        return call.say(refused(arguments, part, register, fault))
     except NotBelieved as doubt:
         return call.say(not_told(arguments, part, doubt))
-    call.has_answered = True
+    call.has_answered.add(call.part_name)
     return accepting
 
 
@@ -343,16 +374,21 @@ def send_command(arguments: argparse.Namespace) -> int:
     """A command that nothing reads back: clear, store, restore. It is acknowledged where the part answers behind it, too."""
     call: Call = arguments.call
     part, output = call.part(), arguments.output
+    hot = too_hot(part) if arguments.command == "store" and not call.is_forced else ""
+    if hot:
+        return call.say(answer_of(arguments, part, None, "refused", status=1, text="nothing is stored", why=f"{hot}: --force stores all the same"))
     {"clear": lambda: part.host.clear(output), "store": part.host.store, "restore": part.host.restore}[arguments.command]()
     call.maybe = {"clear": f"the faults of output {output} may be cleared or not", "store": STORES,
                   "restore": RESTORES}[arguments.command]
+    if arguments.command == "restore":
+        call.ordered.forget()
     step = part.run()
     found = answer_of(arguments, part, None, step.kind)
     if step.kind != "done":
         found.status, found.text = 1, "unknown"
         found.why = (part.transfers.why() or "no good answer") + readings.read_notes(part, output)
         return call.say(found)
-    status, why = call.only().unsure_of_last(arguments.command != "clear")
+    status, why = call.only().unsure_of_last(arguments.command)
     found = answer_of(arguments, part, None, "unknown" if status else "acknowledged", status=status, why=why)
     found.text = found.end
     return call.say(found)

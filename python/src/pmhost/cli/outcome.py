@@ -7,13 +7,15 @@ from typing import Any
 from .. import voltages
 from ..course import Course, CourseEnd, avsbus, in_hexadecimal
 from ..device import Device
-from ..errors import SAYINGS, Refused, refusal
+from ..errors import SAYINGS, PlanRefused, Refused, refusal
+from ..look import Delivered
+from ..rail_course import OUTSIDE
 from ..states import Step
 from ..survey import FORMAT, Commanded, behind, commanded
 from ..values import CODES, Format
 from .answer import Answer, between, in_digits
-from .call import said
-from .readings import read_notes
+from .call import PROBE_TELLS, said
+from .readings import read_notes, read_protect
 
 DEVICE = "WRITE_PROTECT"
 REGISTERS = tuple(name for name in CODES if name != DEVICE)
@@ -53,13 +55,18 @@ def answer_of(arguments: argparse.Namespace, part: Device, register: str | None,
 def refused(arguments: argparse.Namespace, part: Device, register: str | None, fault: Refused) -> Answer:
     """The host or a course refused a job: nothing more was sent."""
     refusal, why = f"{fault.letter} {fault.name}", SAYINGS.get(fault.letter, fault.name)
-    if fault.register:
+    if isinstance(fault, PlanRefused) and fault.said:
+        why = f"{fault.said}: {SAYINGS['P8'].rpartition(': ')[2]}"
+    elif fault.register:
         why = f"{fault.register}: {why_refused(arguments, commanded(part, arguments.output or 0), fault.letter) or why}"
     return answer_of(arguments, part, register, "refused", status=1, text=f"refused {refusal}", refusal=refusal, why=why)
 
 
 def why_refused(arguments: argparse.Namespace, state: Commanded, letter: str) -> str:
     """Why, with the voltage that is known of it; nothing where none is."""
+    protect = state.only_word(DEVICE)
+    if letter == "P7" and protect is not None:
+        return f"{DEVICE} is {protect:02X}, and the part refuses the order: order {DEVICE} 00 first"
     bound = {"P5": "VOUT_MIN", "P6": "VOUT_MAX"}.get(letter)
     word = None if bound is None else state.only_word(bound)
     if word is not None and state.form is not None:
@@ -69,7 +76,7 @@ def why_refused(arguments: argparse.Namespace, state: Commanded, letter: str) ->
     would = None if letter != "L5" or byte is None else state.would(byte)
     if would is None or state.limits is None:
         return ""
-    return f"the output would command {voltages.shown(would)}, outside {between(*state.limits)}: order what it selects first"
+    return f"it would command {voltages.shown(would)}, OUTSIDE {between(*state.limits)}: order what it selects first"
 
 
 def possible_words(answer: Answer) -> str:
@@ -86,7 +93,7 @@ def tell_bad_end(arguments: argparse.Namespace, part: Device, register: str, ste
     if step.kind == "differs" and step.word is not None:
         found.text = f"{cell_words(arguments, part, register, step.word)} differs"
         found.why = (f"the part holds {in_digits(register, step.word)}: the write was lost, refused, limited or rounded"
-                     f"{with_why(part)}")
+                     f"{with_why(part)}{read_protect(part)}")
     else:
         found.text, found.why = possible_words(found), part.transfers.why() or "no good answer"
     found.why += read_notes(part, arguments.output)
@@ -106,7 +113,7 @@ def commanded_words(found: Commanded, register: str, microvolts: int | None) -> 
         return "what the output commands isn't known"
     band, wanted = between(found.least, found.greatest), wanted_of(found, register, microvolts)
     if found.is_on is False:
-        words = f"the output is off, and would command {band}"
+        words = f"the output is commanded off, and would command {band}"
     elif not selects(found, register):
         words = f"OPERATION selects {found.selected}: the output commands {band}"
     elif wanted is None or found.is_value(wanted):
@@ -161,13 +168,13 @@ def course_answer(arguments: argparse.Namespace, part: Device, register: str, co
     if end.kind == "refused":
         return refused(arguments, part, register, refusal(end.number, end.register))
     if end.kind == "reached":
-        return reached(arguments, part, register, state, is_accepted)
+        return reached(arguments, part, register, state, is_accepted, course.turns_off)
     found = answer_of(arguments, part, register, ENDS[end.kind], state, status=1)
     has_written, cell = part.transfers.has_written, state.cells.get(end.register or "")
     if end.kind == "differs" and end.word is not None:
         found.text = f"{cell_words(arguments, part, end.register or register, end.word)} differs"
         found.why = (f"{end.register}: the part holds {in_hexadecimal(end.register, end.word)}: the write was lost, refused, limited or "
-                     f"rounded{with_why(part)}")
+                     f"rounded{with_why(part)}{read_protect(part)}")
     elif end.kind == "source" and end.word is not None:
         found.text = f"OPERATION {end.word:02X} may leave the voltage to another source{avsbus(end.word)}{unordered(has_written)}"
         found.why = "order OPERATION first, as by `on`"
@@ -178,6 +185,7 @@ def course_answer(arguments: argparse.Namespace, part: Device, register: str, co
         found.text, found.why = f"{cell_words(arguments, part, register, found.word)} confirmed; {missed_words(state)}", why_not(state)
     else:
         found.text, found.why = f"{missed_words(state)}{unordered(has_written)}", why_not(state)
+        found.why += PROBE_TELLS * (not has_written and bool(part.transfers.faults))
     found.why += read_notes(part, arguments.output)
     return found
 
@@ -197,7 +205,17 @@ def missed_words(found: Commanded) -> str:
         or "what the output commands isn't known"
 
 
-def reached(arguments: argparse.Namespace, part: Device, register: str, state: Commanded, is_accepted: bool) -> Answer:
+def deliver(found: Answer, delivered: Delivered) -> None:
+    """An answer says what the rail does, and isn't well where this isn't."""
+    found.text += delivered.words
+    found.delivered = delivered
+    # An output that commands a voltage outside its limits is told as that.
+    if delivered.is_bad and not (found.status and delivered.verdict.kind == "outside"):
+        found.status, found.end = 1, "not delivered"
+        found.why += f"{'; ' * bool(found.why)}{delivered.why}"
+
+
+def reached(arguments: argparse.Namespace, part: Device, register: str, state: Commanded, is_accepted: bool, turns_off: bool) -> Answer:
     """The answer to a course that has reached what is wanted: the register's word, and what the output commands."""
     found = answer_of(arguments, part, register, "accepted" if is_accepted else "done", state)
     assert found.word is not None
@@ -205,12 +223,14 @@ def reached(arguments: argparse.Namespace, part: Device, register: str, state: C
     words = f"{register} accepted{cell.removeprefix(register)}" if is_accepted else f"{cell} confirmed"
     if state.form is None:
         found.text = f"{words}; what the output commands isn't known, since its format wasn't learned"
-        return found
-    found.text = f"{words}; {commanded_words(state, register, found.microvolts)}"
+    else:
+        found.text = f"{words}; {commanded_words(state, register, found.microvolts)}"
     # One that is turned off is off, whatever it would command.
-    if arguments.command != "off" and not is_well(state, register, found.microvolts):
+    if state.form is not None and arguments.command != "off" and not is_well(state, register, found.microvolts):
         found.status, found.end, found.why = 1, "cut" if state.is_well else "unsure", why_not(state)
-    if found.restart_seen:
+    if getattr(arguments, "look", None) is not None:
+        deliver(found, arguments.look.after(turns_off))
+    if found.restart_seen and state.form is not None:
         found.text += "; restart seen, or the part rounds" if is_accepted else "; restart seen"
     return found
 
@@ -239,6 +259,5 @@ def why_not(found: Commanded) -> str:
     if found.selected is None:
         return "OPERATION holds a word that selects no register"
     if found.limits is not None and found.limits_state != "within":
-        return "the output isn't known to command a voltage within its limits" if found.limits_state != "outside" else \
-            "the output commands a voltage outside its limits"
+        return OUTSIDE if found.limits_state == "outside" else "the output isn't known to command a voltage within its limits"
     return "the output doesn't command what was ordered: VOUT_MAX or VOUT_MIN cuts it"

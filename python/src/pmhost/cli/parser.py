@@ -14,6 +14,7 @@ from .completion import FILES, completed_by
 
 BUS = re.compile(r"(?:/dev/i2c-|i2c-)?([0-9]{1,9})\Z")
 TIME = re.compile("([0-9]{1,9}) ?(ms|s)")
+PERCENT = re.compile(r"([0-9]{1,3})(?:\.([0-9]))?%")
 MILLISECONDS = {"ms": 1, "s": 1000}
 LIMIT_EXAMPLE = "0:3.135V:3.465V"
 
@@ -110,6 +111,23 @@ def time_of(most: int, what: str) -> Callable[[str], int]:
     return judge
 
 
+def percent_of(word: str) -> int:
+    """Thousandths of a number of per cent, as 5% or 2.5%."""
+    found = PERCENT.fullmatch(word.strip())
+    thousandths = int(found[1]) * 10 + int(found[2] or 0) if found else 1001
+    if thousandths > 1000:
+        raise argparse.ArgumentTypeError(f"delivers-within {shown(word.strip())}: give at most 100 per cent, as 5% or 2.5%")
+    return thousandths
+
+
+def ready_of(word: str) -> tuple[int, int]:
+    """A command code and bits."""
+    try:
+        return parts.ready_of(word)
+    except ValueError as fault:
+        raise argparse.ArgumentTypeError(f"ready {fault}") from None
+
+
 def bus_of(word: str) -> str:
     """`model`, or the number of a bus of Linux."""
     found = BUS.match(word)
@@ -174,10 +192,23 @@ OPTIONS: dict[str, tuple[tuple[str, ...], dict[str, Any]]] = {
     "json": (("--json",), {"const": True, "help": "one object a command"}),
     "delay": (("--delay",), {"type": time_of(10, "delay"), "metavar": "TIME", "help": "how long to wait before each transfer, as 5ms"}),
     "busy_timeout": (("--busy-timeout",), {"type": time_of(60, "busy-timeout"), "metavar": "TIME",
-                                           "help": "how long to wait for a busy part behind each write; if left out 200ms, and 1s "
-                                                   "behind store and restore"}),
+                                           "help": "how long to wait for a busy part behind each write; if left out 200ms, 1s "
+                                                   "behind a restore, and 5s behind a store"}),
+    "fault_limits": (("--fault-limits",), {"choices": ("refuse", "tell", "skip"),
+                                           "help": "refuses a voltage at or beyond a fault limit of the part, which is so if left out, says "
+                                                   "so alone, or doesn't read them"}),
+    "power_good": (("--power-good",), {"choices": ("judge", "tell"), "help": "judges a rail whose power good alone is missing, which is so if "
+                                                                              "left out, or says so alone"}),
+    "within": (("--delivers-within",), {"type": percent_of, "metavar": "PERCENT",
+                                        "help": "how far READ_VOUT may be from what is commanded, 5%% if left out"}),
+    "settle": (("--settle",), {"type": time_of(60, "settle"), "metavar": "TIME",
+                               "help": "how long a rail may take until it delivers, or is off, 630ms if left out"}),
+    "ready": (("--ready",), {"type": ready_of, "metavar": "CODE:MASK",
+                             "help": "the part is ready where its byte of this code has these bits, as EF:60, which is asked in the place of "
+                                     "CAPABILITY"}),
     "share_bus": (("--share-bus",), {"const": True, "help": "drives an address that another program drives"}),
-    "force": (("--force",), {"const": True, "help": "drives a part that a driver of the kernel holds"}),
+    "force": (("--force",), {"const": True, "help": "drives a part that a driver of the kernel holds; and stores where the part is too hot, or a "
+                                                    "rail is cut"}),
 }
 BEHIND = "_behind"
 

@@ -6,10 +6,11 @@ import contextlib
 from .. import clock
 from ..bus import LinuxBus, ModelBus, NoBus, PatientBus, Trace
 from ..bus.linux import Calls
-from ..bus.patient import STEP, timeout_of
+from ..bus.patient import Waits, timeout_of
 from ..part import ModelPartBus
 from ..parts import MODEL_BUS, BoardPart
 from ..device import Device
+from ..survey import answers
 from ..transfers import Transfers
 from ..voltages import of_microvolts
 
@@ -64,7 +65,7 @@ class Place:
         bus, options = self.open(), self._options
         if not isinstance(bus, LinuxBus):
             return bus
-        return PatientBus(bus, options.delay, options.busy_timeout if busy_timeout is None else busy_timeout)
+        return PatientBus(bus, options.delay, options.busy_timeout if busy_timeout is None else busy_timeout, self.part.ready)
 
     def close(self) -> None:
         """Closes the bus, where it was opened."""
@@ -78,7 +79,7 @@ class Place:
         """The part on the bus, through a host of its own."""
         if self._pmbus is None:
             bus, part = self.patient(), self.part
-            self._pmbus = Device(bus, part.address, part.outputs, self._options.passes, lacks=part.lacks)
+            self._pmbus = Device(bus, part.address, part.outputs, self._options.passes, lacks=part.lacks, looks=None)
             for output, pair in self.limits.items():
                 self._pmbus.host.set_limits(output, *(of_microvolts(each) for each in pair))
         return self._pmbus
@@ -88,24 +89,26 @@ class Place:
         """Whether a frame of the last job was a write."""
         return self._pmbus is not None and self._pmbus.transfers.has_written
 
-    def ask_operation(self, is_long: bool = False) -> str:
-        """A check of OPERATION of output 0, again and again within the time for a busy part, which is long behind a store and a restore.
+    def ask_operation(self, behind: str = "") -> str:
+        """A check of OPERATION of output 0, again and again within the time for a busy part, which is long behind a `store` and a `restore`.
         Nothing where a good answer came, otherwise why none did. The transfers of the job before stay those of the part."""
-        part, deadline = self.pmbus(), clock.until() + timeout_of(self._options.busy_timeout, is_long) / 1000
+        part, waits = self.pmbus(), Waits(clock.until() + timeout_of(self._options.busy_timeout, behind) / 1000)
         while True:
             transfers = Transfers()
             part.host.check(0, "OPERATION")
             if part.host.run(part.bus, transfers).kind == "done":
                 return ""
-            now = clock.until()
-            if now + STEP >= deadline:
+            if not waits.wait():
                 return transfers.why() or "no good answer"
-            clock.until(now + STEP)
 
-    def unsure_of_last(self, is_long: bool) -> tuple[int, str]:
+    def is_there(self) -> bool:
+        """Whether the part answers a plain read, whatever it makes of PAGE_PLUS."""
+        return answers(self.pmbus())
+
+    def unsure_of_last(self, behind: str) -> tuple[int, str]:
         """Behind a command that nothing reads back: whether a line is held low, and whether the part answers. The status, 0 where
         all is well, and why not."""
         if self.is_held_low():
             return 2, HELD_LOW
-        why = self.ask_operation(is_long)
+        why = self.ask_operation(behind)
         return (1, f"OPERATION of output 0 behind it: {why}") if why else (0, "")

@@ -7,10 +7,12 @@ from typing import Any
 from .. import rails, voltages
 from ..apply import AS_WANTED, Board
 from ..parts import BadRails
-from ..rail_course import Setting, Stopped
+from ..rail_course import Restarted, Setting, Stopped
 from ..rails import Rail
+from ..stores import too_hot
 from . import way
-from .answer import Answer, in_digits, number
+from .again import RESTARTED
+from .answer import Answer, delivery_of, in_digits, number
 from .call import Call, said
 from .completion import FILES, completed_by
 from .orders import ACCEPT, STORES
@@ -18,6 +20,9 @@ from .outcome import rail_words
 from .parser import BadCall, bus_options, file_of
 from .readings import read_notes
 from .way import WayFile, output_of
+
+
+STORE_ALL = "--store-always"
 
 
 def add(commands: Any) -> None:
@@ -30,7 +35,9 @@ def add(commands: Any) -> None:
         if name == "apply":
             found.add_argument("--dry-run", action="store_true", help="reads, and says what would be ordered")
             found.add_argument("--store", action="store_true", dest="wants_store",
-                               help="has the part store its settings, once all rails are as the file has them")
+                               help="has the parts of which something was ordered store their settings, once all rails are as the file has them")
+            found.add_argument(STORE_ALL, action="store_true", dest="stores_all",
+                               help="the same of all parts, also where nothing was ordered; --store=always is this, too")
             found.add_argument("--accept", **ACCEPT)
             way.add(found)
         bus_options(found)
@@ -49,7 +56,7 @@ def judge_file(arguments: argparse.Namespace) -> None:
 def apply(arguments: argparse.Namespace) -> int:
     """Applies a file, or says what would be ordered."""
     board = board_of(arguments)
-    board.accept, board.wants_store = arguments.accept, arguments.wants_store
+    board.accept, board.wants_store = arguments.accept, arguments.wants_store or arguments.stores_all
     return run_board(arguments, board, board.prepare if arguments.dry_run else board.apply)
 
 
@@ -70,13 +77,15 @@ def board_of(arguments: argparse.Namespace) -> Board:
 
     def after(it: Setting, is_confirmed: bool) -> None:
         call.settled = f"written and confirmed: {', '.join(board.changed())}" if is_confirmed else call.maybe
+        if is_confirmed:
+            call.ordered.note(it.rail.part, it.rail.output, it.register, it.wanted, said(arguments))
         call.maybe = ""
 
     def written(it: Setting) -> str:
         others = [name for name in board.changed() if name != it.name]
         return f"; written before: {', '.join(others)}" if others else ""
 
-    board.before_order, board.after_order = before, after
+    board.before_order, board.after_order, board.looks = before, after, call.looks
     return board
 
 
@@ -86,7 +95,7 @@ def run_board(arguments: argparse.Namespace, board: Board, run: Any) -> int:
     is_dry: bool = arguments.dry_run
     file = WayFile(arguments, board, lambda rail: end_of(board, rail, is_dry))
     try:
-        why = stop_of(board, run)
+        why, status = stop_of(board, run)
     except BaseException as fault:
         file.broken_off(fault)
         raise
@@ -96,49 +105,66 @@ def run_board(arguments: argparse.Namespace, board: Board, run: Any) -> int:
     are_wanted = arguments.command == "apply" and not why
     if why and arguments.command == "apply" and not is_dry:
         why += after_a_stop(board)
-    found = Answer(said(arguments), "stopped" if why else "would order" if is_dry else "done", status=1 if why else 0, why=why,
+    found = Answer(said(arguments), "stopped" if why else "would order" if is_dry else "done", status=status, why=why,
                    rows=rows(board, is_dry and not why, are_wanted))
     with file.written(found.end, why):
-        return answer(call, board, found, is_dry, are_wanted)
+        return answer(call, board, found, is_dry, are_wanted, getattr(arguments, "stores_all", False))
 
 
-def answer(call: Call, board: Board, found: Answer, is_dry: bool, are_wanted: bool) -> int:
+def answer(call: Call, board: Board, found: Answer, is_dry: bool, are_wanted: bool, stores_all: bool) -> int:
     """Says it, and has the parts store where that is wanted."""
     if not call.is_json and board.settings:
         call.say_lines([*table(board, is_dry and not found.status),
                         *(line for rail in board.rails for line in rail_lines(board, rail, are_wanted))])
     if board.wants_store and not found.status and not is_dry:
-        store(call, board, found)
+        store(call, board, found, stores_all)
     found.restart_seen = any(part.restart_seen for part in board.parts.values())
     return call.say(found)
 
 
-def store(call: Call, board: Board, found: Answer) -> None:
-    """Has each part that has rails store its settings: acknowledged, and no more than that."""
+def why_not_stored(call: Call, board: Board, name: str) -> str:
+    """Why a part isn't to store now, unless --force is given: nothing where it may."""
+    cut = [rail.name for rail in board.rails if rail.part == name and board.is_cut(rail)]
+    why = too_hot(board.parts[name]) or (f"VOUT_MAX or VOUT_MIN cuts {', '.join(cut)}, whose stored word the next plan may let go" if cut else "")
+    return f"{f'{name}: ' * bool(name)}{why}: --force stores all the same" if why and not call.is_forced else ""
+
+
+def store(call: Call, board: Board, found: Answer, stores_all: bool) -> None:
+    """Has each part of which something was ordered store its settings, or all that have rails: acknowledged, and no more than that."""
     stored: list[str] = []
-    for name in board.having_rails():
+    parts = [name for name in board.having_rails() if stores_all or any(it.is_ordered and it.rail.part == name for it in board.settings)]
+    if not parts:
+        found.end, found.text = "done", f"nothing was ordered, and nothing is stored: --store=always stores all the same"
+        return
+    for name in parts:
+        if why := why_not_stored(call, board, name):
+            found.end, found.text, found.status = "refused", f"stored {', '.join(stored)} alone" if stored else "nothing is stored", 1
+            found.why = why
+            return
         call.maybe = f"{f'{name}: ' * bool(name)}{STORES}{f'; stored before: ' * bool(stored)}{', '.join(stored)}"
         try:
             board.store(name)
-            found.status, found.why = call.places()[name].unsure_of_last(True)
+            found.status, found.why = call.places()[name].unsure_of_last("store")
         except Stopped as stopped:
             found.status, found.why = 1, told_of(board, stopped)
         if found.status:
             break
         stored.append(name)
     found.end = "unknown" if found.status else "acknowledged"
-    found.text = f"store {found.end}" + ("" if found.status else "; a restart loads what was stored, where no pin overrides it")
+    named = f" of {', '.join(stored)}" if any(stored) else ""
+    found.text = f"store {found.end}" if found.status else (f"store{named} acknowledged; a restart loads what was stored, where no pin overrides "
+                                                            "it, which `verify` shows after a power cycle")
     if found.status and stored:
         found.why += f"; stored before: {', '.join(stored)}"
 
 
-def stop_of(board: Board, run: Any) -> str:
-    """Carries it out. Why it stopped, or nothing."""
+def stop_of(board: Board, run: Any) -> tuple[str, int]:
+    """Carries it out. Why it stopped, or nothing, and the status: that of a restart where it is no more than one."""
     try:
         run()
     except Stopped as stopped:
-        return told_of(board, stopped)
-    return ""
+        return told_of(board, stopped), RESTARTED if isinstance(stopped, Restarted) else 1
+    return "", 0
 
 
 def told_of(board: Board, stopped: Stopped) -> str:
@@ -168,7 +194,7 @@ def end_of(board: Board, rail: Rail, is_dry: bool) -> tuple[str, str]:
     """How a rail ended: a mark, and in words what it commands and which settings aren't as wanted."""
     if rail.name not in board.surveys:
         return "none", "it wasn't surveyed"
-    words = rail_words(board.state(rail))
+    words = rail_words(board.state(rail)) + delivered_words(board, rail)
     if is_dry:
         return "none", f"now: {words}"
     wrong = [f"{it.register} {state_of(board, it, False)}" for it in board.of(rail) if it.state not in AS_WANTED]
@@ -189,9 +215,14 @@ def rail_lines(board: Board, rail: Rail, are_wanted: bool) -> list[str]:
     """What a rail commands, and the margins that aren't selected and that its bounds cut: as these are wanted, or as they are."""
     if rail.name not in board.surveys:
         return []
-    return [f"{rail.name}: {rail_words(board.state(rail))}",
+    return [f"{rail.name}: {rail_words(board.state(rail))}{delivered_words(board, rail)}",
             *(f"{rail.name}: {it.register} {voltages.shown(it.value)} {'will be' if are_wanted else 'is'} cut to {voltages.shown(it.to)}"
               for it in board.cuts(rail, are_wanted))]
+
+
+def delivered_words(board: Board, rail: Rail) -> str:
+    """What a rail does, where it was looked at."""
+    return board.delivered[rail.name].words if rail.name in board.delivered else ""
 
 
 def volts(board: Board, it: Setting, word: int | None) -> float | None:
@@ -209,7 +240,7 @@ def rows(board: Board, is_dry: bool, are_wanted: bool) -> list[dict[str, object]
             "rail": rail.name, "part": rail.part or None, "output": rail.output, "limits": [number(each) for each in rail.limits],
             "selected": known and known.selected, "on": None if known is None else known.is_on,
             "commands": None if known is None or known.least is None else [number(known.least), number(known.greatest)],
-            "within": None if known is None else known.is_within,
+            "within": None if known is None else known.is_within, **delivery_of(board.delivered.get(rail.name)),
             "cut": [{"register": it.register, "word": in_digits(it.register, it.word), "volts": number(it.value), "to": number(it.to)}
                     for it in (board.cuts(rail, are_wanted) if known else [])],
             "settings": [{

@@ -4,11 +4,17 @@ from __future__ import annotations
 import argparse
 
 from .. import readings
+from ..codes import BLOCK, SIZES, code_of
 from ..device import Device
+from ..packets import Packet
 from ..readings import KINDS
+from ..reads import Reads
 from ..status import BITS
 from .answer import Answer
 from .call import Call, said
+
+
+PROTECT = Packet("read", 0x10)
 
 
 def tell(arguments: argparse.Namespace) -> int:
@@ -24,16 +30,55 @@ def tell(arguments: argparse.Namespace) -> int:
             part.run()
             form = part.host.format(output or 0)
     found = readings.read(part.bus, part.host.address, output, name, form)
-    row = {"register": name, "word": digits_of(found), "value": None if found.value is None else float(found.value),
-           "unit": KINDS[name].unit or None, "bits": found.bits if found.is_status else None}
     is_good = found.word is not None
     return call.say(Answer(said(arguments), "done" if is_good else "unknown", found.words, 0 if is_good else 1, found.why, output, name,
-                           found.word, rows=[row], restart_seen=part.host.restart_seen))
+                           found.word, rows=[row_of(found)], restart_seen=part.host.restart_seen))
+
+
+def tell_code(arguments: argparse.Namespace) -> int:
+    """The bytes of any command code, of an output by PAGE_PLUS or of the device: a byte or a word in hexadecimal digits, a block with its
+    text where it is text."""
+    call: Call = arguments.call
+    part, name, output, asked = call.part(), arguments.register, arguments.output, code_of(arguments.register)
+    assert asked is not None
+    reads, size = Reads(part.bus, part.host.address), SIZES[asked.kind]
+    if size:
+        found = reads.code(asked.code, size, output)
+    else:
+        found = reads.block(asked.code) if output is None else reads.of_page(output, asked.code, 0)
+    row: dict[str, object] = {"register": name, "code": f"{asked.code:02X}", "bytes": None, "text": None}
+    answer = Answer(said(arguments), "unknown", f"no good {name}", 1, found.why or "no good answer", output, name,
+                    rows=[row], restart_seen=part.host.restart_seen)
+    if found.payload is not None:
+        text = block_text(found.payload) if asked.kind == BLOCK else ""
+        held = found.payload.hex(" ") if asked.kind == BLOCK else found.payload[::-1].hex()
+        row["bytes"], row["text"] = found.payload.hex().upper(), text or None
+        answer.end, answer.status, answer.why = "done", 0, ""
+        answer.text = " ".join([name, held.upper() or "no bytes", *([f'"{text}"'] if text else [])])
+    return call.say(answer)
+
+
+def block_text(payload: bytes) -> str:
+    """The text of a block of printable ASCII, without zeros and blanks behind it; nothing where it is none."""
+    text = payload.rstrip(b"\0 ")
+    return text.decode("ascii") if text and all(0x20 <= byte < 0x7F for byte in text) else ""
+
+
+def row_of(found: readings.Reading) -> dict[str, object]:
+    """The same by names and numbers."""
+    return {"register": found.name, "word": digits_of(found), "value": None if found.value is None else float(found.value),
+            "unit": KINDS[found.name].unit or None, "bits": found.bits if found.is_status else None}
 
 
 def digits_of(found: readings.Reading) -> str | None:
     """The word in two or four hexadecimal digits."""
     return None if found.word is None else f"{found.word:0{2 * KINDS[found.name].size}X}"
+
+
+def read_protect(part: Device) -> str:
+    """WRITE_PROTECT behind an order that wasn't taken, for the end of a line; nothing where it protects nothing or gives no good answer."""
+    found = Reads(part.bus, part.host.address).packet(PROTECT)
+    return f"; WRITE_PROTECT is {found.payload[0]:02X}" if found.payload and found.payload[0] else ""
 
 
 def read_notes(part: Device, output: int | None) -> str:

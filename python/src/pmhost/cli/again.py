@@ -1,0 +1,55 @@
+"""A call looks again: behind its last command each register that it ordered is read once more, since a part that restarts in the
+middle of a call brings its stored words back."""
+from __future__ import annotations
+
+import argparse
+from typing import TYPE_CHECKING
+
+from .answer import Answer, in_digits
+
+if TYPE_CHECKING:
+    from .call import Call
+
+
+# The status where a part restarted, and nothing else went wrong.
+RESTARTED = 3
+
+
+class Ordered:
+    """The words that the commands of a call ordered and that were read back, by part, output and register, each with its command."""
+
+    def __init__(self) -> None:
+        self._words: dict[tuple[str, int | None, str], tuple[int, str]] = {}
+
+    def note(self, part: str, output: int | None, register: str, word: int, command: str) -> None:
+        """A register holds the word that a command ordered."""
+        self._words[part, output, register] = word, command
+
+    def forget(self) -> None:
+        """A command brought other words back."""
+        self._words = {}
+
+    def look(self, call: Call) -> int:
+        """Reads each of them once more. The status: RESTARTED where one holds another word, 1 where one gives no good answer."""
+        for (name, output, register), (word, command) in self._words.items():
+            part, where = call.places()[name].pmbus(), register if output is None else f"{register} of output {output}"
+            whose = f" of {name}" * bool(name)
+            part.host.check(output or 0, register)
+            if part.run().kind != "done":
+                why = part.transfers.why() or "no good answer"
+                return self._told(call, command, "unknown", 1, f"whether {where}{whose} still holds its word isn't known: {why}")
+            held = part.host.confirmed_word(output or 0, register)
+            if held != word:
+                return self._told(call, command, "restarted", RESTARTED, f"{name or 'the part'} restarted after {' '.join(command.split()[:2])}: {where} is "
+                                                              f"{in_digits(register, held)}, and was {in_digits(register, word)}")
+        return 0
+
+    @staticmethod
+    def _told(call: Call, command: str, end: str, status: int, why: str) -> int:
+        """Says it in one line of the command that ordered the register. The status."""
+        return call.say(Answer(command, end, status=status, why=why))
+
+
+def are_several(commands: list[argparse.Namespace]) -> bool:
+    """Whether a call has several commands that send something."""
+    return sum(not getattr(each, "is_question", False) for each in commands) > 1

@@ -1,0 +1,79 @@
+"""A rail of a board file in the place of an output: `set board.toml core 0.9V`. Part, output, limits and missing registers come from the
+file."""
+from __future__ import annotations
+
+import argparse
+import re
+from dataclasses import dataclass
+from typing import TYPE_CHECKING
+
+from .. import rails
+from ..parts import BadRails
+from ..rails import Rail, Rails
+from .parser import BadCall, shown
+
+if TYPE_CHECKING:
+    from .call import Call
+
+# The commands that take a file and a rail in the place of an output; those of the second kind go over all rails where none is named.
+OF_A_RAIL = ("learn", "read", "survey", "set", "word", "on", "off", "margin", "clear", "why", "known", "band")
+OF_ALL = ("survey", "why", "known", "band")
+ENDING = ".toml"
+
+
+@dataclass(frozen=True)
+class Named:
+    """A rail of a file, and whether the command goes over all of its rails."""
+
+    file: str
+    found: Rails
+    rail: Rail
+    is_one_of_all: bool
+
+
+def place_of(part: list[str], has_value: set[str]) -> tuple[str, int | None]:
+    """The command of a call's words, and where the word behind it stands that is no option: these options have a value."""
+    places, words = list[int](), iter(enumerate(part))
+    for at, word in words:
+        if word in has_value:
+            next(words, None)
+        elif not re.match("-.*[A-Za-z]", word):
+            places.append(at)
+    return part[places[0]] if places else "", places[1] if len(places) > 1 else None
+
+
+def expanded(part: list[str], has_value: set[str]) -> list[tuple[list[str], Named | None]]:
+    """The words of a command with an output, and the rail that these had in its place: several where it goes over all rails of a file."""
+    command, at = place_of(part, has_value)
+    if command not in OF_A_RAIL or at is None or not part[at].endswith(ENDING):
+        return [(part, None)]
+    file = part[at]
+    try:
+        found = rails.read(file)
+    except BadRails as bad:
+        raise BadCall(str(bad)) from bad
+    behind = [word for word in part[at + 1:at + 2] if not word.startswith("-")]
+    names = {rail.name: rail for rail in found.rails}
+    if behind and behind[0] in names:
+        rail = names[behind[0]]
+        return [([*part[:at], str(rail.output), *part[at + 2:]], Named(file, found, rail, False))]
+    if command in OF_ALL and not behind:
+        # The options stand in the first one alone: they are those of the call.
+        words = [[*part[:at], str(found.rails[0].output), *part[at + 1:]], *([command, str(rail.output)] for rail in found.rails[1:])]
+        return [(each, Named(file, found, rail, True)) for each, rail in zip(words, found.rails)]
+    said = f"{shown(behind[0])}: there is no such rail in" if behind else "give a rail of"
+    raise BadCall(f"{command}: {said} {shown(file)}, which has {', '.join(names)}")
+
+
+def attach(arguments: argparse.Namespace, named: Named) -> None:
+    """A command is about a rail of a file, which the call is told of as it is judged."""
+    arguments.rails, arguments.named, arguments.goes_on = named.found, named.rail, named.is_one_of_all
+    words = arguments.said.split()
+    arguments.said = " ".join([words[0], named.rail.name, *words[2:]])
+    arguments.judge_file = judge_file
+
+
+def judge_file(arguments: argparse.Namespace) -> None:
+    """The outputs and the limits of the file are those of the call."""
+    call: Call = arguments.call
+    call.take_rails(arguments, arguments.rails)

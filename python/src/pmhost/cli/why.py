@@ -1,0 +1,54 @@
+"""The command why: what an output's registers say, and one sentence with the likeliest cause and what to do."""
+from __future__ import annotations
+
+import argparse
+from typing import Any
+
+from ..why import BESIDE, Findings, cause, findings
+from .answer import Answer
+from .call import Call, said
+from .orders import OUTPUT
+from .outcome import rail_words
+from .parser import bus_options
+from .readings import row_of
+
+DEVICE = "WRITE_PROTECT"
+
+
+def add(commands: Any) -> None:
+    """Adds the subparser."""
+    found = commands.add_parser("why", help="says why an output is off, and what to do about it",
+                                description="Says why an output is off: what its registers say, the likeliest cause, and what to do about it.")
+    found.add_argument("output", metavar="O", type=OUTPUT, help="the output, from 0")
+    found.set_defaults(run=why)
+    bus_options(found)
+
+
+def why(arguments: argparse.Namespace) -> int:
+    """Tells what the registers say, and the cause. The status is 0 where the rail is on and its power is good, or it is off as it is commanded."""
+    call: Call = arguments.call
+    seen = findings(call.part(), arguments.output)
+    because = cause(seen)
+    found = Answer(said(arguments), "fault" if because else "told", because or well(seen), 1 if because else 0, output=arguments.output,
+                   commanded=seen.state, rows=[row_of(it) for it in seen.found.values()], restart_seen=call.part().host.restart_seen)
+    if not call.is_json:
+        where = arguments.output if call.named is None else call.named.name
+        call.say_lines([f"why {where}: {line}" for line in lines_of(seen)])
+    return call.say(found)
+
+
+def well(seen: Findings) -> str:
+    """What is said where nothing is wrong."""
+    if "OFF" in seen.bits("STATUS_WORD"):
+        return f"it is off, since OPERATION turns it off: `on {seen.output}` turns it on"
+    return f"it is on: {seen.value('READ_VOUT')}"
+
+
+def lines_of(seen: Findings) -> list[str]:
+    """The registers in lines: status, what turns it on, and voltages."""
+    status = [it.words for name, it in seen.found.items() if name not in BESIDE]
+    held = [(name, seen.state.only_word(name)) for name in ("OPERATION", DEVICE)]
+    cells = [f"no good {name}" if word is None else f"{name} {word:02X}" for name, word in held]
+    on_off, *voltages = [seen.found[name].words for name in BESIDE]
+    return ["; ".join(status), "; ".join([on_off, *cells]), "; ".join(voltages),
+            rail_words(seen.state)]

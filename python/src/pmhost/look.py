@@ -1,0 +1,241 @@
+"""A look at a rail: what stands before an order, what it does then, and in words whether it delivers what is commanded of it."""
+from __future__ import annotations
+
+from dataclasses import dataclass, field
+from typing import TYPE_CHECKING, Optional
+
+from . import clock, voltages
+from .bus.ones import is_ones
+from .delivery import FAULT_LIMITS, LIMITS, NAMES, Delivery, Verdict, goal_of
+from .errors import NotDone, PlanRefused
+from .status import BITS, names_of
+from .values import CODES, Format, whole
+
+if TYPE_CHECKING:
+    from .course import Course, Job
+    from .device import Device
+    from .states import Sending
+
+# Milliseconds before all is asked again; each further wait is twice as long.
+FIRST_WAIT = 10
+# Verdicts that aren't asked about again, and are no fault of the rail's.
+WELL = ("delivers", "commanded off", "not known to be on", "went off")
+GOALS = ("VOUT_COMMAND", "VOUT_MARGIN_HIGH", "VOUT_MARGIN_LOW")
+# The bits of STATUS_WORD that say a fault or point to one.
+FAULTS = {"VOUT", "IOUT_POUT", "INPUT", "VOUT_OV_FAULT", "IOUT_OC_FAULT", "VIN_UV_FAULT", "TEMPERATURE"}
+
+
+@dataclass(frozen=True)
+class Looks:
+    """How rails are looked at. `fault_limits` refuses a voltage at or beyond a fault limit (`refuse`), says so alone (`tell`), or doesn't
+    read them (`skip`). `power_good` judges a rail whose power good alone is missing (`judge`), or says so (`tell`). READ_VOUT may be `within`
+    thousandths away from what is commanded, and a rail is given `settle` milliseconds until it delivers."""
+
+    fault_limits: str = "refuse"
+    power_good: str = "judge"
+    within: int = 50
+    settle: int = 630
+
+    def __post_init__(self) -> None:
+        for name, words in (("fault_limits", FAULT_LIMITS), ("power_good", ("judge", "tell"))):
+            if getattr(self, name) not in words:
+                raise ValueError(f"{name}: {getattr(self, name)!r} isn't one of {', '.join(words)}")
+        whole(self.within, 0, 1000, "within", "thousandths")
+        whole(self.settle, 0, 60_000, "settle", "milliseconds")
+
+    @property
+    def rounds(self) -> int:
+        """How often all is asked: once, and after each wait that ends in time."""
+        rounds, wait, passed = 1, FIRST_WAIT, FIRST_WAIT
+        while passed <= self.settle:
+            rounds, wait = rounds + 1, 2 * wait
+            passed += wait
+        return rounds
+
+
+class NotDelivered(NotDone):
+    """A rail that doesn't deliver what its output was brought to: `delivered` has what was read."""
+
+    def __init__(self, text: str, delivered: Delivered) -> None:
+        super().__init__(text, delivered.verdict.kind)
+        self.delivered = delivered
+
+    def __reduce__(self) -> tuple[object, ...]:
+        return type(self), (str(self), self.delivered)
+
+
+@dataclass
+class Delivered:
+    """What a rail does, by its last answers. `is_absent` says that the part has no STATUS_WORD, and `is_told` that this was said before;
+    `status` is STATUS_WORD, `before` what it was before the first order; `registers` has the status registers that were read, `notes` what is
+    said of limits."""
+
+    output: int
+    verdict: Verdict
+    how: Looks
+    limits: Optional[tuple[int, int]] = None
+    is_absent: bool = False
+    is_told: bool = False
+    status: Optional[int] = None
+    before: Optional[int] = None
+    registers: dict[str, int] = field(default_factory=dict)
+    power_good_on: Optional[int] = None
+    notes: list[str] = field(default_factory=list)
+
+    @property
+    def is_bad(self) -> bool:
+        """Whether the rail doesn't do what it is to, or isn't known to."""
+        kind = self.verdict.kind
+        return kind not in WELL and not self.is_absent and not (kind == "power good alone" and self.how.power_good == "tell")
+
+    @property
+    def status_words(self) -> str:
+        """The status registers with the names of their bits."""
+        held = {} if self.status is None else {"STATUS_WORD": self.status}
+        return ", ".join(f"{name} {word:0{4 if name == 'STATUS_WORD' else 2}X}{' ' * bool(word)}{', '.join(names_of(name, word))}"
+                         for name, word in {**held, **self.registers}.items())
+
+    @property
+    def why(self) -> str:
+        """Why it is bad, in a sentence; nothing where it isn't."""
+        kind, bit = self.verdict.kind, self.verdict
+        if not self.is_bad:
+            return ""
+        said = {"off": "the rail is off", "fault": f"{name_of_bit(bit)} came with this call", "no power good": "power good is missing",
+                "outside": "READ_VOUT is outside the limits", "beyond": "READ_VOUT isn't what the output commands",
+                "power good alone": "power good is missing", "still on": "the part says that it is on"}.get(kind)
+        if said is None:
+            return f"whether the rail delivers isn't known: {bit.register}: {bit.fault or 'no good answer'}"
+        return f"{said}: `why` tells more"
+
+    @property
+    def words(self) -> str:
+        """What it does, for the end of a line that says what is commanded."""
+        return "".join([self._verdict_words(), *(f"; {note}" for note in self.notes)])
+
+    def _verdict_words(self) -> str:
+        found, kind = self.verdict, self.verdict.kind
+        read = "" if found.microvolts is None else f"READ_VOUT {voltages.shown(found.microvolts)}"
+        if kind in ("commanded off", "not known to be on", "went off") or self.is_absent and self.is_told:
+            return ""
+        if kind == "delivers":
+            return f", delivers {voltages.shown(found.microvolts)}{self._rest()}" if read else f", delivers by STATUS_WORD{self._rest()}"
+        if kind == "outside" and self.limits is not None:
+            return f"; {read} is OUTSIDE {voltages.shown(self.limits[0])} to {voltages.shown(self.limits[1])}{self._rest()}"
+        if kind == "not known":
+            return f"; delivery not known: {found.register} gave no good answer{': ' * bool(found.fault)}{found.fault}"
+        begins, there = self.power_good_on, found.microvolts
+        missing = "power good is missing"
+        if begins is not None:
+            is_below = there is None or there < begins
+            missing = f"power good {'' if is_below else 'is missing, and '}begins at {voltages.shown(begins)}"
+        return {"off": f"; {self.status_words}: the rail is off", "fault": f"; {self.status_words}: {name_of_bit(found)} came with this call",
+                "beyond": f"; {read} is more than {self.how.within / 10:g}% away from that{self._rest()}",
+                "power good alone": f"; {read}; {self.status_words}: {missing}",
+                "no power good": f"; {self.status_words}: power good is missing",
+                "still on": f"; commanded off, and the part says that it is on: {self.status_words}"}.get(kind, f"; {kind}")
+
+    def _rest(self) -> str:
+        """The bits of STATUS_WORD that decide nothing."""
+        old = [name for name in names_of("STATUS_WORD", (self.status or 0) & (self.before or 0)) if name in FAULTS]
+        return f"; {self.status_words}{', set before this call' * bool(old)}" if self.status else ""
+
+
+def name_of_bit(found: Verdict) -> str:
+    """The name of the bit that says a fault."""
+    return ", ".join(names_of(found.register, 1 << found.bit)) if found.register in BITS else ""
+
+
+class Look:
+    """Of an output of a part: `before` ahead of its first order, `after` behind its end."""
+
+    def __init__(self, part: Device, output: int, how: Looks) -> None:
+        self.part, self.output, self.how = part, output, how
+        self.delivery = Delivery(output, how.fault_limits, "READ_VOUT" not in part.absent, how.within, how.rounds)
+        self.has_looked_before, self.notes = False, list[str]()
+
+    def before(self, course: Course, order: Job) -> None:
+        """Reads what stands before the first order, unless that turns the output off. P8 where the course's goal is at or beyond a fault
+        limit."""
+        if self.has_looked_before or order.register == "OPERATION" and (order.word or 0) < 0x80:
+            return
+        self.delivery.look_before()
+        self._ask()
+        self.has_looked_before = True
+        silent = [NAMES[code] for name, code in LIMITS.items() if (heard := self.delivery.heard(name)).asked and heard.word is None]
+        if silent and "limits" not in self.part.absent:
+            self.notes.append(f"{', '.join(silent)} gave no good answer, and {'is' if len(silent) == 1 else 'are'}n't judged")
+            self.part.absent.add("limits")
+        for register in GOALS:
+            word = goal_of(course, self.part.host, CODES[register])
+            if word is not None:
+                self._judge(register, word)
+
+    def _judge(self, register: str, word: int) -> None:
+        """P8, or a note."""
+        form = self.part.host.format(self.output)
+        try:
+            found = self.delivery.judge(self.part.host, word)
+        except PlanRefused as fault:
+            fault.say(f"{register} {told(form, word)} is at or beyond {fault.register}, which is {told(form, fault.word)}")
+            raise
+        for limit in (found.fault, found.warning):
+            if limit is not None:
+                self.notes.append(f"{register} {told(form, word)} is at or beyond {limit[0]} {told(form, limit[1])}")
+
+    def after(self, is_off: bool = False) -> Delivered:
+        """Reads what the rail does."""
+        is_told = "STATUS_WORD" in self.part.absent
+        self.delivery.look_after(is_off)
+        if not is_told:
+            self._ask()
+        host, form, found = self.part.host, self.part.host.format(self.output), self.delivery.verdict(self.part.host)
+        is_absent = found.kind in ("not yet", "not known") and "STATUS_WORD" in self.part.absent
+        if is_absent:
+            found = Verdict("not known", "STATUS_WORD")
+        limits = host.limits(self.output)
+        registers = {NAMES[code]: word for name, code in (("status_vout", 0x7A), ("status_iout", 0x7B), ("status_input", 0x7C),
+                                                          ("status_temperature", 0x7D)) if (word := self.delivery.heard(name).word) is not None}
+        begins = self.delivery.heard("power_good_on").word
+        return Delivered(self.output, found, self.how, None if limits is None else (limits.least.microvolts, limits.most.microvolts),
+                         is_absent, is_told, self.delivery.heard("status_word").word, self.delivery.heard("before").word, registers,
+                         None if form is None else form.told(begins), self.notes)
+
+    # ---- Frames ----
+
+    def _ask(self) -> None:
+        """Asks all that is due. A register that gives no answer at all in twice as many tries as others is one that the part doesn't have."""
+        turn, wait = self.delivery.round, FIRST_WAIT
+        while (sending := self.delivery.frame(self.part.host)) is not None:
+            if self.delivery.round != turn:
+                clock.wait(wait / 1000)
+                turn, wait = self.delivery.round, 2 * wait
+            self.delivery.read_ended(self.part.host, self._read(sending))
+            if self._is_silent("status_word"):
+                self.part.absent.add("STATUS_WORD")
+                return
+            if self._is_silent("read_vout"):
+                self.part.absent.add("READ_VOUT")
+                self.delivery.without_read_vout()
+
+    def _is_silent(self, question: str) -> bool:
+        """Whether a register that is asked behind an order gave no answer in two rounds, nor before the order."""
+        heard, passes, before = self.delivery.heard(question), self.part.host.passes, self.delivery.heard("before")
+        was_silent = self.delivery.round > 0 or question == "status_word" and before.is_silence
+        return heard.is_silence and heard.asked >= passes and was_silent and not (question == "status_word" and before.word is not None)
+
+    def _read(self, sending: Sending) -> bytes:
+        """What came back, the read address first; nothing where nobody answered."""
+        try:
+            came = bytes(self.part.bus.read(sending.frame, sending.answer))
+        except OSError:
+            return b""
+        return b"" if not came or is_ones(came) else bytes([self.part.host.address << 1 | 1]) + came
+
+
+def told(form: Optional[Format], word: int) -> str:
+    """A word's volts, or its digits."""
+    return f"{word:04X}" if form is None else voltages.shown(form.told(word))
+
+
+assert FAULTS <= {name for _, name in BITS["STATUS_WORD"]}

@@ -1,0 +1,84 @@
+/* A part as parts are in the field: the proved model part of pmpart.h below, and in front of it what data sheets say beside the
+ * registers of a host: fault limits that trip a rail, a RUN pin and ON_OFF_CONFIG, what the rail does (STATUS_WORD, READ_VOUT,
+ * power good, ramps), busy times, a packet error code that may be left out, words that are rounded or clamped, registers that are
+ * missing, pins over the user store, and RESTORE as a reset. ULINEAR16 alone.
+ *
+ * It is for tests: nothing here is proved, and nothing of it is a particular part. One layer for C, Rust, Python and pmhost: it is linked
+ * with libpm_device_c, or loaded beside a library that has it. */
+#ifndef PM_FIELD_H
+#define PM_FIELD_H
+
+#include "pmpart.h"
+
+#ifdef __cplusplus
+extern "C" {
+#endif
+
+#define FIELD_OUTPUTS 8
+#define FIELD_ANSWER 40
+
+/* What became of a frame: it was acknowledged, its address wasn't, or a byte behind that wasn't. */
+enum { FIELD_ACKED = 0, FIELD_UNHEARD = 1, FIELD_REFUSED = 2 };
+
+/* What a busy part does: it doesn't acknowledge its address, or a byte behind it; or it drops writes and reads as ones. */
+enum { FIELD_DEAF = 0, FIELD_REFUSES = 1, FIELD_ONES = 2 };
+
+/* An output, the words in its format, times in milliseconds. */
+typedef struct {
+    uint16_t ov_fault, ov_warn, uv_warn, uv_fault, good_on, good_off, on_off_config;
+} field_words;
+
+typedef struct {
+    field_words held, stored;
+    uint16_t is_run_low;    /* the RUN pin is held low */
+    uint16_t is_good_low;   /* POWER_GOOD is pulled low by something else on the board */
+    uint16_t pin_command;   /* the word of VOUT_COMMAND that pins give at a start; 0 where none do */
+    uint16_t on_ms, off_ms, ramp_ms;
+    int16_t error;          /* how many words READ_VOUT is above the voltage */
+    uint16_t has_tripped, has_been_good;
+    uint16_t vout, iout, input, temperature;   /* what is latched of STATUS_VOUT to STATUS_TEMPERATURE */
+    int64_t from, to;       /* the voltage in microvolts at the two ends of its ramp */
+    uint64_t since, until;  /* the times of these ends in microseconds */
+} field_output;
+
+typedef struct {
+    pm_part chip;
+    uint64_t now;           /* the time in microseconds, which the caller puts on */
+    uint64_t ready;         /* until when it is busy */
+    uint32_t transfers, writes, stores, questions;   /* how many came, and how many while it was busy */
+    uint16_t busy_ms, store_ms, restore_ms, busy_kind;
+    uint16_t config_all;    /* MFR_CONFIG_ALL: bit 2 has the packet error code required */
+    uint16_t step;          /* voltages are rounded down to a multiple of it; 1 for none */
+    uint16_t clamps;        /* 1 where VOUT_COMMAND and the margins are clamped to VOUT_MIN and VOUT_MAX as they are written */
+    uint16_t transfer_us;   /* how long a transfer takes, for callers that have no clock */
+    uint16_t was_busy, cml;
+    uint8_t address, outputs, mode, unused;
+    uint32_t lacks[8];      /* a bit for each code that isn't acknowledged */
+    field_output out[FIELD_OUTPUTS];
+} field_part;
+
+uint64_t field_size(void);
+
+/* A part whose outputs are on at 1 V; VOUT_MAX is 4 V, the margins 1.0625 V and 0.9375 V, and no limit is near. 0, or as pm_part_new. */
+uint8_t field_new(field_part *part, uint8_t address, uint8_t outputs);
+
+/* Sets what has this name, a register or a field above; - for the device is any output. `lacks` takes a code. 0, or 1 where there is none.
+ * A register is held then, and in the user store. field_get tells it, and `microvolts`, which the rail is at. */
+uint8_t field_set(field_part *part, uint8_t output, const char *name, int64_t value);
+uint8_t field_get(field_part *part, uint8_t output, const char *name, int64_t *value);
+
+/* It hears a frame, which a repeated start ends where `is_request` isn't 0. The answer has the read address first. */
+uint8_t field_hear(field_part *part, const uint8_t *bytes, uint64_t count, uint8_t is_request, uint8_t *answer, uint64_t *length);
+
+/* It restarts, as after a loss of its supply. */
+void field_restart(field_part *part);
+
+/* The bus of pmhost.h's loops, whose context is a part: an acknowledgement is A5h. The time goes on by a transfer. */
+uint8_t field_write(void *context, const uint8_t *bytes, uint64_t count);
+uint64_t field_read(void *context, const uint8_t *request, uint64_t count, uint8_t *answer, uint64_t room);
+
+#ifdef __cplusplus
+}
+#endif
+
+#endif
