@@ -93,7 +93,7 @@ class Row:
         before = []
         for token in self.before.split():
             code = int(token[1:3], 16)
-            before += [*(["learn", "0"] if code == LEARN else ["read", "0", NAMES[code]]), "+"]
+            before += [*(["learn", "0"] if code == LEARN else ["read", "-" if code == PROTECT else "0", NAMES[code]]), "+"]
         # A word of a format that isn't spoken goes alone where there are no limits.
         limits = [f"--limit=0:{self.limits[0]}:{self.limits[1]}"] if self.limits else \
             ["--limit=0:0V:16V"] if self.end.startswith("format") else ["--no-limit"]

@@ -21,6 +21,7 @@ use Rattle.pm_course.specs.declared.frames.Sending.{Sending}
 use Rattle.pm_course.specs.declared.frames.Sending.TheVariants.{Write, Request}
 use Rattle.pm_course.specs.FrameCourse.{SaysNext, refused_by}
 use Rattle.pm_course.specs.Heard.{heard_by, is_job_of}
+use Rattle.pm_course.specs.Surprise.{surprises}
 
 -- the frame of a message
 abbrev pub IsSendingOf : ℕ → Message → Sending → Type 0
@@ -53,7 +54,8 @@ pub data HandsOut (old : Guarded) (was : FrameCourse) : Option Sending → Guard
 pub data Hears (old : Guarded) (was : FrameCourse) (entry : Entry) : Result (Unit {0}) Untold → Guarded → FrameCourse → Type 0 where
   heard : (stage : Stage) (new : Guarded) → old.host.stage ≡ Some stage → may_come old.host entry ≡ true
       → new.host ≡ next old.host entry → new.limits ≡ old.limits → new.registers ≡ old.registers
-      → Hears old was entry (Ok tt) new (heard_by was old.host.setup.addr stage entry (step_of old.host entry))
+      → Hears old was entry (Ok tt) new
+      (heard_by was old.host.setup.addr stage entry (surprises old.host stage entry) (step_of old.host entry))
   nothing : old.host.stage ≡ None → Hears old was entry (Err NothingSent) old was
   other : (stage : Stage) → old.host.stage ≡ Some stage → may_come old.host entry ≡ false
       → Hears old was entry (Err WrongKind) old was

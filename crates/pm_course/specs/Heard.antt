@@ -16,6 +16,7 @@ use Rattle.pm_host.specs.declared.stage.Stage.TheVariants.{Writes, Reads, Asks, 
 use Rattle.pm_host.specs.Answers.{good_payload}
 use Rattle.pm_host.specs.Summary.{stage_message}
 use Rattle.pm_host.specs.Transcript.{Entry, Accepted, Finished, Got, Restarted}
+use Rattle.pm_rail.specs.declared.course.Course.{Course}
 use Rattle.pm_rail.specs.declared.course.Differing.{Differing}
 use Rattle.pm_rail.specs.Course.{told_of}
 use Rattle.pm_course.specs.declared.answer_fault.AnswerFault.{AnswerFault}
@@ -107,7 +108,18 @@ stepped c addr stage entry Next = c
 stepped c addr stage entry (Ended over) = let course = told_of c.course over in
     ended_by (record c { course = course }) (mode_told addr stage entry over) course.twice
 
+-- the format is learned anew before anything else is asked for
+abbrev pub forgetting : Course → Course
+forgetting course = record course { survey = record course.survey { learned = false } }
+
+-- what is noted of the frame of the course's job: what was wrong with it, and that the part restarted or was exchanged
+abbrev pub noting : FrameCourse → ℕ → Stage → Entry → Bool → FrameCourse
+noting c addr stage entry surprised = record c {
+  course = if surprised then forgetting c.course else c.course;
+  fault = fault_after c.fault addr stage entry;
+}
+
 -- the course once what became of a frame was told: nothing of another job's frame counts
-abbrev pub heard_by : FrameCourse → ℕ → Stage → Entry → Step → FrameCourse
-heard_by c addr stage entry step = if is_job_of c.course.survey.asked stage
-    then stepped (record c { fault = fault_after c.fault addr stage entry }) addr stage entry step else c
+abbrev pub heard_by : FrameCourse → ℕ → Stage → Entry → Bool → Step → FrameCourse
+heard_by c addr stage entry surprised step = if is_job_of c.course.survey.asked stage
+    then stepped (noting c addr stage entry surprised) addr stage entry step else c

@@ -3,5 +3,6 @@ pub mod AnswerFault
 pub mod Ends
 pub mod Wishes
 pub mod FrameCourse
+pub mod Surprise
 pub mod Heard
 pub mod Frames

@@ -10,6 +10,7 @@ ghost use Rattle.pm_course.specs.Frames.{HandsOut, Hears, IsSendingOf, IsSent};
 
 use crate::course_end::CourseNext;
 use crate::frame_course::FrameCourse;
+use crate::surprise::surprises;
 use pm_frame::{Frame, write_part};
 use pm_host::{Stage, Told, Untold};
 use pm_limits::Guard;
@@ -117,8 +118,9 @@ impl FrameCourse {
             return Err(Untold::WrongKind);
         }
         let address = host.state().address;
+        let surprised = surprises(host.state(), stage, told);
         let step = guard.told(told);
-        self.heard(address, stage, told, step);
+        self.heard(address, stage, told, surprised, step);
         Ok(())
     }
 }

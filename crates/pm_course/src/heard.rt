@@ -18,18 +18,22 @@ use pm_host::{Job, JobEnd, Question, Stage, Step, Told};
 use pm_table::Cell;
 
 impl FrameCourse {
-    /// What became of the frame of a stage, and how the host says that the job stands: where the job is the course's, it
-    /// notes what was wrong and how the job ended.
-    pub fn heard(&mut self, address: u8, stage: Stage, told: Told<'_>, step: Step)
+    /// What became of the frame of a stage, whether that [`surprises`](crate::surprises), and how the host says that the job
+    /// stands: where the job is the course's, it notes what was wrong and how the job ended. What surprises shows that the part
+    /// restarted or was exchanged, so the format is learned anew before anything else is asked for.
+    pub fn heard(&mut self, address: u8, stage: Stage, told: Told<'_>, surprised: bool, step: Step)
         requires address { IsAddress address }
         requires word { HasWord stage }
         requires awaited { is_awaited stage told ≡ true }
-        ensures { self.new ≡ heard_by self.old address stage (entry_told told.entry) step }
+        ensures { self.new ≡ heard_by self.old address stage (entry_told told.entry) surprised step }
     {
         if !self.is_job_of(stage) {
             return;
         }
         self.fault = self.fault_after(address, stage, told);
+        if surprised {
+            self.course.survey.learned = false;
+        }
         if let Step::Ended(end) = step {
             let mode = mode_told(address, stage, told, end);
             self.course.told(end);

@@ -5,7 +5,8 @@
 //! [`FrameCourse::read_ended`] hear what became of it; once it hands out nothing, [`FrameCourse::end`] says how the course ended. It asks a [`pm_rail::Course`] for
 //! each job, and orders nothing that this doesn't name but a byte of OPERATION over one that the cell doesn't take. What it adds: words of voltages by the format that the host knows
 //! at that moment, an end at once where VOUT_MODE names no format or where OPERATION holds a byte that its cell doesn't
-//! take, WRITE_PROTECT before an output is turned on, and what was wrong with the last answer.
+//! take, WRITE_PROTECT before an output is turned on, what was wrong with the last answer, and a new learn of the format after an
+//! answer that shows that the part restarted or was exchanged.
 //!
 //! It sends nothing, waits for nothing and takes no memory.
 //!
@@ -17,6 +18,7 @@ mod course_end;
 mod frame_course;
 mod frames;
 mod heard;
+mod surprise;
 mod voltages;
 mod wish;
 mod words;
@@ -25,5 +27,6 @@ pub use answer_fault::AnswerFault;
 pub use course_end::{CourseEnd, CourseNext, Refusal};
 pub use frame_course::FrameCourse;
 pub use frames::Sending;
+pub use surprise::surprises;
 pub use voltages::Voltages;
 pub use wish::{Wish, Wishes};

@@ -92,7 +92,7 @@ accepts origin {config = config} {passes = passes} {events = events} {host = hos
     ∙ origin.accepted config (life config passes events).past cell lived.lived.sound there
 
 -- the host of a life has a place for each cell
-life-places : (config : Config) (passes : ℕ) (events : List Event) → HasPlaces (now config passes events).host.known
+pub life-places : (config : Config) (passes : ℕ) (events : List Event) → HasPlaces (now config passes events).host.known
 unfolding now state_of host_now known_now table
 life-places config passes events = record {
   possible = length-map-range_with_len (λ place. possible_of (marks (setup_of config passes) (life config passes events).entries)

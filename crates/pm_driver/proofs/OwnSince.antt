@@ -1,15 +1,11 @@
 -- What an output commands since a driver began beside a part as it is.
-use Rattle.std.proofs.Common.{◌≡◌, ◌⊎◌, ◌<◌, inl, inr, ◌∙◌, ℕ, Bool, true, false, ◌&&◌, cond, List, [], ◌∷◌, ◌++◌, Option, Some, None}
-use Rattle.std.proofs.Common.{ap, refl, subst, sym, is_some, is_none}
+use Rattle.std.proofs.Common.{◌≡◌, ◌⊎◌, ◌<◌, inl, inr, ◌∙◌, ℕ, List, [], ◌∷◌, ◌++◌, Option, Some, None}
+use Rattle.std.proofs.Common.{ap, refl, subst, sym}
 use Rattle.std.specs.Prelude.{option_and_then}
-use Rattle.std.specs.Option.{option_map_or}
 use Rattle.pm_table.specs.declared.cell.Cell.{Cell}
 use Rattle.pm_table.specs.declared.cell.Cell.TheVariants.{Out}
 use Rattle.pm_table.specs.declared.reg.Reg.{Reg}
-use Rattle.pm_model.specs.declared.order_machine.PendingJob.{PendingJob}
-use Rattle.pm_model.specs.declared.order_machine.PendingJob.TheVariants as pending
 use Rattle.pm_model.specs.Commanded.{commanded, limited}
-use Rattle.pm_model.specs.OrderMachine.{Accept, End}
 use Rattle.pm_model.specs.Settings.{Words, word_at}
 use Rattle.pm_device.specs.declared.config.Config.{Config}
 use Rattle.pm_device.specs.Held.{Held, value_for}
@@ -20,11 +16,9 @@ use Rattle.pm_host.specs.Jobs.{accepted_job}
 use Rattle.pm_host.specs.Summary.{Summary}
 use Rattle.pm_host.specs.Transcript as host
 use Rattle.pm_world.specs.declared.event.Event.{Event}
-use Rattle.pm_world.specs.declared.event.Event.TheVariants.{Deliver, Exchange, Finish, RestartDevice, RestartHost}
 use Rattle.pm_world.specs.Job.{asked_by, job_of}
 use Rattle.pm_world.specs.Life.{now}
-use Rattle.pm_world.specs.Retelling.{CommandsOwn, IsOwnWord, WasOrdered, accepts, open_pending, pending_of, taken_at, takes, told, told_beside}
-use Rattle.pm_world.specs.State.{asked}
+use Rattle.pm_world.specs.Retelling.{CommandsOwn, IsOwnWord, WasOrdered}
 use Rattle.pm_world.specs.Uncertainty.{job_event}
 use Rattle.pm_world.specs.Lemmas.{now-config}
 use Rattle.pm_world.specs.Lemmas.Orders.{told-asked}

@@ -65,7 +65,7 @@ came-so legal request needed held came is fits =
     ∙ ap (λ b. cond (not b) [] answer) (legal.answer request needed answer)))
 
 -- nothing disturbs the calls of a bus at the end of its plan
-simulated-so : WholeFramesAreLegal → AreUndisturbed gives_so device_in is_at_end
+pub simulated-so : WholeFramesAreLegal → AreUndisturbed gives_so device_in is_at_end
 simulated-so legal (Wrote frame acked) old new so gave =
     let by = subst (λ o. gives_by o old.device (Wrote frame acked) new.device) (none-next old so) gave.gives in
     ((by.0, delivered-so legal frame old.device new.device by.1), end-stays old new so gave.turn)
@@ -116,7 +116,7 @@ tries-so : (tries : ℕ) → nat_lt 0 tries ≡ true → (left : ℕ) × (tries 
 tries-so zero is = cc
 tries-so (suc left) is = (left, refl)
 
-patient-so : WholeFramesAreLegal → AreUndisturbed patient_gives patient_device is_ready
+pub patient-so : WholeFramesAreLegal → AreUndisturbed patient_gives patient_device is_ready
 patient-so legal call old new ready gave = go call gave where
   both : (nat_lt 0 old.tries ≡ true) × (is_at_end old.adapter ≡ true)
   both = both-so (nat_lt 0 old.tries) (is_at_end old.adapter) ready

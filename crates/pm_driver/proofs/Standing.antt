@@ -1,8 +1,7 @@
 -- Over one life for all registers of an output: the converter doesn't restart since they were read, and the band holds.
-use Rattle.std.proofs.Common.{◌≡◌, ◌≢◌, ◌⊎◌, ◌<◌, ◌+◌, ◌||◌, ◌&&◌, not, cond, ℕ, Bool, true, false, List, [], ◌∷◌, ◌++◌, Option, Some, None, inl, inr}
+use Rattle.std.proofs.Common.{◌≡◌, ◌≢◌, ◌<◌, ◌||◌, ◌&&◌, not, cond, ℕ, Bool, true, false, List, [], ◌∷◌, ◌++◌, Option, Some, None}
 use Rattle.std.proofs.Common.{refl, sym, ◌∙◌, ap, subst}
-use Rattle.std.specs.Prelude.{IfSome, is_none, option_map}
-use Rattle.std.specs.List.{list_any}
+use Rattle.std.specs.Prelude.{IfSome, option_map}
 use Rattle.pm_table.specs.declared.cell.Cell.{Cell}
 use Rattle.pm_table.specs.declared.cell.Cell.TheVariants.{Out}
 use Rattle.pm_table.specs.declared.reg.Reg.{Reg}
@@ -10,7 +9,7 @@ use Rattle.pm_table.specs.declared.reg.Reg.TheVariants.{Operation, VoutMax, Vout
 use Rattle.pm_table.specs.Cell.{same_register}
 use Rattle.pm_table.specs.Laws.{CellsAreToldApart}
 use Rattle.pm_num.specs.AnyFormat.{Shape, shape_value}
-use Rattle.pm_num.specs.Ratio.{Ratio, AtMost, is_above, micros}
+use Rattle.pm_num.specs.Ratio.{Ratio, is_above, micros}
 use Rattle.pm_num.specs.Lemmas.Over.{at_most-trans}
 use Rattle.pm_num.specs.Lemmas.Order.{at-most}
 use Rattle.pm_model.specs.Commanded.{commanded, limited, selected_register}
@@ -23,7 +22,7 @@ use Rattle.pm_host.specs.declared.knowledge.Possible.TheVariants.{Any, Words as 
 use Rattle.pm_host.specs.Summary.{Summary, format_at, possible_at}
 use Rattle.pm_host.specs.Transcript as host
 use Rattle.pm_limits.specs.declared.band.Band.{Band}
-use Rattle.pm_limits.specs.Band.{HasDens, InBand, Known, band_at, band_with, band_within, decides, end_with, known_of}
+use Rattle.pm_limits.specs.Band.{HasDens, InBand, Known, band_at, band_with, band_within, end_with, known_of}
 use Rattle.pm_limits.specs.Band.{may_select_avsbus, operation_end, operations, reach, within_of, word_end}
 use Rattle.pm_limits.specs.Bounds.{Bounds, IsWithin}
 use Rattle.pm_limits.specs.declared.ends.Side.{Side}
@@ -32,21 +31,18 @@ use Rattle.pm_limits.specs.declared.guard.Within.TheVariants.{Yes, No, NotKnown}
 use Rattle.pm_limits.specs.declared.part_registers.PartRegisters.{PartRegisters}
 use Rattle.pm_limits.specs.Part.{missing_word}
 use Rattle.pm_limits.specs.Guard.{Guarded, limits_at}
-use Rattle.pm_rail.specs.declared.survey.Survey.{Survey}
 use Rattle.pm_world.specs.declared.event.Event.{Event}
 use Rattle.pm_world.specs.Bands.{AreShort, BandStands, HoldsMissing}
 use Rattle.pm_world.specs.Confirmed.{restarted_since}
 use Rattle.pm_world.specs.Honest.{FormatsAgree}
-use Rattle.pm_world.specs.Lemmas.{now-config}
 use Rattle.pm_world.specs.Lemmas.Formats.{sound-dens}
 use Rattle.pm_world.specs.LimitLaws.{BandsAreHeld}
 use Rattle.pm_world.specs.Life.{life, now}
 use Rattle.pm_world.specs.Limited.{commands}
-use Rattle.pm_world.specs.Surveys.{AreKnownSince, MissingUnread}
 use Rattle.pm_driver.specs.Acts.{Act, Began, Call}
 use Rattle.pm_driver.specs.Bus.{restarts_in}
-use Rattle.pm_driver.specs.Bands.{BandStandsIn, HasNoRestartSinceAny, is_told, or_this, rests_on}
-use Rattle.pm_driver.specs.Driven.{Driving, HasLife, driven}
+use Rattle.pm_driver.specs.Bands.{BandStandsIn, HasNoRestartSinceAny, is_told, or_this}
+use Rattle.pm_driver.specs.Driven.{HasLife}
 use Rattle.pm_driver.specs.Ends.{cell_read}
 use Rattle.pm_driver.specs.Laws.{EndsAreTrue, LawsOfLives}
 use Rattle.pm_driver.specs.Lives.{Driven, IsLife, Leads}

@@ -9,11 +9,10 @@ use Rattle.pm_table.specs.declared.cell.Cell.{Cell}
 use Rattle.pm_table.specs.declared.cell.Cell.TheVariants.{Out}
 use Rattle.pm_table.specs.declared.reg.Reg.{Reg}
 use Rattle.pm_table.specs.declared.reg.Reg.TheVariants.{Operation, VoutMax, VoutMin}
-use Rattle.pm_table.specs.Cell.{cell_accepts, is_operation, same_register}
+use Rattle.pm_table.specs.Cell.{is_operation, same_register}
 use Rattle.pm_table.specs.Laws.{CellsAreToldApart}
 use Rattle.pm_table.specs.Rules.{rule}
 use Rattle.pm_model.specs.Commanded.{selected_register}
-use Rattle.pm_device.specs.declared.config.Config.{Config}
 use Rattle.pm_device.specs.Held.{Held, shape_for}
 use Rattle.pm_host.specs.declared.knowledge.Possible.{Possible}
 use Rattle.pm_host.specs.declared.knowledge.Possible.TheVariants.{Any, Words as Listed}
@@ -26,15 +25,13 @@ use Rattle.pm_limits.specs.Ends.{format_end}
 use Rattle.pm_limits.specs.Guard.{Guarded}
 use Rattle.pm_limits.specs.Part.{all_registers, has_register, missing_word}
 use Rattle.pm_rail.specs.declared.survey.Survey.{Survey}
-use Rattle.pm_rail.specs.Known.{Cells, known_at, known_of, known_word, sole, sole_of}
+use Rattle.pm_rail.specs.Known.{Cells, known_at, known_of, known_word, sole_of}
 use Rattle.pm_rail.specs.Orders.{is_needed}
 use Rattle.pm_rail.specs.Registers.{Wants, wants_of}
 use Rattle.pm_rail.specs.Survey.{is_surveyed, nothing_read, wanted_in}
-use Rattle.pm_world.specs.declared.event.Event.{Event}
 use Rattle.pm_world.specs.Confirmed.{restarted_since, restarts_converter}
 use Rattle.pm_world.specs.Life.{now}
-use Rattle.pm_world.specs.Possible.{has_read}
-use Rattle.pm_world.specs.Surveys.{AreKnownSince, AreRead, MissingUnread, cells_at}
+use Rattle.pm_world.specs.Surveys.{AreKnownSince, MissingUnread, cells_at}
 use Rattle.pm_driver.specs.Acts.{Act, Call}
 use Rattle.pm_driver.specs.Bus.{restarts_in}
 use Rattle.pm_host.specs.declared.job.JobEnd.{JobEnd}
@@ -46,7 +43,7 @@ use Rattle.std.specs.Option.{option_map_or}
 use Rattle.pm_driver.specs.Bands.{HasLifeUnread, HasNoRestartSinceAny, is_told, rests_on}
 use Rattle.pm_driver.specs.Driven.{Driving, HasLife, driven}
 use Rattle.pm_driver.specs.Laws.{LawsOfLives}
-use Rattle.pm_driver.specs.Lives.{IsLife, Leads}
+use Rattle.pm_driver.specs.Lives.{Leads}
 use Rattle.pm_driver.specs.RailLaws.{LawsOfRails}
 use Rattle.pm_driver.specs.Rails.{Surveys, is_surveyed_in}
 use Rattle.pm_driver.specs.SurveyLaws.{events_read}

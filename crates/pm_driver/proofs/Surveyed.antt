@@ -10,3 +10,7 @@ use Rattle.pm_driver.specs.Rails.{surveyed_by}
 -- it leaves the output
 pub asked-output : (v : Survey) (job : Job) (end : JobEnd) → (surveyed_by v job end).output ≡ v.output
 asked-output v job end = (ended-same (asking v (Some job)) (Some job) end).1
+
+-- it leaves the plan
+pub asked-plan : (v : Survey) (job : Job) (end : JobEnd) → (surveyed_by v job end).plan ≡ v.plan
+asked-plan v job end = (ended-same (asking v (Some job)) (Some job) end).2

@@ -25,13 +25,14 @@ mod simulated_bus;
 pub use dead_bus::DeadBus;
 pub use fault::Fault;
 pub use laws::{
-    never_restarts_stays, orders_go_through, parts_compose, patient_never_restarts_stays,
-    patient_orders_go_through, reads_keep_never_restarts, requests_may_be_lost,
+    courses_go_through, never_restarts_stays, orders_go_through, parts_compose,
+    patient_never_restarts_stays, patient_orders_go_through, reads_keep_never_restarts,
+    requests_may_be_lost,
 };
 pub use patient::Patient;
 pub use plans::{
-    order_patiently_through, order_through, read_without_restart, run_patiently_without_restart,
-    run_without_restart,
+    apply_through, order_patiently_through, order_through, read_without_restart,
+    run_patiently_without_restart, run_without_restart,
 };
 pub use retrying::Retrying;
 pub use simulated_bus::{SimulatedBus, driver_over};

@@ -9,15 +9,15 @@ ghost use Rattle.pm_driver.specs.Steps.{CallsGo, FramesLead, JobsLead, LooksLead
 ghost use Rattle.pm_driver.specs.Undisturbed.{JobsRestartNothing, ReadsRestartNothing, UndisturbedOrdersAreDone, WholeFramesAreLegal};
 
 use crate::bus::Bus;
+use crate::undisturbed_laws::undisturbed_jobs;
 use pm_device::{requests_latch_at_most, writes_reach_one_cell};
 use pm_frame::{betrayal_is_refused, damage_is_refused, requests_are_exact, writes_are_exact};
 use pm_host::{possible_words_are_followed, transcripts_are_followed};
 use pm_table::cells_are_told_apart;
 use pm_world::{
-    confirmed_settings_are_held, events_are_lived, good_frames_end_jobs, learned_formats_are_true,
-    lists_say_enough, lives_are_followed, lives_are_orders, lives_leave_parts, lives_stay_limited,
-    parts_are_reached, possible_words_are_held, starts_are_parts, stored_configs_start_so,
-    whole_frames_are_undisturbed,
+    confirmed_settings_are_held, events_are_lived, learned_formats_are_true, lists_say_enough,
+    lives_are_followed, lives_are_orders, lives_leave_parts, lives_stay_limited, parts_are_reached,
+    possible_words_are_held, starts_are_parts, stored_configs_start_so,
 };
 
 /// What `pm_world` says of each life, and the crates below of frames and hearings, which the laws below are had from.
@@ -146,10 +146,7 @@ pub fn whole_frames_are_legal()
 pub fn undisturbed_orders_are_done<B: Bus>()
     ensures { UndisturbedOrdersAreDone B.gives B.held B.restarts }
 {
-    laws_of_lives();
-    good_frames_end_jobs();
-    whole_frames_are_undisturbed();
-    calls_go();
+    undisturbed_jobs::<B>();
 }
 
 /// Over a bus whose calls restart nothing, what the host confirms of a cell that was read is held: no job ends that.

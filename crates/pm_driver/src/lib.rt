@@ -65,13 +65,14 @@ mod frames;
 mod laws;
 mod rail_laws;
 mod rails;
+mod undisturbed_laws;
 
 pub use adapter::{Adapter, ReadEnd, WriteEnd};
 pub use bus::Bus;
 pub use buses::{
-    DeadBus, Fault, Patient, Retrying, SimulatedBus, driver_over, never_restarts_stays,
-    order_patiently_through, order_through, orders_go_through, parts_compose,
-    patient_never_restarts_stays, patient_orders_go_through, read_without_restart,
+    DeadBus, Fault, Patient, Retrying, SimulatedBus, apply_through, courses_go_through,
+    driver_over, never_restarts_stays, order_patiently_through, order_through, orders_go_through,
+    parts_compose, patient_never_restarts_stays, patient_orders_go_through, read_without_restart,
     reads_keep_never_restarts, requests_may_be_lost, run_patiently_without_restart,
     run_without_restart,
 };
@@ -88,4 +89,8 @@ pub use rail_laws::{
     applied_plans_come_true, applied_plans_keep_rails, bands_are_kept, bands_stand,
     courses_are_lived, rails_lead, reached_plans_are_commanded, surveys_are_true,
     surveys_take_few_checks,
+};
+pub use undisturbed_laws::{
+    courses_end_once_undisturbed, retrying_is_undisturbed, undisturbed_courses_end,
+    undisturbed_jobs, undisturbed_power_ends, undisturbed_surveys_end, whole_parts_fit,
 };

@@ -4,6 +4,7 @@ use Rattle.pm_host.specs.declared.stage.Stage.{Stage}
 use Rattle.pm_host.specs.declared.state.State.{State}
 use Rattle.pm_course.specs.declared.frame_course.FrameCourse.{FrameCourse}
 use Rattle.pm_course.specs.Heard.{heard_by}
+use Rattle.pm_course.specs.Surprise.{surprises}
 use Rattle.pm_host_c.specs.declared.course_image.CourseImage.{CourseImage}
 use Rattle.pm_host_c.specs.Course.{heard_at, TellsCourse}
 use Rattle.pm_host_c.specs.CourseImage.{course_image, course_in}
@@ -52,7 +53,7 @@ idle state (Got bytes) = refl
 -- a course hears what its host is told
 pub tells-course : (old new : GuardImage) (was is : CourseImage) (s : Summary) (c : FrameCourse) (stage : Stage) (e : Entry)
     (result : HostStep) → host_of old.host ≡ Some s → course_in was ≡ Some c → s.stage ≡ Some stage → may_come s e ≡ true
-    → is ≡ course_image (heard_by c s.setup.addr stage e (step_of s e)) → TellsHost old e result new
+    → is ≡ course_image (heard_by c s.setup.addr stage e (surprises s stage e) (step_of s e)) → TellsHost old e result new
     → TellsCourse old was e result new is
 tells-course old new was is s c stage e result found kept at_stage may became host = record {
   answer = rw (found, kept) (host.answer ∙ ap (λ (h : Option Summary). told_answer h e) found);

@@ -21,6 +21,7 @@ use Rattle.pm_course.specs.declared.course_end.CourseNext.TheVariants.{Job, Ende
 use Rattle.pm_course.specs.declared.frame_course.FrameCourse.{FrameCourse}
 use Rattle.pm_course.specs.FrameCourse.{SaysNext, going_on, refused_by, wanting}
 use Rattle.pm_course.specs.Heard.{heard_by, is_job_of}
+use Rattle.pm_course.specs.Surprise.{surprises}
 use Rattle.pm_course.specs.Wishes.{no_voltages}
 use Rattle.pm_rail.specs.Registers.{nothing}
 use Rattle.pm_host_c.specs.declared.course.CourseJobImage.{CourseJobImage}
@@ -152,7 +153,7 @@ is_heard host course entry = if is_some course then is_told host entry else fals
 -- the course after it
 abbrev pub heard_at : Summary → FrameCourse → Entry → Option Stage → FrameCourse
 heard_at s c entry None = c
-heard_at s c entry (Some stage) = heard_by c s.setup.addr stage entry (step_of s entry)
+heard_at s c entry (Some stage) = heard_by c s.setup.addr stage entry (surprises s stage entry) (step_of s entry)
 
 abbrev pub heard_in : CourseImage → Option Summary → Option FrameCourse → Entry → CourseImage
 heard_in was (Some s) (Some c) entry = course_image (heard_at s c entry s.stage)

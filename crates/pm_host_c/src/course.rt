@@ -19,7 +19,7 @@ use crate::numbers::{ACCEPTED, ENDED, NO_COURSE, NO_HOST, OTHER_FRAME};
 use crate::sending_image::SendingImage;
 use crate::told::pm_host_frame;
 use crate::wanted_image::WantedImage;
-use pm_course::{CourseEnd, CourseNext, FrameCourse, Refusal, Wishes};
+use pm_course::{CourseEnd, CourseNext, FrameCourse, Refusal, Wishes, surprises};
 use pm_host::{HostFault, Job, Stage, Told};
 use pm_table::{Cell, Code, Reg, cell_of};
 use std::mem::size_of;
@@ -234,7 +234,7 @@ pub extern "C" fn pm_course_frame(
     };
     if let Some(at) = stage {
         if asked.is_job_of(at) {
-            sending.put(host.host.state.address, &at.message());
+            pm_host_frame(host, sending);
             return ACCEPTED;
         }
     }
@@ -319,10 +319,11 @@ fn tell(course: &mut CourseImage, host: &mut GuardImage, told: Told<'_>) -> Host
     };
     match stage {
         Some(stage) if stage.awaits(&told) => {
+            let surprised = surprises(&host.host.state, stage, told);
             let progress = host.host.state.told(stage, told);
             let address = host.host.state.address;
             host.host.write_stage(progress.stage());
-            asked.heard(address, stage, told, progress.step());
+            asked.heard(address, stage, told, surprised, progress.step());
             *course = CourseImage::of(&asked);
             step_after(progress.step(), address, stage, told)
         }

@@ -2,7 +2,7 @@
 
 mod part;
 
-use self::part::{Part, Run, carried};
+use self::part::{Exchange, Part, Run, carried};
 use crate::checks::equal;
 use pm_course::{AnswerFault, CourseEnd, FrameCourse, Refusal, Wish, Wishes};
 use pm_host::Host;
@@ -20,6 +20,7 @@ const PART: Part = Part {
     wrong_pec: false,
     silent: false,
     next_mode: None,
+    exchange: None,
 };
 
 // That part.
@@ -203,6 +204,65 @@ fn a_format_that_changes_forms_the_word_anew(rt: HostRuntime) {
         &(0x21, 0x2666, 2),
         &2,
     );
+}
+
+// After so many frames of the course the part is exchanged for one with the exponent -11, whose VOUT_COMMAND, VOUT_MAX or both show
+// that. The only word that is ordered is 1.2 V in that format; that of the format before would be 1333h, 2.4 V.
+#[test]
+fn a_read_that_surprises_has_the_format_learned_again(rt: HostRuntime) {
+    let rows = [1, 2, 3];
+    for frames in &rows {
+        let mut guard = guard(&rt);
+        equal(
+            &rt,
+            &guard.narrow(0, 900_000, 1_300_000).is_ok(),
+            &true,
+            frames,
+        );
+        let mut part = PART;
+        let known = carried(FrameCourse::survey(0, 60), &mut guard, &mut part, 400);
+        equal(&rt, &known.end, &Some(CourseEnd::Reached), frames);
+        part.exchange = Some(Exchange {
+            frames: *frames,
+            mode: 0x15,
+            words: [0x80, 0x0800, 0x2000, 0x0880, 0x0780, 0x0000],
+        });
+        let run = carried(
+            volts(Reg::VoutCommand, 1_200_000),
+            &mut guard,
+            &mut part,
+            400,
+        );
+        equal(&rt, &run.end, &Some(CourseEnd::Reached), frames);
+        equal(
+            &rt,
+            &(run.code, run.word, run.writes),
+            &(0x21, 0x099A, 1),
+            frames,
+        );
+    }
+}
+
+#[test]
+fn limits_judge_a_word_by_the_format_that_is_learned_again(rt: HostRuntime) {
+    // 1333h is 1.2 V before the exchange, and 2.4 V after it.
+    let mut guard = guard(&rt);
+    equal(&rt, &guard.narrow(0, 900_000, 1_300_000).is_ok(), &true, &1);
+    let mut part = PART;
+    let known = carried(FrameCourse::survey(0, 60), &mut guard, &mut part, 400);
+    equal(&rt, &known.end, &Some(CourseEnd::Reached), &2);
+    part.exchange = Some(Exchange {
+        frames: 1,
+        mode: 0x15,
+        words: [0x80, 0x0800, 0x2000, 0x0880, 0x0780, 0x0000],
+    });
+    let wishes = Wishes {
+        command: Wish::Word(0x1333),
+        ..Wishes::nothing()
+    };
+    let run = carried(FrameCourse::new(0, &wishes, 60), &mut guard, &mut part, 400);
+    let end = Some(refused(0x24, Some(0x21)));
+    equal(&rt, &(run.end, run.writes), &(end, 0), &3);
 }
 
 #[test]

@@ -3,6 +3,7 @@
 mod beginnings;
 mod example;
 mod rails;
+mod tries;
 
 use crate::checks::equal;
 use pm_device::Converter;

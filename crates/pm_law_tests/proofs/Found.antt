@@ -6,3 +6,10 @@ pub found-so : {X E : Type 0} (r : Result (Option X) E) {A S H G : Type 0} → (
 found-so (Ok (Some world)) so lived spelled short = so lived spelled short
 found-so (Ok None) so lived spelled short = tt
 found-so (Err fault) so lived spelled short = tt
+
+-- of the run's life and of its configuration's numbers
+pub found-lived : {X E : Type 0} (r : Result (Option X) E) {A B C S G : Type 0} → (A → S → G) →
+    IfOk r (λ found. OnSome found A) → OnOk r (B × C × S) → IfOk r (λ found. OnSome found G)
+found-lived (Ok (Some world)) so lived sound = so lived sound.2
+found-lived (Ok None) so lived sound = tt
+found-lived (Err fault) so lived sound = tt

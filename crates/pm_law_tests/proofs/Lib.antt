@@ -1,3 +1,4 @@
 mod Found
 mod WholeParts
 mod Since
+mod ManyTries

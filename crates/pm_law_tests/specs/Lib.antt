@@ -1,3 +1,4 @@
 -- What the crate promises.
 pub mod ByName
 pub mod Rails
+pub mod FrameCourses

@@ -26,9 +26,11 @@
 //! - `plans`: what plans and surveys of rails are worth, and that between two answers that surprise the converter restarted.
 //! - `boards`: hosts and converters in pairs on one bus, each as if it were alone.
 //! - `own_loop`: events that a caller's own loop lets happen.
+//! - `frame_courses`: what a course that hands out frames is worth.
 //! - `rails`: what a survey and a plan over any bus are worth.
 //! - `beginnings`: what limits and an output's own words are worth to a host that begins beside a part as it is.
 //! - `standing`: what the band of a driver's output is worth, after a survey and at any moment at which it stands.
+//! - `undisturbed`: what a survey, a plan and a course to a byte of OPERATION come to over a bus that disturbs nothing.
 //! - `drivers`: what a driver over a simulated bus, or over a patient one, makes of orders.
 #![tactic(auto)]
 
@@ -39,6 +41,7 @@ pub mod damage;
 pub mod drivers;
 pub mod ends;
 pub mod exact;
+pub mod frame_courses;
 pub mod further;
 pub mod good;
 pub mod hearings;
@@ -55,6 +58,7 @@ pub mod parts;
 pub mod plans;
 pub mod rails;
 pub mod standing;
+pub mod undisturbed;
 pub mod whole;
 
 pub use laws::laws_by_name;

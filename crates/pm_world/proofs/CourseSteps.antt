@@ -31,7 +31,7 @@ use Rattle.pm_rail.specs.Lemmas.Says.{Names, asks-so, differing-same, ended-same
 use Rattle.pm_world.specs.declared.event.Event.{Event}
 use Rattle.pm_world.specs.Bands.{HoldsMissing}
 use Rattle.pm_world.specs.Confirmed.{restarts_converter}
-use Rattle.pm_world.specs.Courses.{IsBeside, IsCourse, asks, begins, beside, says, tells}
+use Rattle.pm_world.specs.Courses.{IsBeside, IsCourse, asks, begins, beside, forgets, says, tells}
 use Rattle.pm_world.specs.Ended.{begins_other}
 use Rattle.pm_world.specs.Honest.{IsSpelled}
 use Rattle.pm_world.specs.Job.{asked_by}
@@ -280,6 +280,26 @@ module _ (laws : Given) (config : Config) (passes : ℕ) (part : PartRegisters) 
       go (inl reading) = inl (ways.reading-more laws config passes part output wanted before spelled here missing course es event reading lived steady may)
       go (inr ordering) = inr (ways.ordering-more laws config passes part output wanted before spelled here missing es event ordering steady (inl may))
 
+  -- the format is to be learned again
+  way-forgets : (course : Course) (es : List Event) → Way course es →
+      Way (record course { survey = record course.survey { learned = false } }) es
+  way-forgets course es way = record {
+    own = way.own;
+    plan = way.plan;
+    words = way.words;
+    phase = go way.phase;
+  }
+    where
+      go : Reading course es ⊎ Ordering es → Reading (record course { survey = record course.survey { learned = false } }) es ⊎ Ordering es
+      go (inl reading) = inl (record {
+        unordered = reading.unordered;
+        stays = reading.stays;
+        are = record { registers = reading.are.registers; protect = reading.are.protect };
+        untold = reading.untold;
+        quiet = reading.quiet;
+      })
+      go (inr ordering) = inr ordering
+
   -- it begins
   way-begins : (tries : ℕ) → IsLived config passes before → is_busy (now config passes before).host ≡ false →
       MissingUnread config passes part output before → Way (course_of output wanted tries) []
@@ -329,3 +349,4 @@ module _ (laws : Given) (config : Config) (passes : ℕ) (part : PartRegisters) 
         let below = lived-before config passes newer (event ∷ later ++ before)
         (subst (λ (l : List Event). IsLived config passes l) (append_assoc newer (event ∷ later) before) lived') in
         way-tells limits c newer later event j end (go was (earlier below) second.1) lived' steady' is' named alone over
+    go (forgets c later was) lived' steady' = way-forgets c later (go was lived' steady')

@@ -24,7 +24,7 @@ use Rattle.pm_rail.specs.Lemmas.Says.{asks-so, named-so, renewed-so, told-own}
 use Rattle.pm_world.specs.Below.{Below}
 use Rattle.pm_world.specs.declared.event.Event.{Event}
 use Rattle.pm_world.specs.Confirmed.{restarts_converter}
-use Rattle.pm_world.specs.Courses.{AsksNoOrder, IsBeside, IsCourse, IsNoOrder, IsUntouched, asks, begins, beside, says, tells}
+use Rattle.pm_world.specs.Courses.{AsksNoOrder, IsBeside, IsCourse, IsNoOrder, IsUntouched, asks, begins, beside, forgets, says, tells}
 use Rattle.pm_world.specs.Ended.{begins_other}
 use Rattle.pm_world.specs.Job.{asked_by}
 use Rattle.pm_world.specs.Life.{now}
@@ -167,6 +167,7 @@ module _ (laws : Below) (config : Config) (passes : ℕ) (part : PartRegisters) 
               (stood-more later event before'.1 below second.0 (named-may limits c later event j before'.0 is' named none-first.0))
               lived' first.0 alone,
         )
+    go (forgets c later was) lived' steady' none' = go was lived' steady' none'
 
 pub untouched : Below → (config : Config) (passes : ℕ) (events : List Event) → IsLived config passes events →
     IsUntouched config passes events

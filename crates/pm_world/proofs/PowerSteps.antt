@@ -37,7 +37,7 @@ use Rattle.pm_rail.specs.Lemmas.Power.{NamesPower, orders, power-job, reads}
 use Rattle.pm_rail.specs.Lemmas.Says.{asks-so, differing-same, ended-same, renewed-so}
 use Rattle.pm_world.specs.declared.event.Event.{Event}
 use Rattle.pm_world.specs.Confirmed.{restarts_converter}
-use Rattle.pm_world.specs.Courses.{IsBeside, IsCourse, asks, begins, beside, says, tells}
+use Rattle.pm_world.specs.Courses.{IsBeside, IsCourse, asks, begins, beside, forgets, says, tells}
 use Rattle.pm_world.specs.Ended.{begins_other}
 use Rattle.pm_world.specs.Honest.{IsSpelled}
 use Rattle.pm_world.specs.Job.{asked_by}
@@ -342,6 +342,23 @@ module _ (laws : Given) (possible : PossibleWordsAreHeld) (config : Config) (pas
         ];
       }
 
+  -- the format is to be learned again
+  way-forgets : (course : Course) (es : List Event) → Way course es →
+      Way (record course { survey = record course.survey { learned = false } }) es
+  way-forgets course es way = record {
+    own = way.own;
+    plan = way.plan;
+    power = way.power;
+    newer = way.newer;
+    later = way.later;
+    is = way.is;
+    are = record { registers = way.are.registers; protect = way.are.protect };
+    untold = way.untold;
+    opened = way.opened;
+    kept = way.kept;
+    done = way.done;
+  }
+
   -- it begins
   way-begins : (tries : ℕ) → IsLived config passes before → is_busy (now config passes before).host ≡ false →
       MissingUnread config passes part output before → Way (power_course_of output byte tries) []
@@ -388,3 +405,4 @@ module _ (laws : Given) (possible : PossibleWordsAreHeld) (config : Config) (pas
         let below = lived-before config passes newer (event ∷ later ++ before)
         (subst (λ (l : List Event). IsLived config passes l) (append_assoc newer (event ∷ later) before) lived') in
         way-tells limits c newer later event j end (go was (earlier below) second.1) lived' first.0 second.0 is' named alone over
+    go (forgets c later was) lived' steady' = way-forgets c later (go was lived' steady')

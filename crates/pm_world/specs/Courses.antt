@@ -46,8 +46,8 @@ IsBeside part output job = Unit {0}
 
 -- How a course that began after some events stands after later ones. It is asked at any moment what is next, by what the
 -- host knows then and within some limits (`says`). The host is then asked for the job that it named (`asks`); how that job
--- ended is told, where no other job nor a restart of the host came between (`tells`), or isn't. Besides, anything happens:
--- what comes of frames, restarts of either end, and what others may ask for (`beside`).
+-- ended is told, where no other job nor a restart of the host came between (`tells`), or isn't. The format is to be learned again at
+-- any moment (`forgets`). Besides, anything happens: what comes of frames, restarts of either end, and what others may ask for (`beside`).
 pub data IsCourse (config : Config) (passes : ℕ) (part : PartRegisters) (begun : Course) (before : List Event) : Course → List Event → Type 0 where
   begins : IsCourse config passes part begun before begun []
   beside : (course : Course) (later : List Event) (event : Event) →
@@ -69,6 +69,8 @@ pub data IsCourse (config : Config) (passes : ℕ) (part : PartRegisters) (begun
       (now config passes ((newer ++ event ∷ later) ++ before)).end ≡ Some end →
       IsCourse config passes part begun before
       (told_of (after_next part limits (now config passes (later ++ before)).host course) end) (newer ++ event ∷ later)
+  forgets : (course : Course) (later : List Event) → IsCourse config passes part begun before course later →
+      IsCourse config passes part begun before (record course { survey = record course.survey { learned = false } }) later
 
 -- A course began while the host was idle, and the converter didn't restart since. The host had no good answer for a register
 -- that the part doesn't have; of a part with every register that says nothing.

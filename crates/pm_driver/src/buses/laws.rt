@@ -1,3 +1,4 @@
+ghost use Rattle.pm_driver.specs.CoursesThrough.{CoursesGoThrough};
 ghost use Rattle.pm_driver.specs.Disturbed.{PartsCompose, RequestsMayBeLost};
 ghost use Rattle.pm_driver.specs.NeverRestarts.{NeverRestartsStays, PatientNeverRestartsStays, ReadsKeepNeverRestarts};
 ghost use Rattle.pm_driver.specs.PlanEnds.{OrdersGoThrough, PatientOrdersGoThrough};
@@ -5,8 +6,8 @@ ghost use Rattle.pm_driver.specs.PlanEnds.{OrdersGoThrough, PatientOrdersGoThrou
 use crate::buses::patient::Patient;
 use crate::buses::simulated_bus::SimulatedBus;
 use crate::{
-    jobs_restart_nothing, reads_restart_nothing, undisturbed_orders_are_done,
-    whole_frames_are_legal,
+    jobs_restart_nothing, reads_restart_nothing, undisturbed_courses_end,
+    undisturbed_orders_are_done, whole_frames_are_legal,
 };
 
 /// What happens to a converter in parts, put together: a write that is heard in two goes, and times in which it heard
@@ -59,4 +60,14 @@ pub fn patient_orders_go_through()
 {
     whole_frames_are_legal();
     undisturbed_orders_are_done::<Patient<SimulatedBus<'static>>>();
+}
+
+/// Over a simulated bus at the end of its plan of faults, and over a patient one, a course to wanted words with 27 tries ends as
+/// the words say that the converter holds.
+pub fn courses_go_through()
+    ensures { CoursesGoThrough }
+{
+    whole_frames_are_legal();
+    undisturbed_courses_end::<SimulatedBus<'static>>();
+    undisturbed_courses_end::<Patient<SimulatedBus<'static>>>();
 }

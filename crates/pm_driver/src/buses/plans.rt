@@ -1,23 +1,28 @@
 //! Jobs over plans, each with what the laws say of it, so that a caller has that with no proof of its own.
 
-ghost use Rattle.std.specs.Prelude.{◌≡◌, ◌≤◌, true, length};
+ghost use Rattle.std.specs.Prelude.{◌≡◌, ◌≤◌, ◌<◌, false, true, length};
 ghost use Rattle.pm_driver.specs.Acts.{IsNoWrite};
 ghost use Rattle.pm_driver.specs.Driven.{Runs};
 ghost use Rattle.pm_host.specs.declared.job.Job.TheVariants as asked;
 ghost use Rattle.pm_driver.specs.Looks.{Looks};
 ghost use Rattle.pm_driver.specs.NeverRestarts.{NeverRestarts, PatientNeverRestarts, patient_device, patient_gives, patient_restarts};
 ghost use Rattle.pm_driver.specs.Plan.{device_in, gives_so, restarts_so};
+ghost use Rattle.pm_host.specs.Refusals.{is_busy as spec_is_busy};
+ghost use Rattle.pm_limits.specs.Guard.{limits_at};
+ghost use Rattle.pm_rail.specs.Registers.{wants_of};
+ghost use Rattle.pm_driver.specs.UndisturbedCourses.{EndsBy, FitsPart, held_fault};
 ghost use Rattle.pm_driver.specs.PlanEnds.{IsAllowed, PatientWentThrough, WentThrough, is_at_end, is_ready};
 
 use crate::Driver;
 use crate::buses::laws::{
-    never_restarts_stays, orders_go_through, patient_never_restarts_stays,
+    courses_go_through, never_restarts_stays, orders_go_through, patient_never_restarts_stays,
     patient_orders_go_through, reads_keep_never_restarts,
 };
 use crate::buses::patient::Patient;
 use crate::buses::simulated_bus::SimulatedBus;
 use pm_host::{HostFault, Job, JobEnd};
 use pm_limits::LimitFault;
+use pm_rail::{ApplyEnd, Wanted};
 use pm_table::Cell;
 
 /// Carries a job out, as [`Driver::run`], over a plan without restarts: what the host confirms is held on.
@@ -95,4 +100,23 @@ pub fn order_patiently_through<'a>(
     patient_orders_go_through();
     driver.laws();
     driver.order(cell, word)
+}
+
+/// Carries a plan out, as [`Driver::apply`], over a plan of faults at its end, as an empty one is: it ends as the words say that
+/// the converter holds.
+pub fn apply_through<'a>(
+    driver: &mut Driver<SimulatedBus<'a>>,
+    output: u8,
+    wanted: &Wanted,
+) -> ApplyEnd
+    requires end { is_at_end driver.old.bus ≡ true }
+    requires idle { spec_is_busy driver.old.guard.host ≡ false }
+    requires there { output < driver.old.guard.host.setup.outputs }
+    requires fits { FitsPart driver.old.guard.registers driver.old.bus.device output (wants_of wanted.now) }
+    ensures { EndsBy device_in is_at_end output (wants_of wanted.now) driver.old result driver.new
+        (held_fault (limits_at driver.old.guard output) driver.old.bus.device output (wants_of wanted.now)) }
+{
+    courses_go_through();
+    driver.laws();
+    driver.apply(output, wanted, 27)
 }

@@ -23,6 +23,18 @@ pub(crate) struct Part {
     pub(crate) silent: bool,
     /// What VOUT_MODE answers once a word was written.
     pub(crate) next_mode: Option<u8>,
+    /// The part that stands in its place later.
+    pub(crate) exchange: Option<Exchange>,
+}
+
+/// An exchange of the part.
+#[derive(Clone, Copy, Debug)]
+pub(crate) struct Exchange {
+    /// After how many frames of a course.
+    pub(crate) frames: usize,
+    /// What the other part answers for VOUT_MODE, and what its registers hold.
+    pub(crate) mode: u8,
+    pub(crate) words: [u16; 6],
 }
 
 /// What a course came to.
@@ -64,6 +76,17 @@ fn place_of(code: u8) -> Option<usize> {
 }
 
 impl Part {
+    // So many frames of the course were sent.
+    fn after(&mut self, frames: usize) {
+        if let Some(other) = self.exchange {
+            if other.frames == frames {
+                self.mode = Some(other.mode);
+                let words = other.words;
+                self.words = words;
+            }
+        }
+    }
+
     // A write came: of a register by PAGE_PLUS_WRITE.
     fn write(&mut self, code: u8, word: u16) {
         if self.silent {
@@ -159,6 +182,7 @@ pub(crate) fn carried(
             break;
         };
         run.frames = frames + 1;
+        part.after(frames);
         let _ = match sending {
             Sending::Write(frame) => {
                 let bytes = frame.as_slice();

@@ -5,6 +5,7 @@ use Rattle.pm_host.specs.Image.{held, host_of}
 use Rattle.pm_host.specs.Summary.{Summary, next, step_of}
 use Rattle.pm_host.specs.Told.{entry_told}
 use Rattle.pm_course.specs.Heard.{heard_by}
+use Rattle.pm_course.specs.Surprise.{surprises}
 use Rattle.pm_host_c.specs.CourseImage.{course_image}
 use Rattle.pm_host_c.specs.Host.{fault_in, host_step}
 use Rattle.pm_host_c.proofs.Tells.{awaited, idle, not_awaited, refuses-course, tells, tells-course}
@@ -24,7 +25,7 @@ returns-in-Some-stage c =
     let address = ap (λ setup. setup.addr) c.told-progress.ensures.kept in
     let answered : c.step_after.result ≡ host_step (fault_in s entry) (step_of s entry) = search rules in
     let may = awaited stage before.host.state c.args.told (search rules) in
-    let heard : c.of.result ≡ course_image (heard_by c.in-Some.asked s.setup.addr stage entry (step_of s entry)) = search rules in
+    let heard : c.of.result ≡ course_image (heard_by c.in-Some.asked s.setup.addr stage entry (surprises s stage entry) (step_of s entry)) = search rules in
     tells-course before new c.args.course.now c.of.result s c.in-Some.asked stage entry c.step_after.result found
     (sym c.course.ensures ∙ c.in-Some.is) refl may heard
     (tells before new s entry c.step_after.result found may became answered refl refl

@@ -1,0 +1,40 @@
+-- Which answers show that the part restarted or was exchanged. This project's own choice.
+use Rattle.std.specs.Prelude.{ℕ, Bool, false, not, List, Option, Some, None}
+use Rattle.pm_table.specs.declared.cell.Cell.{Cell}
+use Rattle.pm_host.specs.declared.question.Question.{Question}
+use Rattle.pm_host.specs.declared.question.Question.TheVariants.{Word, Mode, Coefficients}
+use Rattle.pm_host.specs.declared.stage.Stage.{Stage}
+use Rattle.pm_host.specs.declared.stage.Stage.TheVariants.{Writes, Reads, Asks, Sends}
+use Rattle.pm_host.specs.Answers.{good_word}
+use Rattle.pm_host.specs.Possible.{is_possible}
+use Rattle.pm_host.specs.Summary.{Summary, possible_at}
+use Rattle.pm_host.specs.Transcript.{Entry, Accepted, Finished, Got, Restarted}
+
+-- the cell whose word is read by the frame of a stage
+abbrev pub cell_asked : Question → Option Cell
+cell_asked (Word cell) = Some cell
+cell_asked (Mode output) = None
+cell_asked (Coefficients output) = None
+
+abbrev pub cell_read : Stage → Option Cell
+cell_read (Writes cell word pass) = None
+cell_read (Reads cell word pass) = Some cell
+cell_read (Asks question tries) = cell_asked question
+cell_read (Sends command tries) = None
+
+-- a good answer has a word that the cell couldn't hold
+abbrev pub is_surprise : Summary → Cell → Option ℕ → Bool
+is_surprise s cell None = false
+is_surprise s cell (Some word) = not (is_possible word (possible_at s cell))
+
+abbrev pub surprises_at : Summary → Option Cell → List ℕ → Bool
+surprises_at s None bytes = false
+surprises_at s (Some cell) bytes = is_surprise s cell (good_word s.setup.addr cell bytes)
+
+-- What became of the frame of a stage shows, by what the host knew before it was told, that the part restarted or was exchanged
+-- since it was read.
+abbrev pub surprises : Summary → Stage → Entry → Bool
+surprises s stage (Got bytes) = surprises_at s (cell_read stage) bytes
+surprises s stage (Accepted job) = false
+surprises s stage (Finished acked) = false
+surprises s stage Restarted = false

@@ -1,0 +1,10 @@
+//! What a course that hands out frames is worth over lives: the laws of [`pm_course::FrameCourse`], which every user runs.
+//!
+//! A caller that carries such a course has them by a call of the law, which does nothing when it runs.
+//!
+//! Tests: crates/pm_law_tests
+#![tactic(auto)]
+
+mod laws;
+
+pub use laws::frame_courses_hold_in_lives;

@@ -1,0 +1,46 @@
+//! What a course that hands out frames is worth after a run, whatever the events of the run and those of the course.
+
+ghost use Rattle.std.specs.Prelude.{IfOk, OnSome, reverse};
+ghost use Rattle.pm_law_tests.specs.FrameCourses.{OffIsKept, SurveysOrderNothing, UnformedOrderNothing, WishesAreKept};
+
+use crate::further::run_all;
+use pm_course_laws::frame_courses_hold_in_lives;
+use pm_device::Config;
+use pm_world::{Event, SetupFault, World};
+
+/// After a run each course to wishes kept its rail, and came true where it has ended so.
+pub fn a_course_to_wishes(
+    c: Config,
+    passes: u8,
+    events: &[Event],
+) -> Result<Option<World>, SetupFault>
+    ensures { IfOk result (λ found. OnSome found (WishesAreKept c passes (reverse events.now))) }
+{
+    frame_courses_hold_in_lives();
+    run_all(c, passes, events)
+}
+
+/// After a run each course to wishes of which one has no word in the format, and each survey, has ordered nothing.
+pub fn a_course_that_orders_nothing(
+    c: Config,
+    passes: u8,
+    events: &[Event],
+) -> Result<Option<World>, SetupFault>
+    ensures unformed { IfOk result (λ found. OnSome found (UnformedOrderNothing c passes (reverse events.now))) }
+    ensures surveys { IfOk result (λ found. OnSome found (SurveysOrderNothing c passes (reverse events.now))) }
+{
+    frame_courses_hold_in_lives();
+    run_all(c, passes, events)
+}
+
+/// After a run each course that turns an output off left each register as it was, or OPERATION with its byte.
+pub fn a_course_that_turns_off(
+    c: Config,
+    passes: u8,
+    events: &[Event],
+) -> Result<Option<World>, SetupFault>
+    ensures { IfOk result (λ found. OnSome found (OffIsKept c passes (reverse events.now))) }
+{
+    frame_courses_hold_in_lives();
+    run_all(c, passes, events)
+}
