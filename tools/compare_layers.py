@@ -116,7 +116,7 @@ def named():
     """The words of each number, as pm_refusal_name has them."""
     words, text = words_of_types(), CRATES["pm_host_c"]["names.rt"]
     found = {int(number, 0): words[name, variant] for number, name, variant in re.findall(
-        r"(0x\w+) => (?:LimitFault::Host\()?(?:HostFault::Num\()?(\w+Fault)::(\w+)", text) if (name, variant) in words}
+        r"(0x\w+) => (?:Some\()?(?:LimitFault::Host\()?(?:HostFault::Num\()?(\w+Fault)::(\w+)", text) if (name, variant) in words}
     return found | {int(number, 0): name for number, name in re.findall(r'(0xE\w) => Some\("(\w+)"\)', text)}
 
 

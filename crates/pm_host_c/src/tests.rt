@@ -1,6 +1,7 @@
 mod calls;
 mod checks;
 mod courses;
+mod deliveries;
 mod example;
 mod limits;
 mod packets;

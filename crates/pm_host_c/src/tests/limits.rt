@@ -129,7 +129,7 @@ fn a_band_beyond_its_limits_is_outside(rt: HostRuntime) {
 
 // Each refusal that a caller in C alone gets and one of each other kind, with its name; an empty name for a number
 // that has none.
-static REFUSALS: [(u8, &[u8]); 25] = [
+static REFUSALS: [(u8, &[u8]); 28] = [
     (0x00, b""),
     (0x06, b"H6 TooUncertain\0\0"),
     (0x15, b"N5 TooLarge\0"),
@@ -143,7 +143,8 @@ static REFUSALS: [(u8, &[u8]); 25] = [
     (0x60, b""),
     (0x61, b"P1 FormatUnknown\0"),
     (0x67, b"P7 Protected\0"),
-    (0x68, b""),
+    (0x68, b"P8 BeyondFaultLimit\0"),
+    (0x69, b""),
     (0xE0, b"NoHost\0"),
     (0xE1, b"NoCell\0"),
     (0xE2, b"OtherFrame\0"),
@@ -155,6 +156,8 @@ static REFUSALS: [(u8, &[u8]); 25] = [
     (0xE8, b"NoReading\0"),
     (0xE9, b"NoCourse\0"),
     (0xEB, b"NoBand\0"),
+    (0xEC, b"NoDelivery\0"),
+    (0xED, b"NoGoal\0"),
 ];
 
 // The kind of a step, and its name.
