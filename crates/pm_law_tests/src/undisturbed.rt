@@ -1,7 +1,7 @@
 //! What a driver comes to over a bus that disturbs nothing: a survey ends, a plan ends as the held words say, and an output is
 //! turned on or off.
 
-ghost use Rattle.std.specs.Prelude.{◌≡◌, ◌≤◌, ◌<◌, Bool, IfOk, IfSome, false, true};
+ghost use Rattle.std.specs.Prelude.{◌≡◌, ◌≤◌, ◌<◌, ℕ, Bool, IfOk, false, true};
 ghost use Rattle.pm_table.specs.declared.cell.Cell.TheVariants.{Out, Protect};
 ghost use Rattle.pm_table.specs.declared.reg.Reg.TheVariants.{Operation};
 ghost use Rattle.pm_table.specs.Cell.{cell_code};
@@ -14,7 +14,7 @@ ghost use Rattle.pm_rail.specs.declared.wanted.Wanted.{Wanted as Wish};
 ghost use Rattle.pm_rail.specs.Course.{course_of};
 ghost use Rattle.pm_rail.specs.Registers.{wants_of};
 ghost use Rattle.pm_driver.specs.Courses.{Courses};
-ghost use Rattle.pm_driver.specs.Driven.{Driving, HasLife, MayBegin};
+ghost use Rattle.pm_driver.specs.Driven.{Driving, HasLife};
 ghost use Rattle.pm_driver.specs.Plan.{device_in};
 ghost use Rattle.pm_driver.specs.PlanEnds.{is_at_end};
 ghost use Rattle.pm_driver.specs.Undisturbed.{AreUndisturbed};
@@ -26,31 +26,29 @@ use pm_driver::{
     retrying_is_undisturbed, undisturbed_courses_end, undisturbed_power_ends,
     undisturbed_surveys_end, whole_parts_fit,
 };
-use pm_limits::{Guard, LimitFault};
+use pm_limits::LimitFault;
 use pm_rail::{ApplyEnd, Course, Survey, Wanted};
 
-/// A new host begins beside a part as it is, with every register, and carries a plan out with 27 tries: it ends as the words say
-/// that the part holds.
-pub fn a_first_plan<B: Bus>(
-    guard: Guard,
-    bus: B,
+/// A plan for a part with every register, with 27 tries, ends as the words say that the part holds.
+pub fn a_plan_of_a_whole_part<B: Bus>(
+    driver: &mut Driver<B>,
     output: u8,
     wanted: &Wanted,
-) -> (Driver<B>, ApplyEnd)
+) -> ApplyEnd
     ghost is_so: { B → Bool }
     requires undisturbed { AreUndisturbed B.gives B.held is_so }
-    requires so { is_so bus ≡ true }
-    requires begins { MayBegin guard.host (B.held bus) }
-    requires there { output < guard.host.setup.outputs }
-    requires whole { guard.registers ≡ all_registers }
-    ensures { EndsBy B.held is_so output (wants_of wanted.now) (record { guard = guard; bus = bus }) result.1 result.0
-        (held_fault (limits_at guard output) (B.held bus) output (wants_of wanted.now)) }
+    requires so { is_so driver.old.bus ≡ true }
+    requires idle { is_busy driver.old.guard.host ≡ false }
+    requires there { output < driver.old.guard.host.setup.outputs }
+    requires whole { driver.old.guard.registers ≡ all_registers }
+    ensures { EndsBy B.held is_so output (wants_of wanted.now) driver.old result driver.new
+        (held_fault (limits_at driver.old.guard output) (B.held driver.old.bus) output (wants_of wanted.now)) }
 {
     // law: a part with every register fits
     whole_parts_fit();
-    let mut driver = Driver::guarded(guard, bus);
-    let end = a_plan_again(&mut driver, output, wanted);
-    (driver, end)
+    undisturbed_courses_end::<B>();
+    driver.laws();
+    driver.apply(output, wanted, 27)
 }
 
 /// Whatever a driver did before, and whatever its bus did: a plan with 27 tries ends as the words say that the part holds.
@@ -95,20 +93,20 @@ pub fn a_course_goes_on<B: Bus>(
     driver: &mut Driver<B>,
     course: &mut Course,
 ) -> Result<ApplyEnd, LimitFault>
-    ghost is: { (B → Bool) × (Driving B × (ℕ × (Wish × ℕ))) }
-    requires undisturbed { AreUndisturbed B.gives B.held is.0 }
-    requires so { is.0 driver.old.bus ≡ true }
-    requires life { HasLife is.1.guard.host (B.held is.1.bus) }
-    requires idle { is_busy is.1.guard.host ≡ false }
-    requires there { is.2 < is.1.guard.host.setup.outputs }
-    requires ran { Courses B.gives B.held B.restarts (course_of is.2 is.3 is.4) is.1 course.old driver.old }
-    requires count { B.restarts driver.old.bus ≡ B.restarts is.1.bus }
+    ghost given: { (B → Bool) × Driving B × ℕ × Wish × ℕ }
+    requires undisturbed { AreUndisturbed B.gives B.held given.0 }
+    requires so { given.0 driver.old.bus ≡ true }
+    requires life { HasLife given.1.guard.host (B.held given.1.bus) }
+    requires idle { is_busy given.1.guard.host ≡ false }
+    requires there { given.2 < given.1.guard.host.setup.outputs }
+    requires ran { Courses B.gives B.held B.restarts (course_of given.2 given.3 given.4) given.1 course.old driver.old }
+    requires count { B.restarts driver.old.bus ≡ B.restarts given.1.bus }
     requires once { course.old.twice ≡ None }
     requires left { 27 ≤ course.old.survey.left }
     requires own { course.old.survey.output < driver.old.guard.host.setup.outputs }
-    requires fits { FitsPart driver.old.guard.registers (B.held driver.old.bus) is.2 (wants_of is.3) }
-    ensures { IfOk result (λ end. EndsBy B.held is.0 is.2 (wants_of is.3) driver.old end driver.new
-        (held_fault (limits_at driver.old.guard is.2) (B.held driver.old.bus) is.2 (wants_of is.3))) }
+    requires fits { FitsPart driver.old.guard.registers (B.held driver.old.bus) given.2 (wants_of given.3) }
+    ensures { IfOk result (λ end. EndsBy B.held given.0 given.2 (wants_of given.3) driver.old end driver.new
+        (held_fault (limits_at driver.old.guard given.2) (B.held driver.old.bus) given.2 (wants_of given.3))) }
 {
     courses_end_once_undisturbed::<B>();
     driver.complete(course)

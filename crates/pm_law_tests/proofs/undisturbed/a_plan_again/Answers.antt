@@ -4,7 +4,7 @@ use Rattle.pm_law_tests.proofs.ManyTries.{many}
 use Rattle.pm_law_tests.proofs.undisturbed.a_plan_again.Goals as goal
 
 pub returns : goal.returns
-returns g c = (c.undisturbed_courses_end.ensures c.ghosts.is_so c.requires.undisturbed c.args.output c.args.wanted.now 27 c.apply.result
-    c.args.driver.now c.apply.new.self c.laws.ensures.has c.requires.so c.requires.idle c.requires.there c.requires.fits
+returns g c = (c.undisturbed_courses_end.ensures g.is_so c.requires.1.0 c.args.output c.args.wanted.now 27 c.apply.result
+    c.args.driver.now c.apply.new.self c.laws.ensures.has c.requires.1.1.0 c.requires.1.1.1.0 c.requires.1.1.1.1.0 c.requires.1.1.1.1.1
     (many (limits_at c.args.driver.now.guard c.args.output) (g.B.Bus.held c.args.driver.now.bus) c.args.output (wants_of c.args.wanted.now))
     c.apply.ensures.finishes).0
