@@ -42,6 +42,7 @@ def prose_of(name):
 
 def page_prose(text):
     text = re.sub(r"^```.*?^```$", "", text, flags=re.M | re.S)
+    text = re.sub(r"\n\n(?: {4}[^\n]*\n)+", "\n\n", text)
     text = re.sub(r"\s\([a-z0-9_-]+\.(?:c|h|rst):[0-9][^()]*\)", "", text)
     text = re.sub(r"!?\[([^\]]*)\]\([^)]*\)", r"\1", re.sub(r"`[^`]+`", "`x`", text))
     for block in re.split(r"\n\s*\n", text):
