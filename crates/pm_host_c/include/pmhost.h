@@ -114,7 +114,7 @@ enum {
     PM_F8_NESTED = 0x38
 };
 
-/* What pm_course_frame and pm_course_next answer where the course has ended, and pm_delivery_frame where nothing is left to ask. */
+/* What pm_course_frame and pm_course_next answer if the course has ended, and pm_delivery_frame if nothing is left to ask. */
 enum { PM_ENDED = 0x95 };
 
 /* The cells: an output and one of these command codes; with WRITE_PROTECT, which is the device's, the
@@ -246,10 +246,10 @@ typedef struct {
     uint16_t word; /* the word that is ordered; otherwise 0 */
 } pm_course_job;
 
-/* What came of one question of a delivery. Zeros where it wasn't asked; a good answer where `asked` isn't 0 and `fault` is. */
+/* What came of one question of a delivery. Zeros if it wasn't asked; a good answer if `asked` isn't 0 and `fault` is. */
 typedef struct {
     uint8_t asked; /* how often it was asked */
-    uint8_t fault; /* what was wrong with the last answer: PM_NO_ANSWER, PM_F1_NOT_OURS to PM_F5_WRONG_PEC, 0 where it was good */
+    uint8_t fault; /* what was wrong with the last answer: PM_NO_ANSWER, PM_F1_NOT_OURS to PM_F5_WRONG_PEC, 0 if it was good */
     uint16_t word; /* the word or byte of a good answer, otherwise 0 */
 } pm_heard;
 
@@ -257,14 +257,14 @@ typedef struct {
 enum { PM_FAULT_LIMITS_REFUSE = 0, PM_FAULT_LIMITS_TELL = 1, PM_FAULT_LIMITS_SKIP = 2 };
 
 /* What an output does, and not what its registers hold: a delivery, in memory of yours. Its fields are there to be read, so that what
- * was heard can be told; the calls alone write them. A call asks first for its mark and version, and answers PM_NO_DELIVERY where one
+ * was heard can be told; the calls alone write them. A call asks first for its mark and version, and answers PM_NO_DELIVERY if one
  * lacks. It may be copied, and holds no host and no pointer. */
 typedef struct {
     uint16_t mark, version;
     uint8_t output;
     uint8_t look;          /* 0 nothing was looked at, 1 before an order, 2 after one, 3 after one that turned the output off */
     uint8_t fault_limits;  /* PM_FAULT_LIMITS_REFUSE, or another of these */
-    uint8_t has_read_vout; /* 0 where the part has no READ_VOUT */
+    uint8_t has_read_vout; /* 0 if the part has no READ_VOUT */
     uint16_t within;       /* thousandths of what the output commands that READ_VOUT may be away from it: 50 are 5 % */
     uint16_t rounds;       /* how often all is asked at most until the output does what it is to */
     uint16_t round;        /* which of these it is, from 0 */
@@ -272,7 +272,7 @@ typedef struct {
     pm_heard ov_fault_limit, ov_warn_limit, uv_warn_limit, uv_fault_limit; /* 40h, 42h, 43h, 44h, in the output's format */
     pm_heard status_word, status_vout, status_iout, status_input, status_temperature; /* 79h to 7Dh, of this round */
     pm_heard read_vout;                      /* 8Bh, in the output's format, of this round */
-    pm_heard power_good_on, power_good_off;  /* 5Eh, 5Fh, in the output's format: asked where POWER_GOOD# alone speaks against it */
+    pm_heard power_good_on, power_good_off;  /* 5Eh, 5Fh, in the output's format: asked if POWER_GOOD# alone speaks against it */
 } pm_delivery;
 
 typedef char pm_delivery_has_its_size[sizeof(pm_delivery) == PM_DELIVERY_SIZE ? 1 : -1];
@@ -301,13 +301,13 @@ typedef struct {
     uint8_t code;           /* the command code of the register that says so, or 0 */
     uint8_t bit;            /* of PM_NEW_FAULT, from 0 */
     uint8_t fault;          /* of PM_DELIVERY_NOT_KNOWN: PM_NO_ANSWER, PM_F1_NOT_OURS to PM_F5_WRONG_PEC */
-    uint8_t has_microvolts; /* 1 where READ_VOUT gave a good answer and is told in `microvolts` */
+    uint8_t has_microvolts; /* 1 if READ_VOUT gave a good answer and is told in `microvolts` */
     uint8_t unused;
-    uint16_t word;          /* what the register `code` held in this round, where its answer was good; otherwise 0 */
-    int64_t microvolts;     /* READ_VOUT, rounded down; 0 where it isn't told */
+    uint16_t word;          /* what the register `code` held in this round, if its answer was good; otherwise 0 */
+    int64_t microvolts;     /* READ_VOUT, rounded down; 0 if it isn't told */
 } pm_delivered;
 
-/* Which limits a word is at or beyond: command codes, 0 where there is none, and the words that these registers hold. */
+/* Which limits a word is at or beyond: command codes, 0 if there is none, and the words that these registers hold. */
 typedef struct {
     uint8_t fault;         /* VOUT_OV_FAULT_LIMIT (40h) or VOUT_UV_FAULT_LIMIT (44h) */
     uint8_t warning;       /* VOUT_OV_WARN_LIMIT (42h) or VOUT_UV_WARN_LIMIT (43h) */
@@ -499,7 +499,7 @@ uint8_t pm_course_next(const pm_course *course, const pm_host *host, pm_course_j
 uint8_t pm_course_job_now(const pm_course *course, pm_course_job *job);
 
 /* The word that a course wants of VOUT_COMMAND, VOUT_MARGIN_HIGH or VOUT_MARGIN_LOW, by the format that the host knows now; of a course
- * to a byte that leaves the output on, the word that the register is known to hold that the byte selects. PM_NO_GOAL where it has none
+ * to a byte that leaves the output on, the word that the register is known to hold that the byte selects. PM_NO_GOAL if it has none
  * of this register. PM_NO_HOST, PM_NO_COURSE, H4, PM_NO_CELL; then nothing is written. */
 uint8_t pm_course_goal(const pm_course *course, const pm_host *host, uint8_t code, uint16_t *word);
 
@@ -526,15 +526,15 @@ uint8_t pm_delivery_before(pm_delivery *delivery);
 PM_MUST_USE
 uint8_t pm_delivery_after(pm_delivery *delivery, uint8_t off);
 
-/* The request that is to be sent now, the same until it is told what came back. 0; or PM_ENDED, and then PM_NOTHING, where nothing is
- * left to ask. Each question is asked at most as many times as the host has passes, until a good answer comes. Where the output
+/* The request that is to be sent now, the same until it is told what came back. 0; or PM_ENDED, and then PM_NOTHING, if nothing is
+ * left to ask. Each question is asked at most as many times as the host has passes, until a good answer comes. If the output
  * doesn't do yet what it is to, all is asked again, at most `rounds` times: `round` isn't 0 then and `status_word.asked` is, and the
  * caller waits before it sends that. PM_NO_HOST, PM_NO_DELIVERY, H4, and then PM_NOTHING. */
 PM_MUST_USE
 uint8_t pm_delivery_frame(pm_delivery *delivery, const pm_host *host, pm_sending *sending);
 
-/* That request was sent, and these bytes came back, the read address first; 0 bytes where none came. An answer of nothing but FFh is
- * one that nobody gave: hand over 0 bytes. PM_NO_HOST, PM_NO_DELIVERY, H4, PM_OTHER_FRAME where no request is to be sent. */
+/* That request was sent, and these bytes came back, the read address first; 0 bytes if none came. An answer of nothing but FFh is
+ * one that nobody gave: hand over 0 bytes. PM_NO_HOST, PM_NO_DELIVERY, H4, PM_OTHER_FRAME if no request is to be sent. */
 uint8_t pm_delivery_read_ended(pm_delivery *delivery, const pm_host *host, const uint8_t *bytes, uint64_t count);
 
 /* What the output does: kind PM_NOT_YET until pm_delivery_frame has answered PM_ENDED. PM_NO_HOST, PM_NO_DELIVERY, H4; then nothing is
@@ -543,8 +543,8 @@ PM_MUST_USE
 uint8_t pm_delivery_verdict(const pm_delivery *delivery, const pm_host *host, pm_delivered *delivered);
 
 /* Which fault limit and which limit of a warning a word of the output's voltage is at or beyond, by its value; a limit that gave no good
- * answer isn't judged. P8 where that is a fault limit, unless PM_FAULT_LIMITS_TELL: the limit is told in each case. PM_NO_HOST,
- * PM_NO_DELIVERY, H4, H7 where the format isn't known; then nothing is written. */
+ * answer isn't judged. P8 if that is a fault limit, unless PM_FAULT_LIMITS_TELL: the limit is told in each case. PM_NO_HOST,
+ * PM_NO_DELIVERY, H4, H7 if the format isn't known; then nothing is written. */
 PM_MUST_USE
 uint8_t pm_delivery_judge(const pm_delivery *delivery, const pm_host *host, uint16_t word, pm_judgement *judgement);
 
@@ -629,7 +629,7 @@ PM_MUST_USE
 uint8_t pm_paged_request(uint8_t address, uint8_t page, uint8_t code, uint8_t size, pm_sending *frame);
 
 /* What came back for it, the read address first: a count, which is the size that was asked for (F4), so many bytes and the PEC. Of a
- * block hand over the bytes up to its count + 3, as of pm_read_block. PM_NO_ADDRESS, PM_NO_PACKET as for the request, F1, F2 where no
+ * block hand over the bytes up to its count + 3, as of pm_read_block. PM_NO_ADDRESS, PM_NO_PACKET as for the request, F1, F2 if no
  * count came, F4, F2 and F3 by the count, F5; then nothing is written. */
 PM_MUST_USE
 uint8_t pm_read_paged(uint8_t address, uint8_t page, uint8_t code, uint8_t size, const uint8_t *bytes, uint64_t count,
@@ -656,7 +656,7 @@ typedef uint64_t (*pm_read)(void *context, const uint8_t *request, uint64_t coun
 /* Waits before all is asked again of an output that doesn't do yet what it is to: a ramp takes time. */
 typedef void (*pm_pause)(void *context);
 
-/* Reads the answer to a request, the read address first, and answers how many bytes came with it; 0 where none did. A `read` that says
+/* Reads the answer to a request, the read address first, and answers how many bytes came with it; 0 if none did. A `read` that says
  * that more bytes came than there was room for counts as one to which none came. */
 static inline uint64_t pm_answer(const pm_sending *frame, uint8_t *answer, pm_read read, void *context) {
     uint64_t room = (uint64_t)frame->answer - 1, at;
@@ -727,7 +727,7 @@ static inline int pm_is_off_course(const pm_course *course, const pm_host *host)
 }
 
 /* Before a course's first order, which `*is_judged` remembers, unless that turns the output off: what stands before the first order of
- * the call is asked, and what is wanted is judged. 0 where the course goes on; P8, or why a call was refused. */
+ * the call is asked, and what is wanted is judged. 0 if the course goes on; P8, or why a call was refused. */
 PM_MUST_USE
 static inline uint8_t pm_delivery_before_order(pm_delivery *delivery, const pm_course *course, const pm_host *host, int *is_judged,
                                                pm_read read, void *context) {
@@ -747,7 +747,7 @@ static inline uint8_t pm_delivery_before_order(pm_delivery *delivery, const pm_c
     return number == PM_OK ? pm_delivery_judge_course(delivery, course, host, &judgement) : number;
 }
 
-/* Carries a course out, or the host's open job where `course` is NULL, frame after frame, and answers the last step; PM_ENDED of a
+/* Carries a course out, or the host's open job if `course` is NULL, frame after frame, and answers the last step; PM_ENDED of a
  * course; or why a call was refused. With a `delivery`, which may be NULL, fault limits are read and judged before the course's first
  * order, and P8 stops it there, with nothing ordered. The loop ends since a job has at most twice as many frames as passes and a course
  * at most its tries of jobs, which is proved; it is C of this header, tried under rows of each kind of fault (trials/c/rows/run_rows.c,
@@ -784,7 +784,7 @@ static inline pm_step pm_host_run(pm_host *host, pm_write write, pm_read read, v
     return pm_carry_out(host, NULL, NULL, write, read, context);
 }
 
-/* How a course ended once it was carried out: PM_REFUSED also where a call was refused with this number. */
+/* How a course ended once it was carried out: PM_REFUSED also if a call was refused with this number. */
 PM_MUST_USE
 static inline pm_course_end pm_course_end_of(const pm_course *course, uint16_t number) {
     pm_course_end end = {0, 0, 0, 0, 0, 0};
@@ -795,7 +795,7 @@ static inline pm_course_end pm_course_end_of(const pm_course *course, uint16_t n
     return end;
 }
 
-/* Carries a course out, and says how it ended: PM_REFUSED also where the memory holds no host (PM_NO_HOST) or no course
+/* Carries a course out, and says how it ended: PM_REFUSED also if the memory holds no host (PM_NO_HOST) or no course
  * (PM_NO_COURSE). What its output does then isn't asked: pm_host_deliver does. */
 PM_MUST_USE
 static inline pm_course_end pm_host_run_course(pm_host *host, pm_course *course, pm_write write, pm_read read, void *context) {
@@ -803,9 +803,9 @@ static inline pm_course_end pm_host_run_course(pm_host *host, pm_course *course,
     return pm_course_end_of(course, step.kind);
 }
 
-/* The same with a delivery of the course's output. A course that ended well has done what is wanted where `delivered` is PM_DELIVERS, or
+/* The same with a delivery of the course's output. A course that ended well has done what is wanted if `delivered` is PM_DELIVERS, or
  * PM_WENT_OFF of one that turned the output off; an output that is commanded off isn't asked. PM_REFUSED with P8, and
- * PM_BEYOND_FAULT_LIMIT, where nothing was ordered since what is wanted is at or beyond a fault limit; the course itself goes on, once
+ * PM_BEYOND_FAULT_LIMIT, if nothing was ordered since what is wanted is at or beyond a fault limit; the course itself goes on, once
  * that was moved and the delivery made anew. After a bad end `delivered` is PM_NOT_YET. Each call of one chain hands over the same
  * delivery of an output, so that it knows which faults stood before the chain. */
 PM_MUST_USE
