@@ -16,9 +16,7 @@ use Rattle.pm_table.specs.VoutMode.{mode_of}
 use Rattle.pm_device.specs.declared.config.Config.{Config}
 use Rattle.pm_device.specs.Held.{mode_for, shape_for}
 use Rattle.pm_device.specs.Start.{IsSound}
-
-slope : (m : ℤ) → int_eq m (pos 0) ≡ false → m ≢ pos 0
-slope m h e = let bad : int_eq (pos 0) (pos 0) ≡ false = subst (λ (z : ℤ). int_eq z (pos 0) ≡ false) e h in cc
+use Rattle.pm_world.specs.Lemmas.Formats.{slope}
 
 abbrev HasOne : Shape → Type 0
 HasOne shape = IsOneWord (shape_value shape) (shape_rank shape)

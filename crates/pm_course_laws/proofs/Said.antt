@@ -105,7 +105,7 @@ module _ (part : PartRegisters) (limits : Option Bounds) (s : Summary) (c : Fram
             voltages = ap (λ (f : FrameCourse). f.voltages) it;
           }
 
-  -- by its words, which its wishes have
+  -- a job named by its words, which its wishes have
   pub record NamedBy (says : Result Wanted Refusal) (job : Asked) (is : FrameCourse) : Type 0 where
     pub formed : Wanted
     pub words_are : says ≡ Ok formed
@@ -157,7 +157,7 @@ module _ (part : PartRegisters) (limits : Option Bounds) (s : Summary) (c : Fram
       reached = reached-planned plain goes.formed (ap (λ (x : Says). x.next) (sym goes.said) ∙ sym says.next);
     }
 
-  -- where it has ended, its way is as it was
+  -- a course that has ended: its way is as it was
   pub record Stayed (is : FrameCourse) : Type 0 where
     pub course : is.course ≡ c.course
     pub voltages : is.voltages ≡ c.voltages

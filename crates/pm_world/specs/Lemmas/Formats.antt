@@ -17,7 +17,7 @@ use Rattle.pm_device.specs.Held.{mode_for, shape_for}
 use Rattle.pm_device.specs.Start.{IsSound}
 use Rattle.pm_limits.specs.Band.{HasDens}
 
-slope : (m : ℤ) → int_eq m (pos 0) ≡ false → m ≢ pos 0
+pub slope : (m : ℤ) → int_eq m (pos 0) ≡ false → m ≢ pos 0
 slope m h e = let bad : int_eq (pos 0) (pos 0) ≡ false = subst (λ (z : ℤ). int_eq z (pos 0) ≡ false) e h in cc
 
 shape-dens : (mode : VoutMode) (c : Coefficients) (shape : Shape) → result_ok (shape_in mode c) ≡ Some shape → HasDens shape
