@@ -57,9 +57,10 @@ static void settle_output(field_part *part, uint8_t at) {
     }
     int64_t volts = field_voltage(part, out);
     if (is_on && !out->has_tripped && volts > field_microvolts(out->held.ov_fault)) trip(part, out, VOUT_OV_FAULT);
-    if (is_on && !out->has_tripped && part->now >= out->until && volts < field_microvolts(out->held.uv_fault)) trip(part, out, VOUT_UV_FAULT);
+    int is_settled = is_on && !out->has_tripped && part->now >= out->until;
+    if (is_settled && volts < field_microvolts(out->held.uv_fault)) trip(part, out, VOUT_UV_FAULT);
     if (is_on && volts > field_microvolts(out->held.ov_warn)) out->vout |= VOUT_OV_WARNING;
-    if (is_on && !out->has_tripped && part->now >= out->until && volts < field_microvolts(out->held.uv_warn)) out->vout |= VOUT_UV_WARNING;
+    if (is_settled && !out->has_tripped && volts < field_microvolts(out->held.uv_warn)) out->vout |= VOUT_UV_WARNING;
     volts = field_voltage(part, out);
     out->has_been_good = volts >= field_microvolts(out->has_been_good ? out->held.good_off : out->held.good_on) && volts > 0;
 }

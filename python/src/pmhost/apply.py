@@ -16,28 +16,16 @@ from .cuts import Cut, cuts
 from .device import Device
 from .errors import SAYINGS, Refused, refusal
 from .look import Delivered, Look, Looks
+from .models import why_other_model
 from .parts import BoardPart
 from .rail_course import OUTSIDE, PROTECT, RailCourse, Restarted, Setting, Stopped
 from .rails import BOUNDS, MARGINS, SETTINGS, WORDS, Rail
-from .reads import Reads
 from .states import Step
 from .survey import Commanded, answers, commanded, only_word, read
 from .values import Format
 
 # The states of a setting that holds what is wanted.
 AS_WANTED = ("confirmed", "accepted")
-
-
-def why_other_model(device: Device, part: BoardPart) -> str:
-    """Why a part isn't the model that a board file says: nothing where it is, or the file doesn't say."""
-    if not part.model:
-        return ""
-    read = Reads(device.bus, part.address).block(probe.MFR_BLOCKS["MFR_MODEL"])
-    if read.payload is None:
-        return f"{part.name}: MFR_MODEL gave no good answer ({read.why}), and has to begin with \"{part.model}\""
-    if not read.payload.startswith(part.model.encode("ascii")):
-        return f"{part.name}: MFR_MODEL is {probe.block_words(read.payload)}, and has to begin with \"{part.model}\""
-    return ""
 
 
 @dataclass

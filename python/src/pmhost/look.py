@@ -20,6 +20,8 @@ if TYPE_CHECKING:
 FIRST_WAIT = 10
 # Verdicts that aren't asked about again, and are no fault of the rail's.
 WELL = ("delivers", "commanded off", "not known to be on", "went off")
+# The status registers that STATUS_WORD may point to, by their fields.
+STATUS = {"status_vout": 0x7A, "status_iout": 0x7B, "status_input": 0x7C, "status_temperature": 0x7D}
 GOALS = ("VOUT_COMMAND", "VOUT_MARGIN_HIGH", "VOUT_MARGIN_LOW")
 # The bits of STATUS_WORD that say a fault or point to one.
 FAULTS = {"VOUT", "IOUT_POUT", "INPUT", "VOUT_OV_FAULT", "IOUT_OC_FAULT", "VIN_UV_FAULT", "TEMPERATURE"}
@@ -28,8 +30,8 @@ FAULTS = {"VOUT", "IOUT_POUT", "INPUT", "VOUT_OV_FAULT", "IOUT_OC_FAULT", "VIN_U
 @dataclass(frozen=True)
 class Looks:
     """How rails are looked at. `fault_limits` refuses a voltage at or beyond a fault limit (`refuse`), says so alone (`tell`), or doesn't
-    read them (`skip`). `power_good` judges a rail whose power good alone is missing (`judge`), or says so (`tell`). READ_VOUT may be `within`
-    thousandths away from what is commanded, and a rail is given `settle` milliseconds until it delivers."""
+    read them (`skip`). `power_good` judges a rail whose power good alone is missing (`judge`), or says so (`tell`). READ_VOUT may be
+    `within` thousandths away from what is commanded, and a rail is given `settle` milliseconds until it delivers."""
 
     fault_limits: str = "refuse"
     power_good: str = "judge"
@@ -67,8 +69,8 @@ class NotDelivered(NotDone):
 @dataclass
 class Delivered:
     """What a rail does, by its last answers. `is_absent` says that the part has no STATUS_WORD, and `is_told` that this was said before;
-    `status` is STATUS_WORD, `before` what it was before the first order; `registers` has the status registers that were read, `notes` what is
-    said of limits."""
+    `status` is STATUS_WORD, `before` what it was before the first order; `registers` has the status registers that were read, `notes`
+    what is said of limits."""
 
     output: int
     verdict: Verdict
@@ -129,7 +131,8 @@ class Delivered:
         if begins is not None:
             is_below = there is None or there < begins
             missing = f"power good {'' if is_below else 'is missing, and '}begins at {voltages.shown(begins)}"
-        return {"off": f"; {self.status_words}: the rail is off", "fault": f"; {self.status_words}: {name_of_bit(found)} came with this call",
+        return {"off": f"; {self.status_words}: the rail is off",
+                "fault": f"; {self.status_words}: {name_of_bit(found)} came with this call",
                 "beyond": f"; {read} is more than {self.how.within / 10:g}% away from that{self._rest()}",
                 "power good alone": f"; {read}; {self.status_words}: {missing}",
                 "no power good": f"; {self.status_words}: power good is missing",
@@ -194,8 +197,7 @@ class Look:
         if is_absent:
             found = Verdict("not known", "STATUS_WORD")
         limits = host.limits(self.output)
-        registers = {NAMES[code]: word for name, code in (("status_vout", 0x7A), ("status_iout", 0x7B), ("status_input", 0x7C),
-                                                          ("status_temperature", 0x7D)) if (word := self.delivery.heard(name).word) is not None}
+        registers = {NAMES[code]: word for name, code in STATUS.items() if (word := self.delivery.heard(name).word) is not None}
         begins = self.delivery.heard("power_good_on").word
         return Delivered(self.output, found, self.how, None if limits is None else (limits.least.microvolts, limits.most.microvolts),
                          is_absent, is_told, self.delivery.heard("status_word").word, self.delivery.heard("before").word, registers,
@@ -204,7 +206,7 @@ class Look:
     # ---- Frames ----
 
     def _ask(self) -> None:
-        """Asks all that is due. A register that gives no answer at all in twice as many tries as others is one that the part doesn't have."""
+        """Asks all that is due. A register that gives no answer at all in twice as many tries as others is one that the part lacks."""
         turn, wait = self.delivery.round, FIRST_WAIT
         while (sending := self.delivery.frame(self.part.host)) is not None:
             if self.delivery.round != turn:

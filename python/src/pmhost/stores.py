@@ -10,8 +10,8 @@ TEMPERATURE, MOST = "READ_TEMPERATURE_1", 85
 
 
 def too_hot(part: Device) -> str:
-    """Why a part is too hot to store, nothing where it isn't: by READ_TEMPERATURE_1 of output 0, or of the device. One that doesn't answer it,
-    or not in LINEAR11, isn't judged."""
+    """Why a part is too hot to store, nothing where it isn't: by READ_TEMPERATURE_1 of output 0, or of the device. One that doesn't
+    answer it, or not in LINEAR11, isn't judged."""
     if part.host.format(0) is None:
         part.host.learn(0)
         part.run()

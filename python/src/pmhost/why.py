@@ -78,8 +78,8 @@ def cause(seen: Findings) -> str:
     if is_on is False and listens:
         return "" if "OFF" in status else "OPERATION turns it off, and STATUS_WORD says that it is on: another rail may feed it"
     if is_on is False and "OFF" not in status:
-        return (f"it is on though OPERATION turns it off: ON_OFF_CONFIG is {config:02X}, by which OPERATION isn't listened to: write it, or use the "
-                "CONTROL pin")
+        return (f"it is on though OPERATION turns it off: ON_OFF_CONFIG is {config:02X}, by which OPERATION isn't listened to: write it, "
+                "or use the CONTROL pin")
     return fault(seen) or (why_off(seen, config) if "OFF" in status else why_not_good(seen) if "POWER_GOOD#" in status else "")
 
 
@@ -90,11 +90,11 @@ def fault(seen: Findings) -> str:
     again = f"then `off {seen.output} + on {seen.output}`, and `clear {seen.output}` takes the fault away"
     vout, iout, vin = seen.bits("STATUS_VOUT"), seen.bits("STATUS_IOUT"), seen.bits("STATUS_INPUT")
     if "VOUT_OV_FAULT" in vout or "VOUT_OV_FAULT" in seen.bits("STATUS_WORD"):
-        return (f"it tripped on overvoltage: {seen.value('VOUT_OV_FAULT_LIMIT')}, and the output commands {seen.goal}: move the limit or the voltage, "
-                f"{again}")
+        return (f"it tripped on overvoltage: {seen.value('VOUT_OV_FAULT_LIMIT')}, and the output commands {seen.goal}: move the limit or "
+                f"the voltage, {again}")
     if "VOUT_UV_FAULT" in vout:
-        return (f"it tripped on undervoltage: {seen.value('VOUT_UV_FAULT_LIMIT')}, and the output commands {seen.goal}: move the limit or the voltage, or "
-                f"look for a short circuit, {again}")
+        return (f"it tripped on undervoltage: {seen.value('VOUT_UV_FAULT_LIMIT')}, and the output commands {seen.goal}: move the limit or "
+                f"the voltage, or look for a short circuit, {again}")
     if "TON_MAX_FAULT" in vout:
         return f"it didn't reach its voltage in TON_MAX_FAULT_LIMIT: look at the load, or raise TON_MAX_FAULT_LIMIT, {again}"
     if bad := [name for name in iout if name.endswith("FAULT")]:
@@ -113,7 +113,8 @@ def why_off(seen: Findings, config: int | None) -> str:
                 f"ON_OFF_CONFIG is {config:02X}, by which the CONTROL (RUN) pin counts")
         return f"no fault is noted: {held}: look whether that pin is held inactive, as by a sequencer"
     if "MFR_SPECIFIC" in seen.bits("STATUS_WORD"):
-        return f"no fault of the standard is noted: STATUS_MFR_SPECIFIC is {seen.word('STATUS_MFR_SPECIFIC') or 0:02X}: the data sheet has its bits"
+        held = f"{seen.word('STATUS_MFR_SPECIFIC') or 0:02X}"
+        return f"no fault of the standard is noted: STATUS_MFR_SPECIFIC is {held}: the data sheet has its bits"
     return "no register says why: it may wait for another rail, or for TON_DELAY: ask again, then look at the part's own registers"
 
 
@@ -122,8 +123,8 @@ def why_not_good(seen: Findings) -> str:
     begins, there = seen.found["POWER_GOOD_ON"].value, seen.found["READ_VOUT"].value
     if begins is not None and there is not None and there < begins:
         return f"power good begins at {begins.normalize():f}V, and {seen.value('READ_VOUT')}: lower POWER_GOOD_ON, or raise the voltage"
-    return (f"{seen.value('READ_VOUT')}, and power good is missing: something else may pull POWER_GOOD low, or the output is still on its ramp: "
-            "ask again, then look at that line")
+    return (f"{seen.value('READ_VOUT')}, and power good is missing: something else may pull POWER_GOOD low, or the output is still on its "
+            "ramp: ask again, then look at that line")
 
 
 assert all(name in BITS for name in POINTS.values())

@@ -40,8 +40,10 @@ class Ordered:
                 return self._told(call, command, "unknown", 1, f"whether {where}{whose} still holds its word isn't known: {why}")
             held = part.host.confirmed_word(output or 0, register)
             if held != word:
-                return self._told(call, command, "restarted", RESTARTED, f"{name or 'the part'} restarted after {' '.join(command.split()[:2])}: {where} is "
-                                                              f"{in_digits(register, held)}, and was {in_digits(register, word)}")
+                after = " ".join(command.split()[:2])
+                return self._told(call, command, "restarted", RESTARTED,
+                                  f"{name or 'the part'} restarted after {after}: {where} is "
+                                  f"{in_digits(register, held)}, and was {in_digits(register, word)}")
         return 0
 
     @staticmethod

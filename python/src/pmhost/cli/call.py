@@ -7,13 +7,13 @@ import signal
 import sys
 from typing import Any, Callable, Iterator
 
-from ..apply import why_other_model
 from ..bus import LinuxBus, PatientBus, Trace
 from ..bus.linux import ENDING, BusTrace, Calls
 from ..part import ModelPartBus
 from ..parts import MODEL_BUS, BoardPart
 from ..device import Device
 from ..look import Look, Looks
+from ..models import why_other_model
 from ..rails import ONLY, Rail, Rails
 from ..reserved import why_reserved
 from . import streams

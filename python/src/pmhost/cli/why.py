@@ -18,14 +18,14 @@ DEVICE = "WRITE_PROTECT"
 def add(commands: Any) -> None:
     """Adds the subparser."""
     found = commands.add_parser("why", help="says why an output is off, and what to do about it",
-                                description="Says why an output is off: what its registers say, the likeliest cause, and what to do about it.")
+                                description="Says why an output is off: what its registers say, the likeliest cause, and what to do.")
     found.add_argument("output", metavar="O", type=OUTPUT, help="the output, from 0")
     found.set_defaults(run=why)
     bus_options(found)
 
 
 def why(arguments: argparse.Namespace) -> int:
-    """Tells what the registers say, and the cause. The status is 0 where the rail is on and its power is good, or it is off as it is commanded."""
+    """Tells what the registers say, and the cause. The status is 0 where the rail is on and its power is good, or it is commanded off."""
     call: Call = arguments.call
     seen = findings(call.part(), arguments.output)
     because = cause(seen)
