@@ -187,7 +187,9 @@ if [ -z "$library" ]; then
     fi
 fi
 told
-echo "installed below $to: libpmhost and libpmpart for C${library:-, pmhost and pmb with manual pages and completions, the Rust crate, the decoder for sigrok, README, docs and examples}" | sed 's/Cyes$/C/'
+whole=', pmhost and pmb with manual pages and completions, the Rust crate, the decoder for sigrok, README, docs and examples'
+[ -z "$library" ] || whole=''
+echo "installed below $to: libpmhost and libpmpart for C$whole"
 echo "next: cc -I$prefix/include examples/c/order.c $prefix/lib/libpmhost.a"
 [ -n "$library" ] || echo "      pmhost -b model --outputs 2 --limit 0:3.135V:3.465V set 0 3.3V   # a model part, no board; man pmhost"
 case ":$PATH:" in *":$prefix/bin:"*) ;; *) [ -n "$library" ] || echo "      ($prefix/bin isn't on your PATH yet)" ;; esac

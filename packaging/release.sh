@@ -91,17 +91,22 @@ packed() {
 fact() {
     local line="$*" each
     for each in $line; do case $each in *=) die "FACTS: ${each%=} of ${line%% *} is empty" ;; esac; done
-    case $line in *"built: backend="*"stack-bytes="*"built: backend="*"stack-bytes="* | *" proof="*) ;; *) die "FACTS: ${line%% *}: an archive doesn't say its compiler or its stack" ;; esac
+    case $line in *"built: backend="*"stack-bytes="*"built: backend="*"stack-bytes="* | *" proof="*) ;; *)
+        die "FACTS: ${line%% *}: an archive doesn't say its compiler or its stack" ;;
+    esac
     echo "$line" >> "$out/FACTS"
 }
 
 # of_target NAME FOLDER: the libraries of another processor, by what targets.sh left
 of_target() {
-    local target=$1 from=$2 tree=$folder/$1/$name-$version-$1 each
-    for each in libpm_host_c.a libpm_device_c.a facts; do [ -f "$from/$each" ] || die "no $from/$each: trials/c/targets.sh --out makes it"; done
-    [ "$(tr ' ' '\n' < "$from/facts" | sed -n 's/^commit=//p')" = "$(git -C "$root" rev-parse HEAD)" ] || die "$from/facts is of another commit"
+    local from=$2 tree=$folder/$1/$name-$version-$1 each sum
+    for each in libpm_host_c.a libpm_device_c.a facts; do
+        [ -f "$from/$each" ] || die "no $from/$each: trials/c/targets.sh --out makes it"
+    done
+    case " $(cat "$from/facts") " in *" commit=$(git -C "$root" rev-parse HEAD) "*) ;; *) die "$from/facts is of another commit" ;; esac
     for each in "sha256=:libpm_host_c.a" "sha256-part=:libpm_device_c.a"; do
-        case " $(cat "$from/facts") " in *" ${each%%:*}$(sha256sum < "$from/${each#*:}" | cut -c1-64) "*) ;; *) die "$from/facts isn't of its ${each#*:}" ;; esac
+        sum=$(sha256sum < "$from/${each#*:}" | cut -c1-64)
+        case " $(cat "$from/facts") " in *" ${each%%:*}$sum "*) ;; *) die "$from/facts isn't of its ${each#*:}" ;; esac
     done
     mkdir -p "$tree/lib" "$tree/include"
     cp "$from/libpm_host_c.a" "$tree/lib/libpmhost.a"
@@ -111,7 +116,8 @@ of_target() {
     cp "$root/packaging/release.md" "$tree/README.md"
     cp "$from/facts" "$tree/facts"
     find "$tree" -exec touch -h -d "@$SOURCE_DATE_EPOCH" {} +
-    tar -C "$folder/$1" --sort=name --owner=0 --group=0 --numeric-owner -cf - "$name-$version-$1" | gzip -n > "$out/$name-$version-$1.tar.gz"
+    tar -C "$folder/$1" --sort=name --owner=0 --group=0 --numeric-owner -cf - "$name-$version-$1" |
+        gzip -n > "$out/$name-$version-$1.tar.gz"
     made+=("./$name-$version-$1.tar.gz")
     fact "$1 $(cat "$from/facts")"
 }
@@ -159,10 +165,12 @@ END
 
 # described TREE WORDS: what the description names is there
 described() {
-    local each words=("pmhost:bin/pmhost" "pmb:bin/pmb" "Python:lib/python3/dist-packages/pmhost/__init__.py" "C :lib/libpmhost.a" "C :lib/libpmpart.a"
-        "headers:include/pmhost.h" "Rust:share/pmhost/rust/Cargo.toml" "sigrok:share/libsigrokdecode/decoders/pmbus/pd.py")
+    local each words=("pmhost:bin/pmhost" "pmb:bin/pmb" "Python:lib/python3/dist-packages/pmhost/__init__.py" "C :lib/libpmhost.a"
+        "C :lib/libpmpart.a" "headers:include/pmhost.h" "Rust:share/pmhost/rust/Cargo.toml" "sigrok:share/libsigrokdecode/decoders/pmbus/pd.py")
     for each in "${words[@]}"; do
-        case "${2//$'\n'/} " in *"${each%%:*}"*) [ -e "$1/usr/${each#*:}" ] || die "the description names ${each%%:*}, and ${each#*:} isn't there" ;; esac
+        case "${2//$'\n'/} " in *"${each%%:*}"*)
+            [ -e "$1/usr/${each#*:}" ] || die "the description names ${each%%:*}, and ${each#*:} isn't there" ;;
+        esac
     done
 }
 

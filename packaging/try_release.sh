@@ -1,7 +1,7 @@
 #!/usr/bin/env bash
 # Tries what packaging/release.sh made in a clean root: a folder with Debian's packages alone, and no toolchain.
 #
-#   packaging/try_release.sh RELEASE ROOT
+#   packaging/try_release.sh RELEASE ROOT [PART ..]
 #
 # RELEASE is the folder of the release. ROOT is a Debian 12 with python3 alone, which is made by hand, as root, and stays as it is:
 #   debootstrap --variant=minbase --include=python3 bookworm ROOT
@@ -9,11 +9,16 @@
 # runs as an ordinary user, in a layer of its own with the .deb and the packages of Debian that stand above the block, which apt-get fetches. Last,
 # in one more layer, the .deb is installed, and the tarball unpacked, with no checkout beside them; C programs are compiled by pkg-config over
 # both, manual pages are shown by man-db, and the .deb is removed, which leaves nothing; and on this machine install.sh --uninstall is tried
-# with what the tarball has (packaging/try_uninstall.sh). The last line says how many passed and failed.
+# with what the tarball has (packaging/try_uninstall.sh). PART is alone, whole, or the last word of a heading, as Rust; all if left out.
+# The last line says how many passed and failed.
 set -u
 case " $* " in *" --help "* | *" -h "*) sed -n '2,/^[^#]/s/^# \{0,1\}//p' "$0"; exit 0 ;; esac
-[ $# = 2 ] || { echo "try_release.sh: give RELEASE ROOT; --help says more" >&2; exit 2; }
+[ $# -ge 2 ] || { echo "try_release.sh: give RELEASE ROOT; --help says more" >&2; exit 2; }
 release=$(realpath -m "$1") root=$(realpath -m "$2")
+shift 2
+parts=" $* "
+# wanted PART
+wanted() { case $parts in "  " | *" $1 "*) ;; *) false ;; esac; }
 cd "$(dirname "$0")/.."
 for each in "$release"/*x86_64.tar.gz "$release"/*amd64.deb; do
     [ -f "$each" ] || { echo "try_release.sh: no $each: give the folder that packaging/release.sh made" >&2; exit 2; }
@@ -90,13 +95,21 @@ block() {
     rm -rf "$layers/${1// /_}"
 }
 
-layer python3_alone
-mkdir -p "$root$work/tree/python"
-cp -r python/tests "$root$work/tree/python/" && cp -r examples "$root$work/tree/"
-chroot "$root" chown -R trial "$work"
-asked "README's first example on python3 alone" 'cd tree; (cd python/tests && python3 -m plain replay) < examples/answer-lost.scenario | cmp - examples/answer-lost.report'
-umount "$root"
-while IFS=$'\t' read -r heading packages; do block "$heading" "$packages"; done < <(blocks)
+# alone: README's first example
+alone() {
+    layer python3_alone
+    mkdir -p "$root$work/tree/python"
+    cp -r python/tests "$root$work/tree/python/" && cp -r examples "$root$work/tree/"
+    chroot "$root" chown -R trial "$work"
+    asked "README's first example on python3 alone" 'cd tree; (cd python/tests && python3 -m plain replay) < examples/answer-lost.scenario | cmp - examples/answer-lost.report'
+    umount "$root"
+}
+
+if wanted alone; then alone; fi
+while IFS=$'\t' read -r heading packages; do
+    if wanted "${heading##* }"; then block "$heading" "$packages"; fi
+done < <(blocks)
+wanted whole || { end_tally; exit; }
 layer whole gcc libc6-dev pkg-config python3-venv man-db
 doc=/usr/share/doc/pmhost
 step "no toolchain is there" '! command -v rt && ! command -v rattle'

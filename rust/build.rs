@@ -26,15 +26,24 @@ fn of_caller(folder: PathBuf) -> PathBuf {
     from.filter(|it| it.is_dir()).unwrap_or(folder)
 }
 
+/// The name that packaging/install.sh gives an archive.
+fn installed_name(library: &str) -> &'static str {
+    if library == "pm_host_c" {
+        "libpmhost.a"
+    } else {
+        "libpmpart.a"
+    }
+}
+
 fn archive(target: &str, library: &str) -> PathBuf {
     let own = format!("PM_ARCHIVES_{}", target.replace('-', "_"));
     let is_built_here = target.starts_with("x86_64") && target.contains("linux");
     if let Some(folder) = named(&own).or_else(|| named("PM_ARCHIVES").filter(|_| is_built_here)) {
-        let installed = folder.join(format!("lib{}.a", library.trim_end_matches("_c")));
+        let installed = folder.join(installed_name(library));
         return if installed.is_file() { installed } else { folder.join(format!("lib{library}.a")) };
     }
     let home = env::var_os("CARGO_MANIFEST_DIR").expect("cargo sets it");
-    let beside = Path::new(&home).join(format!("../../../lib/lib{}.a", library.trim_end_matches("_c")));
+    let beside = Path::new(&home).join("../../../lib").join(installed_name(library));
     if Path::new(&home).ends_with("share/pmhost/rust") && beside.is_file() && env::var("HOST").is_ok_and(|it| it == target) {
         return beside;
     }
@@ -48,7 +57,8 @@ fn main() {
     let target = env::var("TARGET").expect("cargo sets it");
     let folder = PathBuf::from(env::var_os("OUT_DIR").expect("cargo sets it"));
     println!("cargo:rustc-link-search=native={}", folder.display());
-    if target.contains("linux") {
+    let home = env::var_os("CARGO_MANIFEST_DIR").expect("cargo sets it");
+    if target.contains("linux") && Path::new(&home).join("tests").is_dir() {
         // Tests only: tests/calls/other_library.rs answers these calls as another library's would.
         println!(
             "cargo:rustc-link-arg-tests=-Wl,--wrap=pm_version,--wrap=pm_host_version,--wrap=pm_host_size,--wrap=pm_part_size,--wrap=pm_course_version,--wrap=pm_course_size"

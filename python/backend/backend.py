@@ -17,7 +17,8 @@ import tomllib
 import zipfile
 
 HOME = os.path.dirname(os.path.dirname(os.path.abspath(__file__)))
-CRATES = ("pm_host_c", "pm_device_c")
+# The crates, and the names that packaging/install.sh gives their archives.
+CRATES = {"pm_host_c": "libpmhost.a", "pm_device_c": "libpmpart.a"}
 LIBRARY = "libpmhost.so"
 # What stands below the programs of `pmhost torture`, and its source among the files.
 PRELOAD, PRELOAD_SOURCE = "torture/preload.so", "torture/preload.c"
@@ -55,9 +56,9 @@ def of_caller(folder):
 def archives():
     """Where the archives are."""
     given, found = of_caller(os.environ.get("PMHOST_ARCHIVES")), []
-    for crate in CRATES:
+    for crate, name in CRATES.items():
         path = os.path.join(given or os.path.join(os.path.dirname(HOME), "crates", crate, "out"), f"lib{crate}.a")
-        installed = path.replace("_c.a", ".a")
+        installed = os.path.join(os.path.dirname(path), name)
         path = installed if given and os.path.isfile(installed) else path
         if not os.path.isfile(path):
             raise SystemExit(f"pmhost: no archive at {path}: build it by (cd crates/{crate} && rt lib), "

@@ -104,3 +104,9 @@ class Backend(unittest.TestCase):
                         self.assertEqual(backend.archives(), wanted)
             with contextlib.chdir(folder), mock.patch.dict(os.environ, {"PWD": other, "PMHOST_ARCHIVES": "built"}):
                 self.assertEqual([os.path.abspath(path) for path in backend.archives()], wanted)
+            installed = [os.path.join(built, name) for name in ("libpmhost.a", "libpmpart.a")]
+            for path in installed:
+                with open(path, "wb"):
+                    pass
+            with mock.patch.dict(os.environ, {"PMHOST_ARCHIVES": built}):
+                self.assertEqual(backend.archives(), installed)

@@ -5,8 +5,8 @@
     trials/qemu/adapters.py --arm FOLDER [DRIVER ..]
 
 FOLDER has libpm_host_c.a and libpm_device_c.a for 32-bit ARM Linux, as trials/c/targets.sh --out leaves them in arm-linux. Each driver, as
-i2c_imx, takes two to eight minutes of one core; packages are fetched the first time (QEMU_CACHE, DEBIAN_MIRROR). Of each driver it is printed what it says
-of an address that nobody has and of a refused byte. QEMU's controllers are models: what hardware does isn't shown. The last line is
+i2c_imx, takes two to eight minutes of one core; packages are fetched the first time (QEMU_CACHE, DEBIAN_MIRROR). Of each driver it is printed
+what it says of an address that nobody has and of a refused byte. QEMU's controllers are models: what hardware does isn't shown. The last line is
 `N passed, M failed`.
 """
 import os

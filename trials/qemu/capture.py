@@ -1,12 +1,12 @@
 #!/usr/bin/env python3
-"""A capture that nobody of this project made: Debian's own kernel for ARM on the board ast2600-evb of QEMU, its adapter driver i2c-aspeed, its
-driver pmbus, and QEMU's max34451 at address 58 of bus 3. The tracepoints of one binding of the driver go through `pmhost capture linux`, and
-what comes has to be examples/captures/max34451.trace, which `pmb decode` has to tell as max34451.lines.
+"""A capture that nobody of this project made: Debian's own kernel for ARM on the board ast2600-evb of QEMU, its adapter driver
+i2c-aspeed, its driver pmbus, and QEMU's max34451 at address 58 of bus 3. The tracepoints of one binding of the driver go through
+`pmhost capture linux`, and what comes has to be examples/captures/max34451.trace, which `pmb decode` has to tell as max34451.lines.
 
     trials/qemu/capture.py [--keep]
 
---keep writes both files. It takes two minutes of one core, and the first time 60 MB of packages (QEMU_CACHE, DEBIAN_MIRROR). It wants qemu-system-arm,
-cpio, apt-get, the package's library (PMHOST_LIBRARY) and the program pmb (PMB). The last line is `N passed, M failed`.
+--keep writes both files. It takes two minutes of one core, and the first time 60 MB of packages (QEMU_CACHE, DEBIAN_MIRROR). It wants
+qemu-system-arm, cpio, apt-get, the package's library (PMHOST_LIBRARY) and the program pmb (PMB). The last line is `N passed, M failed`.
 """
 import os
 import subprocess
@@ -22,7 +22,8 @@ from tally import Tally  # noqa: E402
 
 STORED = os.path.join(paths.ROOT, "examples", "captures", "max34451")
 OPTIONS = "decode --all --values --pages".split()
-HEAD = """# Nothing of it was made here: Debian's Linux 6.1, its i2c-aspeed and its driver pmbus on QEMU's ast2600-evb, with QEMU's max34451 at 58.
+HEAD = """\
+# Nothing of it was made here: Debian's Linux 6.1, its i2c-aspeed and its driver pmbus on QEMU's ast2600-evb, with QEMU's max34451 at 58.
 # pmb decode --all --values --pages
 # The driver is bound, by its kernel's tracepoints (trials/qemu/capture.py). The part has no PEC, and answers what it lacks with ones.
 """

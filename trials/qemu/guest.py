@@ -35,8 +35,8 @@ reboot -f
 
 
 class Machine(NamedTuple):
-    """A board of QEMU, its device tree in Debian's package, the driver of its I2C adapter, the bus that parts stand on, by its name in QEMU and
-    by its number in Linux, and its console."""
+    """A board of QEMU, its device tree in Debian's package, the driver of its I2C adapter, the bus that parts stand on, by its name in
+    QEMU and by its number in Linux, and its console."""
 
     name: str
     tree: str
@@ -65,7 +65,8 @@ def fetch(*packages):
             with open(os.path.join(CACHE, name), "w", encoding="ascii") as file:
                 file.write(text)
         words = ["-qq"]
-        for name, value in (("Dir::State", "state"), ("Dir::State::status", "status"), ("Dir::Cache", ""), ("Dir::Etc::sourcelist", "sources.list")):
+        for name, value in (("Dir::State", "state"), ("Dir::State::status", "status"), ("Dir::Cache", ""),
+                            ("Dir::Etc::sourcelist", "sources.list")):
             words += ["-o", f"{name}={os.path.join(CACHE, value)}"]
         for each in ("Dir::Etc::sourceparts=/dev/null", "APT::Architecture=armhf", "APT::Architectures=armhf", "APT::Sandbox::User="):
             words += ["-o", each]
@@ -120,7 +121,8 @@ def memory_disk(machine, folder, modules, files, to):
         os.makedirs(os.path.join(root, "trial"))
         for name, path in wanted.items():
             shutil.copy(path, os.path.join(root, "modules", name + ".ko"))
-        put(root, "init", INIT.format(begun=BEGUN, ended=ENDED, adapter=adapter, modules=" ".join(it for it in wanted if it != machine.driver)))
+        others = " ".join(it for it in wanted if it != machine.driver)
+        put(root, "init", INIT.format(begun=BEGUN, ended=ENDED, adapter=adapter, modules=others))
         for name, held in files.items():
             if isinstance(held, str):
                 put(root, "trial/" + name, held)

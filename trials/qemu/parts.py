@@ -33,7 +33,8 @@ def rows():
         here = ["-a", address, "--outputs", "2", "--no-limit"]
         yield f"{name} probe", [*here, "probe"], 1, (
             f"pmhost: probe: {NOTED}\nprobe: 3 answers were nothing but FFh, which counts as none\n"
-            f"probe: no PEC (PMBUS_REVISION gave {revision} {revision}, with PEC it is {revision} {code}): this host can't drive the part\n")
+            f"probe: no PEC (PMBUS_REVISION gave {revision} {revision}, with PEC it is {revision} {code}): "
+            "this host can't drive the part\n")
         for register in ("STATUS_WORD", "READ_VOUT"):
             yield f"{name} read {register}", [*here, "read", "0", register], 1, NO_PAGE_PLUS.format(register)
     answers = "it answers, and is no PMBus part with packet error codes: no good CAPABILITY (F5 WrongPec)"

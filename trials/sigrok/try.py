@@ -187,8 +187,8 @@ def random_wave_faults(decode, seed):
 
 
 def page_entry(dice):
-    """Bytes of one of two addresses, as lines of a trace, and as a waveform is drawn of them: packets of PAGE and of an output, good ones and
-    others, and bytes that are no packet."""
+    """Bytes of one of two addresses, as lines of a trace, and as a waveform is drawn of them: packets of PAGE and of an output, good
+    ones and others, and bytes that are no packet."""
     address, page = dice.choice((0xB0, 0xB4)), dice.randrange(3)
     write, answer = [address, 0x00, page], [address | 1, page]
     kind = dice.randrange(1, 15)

@@ -1,5 +1,5 @@
-/* pm_target beside rows of its own: what a frame or a restart makes of a part of two outputs, and which calls the hook had. It prints each row
- * that differs, and a count. The rows go on from one another. */
+/* pm_target beside rows of its own: what a frame or a restart makes of a part of two outputs, and which calls the hook had. It prints
+ * each row that differs, and a count. The rows go on from one another. */
 #include "pmpart.h"
 #include <stdio.h>
 #include <string.h>
@@ -65,7 +65,8 @@ int main(void) {
     static pm_target target;
     pm_part_config config;
     pm_part_reply reply;
-    const pm_part_output first = {0x14, 0, 0x80, 0x1000, 0x4000, 0x1100, 0x0F00, 0}, second = {0x14, 0, 0x00, 0x1000, 0x4000, 0x1100, 0x0F00, 0};
+    const pm_part_output first = {0x14, 0, 0x80, 0x1000, 0x4000, 0x1100, 0x0F00, 0}; /* on, 1 V */
+    const pm_part_output second = {0x14, 0, 0x00, 0x1000, 0x4000, 0x1100, 0x0F00, 0};
     int right = 0, count = 4;
     memset(&config, 0, sizeof config);
     memset(&target, 0x01, sizeof target); /* a memory that holds anything */
@@ -80,7 +81,8 @@ int main(void) {
     pm_target_begin(&target, &part, 2, called, calls);
     right += is_so("each output at another begin", 0, 0, "0 1000000; 1 1000000; ");
     for (unsigned i = 0; i < sizeof rows / sizeof *rows; i++, count++) {
-        uint8_t answer = rows[i].count ? pm_target_hear(&target, rows[i].frame, rows[i].count, rows[i].is_request, &reply) : pm_target_restart(&target);
+        const row *it = &rows[i];
+        uint8_t answer = it->count ? pm_target_hear(&target, it->frame, it->count, it->is_request, &reply) : pm_target_restart(&target);
         right += is_so(rows[i].name, answer, rows[i].answer, rows[i].calls);
     }
     memset(&part, 0, sizeof part);

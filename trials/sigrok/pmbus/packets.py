@@ -94,8 +94,8 @@ def readings_of(text):
 
 
 class Told:
-    """A packet as it is told: its kind, its text, a short text, and how its PEC is: None where that isn't asked. `packet` is its address, its
-    code, its page and its payload, where it has them; `is_ones` that nobody answered."""
+    """A packet as it is told: its kind, its text, a short text, and how its PEC is: None where that isn't asked. `packet` is its address,
+    its code, its page and its payload, where it has them; `is_ones` that nobody answered."""
 
     def __init__(self, kind, text, short, pec=None, packet=(None, None, None, None), is_ones=False):
         self.kind, self.text, self.short, self.pec = kind, text, short, pec
@@ -150,7 +150,8 @@ class Reader:
                 return self.other(where, write, read)
         if fault in (NO_PEC, SHORT):
             fault = ELSEWHERE if len(write) > 1 else "too short"
-        return Told(FAULT, where + fault, fault, False if fault == WRONG_PEC else None, (write[0] >> 1, *(write[1:2] or [None]), None, None))
+        code = write[1] if len(write) > 1 else None
+        return Told(FAULT, where + fault, fault, False if fault == WRONG_PEC else None, (write[0] >> 1, code, None, None))
 
     def known(self, where, write, read, has_pec):
         """A packet of the table, with its PEC; it may have none on the bus."""

@@ -8,7 +8,8 @@ OF_DEVICE = {PAGE, 0x05, 0x06, *range(0x10, 0x1B), 0x30, *range(0x98, 0x9F), 0xA
 
 
 class Place:
-    """An address: the packet and the page of its last good write of PAGE, and the packet of PAGE that wasn't good, until a good one comes."""
+    """An address: the packet and the page of its last good write of PAGE, and the packet of PAGE that wasn't good, until a good one
+    comes."""
 
     def __init__(self):
         self.written = self.broken = None
@@ -24,8 +25,8 @@ class Pages:
         return self.places.setdefault(address, Place())
 
     def no_packet(self, address, is_unheard, is_whole):
-        """Bytes that are no packet. `is_unheard`: nobody acknowledged the address, which says nothing. `is_whole`: it is known of which address
-        they were; otherwise nothing is known of any."""
+        """Bytes that are no packet. `is_unheard`: nobody acknowledged the address, which says nothing. `is_whole`: it is known of which
+        address they were; otherwise nothing is known of any."""
         self.count += 1
         if is_unheard:
             return
