@@ -4,7 +4,7 @@
 use super::whole;
 use crate::checks::equal;
 use pm_device_tests::BASE;
-use pm_driver::{Driver, Fault, SimulatedBus, driver_over};
+use pm_driver::{Fault, driver_over};
 use pm_rail::{ApplyEnd, Course, PlanFault, StopCause, Survey, Wanted};
 use pm_table::{Cell, Reg};
 
@@ -59,6 +59,9 @@ fn words(wanted: Wanted, survey: bool, tries: u16) -> Option<End> {
     let plan = [whole(), whole(), restarted()];
     let mut driver = driver_over(BASE, 2, &plan)?;
     driver.order(Cell::Protect, 0x20).ok()?;
+    if driver.host().outputs() == 0 {
+        return None;
+    }
     if !survey {
         return Some(end_of(driver.apply(0, &wanted, tries)));
     }
@@ -77,28 +80,38 @@ fn power(byte: u16, tries: u16) -> Option<End> {
     driver.order(Cell::Out(0, Reg::Operation), 0xA8).ok()?;
     driver.store().ok()?;
     driver.order(Cell::Out(0, Reg::VoutMin), 0x0800).ok()?;
+    if driver.host().outputs() == 0 {
+        return None;
+    }
     let mut course = Course::power(0, byte, tries);
     Some(end_of(driver.complete(&mut course).ok()?))
 }
 
 #[test]
 fn words_take_so_many_tries(rt: HostRuntime) {
-    for (command, others, survey, most, end) in [
-        (0x34CD, true, true, 14, End::Reached),
-        (0x34CD, true, false, 27, End::Reached),
-        (0x1000, false, false, 14, End::Reached),
-        (0x4001, false, false, 14, End::Refused),
+    for (command, others, survey, most, less, end) in [
+        (0x34CD, true, true, 14, 13, End::Reached),
+        (0x34CD, true, false, 27, 26, End::Reached),
+        (0x1000, false, false, 14, 13, End::Reached),
+        (0x4001, false, false, 14, 13, End::Refused),
     ] {
         let to = wanted(command, others);
-        equal(&rt, &words(to, survey, most), &Some(end), &(command, survey));
-        equal(&rt, &words(to, survey, most - 1), &Some(End::Spent), &(command, survey));
+        let at = (command, survey);
+        equal(&rt, &words(to, survey, most), &Some(end), &at);
+        equal(&rt, &words(to, survey, less), &Some(End::Spent), &at);
     }
 }
 
 #[test]
 fn power_takes_so_many_tries(rt: HostRuntime) {
-    for (byte, most) in [(0x98, 16), (0x80, 15), (0xA8, 9), (0x00, 1), (0x40, 1)] {
+    for (byte, most, less) in [
+        (0x98, 16, 15),
+        (0x80, 15, 14),
+        (0xA8, 9, 8),
+        (0x00, 1, 0),
+        (0x40, 1, 0),
+    ] {
         equal(&rt, &power(byte, most), &Some(End::Reached), &byte);
-        equal(&rt, &power(byte, most - 1), &Some(End::Spent), &byte);
+        equal(&rt, &power(byte, less), &Some(End::Spent), &byte);
     }
 }
