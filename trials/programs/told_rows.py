@@ -312,7 +312,7 @@ B0 96 / B1 34 12 *                        58 code 96 READ_POUT read 34 12, PEC r
 B0 96 / B1 34 12 !                        58 code 96 READ_POUT read 34 12 !, no PEC
 B0 96 / B1 34 12                          58 code 96 READ_POUT read 34 12, no PEC
 B0 96 / B1                                58 code 96 READ_POUT read, no PEC
-B0 96 / B1 *                              58 code 96 READ_POUT read, PEC right
+B0 96 / B1 *                              58 code 96 READ_POUT read *, no PEC
 B0 86 02 01 02 / B1 03 04 *               58 code 86 READ_EIN write 02 01 02 read 03 04, PEC right
 B0 86 02 01 02 / B1                       58 code 86 READ_EIN write 02 01 02 read, no PEC
 B0 D4 01 02 03                            58 code D4 write 01 02 03, no PEC
@@ -427,7 +427,7 @@ B0 78 / B1 FF *                           58 STATUS_BYTE read FF
 B0 78 / B1 FF FE                          58 read F5 WrongPec 2
 B0 D4 FF FF                               58 code D4 write FF FF, no PEC
 B0 FF / B1                                58 code FF PMBUS_COMMAND_EXT read, no PEC
-B0 89 / B1 FF                             58 code 89 READ_IIN read, PEC right
+B0 89 / B1 FF                             58 code 89 READ_IIN read FF, all ones: nobody answered
 B0 E0 / B1 FF FF                          58 code E0 read FF, PEC right
 B0 40 / B1 FF FF                          58 code 40 VOUT_OV_FAULT_LIMIT read FF FF, all ones: nobody answered
 B0 40 / B1 FF FF FF                       58 code 40 VOUT_OV_FAULT_LIMIT read FF FF, PEC right
@@ -445,6 +445,39 @@ B0 96 / B3 FF                             58 write F6 UnknownCode 1
 = count code E0 1
 = count code FF 1
 = lines 17 accepted 1 other 13 faults 3 bad 0
+
+# The last byte is data, whatever it is, where without it an answer would have no byte, or a packet fewer than its code has.
+B0 7B / B1 *                              58 code 7B STATUS_IOUT read *, no PEC
+B0 7B / B1 80 *                           58 code 7B STATUS_IOUT read 80, PEC right
+B0 7B *                                   58 code 7B STATUS_IOUT write *, no PEC
+B0 7B 80 *                                58 code 7B STATUS_IOUT write 80, PEC right
+B0 82 / B1 *                              58 code 82 STATUS_FANS_3_4 read *, no PEC
+B0 83 / B1 *                              58 code 83 READ_KWH_IN read *, no PEC
+B0 83 *                                   58 code 83 READ_KWH_IN send, PEC right
+B0 87 / B1 55 *                           58 code 87 READ_EOUT read 55, PEC right
+B0 89 / B1 55 *                           58 code 89 READ_IIN read 55 *, no PEC
+B0 97 / B1 55 *                           58 code 97 READ_PIN read 55 *, no PEC
+B0 97 / B1 55 66 *                        58 code 97 READ_PIN read 55 66, PEC right
+B0 97 55 *                                58 code 97 READ_PIN write 55 *, no PEC
+B0 99 / B1 55 *                           58 code 99 MFR_ID read 55, PEC right
+B0 02 / B1 *                              58 code 02 ON_OFF_CONFIG read *, no PEC
+B0 02 *                                   58 code 02 ON_OFF_CONFIG write *, no PEC
+B0 04 *                                   58 code 04 PHASE send, PEC right
+B0 D4 / B1 *                              58 code D4 read *, no PEC
+B0 D4 / B1 12 *                           58 code D4 read 12, PEC right
+B0 11 *                                   58 code 11 STORE_DEFAULT_ALL send, PEC right
+= count code 02 2
+= count code 04 1
+= count code 11 1
+= count code 7B 4
+= count code 82 1
+= count code 83 2
+= count code 87 1
+= count code 89 1
+= count code 97 3
+= count code 99 1
+= count code D4 2
+= lines 19 accepted 0 other 19 faults 0 bad 0
 
 # These stay faults: a wrong PEC of a code that is written here, no code, another device's answer, no answer, no device.
 B0 03 47                                  58 write F5 WrongPec 2
@@ -1279,7 +1312,7 @@ B0 21 00                                  58 page 1? code 21 VOUT_COMMAND write 
 B0 21 00 02                               58 page 1? VOUT_COMMAND write 0200 1 V, no PEC
 B0 00 / B1 00                             58 PAGE read 00, no PEC WRONG PAGE? lines 1 and 7
 B0 21 00 10                               58 page 0? VOUT_COMMAND write 1000 1 V, no PEC
-B0 96 / B1 *                              58 page 0? code 96 READ_POUT read, PEC right
+B0 96 / B1 *                              58 page 0? code 96 READ_POUT read *, no PEC
 B0 96 / B1 34 12                          58 page 0? code 96 READ_POUT read 34 12, no PEC
 B0 21 00 10                               58 page 0? VOUT_COMMAND write 1000 1 V, no PEC
 B0 96 / B1                                58 code 96 READ_POUT read, no PEC

@@ -236,9 +236,10 @@ def value_of_bytes(code, shown):
 
 
 def is_last_right(write, read):
-    """Whether the last byte, behind the code or behind the answer's address, is the PEC."""
+    """Whether the last byte, behind the code or behind the answer's address and behind the bytes that the code has, is the PEC."""
     last, first = (write, 2) if read is None else (read, 1)
-    return len(last) > first and last[-1] == pec((write + (read or []))[:-1])
+    enough = 2 if 0x88 <= write[1] <= 0x97 else int(read is not None or write[1] == ON_OFF_CONFIG or 0x7B <= write[1] <= 0x82)
+    return len(last) > first + enough and last[-1] == pec((write + (read or []))[:-1])
 
 
 def fault_of(write, read):

@@ -3,7 +3,7 @@
 use super::Row;
 
 /// Rows under each option.
-pub(super) static LINES: [Row; 16] = [
+pub(super) static LINES: [Row; 17] = [
     (
         &["pmb", "decode"],
         1,
@@ -63,7 +63,7 @@ B0 96 / B1 34 12 B1 -> 58 code 96 READ_POUT read 34 12, PEC right
 B0 96 / B1 34 12 B0 -> 58 code 96 READ_POUT read 34 12 B0, no PEC
 B0 96 / B1 34 12 -> 58 code 96 READ_POUT read 34 12, no PEC
 B0 96 / B1 -> 58 code 96 READ_POUT read, no PEC
-B0 96 / B1 6B -> 58 code 96 READ_POUT read, PEC right
+B0 96 / B1 6B -> 58 code 96 READ_POUT read 6B, no PEC
 B0 86 02 01 02 / B1 03 04 1E -> 58 code 86 READ_EIN write 02 01 02 read 03 04, PEC right
 B0 86 02 01 02 / B1 -> 58 code 86 READ_EIN write 02 01 02 read, no PEC
 B0 D4 01 02 03 -> 58 code D4 write 01 02 03, no PEC
@@ -111,6 +111,34 @@ count code 96 5
 count code D4 8
 count code EF 3
 lines 37 accepted 1 other 36 faults 0 bad 0
+",
+    ),
+    (
+        &["pmb", "decode", "--all"],
+        0,
+        "
+B0 7B / B1 C1 -> 58 code 7B STATUS_IOUT read C1, no PEC
+B0 7B / B1 80 C0 -> 58 code 7B STATUS_IOUT read 80, PEC right
+B0 7B 29 -> 58 code 7B STATUS_IOUT write 29, no PEC
+B0 7B 80 56 -> 58 code 7B STATUS_IOUT write 80, PEC right
+B0 82 / B1 68 -> 58 code 82 STATUS_FANS_3_4 read 68, no PEC
+B0 83 / B1 55 D8 -> 58 code 83 READ_KWH_IN read 55, PEC right
+B0 02 41 -> 58 code 02 ON_OFF_CONFIG write 41, no PEC
+B0 02 / B1 DE -> 58 code 02 ON_OFF_CONFIG read DE, no PEC
+B0 96 / B1 34 9A -> 58 code 96 READ_POUT read 34 9A, no PEC
+B0 97 / B1 55 D1 -> 58 code 97 READ_PIN read 55 D1, no PEC
+B0 D4 / B1 1A -> 58 code D4 read 1A, no PEC
+B0 D4 / B1 12 38 -> 58 code D4 read 12, PEC right
+B0 11 38 -> 58 code 11 STORE_DEFAULT_ALL send, PEC right
+count code 02 2
+count code 11 1
+count code 7B 4
+count code 82 1
+count code 83 1
+count code 96 1
+count code 97 1
+count code D4 2
+lines 13 accepted 0 other 13 faults 0 bad 0
 ",
     ),
     (
