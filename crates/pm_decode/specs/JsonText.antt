@@ -19,13 +19,13 @@ use Rattle.pm_values.specs.CodeNames.{standard_name}
 use Rattle.pm_values.specs.Otherwise.{ContentBytes, content_letters, content_of, has_pec, is_all_ones, said_bytes, spaced}
 use Rattle.pm_values.specs.Statuses.{names_from, rows_of}
 use Rattle.pm_values.specs.Taught.{Taught}
-use Rattle.pm_values.specs.ValueText.{capability_text, decimal_of, mode_text, on_off_text, operation_text, protection_text}
+use Rattle.pm_values.specs.ValueText.{capability_text, decimal_of, mode_text, on_off_text, operation_text, protection_text, relative_text}
 use Rattle.pm_values.specs.Values.{carried, millionths, other_value, packet_value}
 use Rattle.pm_values.specs.declared.formats.GivenFormats.{GivenFormats}
 use Rattle.pm_values.specs.declared.value.Unit.{Unit as MeasureUnit}
 use Rattle.pm_values.specs.declared.value.Unit.TheVariants.{Volt, Ampere, Celsius}
 use Rattle.pm_values.specs.declared.value.Value.{Value}
-use Rattle.pm_values.specs.declared.value.Value.TheVariants.{Measured, Operates, Protects, Scales, Flags, Capable, Controls}
+use Rattle.pm_values.specs.declared.value.Value.TheVariants.{Measured, Operates, Protects, Scales, Relative, Flags, Capable, Controls}
 use Rattle.pm_decode.specs.Hearing.{HeardLines, heard_lines}
 
 -- ---- fields
@@ -84,6 +84,7 @@ value_fields (Measured ratio unit) = fraction_by ratio.num (pos ratio.den) ++ ro
 value_fields (Operates operation) = text_field (codes "value") (operation_text operation)
 value_fields (Protects byte) = text_field (codes "value") (protection_text byte)
 value_fields (Scales mode) = text_field (codes "value") (mode_text mode)
+value_fields (Relative n) = text_field (codes "value") (relative_text n)
 value_fields (Capable byte) = text_field (codes "value") (capability_text byte)
 value_fields (Controls byte) = text_field (codes "value") (on_off_text byte)
 value_fields (Flags status bits) =

@@ -11,7 +11,7 @@ use std::process::Abort;
 const PLAIN: TellOptions = TellOptions {
     values: false,
     formats: GivenFormats {
-        vout: None,
+        vout: [None; 8],
         readings: [None; 8],
     },
     all: false,

@@ -209,7 +209,7 @@ B2 88 / B3 00 D3 -> 59 READ_VIN read D300, no PEC
 B0 79 / B1 02 20 -> 58 STATUS_WORD read 2002 INPUT, CML, no PEC
 B0 06 02 01 20 / B1 01 14 -> 58 page 1 VOUT_MODE read 14 ULINEAR16 -12, no PEC
 B0 06 02 01 8B / B1 02 CD 34 -> 58 page 1 READ_VOUT read 34CD 3.300048 V, no PEC
-B0 8B / B1 CD 34 -> 58 READ_VOUT read 34CD, no PEC
+B0 8B / B1 CD 34 -> 58 READ_VOUT read 34CD 3.300048 V, no PEC
 B0 79 00 08 -> 58 code 79 STATUS_WORD write 00 08, no PEC
 B0 88 / B1 FF FF -> 58 code 88 READ_VIN read FF FF, all ones: nobody answered
 B0 03 47 -> 58 write F5 WrongPec 2 bytes B0 03 47
