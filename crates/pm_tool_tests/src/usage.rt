@@ -233,8 +233,7 @@ Options:
   -h, --help         Print help
 
 A word is 34CD, without 0x or h. K is in millionths: 3.3 V is 3300000; a negative one is written
---micro=-3300000. LINEAR16 of older papers is ulinear16:N, with N of VOUT_MODE. A / may stand for
-each : of a format.
+--micro=-3300000. LINEAR16 of older papers is ulinear16:N, with N of VOUT_MODE.
 
   $ pmb number --format=ulinear16:-12 --micro=3300000
   word 34CD value 13517/4096 micro 3300048

@@ -6,8 +6,8 @@ use Rattle.std.specs.Map.{lookup}
 use Rattle.std.specs.Option.{option_or}
 use Rattle.indexmap.specs.IndexMap.{insert_entry}
 use Rattle.pm_table.specs.Codes as command
-use Rattle.pm_values.specs.declared.mode_change.ModeChange.{ModeChange}
-use Rattle.pm_values.specs.declared.mode_change.ModeChange.TheVariants.{OfNone, OfOutput, OfAll}
+use Rattle.pm_values.specs.declared.mode_changes.ModeChange.{ModeChange}
+use Rattle.pm_values.specs.declared.mode_changes.ModeChange.TheVariants.{OfNone, OfOutput, OfAll}
 use Rattle.pm_values.specs.declared.modes.ModeLine.{ModeLine}
 
 -- what a line said of the mode of each output, and of the plain mode of each address, which is None for one that had a packet of
@@ -118,7 +118,7 @@ abbrev pub agreed_with : Option (Option ℕ) → Option ℕ → Option (Option �
 agreed_with None mode = Some mode
 agreed_with (Some agreed) mode = Some (same_mode agreed mode)
 
--- the same of an entry, if it is of an address whose modes may have changed in a line
+-- what outputs of an address agree on, with one entry more, which may be of another; all its modes may have changed in a line
 abbrev pub entry_agreed : ℕ → Option ℕ → Option (Option ℕ) → ℕ × ModeLine → Option (Option ℕ)
 entry_agreed addr changed agreed entry = if entry.0 / 256 == addr then agreed_with agreed (mode_since changed entry.1) else agreed
 

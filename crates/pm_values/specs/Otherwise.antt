@@ -49,15 +49,19 @@ abbrev pub ends_in_pec : List ℕ → ℕ → List ℕ → Bool
 ends_in_pec before fewest part = nat_le (fewest + 1) (length part)
     && slice_index part (length part - 1) == pec_of (before ++ take (length part - 1) part)
 
+-- a code whose answer is a word: READ_VIN to READ_PIN
+abbrev pub is_of_word : ℕ → Bool
+is_of_word code = nat_le command.read_vin code && nat_le code 0x97
+
 -- how many bytes a code has at least, as far as that is judged: two of READ_VIN to READ_PIN, one of ON_OFF_CONFIG and of
 -- STATUS_IOUT to STATUS_FANS_3_4
 abbrev pub fewest_written : ℕ → ℕ
-fewest_written code = if nat_le 0x88 code && nat_le code 0x97 then 2
+fewest_written code = if is_of_word code then 2
     else (if code == 0x02 || (nat_le 0x7B code && nat_le code 0x82) then 1 else 0)
 
 -- an answer has at least one
 abbrev pub fewest_read : ℕ → ℕ
-fewest_read code = if nat_le 0x88 code && nat_le code 0x97 then 2 else 1
+fewest_read code = if is_of_word code then 2 else 1
 
 -- behind the address and the code of a write, or behind the address of what was read, and behind the bytes that the code has
 abbrev pub has_pec : List ℕ → Option (List ℕ) → Bool

@@ -24,7 +24,7 @@ use Rattle.pm_values.specs.Modes.{Modes, key_of, is_paging, modes_changed, no_mo
 use Rattle.pm_values.specs.declared.formats.GivenFormats.{GivenFormats}
 use Rattle.pm_values.specs.declared.formats.GivenFormat.{GivenFormat}
 use Rattle.pm_values.specs.declared.lessons.Asked.{Asked}
-use Rattle.pm_values.specs.declared.mode_change.ModeChange.{ModeChange}
+use Rattle.pm_values.specs.declared.mode_changes.ModeChange.{ModeChange}
 
 -- what was said of modes, the coefficients of each code of each address to write it and to read it, and the addresses that answered
 -- with a mode of ULINEAR16

@@ -7,7 +7,7 @@ ghost use Rattle.pm_values.specs.Modes.{key_of as spec_key_of};
 
 use crate::formats::{GivenFormats, direct_only, format_given};
 use crate::meaning::{GoodPacket, exponent_in};
-use crate::mode_change::{ModeChange, is_paging};
+use crate::mode_changes::{ModeChange, is_paging};
 use crate::modes::{Modes, key_of};
 use indexmap::IndexMap;
 use pm_frame::Message;

@@ -2,7 +2,7 @@
 ghost use Rattle.std.specs.Prelude.{◌≡◌, ◌≤◌};
 ghost use Rattle.pm_values.specs.Modes.{agreed_with, entry_agreed as spec_entry_agreed, key_of as spec_key_of, mode_since as spec_mode_since, plain_over as spec_plain_over, same_mode as spec_same_mode};
 
-use crate::mode_change::ModeChange;
+use crate::mode_changes::ModeChange;
 use indexmap::IndexMap;
 use std::alloc::{AllocError, Global};
 use std::marker::Model;
@@ -20,7 +20,7 @@ pub(crate) struct ModeLine {
 #[derive(Debug, Drop)]
 pub(crate) struct Modes {
     said: IndexMap<u16, ModeLine>,
-    // Of plain packets, and None for an address that had a packet of PAGE or PAGE_PLUS.
+    // The last one that a plain packet read of each address; None for an address that had a packet of PAGE or PAGE_PLUS.
     plain: IndexMap<u8, Option<ModeLine>>,
     // The last line by which all modes of an address may have changed.
     changed: IndexMap<u8, u64>,

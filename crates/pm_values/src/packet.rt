@@ -1,10 +1,11 @@
 //! A packet by its bytes.
 ghost use Rattle.std.specs.List.{list_all};
 ghost use Rattle.std.specs.Prelude.{◌≡◌, ◌==◌, ◌-◌, ◌≤◌, IfSome, is_some, length, nat_lt, option_map, slice_index, take};
-ghost use Rattle.pm_values.specs.Otherwise.{IsCompleted, are_ones as spec_are_ones, ends_in_pec as spec_ends_in_pec, fewest_read as spec_fewest_read, fewest_written as spec_fewest_written, has_pec as spec_has_pec, is_all_ones as spec_is_all_ones, last_part, shown_of as spec_shown_of, with_pec as spec_with_pec};
+ghost use Rattle.pm_values.specs.Otherwise.{IsCompleted, are_ones as spec_are_ones, ends_in_pec as spec_ends_in_pec, fewest_read as spec_fewest_read, fewest_written as spec_fewest_written, has_pec as spec_has_pec, is_all_ones as spec_is_all_ones, is_of_word as spec_is_of_word, last_part, shown_of as spec_shown_of, with_pec as spec_with_pec};
 
 use arrayvec::ArrayVec;
 use pm_frame::{pec, pec_after};
+use pm_table::Code;
 
 /// The bytes of a packet, as they went over the bus; they may be any.
 #[derive(Clone, Copy, Debug)]
@@ -109,10 +110,12 @@ fn fewest_written(code: u8) -> usize
     ensures bytes { result ≡ spec_fewest_written code }
     ensures few { result ≤ 2 }
 {
-    match code {
-        0x88..=0x97 => 2,
-        0x02 | 0x7B..=0x82 => 1,
-        _ => 0,
+    if is_of_word(code) {
+        2
+    } else if code == 0x02 || (0x7B <= code && code <= 0x82) {
+        1
+    } else {
+        0
     }
 }
 
@@ -121,10 +124,14 @@ fn fewest_read(code: u8) -> usize
     ensures bytes { result ≡ spec_fewest_read code }
     ensures few { result ≤ 2 }
 {
-    match code {
-        0x88..=0x97 => 2,
-        _ => 1,
-    }
+    if is_of_word(code) { 2 } else { 1 }
+}
+
+// Whether a code's answer is a word: READ_VIN to READ_PIN.
+fn is_of_word(code: u8) -> bool
+    ensures { result ≡ spec_is_of_word code }
+{
+    Code::READ_VIN.0 <= code && code <= 0x97
 }
 
 // A part without its first bytes, and without its PEC where it ends in it.

@@ -150,7 +150,7 @@ fn read_at_number(listed: Listed, number: u8, text: &str) -> Option<GivenFormat>
     }
 }
 
-// The same of a reading.
+// The entry of a reading whose first part is a number.
 fn read_behind(number: u8, text: &str) -> Option<GivenFormat>
     ensures { (second : List ℕ) (more : List (List ℕ)) → parts text.now ≡ second ∷ more
         → option_map entry_seen result ≡ entry_from Listed.Readings (Option.Some number) [] second more }

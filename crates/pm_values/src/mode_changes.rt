@@ -1,4 +1,4 @@
-//! By what a packet may change the VOUT_MODE of outputs.
+//! Which packets may change the VOUT_MODE of outputs.
 ghost use Rattle.std.specs.Prelude.{◌≡◌};
 ghost use Rattle.pm_values.specs.Modes.{change_of, code_change as spec_code_change, is_paging as spec_is_paging, is_restore as spec_is_restore};
 
