@@ -72,7 +72,7 @@ HasExponent Linear11 = ⊤
 HasExponent (Ulinear16 n) = IsExponent n
 HasExponent (Direct m b r) = ⊤
 
--- the same where no slash (47) stands for a colon, as `number` has formats
+-- a format in which no slash (47) stands for a colon, as `number` has formats
 abbrev pub is_slash : ℕ → Bool
 is_slash c = c == 47
 

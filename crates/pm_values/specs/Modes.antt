@@ -90,8 +90,13 @@ modes_changed line (Some addr) (OfOutput page) modes = output_said line addr pag
 modes_changed line (Some addr) OfAll modes = all_changed line addr modes
 
 -- an address has a packet of PAGE or PAGE_PLUS: its plain modes say nothing any more
+abbrev pub paged_over : Option (Option ModeLine) → ℕ → Modes → Modes
+paged_over (Some None) addr modes = modes
+paged_over (Some (Some said)) addr modes = record modes { plain = insert_entry nat_eq modes.plain addr None }
+paged_over None addr modes = record modes { plain = insert_entry nat_eq modes.plain addr None }
+
 abbrev pub paged : ℕ → Modes → Modes
-paged addr modes = record modes { plain = insert_entry nat_eq modes.plain addr None }
+paged addr modes = paged_over (lookup (nat_eq addr) modes.plain) addr modes
 
 -- ---- what is known
 

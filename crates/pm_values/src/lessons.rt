@@ -2,7 +2,7 @@
 ghost use Rattle.std.specs.Prelude.{◌≡◌, Some, option_map, slice_index};
 ghost use Rattle.pm_num.specs.AnyFormat.{InUlinear16, shape_of};
 ghost use Rattle.pm_num.specs.Formats.{IsExponent};
-ghost use Rattle.pm_values.specs.Taught.{is_never_relative as spec_is_never_relative, is_reading as spec_is_reading, is_voltage as spec_is_voltage, relative_shape};
+ghost use Rattle.pm_values.specs.Taught.{format_given as spec_format_given, is_never_relative as spec_is_never_relative, is_reading as spec_is_reading, is_voltage as spec_is_voltage, relative_shape};
 ghost use Rattle.pm_values.specs.Modes.{key_of as spec_key_of};
 
 use crate::formats::{GivenFormats, direct_only, format_given};
@@ -221,8 +221,7 @@ impl Lessons {
         ensures { option_map shape_of result ≡ packet_shape given.now self.now asked }
     {
         if is_voltage(asked.code) {
-            let vout = format_given(&given.vout, asked.addr, asked.code);
-            return self.voltage_format(vout, asked);
+            return self.voltage_format(given, asked);
         }
         if is_reading(asked.code) {
             return self.reading_format(given, asked.addr, asked.code);
@@ -231,23 +230,25 @@ impl Lessons {
     }
 
     // The format of a voltage: that of the mode which was taught, otherwise the one that is given.
-    fn voltage_format(&self, given: Option<AnyFormat>, asked: Asked) -> Option<AnyFormat>
-        ensures { option_map shape_of result ≡ voltage_shape (option_map shape_of given) self.now asked }
+    fn voltage_format(&self, given: &GivenFormats, asked: Asked) -> Option<AnyFormat>
+        ensures { option_map shape_of result
+            ≡ voltage_shape (spec_format_given given.now.vout asked.addr asked.code) self.now asked }
     {
         match self.modes.of_page(asked.addr, asked.page) {
-            None => given,
+            None => format_given(&given.vout, asked.addr, asked.code),
             Some(None) => None,
             Some(Some(byte)) => self.byte_format(given, byte, asked),
         }
     }
 
     // The format of a mode by its byte.
-    fn byte_format(&self, given: Option<AnyFormat>, byte: u8, asked: Asked) -> Option<AnyFormat>
-        ensures { option_map shape_of result ≡ shape_of_byte (option_map shape_of given) asked.code byte
+    fn byte_format(&self, given: &GivenFormats, byte: u8, asked: Asked) -> Option<AnyFormat>
+        ensures { option_map shape_of result ≡ shape_of_byte (spec_format_given given.now.vout asked.addr asked.code) asked.code byte
             (coefficients_known self.now asked.is_read (spec_key_of asked.addr asked.code)) }
     {
         if byte / 32 == 4 {
-            return relative_format(given, asked.code, byte);
+            let vout = format_given(&given.vout, asked.addr, asked.code);
+            return relative_format(vout, asked.code, byte);
         }
         match VoutMode::read(byte) {
             Ok(mode) => self.mode_format(given, mode, asked),
@@ -258,19 +259,19 @@ impl Lessons {
     // The format of a mode: DIRECT has the coefficients that were taught, otherwise those of the format that is given.
     fn mode_format(
         &self,
-        given: Option<AnyFormat>,
+        given: &GivenFormats,
         mode: VoutMode,
         asked: Asked,
     ) -> Option<AnyFormat>
         requires { IsMode mode }
-        ensures { option_map shape_of result ≡ shape_known (option_map shape_of given) mode
+        ensures { option_map shape_of result ≡ shape_known (spec_format_given given.now.vout asked.addr asked.code) mode
             (coefficients_known self.now asked.is_read (spec_key_of asked.addr asked.code)) }
     {
         let coefficients = match mode {
             VoutMode::Linear(_) => Coefficients { m: 0, b: 0, r: 0 },
             VoutMode::Direct => match self.coefficients(asked) {
                 Some(coefficients) => coefficients,
-                None => return direct_only(given),
+                None => return direct_only(format_given(&given.vout, asked.addr, asked.code)),
             },
         };
         match format_of(mode, coefficients) {

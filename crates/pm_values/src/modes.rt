@@ -104,7 +104,9 @@ impl Modes {
     pub(crate) fn page(&mut self, addr: u8) -> Result<(), AllocError>
         ensures { OnOk result (self.new ≡ paged addr self.old) }
     {
-        self.plain.insert(addr, None)?;
+        if !matches!(self.plain.get(&addr).copied(), Some(None)) {
+            self.plain.insert(addr, None)?;
+        }
         Ok(())
     }
 

@@ -215,14 +215,14 @@ fn listed_format(listed: Listed, format: FormatText) -> Option<AnyFormat>
     requires { HasExponent format }
     ensures { option_map shape_of result ≡ listed_shape listed format }
 {
-    match (listed, format) {
-        (Listed::Readings, FormatText::Ulinear16(_)) => None,
-        _ => format_made(format),
+    match listed {
+        Listed::Voltages => vout_format(format),
+        Listed::Readings => reading_format(format),
     }
 }
 
-// The format that was read of a text, where it can be.
-fn format_made(format: FormatText) -> Option<AnyFormat>
+// The format of a voltage.
+fn vout_format(format: FormatText) -> Option<AnyFormat>
     requires { HasExponent format }
     ensures { option_map shape_of result ≡ shape_named format }
 {
@@ -232,11 +232,27 @@ fn format_made(format: FormatText) -> Option<AnyFormat>
             Some(made) => Some(AnyFormat::Ulinear16(made)),
             None => None,
         },
-        FormatText::Direct(m, b, r) => {
-            match format_of(VoutMode::Direct, Coefficients { m, b, r }) {
-                Ok(made) => Some(made),
-                Err(_) => None,
-            }
-        }
+        FormatText::Direct(m, b, r) => direct_format(m, b, r),
+    }
+}
+
+// The format of a reading.
+fn reading_format(format: FormatText) -> Option<AnyFormat>
+    ensures { option_map shape_of result ≡ listed_shape Listed.Readings format }
+{
+    match format {
+        FormatText::Linear11 => Some(AnyFormat::Linear11),
+        FormatText::Ulinear16(_) => None,
+        FormatText::Direct(m, b, r) => direct_format(m, b, r),
+    }
+}
+
+// DIRECT with these coefficients.
+fn direct_format(m: i16, b: i16, r: i8) -> Option<AnyFormat>
+    ensures { option_map shape_of result ≡ shape_named (FormatText.Direct m b r) }
+{
+    match format_of(VoutMode::Direct, Coefficients { m, b, r }) {
+        Ok(made) => Some(made),
+        Err(_) => None,
     }
 }
