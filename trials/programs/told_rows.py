@@ -813,12 +813,12 @@ B0 06 02 01 21 / B1 02 CD 34 *   {"line":2,"address":"58","page":1,"code":"21","
 B0 03 46                   {"line":3,"address":"58","code":"03","name":"CLEAR_FAULTS","direction":"send"}
 B0 30 02 21 00 / B1 05 01 00 00 00 03 6B    {"line":4,"address":"58","code":"30","name":"COEFFICIENTS","of":"21","side":0,"direction":"read","payload":"01 00 00 00 03","m":1,"b":0,"r":3}
 B0 30 02 8B 01 / B1 05 00 80 FF FF F4 *    {"line":5,"address":"58","code":"30","name":"COEFFICIENTS","of":"8B","side":1,"direction":"read","payload":"00 80 FF FF F4","m":-32768,"b":-1,"r":-12}
-B0 05 04 01 21 CD 34 5A    {"line":6,"address":"58","direction":"write","fault":"F5 WrongPec","place":7}
-B0 21 / B3                 {"line":7,"address":"58","direction":"read","fault":"F1 NotOurs"}
+B0 05 04 01 21 CD 34 5A    {"line":6,"address":"58","code":"05","direction":"write","fault":"F5 WrongPec","place":7}
+B0 21 / B3                 {"line":7,"address":"58","code":"21","direction":"read","fault":"F1 NotOurs"}
 /                          {"line":8,"direction":"write","fault":"F1 NotOurs"}
 B0 9                       {"line":9,"fault":"X2 BadHex"}
 B0 / B1 / B2               {"line":10,"fault":"X1 Syntax"}
-B0 96 / B1 34 12           {"line":11,"address":"58","direction":"write","fault":"F6 UnknownCode","place":1}
+B0 96 / B1 34 12           {"line":11,"address":"58","code":"96","direction":"write","fault":"F6 UnknownCode","place":1}
 = {"count":"VOUT_COMMAND","lines":2}
 = {"count":"CLEAR_FAULTS","lines":1}
 = {"count":"COEFFICIENTS","lines":2}
@@ -836,8 +836,8 @@ B0 10 80 34                {"line":8,"address":"58","code":"10","name":"WRITE_PR
 B0 78 / B1 42 *            {"line":9,"address":"58","code":"78","name":"STATUS_BYTE","direction":"read","payload":"42","flags":["OFF","CML"]}
 B0 79 / B1 00 00 *         {"line":10,"address":"58","code":"79","name":"STATUS_WORD","direction":"read","payload":"00 00","flags":[]}
 B0 7E / B1 04 *            {"line":11,"address":"58","code":"7E","name":"STATUS_CML","direction":"read","payload":"04","flags":["bit 2"]}
-B0 05 04 01 21 CD 34 5A    {"line":12,"address":"58","direction":"write","packet":"B0 05 04 01 21 CD 34 5A","fault":"F5 WrongPec","place":7}
-B0 06 02 00 21 / B1 02 CD  {"line":13,"address":"58","direction":"read","packet":"B0 06 02 00 21 / B1 02 CD","fault":"F2 Short","place":3}
+B0 05 04 01 21 CD 34 5A    {"line":12,"address":"58","code":"05","direction":"write","packet":"B0 05 04 01 21 CD 34 5A","fault":"F5 WrongPec","place":7}
+B0 06 02 00 21 / B1 02 CD  {"line":13,"address":"58","code":"06","direction":"read","packet":"B0 06 02 00 21 / B1 02 CD","fault":"F2 Short","place":3}
 B0 21 CD 34 *              {"line":14,"address":"58","code":"21","name":"VOUT_COMMAND","direction":"write","payload":"CD 34","numerator":13517,"denominator":4096,"volts":3.300048}
 B0 19 / B1 B0 *            {"line":15,"address":"58","code":"19","name":"CAPABILITY","direction":"read","payload":"B0","value":"PEC, 400 kHz, SMBALERT#"}
 /                          {"line":16,"direction":"write","packet":"/","fault":"F1 NotOurs"}
@@ -1456,7 +1456,7 @@ B0 21 CD 34 *              {"line":3,"address":"58","page":1,"followed":true,"co
 B0 79 / B1 40 08 *         {"line":4,"address":"58","page":1,"followed":true,"code":"79","name":"STATUS_WORD","direction":"read","payload":"40 08","flags":["POWER_GOOD#","OFF"]}
 B0 03 *                    {"line":5,"address":"58","page":1,"followed":true,"code":"03","name":"CLEAR_FAULTS","direction":"send"}
 B0 00 / B1 00 *            {"line":6,"address":"58","code":"00","name":"PAGE","direction":"read","payload":"00","wrong":[1,6]}
-B0 00 02 !                 {"line":7,"address":"58","direction":"write","packet":"B0 00 02 !","fault":"F5 WrongPec","place":3}
+B0 00 02 !                 {"line":7,"address":"58","code":"00","direction":"write","packet":"B0 00 02 !","fault":"F5 WrongPec","place":3}
 B0 21 CD 34 *              {"line":8,"address":"58","code":"21","name":"VOUT_COMMAND","direction":"write","payload":"CD 34","wrong":[7,8]}
 B0 7A / B1 10 *            {"line":9,"address":"58","code":"7A","name":"STATUS_VOUT","direction":"read","payload":"10","flags":["VOUT_UV_FAULT"],"wrong":[7,9]}
 B0 88 / B1 00 D3 *         {"line":10,"address":"58","code":"88","name":"READ_VIN","direction":"read","payload":"00 D3","numerator":768,"denominator":64,"volts":12,"wrong":[7,10]}
@@ -1681,7 +1681,7 @@ B0 96 / B1 34 12                          58 write F6 UnknownCode 1
     ("--json --times --long --all --vout=linear11 --values --pages --gap=5 --readings=linear11", """
 1 B0 06 02 00 20 / B1 01 14 *   {"line":1,"time":1,"address":"58","page":0,"code":"20","name":"VOUT_MODE","direction":"read","payload":"14","value":"ULINEAR16 -12"}
 20 B0 05 04 00 21 CD 34 5A      {"line":2,"time":20,"address":"58","page":0,"code":"21","name":"VOUT_COMMAND","direction":"write","payload":"CD 34","numerator":13517,"denominator":4096,"volts":3.300048}
-300 B0 05 04 01 21 CD 34 5A     {"line":3,"time":300,"address":"58","direction":"write","packet":"B0 05 04 01 21 CD 34 5A","fault":"F5 WrongPec","place":7}
+300 B0 05 04 01 21 CD 34 5A     {"line":3,"time":300,"address":"58","code":"05","direction":"write","packet":"B0 05 04 01 21 CD 34 5A","fault":"F5 WrongPec","place":7}
 4000 B0 96 / B1 34 12           {"line":4,"time":4000,"address":"58","code":"96","name":"READ_POUT","direction":"read","payload":"34 12","pec":false}
 = {"count":"VOUT_MODE","lines":1}
 = {"count":"VOUT_COMMAND","lines":1}

@@ -1,11 +1,11 @@
 -- What is told besides of a capture that was told whole: a voltage that is ordered beyond 1000 V by the format that was given,
 -- and lines of which none is what the options say that lines are. This project's own choice.
-use Rattle.std.specs.Prelude.{ℕ, Bool, false, ◌&&◌, nat_lt, not, is_some, unsigned_abs, if◌then◌else◌, replicate, Option, Some, None}
-use Rattle.std.specs.List.{list_any}
+use Rattle.std.specs.Prelude.{ℕ, Bool, false, ◌&&◌, nat_lt, not, is_some, unsigned_abs, if◌then◌else◌, List, [], ◌∷◌, replicate, Option, Some, None}
 use Rattle.pm_frame.specs.declared.message.Message.{Message}
 use Rattle.pm_trace.specs.Trace.{Judged, Accepted, Faulty, BadSyntax, BadHex}
 use Rattle.pm_values.specs.Taught.{Taught}
 use Rattle.pm_values.specs.Values.{millionths, packet_value}
+use Rattle.pm_values.specs.declared.formats.GivenFormat.{GivenFormat}
 use Rattle.pm_values.specs.declared.formats.GivenFormats.{GivenFormats}
 use Rattle.pm_values.specs.declared.value.Unit.TheVariants.{Volt, Ampere, Celsius}
 use Rattle.pm_values.specs.declared.value.Value.{Value}
@@ -49,8 +49,12 @@ first_if (Some line) is number = Some line
 first_if None is number = if is then Some number else None
 
 -- a format of voltages is given
+abbrev pub has_entry : List (Option GivenFormat) → Bool
+has_entry [] = false
+has_entry (entry ∷ entries) = is_some entry
+
 abbrev pub has_vout : GivenFormats → Bool
-has_vout given = list_any is_some given.vout
+has_vout given = has_entry given.vout
 
 abbrev pub beyond_by : TellOptions → Taught → Option ℕ → ℕ → Judged → Option ℕ → Option ℕ
 beyond_by options taught reached number judged before =

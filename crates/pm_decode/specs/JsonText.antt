@@ -174,6 +174,16 @@ abbrev pub kind_fields : FrameFault → List ℕ
 kind_fields fault =
     text_field (codes "fault") (frame_fault_words fault) ++ number_field_if (codes "place") (frame_fault_place fault)
 
+-- the code of one that has an address and a code
+abbrev pub fault_code_by : List ℕ → List ℕ
+fault_code_by [] = []
+fault_code_by (first ∷ []) = []
+fault_code_by (first ∷ code ∷ rest) = text_field (codes "code") (hex_byte code)
+
+abbrev pub fault_code : Option ℕ → List ℕ → List ℕ
+fault_code None write = []
+fault_code (Some addr) write = fault_code_by write
+
 abbrev pub fault_fields : Bool → List ℕ → Option (List ℕ) → Bool → FrameFault → List ℕ
 fault_fields values write read is_read fault = text_field (codes "direction") (if is_read then codes "read" else codes "write")
     ++ (whole_field values write read ++ kind_fields fault)
@@ -230,7 +240,7 @@ abbrev pub judged_fields : GivenFormats → Bool → Taught → Option ℕ → L
 judged_fields given values taught reached write read (Accepted addr message answer) =
     address_field (Some addr) ++ message_fields given values taught reached addr message answer
 judged_fields given values taught reached write read (Faulty addr is_read fault) =
-    address_field addr ++ fault_fields values write read is_read fault
+    address_field addr ++ (fault_code addr write ++ fault_fields values write read is_read fault)
 judged_fields given values taught reached write read BadSyntax = []
 judged_fields given values taught reached write read BadHex = []
 

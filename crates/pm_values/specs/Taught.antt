@@ -168,10 +168,10 @@ abbrev pub is_met : Option ℕ → ℕ → Bool
 is_met None number = true
 is_met (Some wanted) number = wanted == number
 
--- the format of the first entry for this address and code
+-- the format of the first entry for this address and code; an absent entry ends the list
 abbrev pub format_given : List (Option GivenFormat) → ℕ → ℕ → Option Shape
 format_given [] addr code = None
-format_given (None ∷ entries) addr code = format_given entries addr code
+format_given (None ∷ entries) addr code = None
 format_given (Some entry ∷ entries) addr code = if is_met entry.addr addr && is_met entry.code code
     then Some (shape_of entry.format) else format_given entries addr code
 

@@ -16,7 +16,7 @@ pub struct GivenFormat {
     pub format: AnyFormat,
 }
 
-/// The formats that a user gives.
+/// The formats that a user gives: of each list those before the first absent one.
 #[derive(Clone, Copy, Debug)]
 pub struct GivenFormats {
     /// The formats of voltages whose own format the capture doesn't teach: the first one for an address holds.
@@ -25,7 +25,7 @@ pub struct GivenFormats {
     pub readings: [Option<GivenFormat>; 8],
 }
 
-/// The format of the first entry for this address and code.
+/// The format of the first entry for this address and code; an absent entry ends the list.
 pub(crate) fn format_given(entries: &[Option<GivenFormat>], addr: u8, code: u8) -> Option<AnyFormat>
     ensures { option_map shape_of result ≡ spec_format_given entries.now addr code }
 {
@@ -33,8 +33,9 @@ pub(crate) fn format_given(entries: &[Option<GivenFormat>], addr: u8, code: u8) 
         return None;
     };
     match entry {
+        None => None,
         Some(entry) if is_met(entry.addr, addr) && is_met(entry.code, code) => Some(entry.format),
-        _ => format_given(rest, addr, code),
+        Some(_) => format_given(rest, addr, code),
     }
 }
 

@@ -257,12 +257,7 @@ impl Lessons {
     }
 
     // The format of a mode: DIRECT has the coefficients that were taught, otherwise those of the format that is given.
-    fn mode_format(
-        &self,
-        given: &GivenFormats,
-        mode: VoutMode,
-        asked: Asked,
-    ) -> Option<AnyFormat>
+    fn mode_format(&self, given: &GivenFormats, mode: VoutMode, asked: Asked) -> Option<AnyFormat>
         requires { IsMode mode }
         ensures { option_map shape_of result ≡ shape_known (spec_format_given given.now.vout asked.addr asked.code) mode
             (coefficients_known self.now asked.is_read (spec_key_of asked.addr asked.code)) }

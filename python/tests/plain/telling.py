@@ -87,7 +87,8 @@ def fields_of(packet, frame, read, has_values, value):
     if packet["kind"] == "fault":
         name, place = packet["fault"]
         shown = whole_bytes(frame, read) or None if has_values else None
-        return {**head, "direction": packet["part"], "packet": shown, "fault": name, "place": place}
+        code = f"{frame[1]:02X}" if packet["address"] is not None and len(frame) > 1 else None
+        return {**head, "code": code, "direction": packet["part"], "packet": shown, "fault": name, "place": place}
     if packet["kind"] == "other":
         return {**head, **other_fields(packet, value)}
     code, shown = {"code": f"{packet['code']:02X}", "name": name_of(packet["code"])}, spaced(packet["payload"])

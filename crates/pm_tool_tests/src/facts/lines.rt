@@ -313,12 +313,12 @@ B0 05 04 00 21 CD 34 5A -> {"line":1,"address":"58","page":0,"code":"21","name":
 B0 06 02 01 21 / B1 02 CD 34 90 -> {"line":2,"address":"58","page":1,"code":"21","name":"VOUT_COMMAND","direction":"read","payload":"CD 34"}
 B0 03 46 -> {"line":3,"address":"58","code":"03","name":"CLEAR_FAULTS","direction":"send"}
 B0 30 02 21 00 / B1 05 01 00 00 00 03 6B -> {"line":4,"address":"58","code":"30","name":"COEFFICIENTS","of":"21","side":0,"direction":"read","payload":"01 00 00 00 03","m":1,"b":0,"r":3}
-B0 05 04 01 21 CD 34 5A -> {"line":5,"address":"58","direction":"write","fault":"F5 WrongPec","place":7}
-B0 21 / B3 -> {"line":6,"address":"58","direction":"read","fault":"F1 NotOurs"}
+B0 05 04 01 21 CD 34 5A -> {"line":5,"address":"58","code":"05","direction":"write","fault":"F5 WrongPec","place":7}
+B0 21 / B3 -> {"line":6,"address":"58","code":"21","direction":"read","fault":"F1 NotOurs"}
 / -> {"line":7,"direction":"write","fault":"F1 NotOurs"}
 B0 9 -> {"line":8,"fault":"X2 BadHex"}
 B0 / B1 / B2 -> {"line":9,"fault":"X1 Syntax"}
-B0 96 / B1 34 12 -> {"line":10,"address":"58","direction":"write","fault":"F6 UnknownCode","place":1}
+B0 96 / B1 34 12 -> {"line":10,"address":"58","code":"96","direction":"write","fault":"F6 UnknownCode","place":1}
 {"count":"VOUT_COMMAND","lines":2}
 {"count":"CLEAR_FAULTS","lines":1}
 {"count":"COEFFICIENTS","lines":1}
@@ -340,12 +340,12 @@ B0 10 80 34 -> {"line":8,"address":"58","code":"10","name":"WRITE_PROTECT","dire
 B0 78 / B1 42 3D -> {"line":9,"address":"58","code":"78","name":"STATUS_BYTE","direction":"read","payload":"42","flags":["OFF","CML"]}
 B0 79 / B1 00 00 D4 -> {"line":10,"address":"58","code":"79","name":"STATUS_WORD","direction":"read","payload":"00 00","flags":[]}
 B0 7E / B1 04 95 -> {"line":11,"address":"58","code":"7E","name":"STATUS_CML","direction":"read","payload":"04","flags":["bit 2"]}
-B0 05 04 01 21 CD 34 5A -> {"line":12,"address":"58","direction":"write","packet":"B0 05 04 01 21 CD 34 5A","fault":"F5 WrongPec","place":7}
-B0 06 02 00 21 / B1 02 CD -> {"line":13,"address":"58","direction":"read","packet":"B0 06 02 00 21 / B1 02 CD","fault":"F2 Short","place":3}
+B0 05 04 01 21 CD 34 5A -> {"line":12,"address":"58","code":"05","direction":"write","packet":"B0 05 04 01 21 CD 34 5A","fault":"F5 WrongPec","place":7}
+B0 06 02 00 21 / B1 02 CD -> {"line":13,"address":"58","code":"06","direction":"read","packet":"B0 06 02 00 21 / B1 02 CD","fault":"F2 Short","place":3}
 B0 21 CD 34 38 -> {"line":14,"address":"58","code":"21","name":"VOUT_COMMAND","direction":"write","payload":"CD 34"}
 B0 -> {"line":15,"address":"58","direction":"write","packet":"B0","fault":"F2 Short","place":1}
 B0 / B1 -> {"line":16,"address":"58","direction":"write","packet":"B0 / B1","fault":"F2 Short","place":1}
-B0 20 / -> {"line":17,"address":"58","direction":"read","packet":"B0 20 /","fault":"F1 NotOurs"}
+B0 20 / -> {"line":17,"address":"58","code":"20","direction":"read","packet":"B0 20 /","fault":"F1 NotOurs"}
 {"count":"VOUT_MODE","lines":1}
 {"count":"VOUT_COMMAND","lines":2}
 {"count":"READ_VIN","lines":1}
