@@ -18,8 +18,10 @@ where X6 arises instead. Without git the files are those that stand in the tree.
     middle     a comment begins in the middle of a sentence: with and, so, or, nor, by, of, where, the same, these
     page       a refusal of a type isn't in docs/refusals.md, or one of the page or of a help is in no type
     example    an example of a comment stands in no test, word for word
-    claims     a law carries no row of its crate's page of docs/claims/, or one of another page; of its own it may carry several,
-               a clause each
+    claims     a law has no comment that says it in words, or its clause names no definition; tools/claims prints both
+    words      a page uses a word of docs/style.md's list otherwise than is allowed there
+    sentence   a page has more words a sentence on average, or a longer one, than docs/style.md lets it have
+    law        docs/proved.md names a law, a clause or a definition that no crate has
     path       a path that a page, a script or a source names isn't there
     tally      a script of Python or bash prints `N passed, M failed` by itself: tools/tally.py and tools/tally.sh count and print
     edit       a text that a planted bug replaces doesn't stand once in its file
@@ -32,8 +34,10 @@ import os
 import re
 import sys
 
+import claims
 import house
 import planted
+import prose
 import refusals
 from crate_copy import crates_below, read
 from program import ROOT, Words, kept_files
@@ -301,31 +305,20 @@ def old_names():
         yield path, 1, "name", house.OLD_NAMES.search(read(path)).group()
 
 
-LAW = re.compile(r"^pub fn (\w+)(?:<[^\n]*>)?\(\)(?: *$| *\{)", re.M)
-
-
-def law_names(crates):
-    """The laws of crates: their public functions that take nothing and answer nothing, by crate."""
+def laws_of(crates):
+    """The laws of crates, as tools/claims prints them: public functions that take nothing and answer nothing, by crate."""
     for crate in crates:
-        for path in sorted(glob.glob("crates/%s/src/**/*.rt" % crate, recursive=True)):
-            if "/tests" not in path:
-                yield from ((crate, name) for name in LAW.findall(read(path)))
-
-
-def carriers():
-    """The cells of docs/claims/ that say what carries a promise, by page."""
-    for path in sorted(glob.glob("docs/claims/pm*.md")):
-        rows = [line.split(" | ") for line in read(path).split("\n") if line.startswith("| ")]
-        yield os.path.basename(path)[:-3], "\n".join(row[1] for row in rows if len(row) > 2)
+        yield from ((crate, it) for it in claims.promises(crate) if it.is_law())
 
 
 def unclaimed(crates):
-    """Laws that carry no row of their crate's page, or one of another page."""
-    told = dict(carriers())
-    for crate, name in law_names(crates):
-        pages = [page for page, text in told.items() if re.search(r"`(?:\w+::)?%s`" % name, text)]
-        if pages != [crate]:
-            yield "docs/claims/%s.md" % crate, 1, "claims", "the law %s carries rows of %s" % (name, ", ".join(pages) or "no page")
+    """Laws without a comment, and laws whose clauses name no definition."""
+    known = claims.definitions()
+    for _, law in laws_of(crates):
+        if not law.comment:
+            yield *law.place, "claims", f"the law {law.name} has no comment"
+        if not claims.named(law, known):
+            yield *law.place, "claims", f"the law {law.name} names no definition"
 
 
 def stripped(text):
@@ -373,7 +366,7 @@ def findings(crates):
     yield from hanging(crates)
     yield from unrun(crates)
     yield from unclaimed(crates)
-    yield from (*lost_paths(), *hand_tallies(), *old_names()) if "pmb" in crates else ()
+    yield from (*lost_paths(), *hand_tallies(), *old_names(), *prose.findings(), *claims.lost_names()) if "pmb" in crates else ()
     yield from planted.findings(crates)
 
 

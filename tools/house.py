@@ -5,6 +5,9 @@
     tools/house --pairs    the laws that are stated twice and the lemmas that are proved twice, a pair a line
     tools/house --middles  the comments that begin in the middle of a sentence
     tools/house --laws     the public laws that no other function calls
+    tools/house --ends     the conditions above the crates that look at how a job or a course ended, and which begin a job or stand in a loop
+    tools/house --pages    each page: its words, words a sentence, words of its longest sentence, and its words of docs/style.md's
+                           list that are no allowed uses
 
 It reads files, and changes nothing.
 """
@@ -13,6 +16,8 @@ import glob
 import os
 import re
 
+import branches
+import prose
 from crate_copy import crates_below, read
 from program import ROOT, Words, kept_files
 from proof_text import files_of, lemmas_of, over
@@ -210,9 +215,31 @@ def long_lines():
     return sum(len(over(read(path))) for path in found)
 
 
+def end_branches():
+    """The conditions above the crates that look at how a job or a course ended."""
+    paths = [path for pattern in ("crates/*/include/*.h", "rust/src/**/*.rs", "python/src/**/*.py", "examples/web/*.mjs") for path in files_at(pattern)]
+    return list(branches.branches(paths, read))
+
+
+def page_rows():
+    """Each page and header: its words, the words a sentence, the words of the longest one, and how many words of the list it misuses."""
+    for name in (*prose.pages(), *prose.HEADERS):
+        average, longest, _ = prose.measure(name)
+        yield prose.words_of(name), average, longest, len(list(prose.misused(name))), name
+
+
+def show_pages():
+    rows = list(page_rows())
+    print("words  a sentence  longest  listed")
+    for row in rows:
+        print("%5d  %10.1f  %7d  %6d  %s" % row)
+    print("%5d words of %d pages, at most %d; %d listed words, at most 0" % (
+        sum(row[0] for row in rows if row[4].endswith((".md", ".1"))), len(prose.pages()), prose.MOST_WORDS, sum(row[3] for row in rows)))
+
+
 def main():
-    words = Words(__doc__, "--pairs, --middles, --laws or nothing")
-    for flag in "pairs", "middles", "laws":
+    words = Words(__doc__, "--pairs, --middles, --laws, --ends, --pages or nothing")
+    for flag in "pairs", "middles", "laws", "ends", "pages":
         words.add_argument(f"--{flag}", action="store_true")
     given = words.read()
     os.chdir(ROOT)
@@ -230,6 +257,13 @@ def main():
     if given.laws:
         for it in uncalled_laws(crates):
             print("%s %s" % it)
+        return
+    if given.ends:
+        for path, line, condition, begins in end_branches():
+            print("%s:%d: %s%s" % (path, line, condition, ": BEGINS A JOB OR STANDS IN A LOOP" if begins else ""))
+        return
+    if given.pages:
+        show_pages()
         return
     libraries = [name for name in crates if os.path.exists("crates/%s/src/lib.rt" % name)]
     shipped = [name for name in libraries if not name.endswith("_tests") and name != "pm_test_streams"]
@@ -255,6 +289,9 @@ def main():
         ("lines of code, definitions and proofs", code + definitions + proofs),
         ("lines of python/ and trials/", sum(read(path).count("\n") for path in kept_files() if path.startswith(("python/", "trials/")) and is_text(path))),
         ("files with a name of before of what users get", len(old_names())),
+        ("branches that look at an end, and begin a job or stand in a loop", sum(begins for *_, begins in end_branches())),
+        ("words of all pages, at most %d" % prose.MOST_WORDS, sum(prose.words_of(name) for name in prose.pages())),
+        ("words of docs/style.md's list on pages and in headers", sum(row[3] for row in page_rows())),
     ]
     for folder in ("tools", "trials", "packaging", "mutants", "docs", "examples", "python", "rust", "bench", "crates"):
         if os.path.isdir(folder):

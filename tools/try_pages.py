@@ -1,7 +1,7 @@
 #!/usr/bin/env python3
 """Holds README.md, docs/ and examples/README.md to the program. It runs each line that begins with `$`, those of the
 helps too, and compares what it prints, runs the commands of examples/README.md, and has `pmb` read the lines of
-docs/texts.md. The table of docs/commands.md must be the plain model's, the listing of docs/proved.md the test's; the files,
+docs/formats.md. The table of docs/commands.md must be the plain model's, the listing of docs/proved.md the test's; the files,
 calls, definitions, tests and planted bugs that pages name must be there, the manual pages have no fault, and each script
 answer --help. What is wrong is printed, and the status is then 1.
 
@@ -29,10 +29,11 @@ from plain.converter import ALLOWED  # noqa: E402
 
 BUILT = "crates/pmb/out/pmb"
 MOST_LINES = {"README.md": 95}
-# The tables of docs/texts.md with lines of a trace, and the options of `decode` that tell them so.
-TRACES = [("what is told",), ("what is told with values", "--values"), ("what is told with readings", "--values", "--readings=8C:direct:1:0:1"),
-          ("what is told of all codes", "--all"), ("what all codes say", "--all", "--values"),
-          ("what is told with times", "--times"), ("what is told with pages", "--pages", "--values")]
+# The tables of docs/formats.md with lines of a trace, and the options of `decode` that tell them so.
+TRACES = [("what is shown",), ("what is shown with values", "--values"),
+          ("what is shown with readings", "--values", "--readings=8C:direct:1:0:1"),
+          ("what is shown of all codes", "--all"), ("what all codes say", "--all", "--values"),
+          ("what is shown with times", "--times"), ("what is shown with pages", "--pages", "--values")]
 FILE = re.compile(r"(?:\.\./)?(?:crates|tools|trials|packaging|python|rust|mutants|docs|examples|bench)/[\w./-]*\w")
 
 
@@ -116,7 +117,7 @@ def rows_of(found, title):
 
 
 def text_faults(shell, found):
-    """The lines of docs/texts.md: a trace's lines are told as the page says, and a scenario's examples are one."""
+    """The lines of docs/formats.md: a trace's lines are told as the page says, and a scenario's examples are one."""
     for title, *options in TRACES:
         trace, told = zip(*[re.findall(r"`([^`]+)`", " ".join(row))[:2] for row in rows_of(found, f"| line | {title} |")])
         ran = subprocess.run([shell.pmb, "decode", *options], input="\n".join(trace), capture_output=True, text=True)
@@ -275,7 +276,7 @@ def main():
                 told += example_faults(shell, found)
             if name == "docs/commands.md":
                 told += table_faults(found)
-            if name == "docs/texts.md":
+            if name == "docs/formats.md":
                 told += text_faults(shell, found)
             if name == "docs/proved.md":
                 told += [*listing_fault(found), *toolchain_faults(shell, found)]

@@ -1,4 +1,4 @@
-"""The commands of docs/board.md and what it says that they print, and the cases in which a register holds a word that its rail doesn't
+"""The commands of docs/command-line.md and docs/board-file.md and what these say that they print, and the cases in which a register holds a word that its rail doesn't
 command."""
 import re
 import shlex
@@ -6,6 +6,7 @@ import tempfile
 import unittest
 from fractions import Fraction
 
+from pmhost import cli
 from pmhost.values import CODES
 
 from . import kernel, odd_parts
@@ -18,9 +19,9 @@ BUS = ["-b", "7", "-a", "58", "--outputs", "2", "--limit", "0:3.135V:3.465V"]
 RAILS = '[rails.io]\noutput = 0\nvolts = "3.3V"\nlimits = ["3.135V", "3.465V"]\n'
 
 
-def section(name):
-    """What stands below a heading of the page."""
-    return re.search(rf"\n##+ {re.escape(name)}\n(.*?)(?=\n##+ |\Z)", stored(ROOT, "docs", "board.md"), re.S)[1]
+def section(page, name):
+    """What stands below a heading of a page."""
+    return re.search(rf"\n##+ {re.escape(name)}\n(.*?)(?=\n##+ |\Z)", stored(ROOT, "docs", f"{page}.md"), re.S)[1]
 
 
 def blocks(text, kind):
@@ -29,7 +30,7 @@ def blocks(text, kind):
 
 class Examples(unittest.TestCase):
     def test_the_margin_test(self):
-        text = section("A margin test")
+        text = section("command-line", "A margin test")
         alias, *lines = blocks(text, "sh")[0].splitlines()
         words = shlex.split(re.fullmatch("alias rail='pmhost (.*)'", alias)[1].replace("-b 1", "-b 7"))
         part, said = kernel.Part(), ""
@@ -50,7 +51,7 @@ class Examples(unittest.TestCase):
                                             "3.135V to 3.465V\n"))
 
     def test_the_board_with_several_parts(self):
-        text = section("A board with several parts")
+        text = section("board-file", "A board with several parts")
         over = BoardKernel({1: {0x4F: odd_parts.Named(0x4F)}, 2: {0x4F: kernel.Part((0x14,), address=0x4F)}})
         with tempfile.NamedTemporaryFile("w", suffix=".toml") as file:
             file.write(blocks(text, "toml")[0])
@@ -58,11 +59,32 @@ class Examples(unittest.TestCase):
             self.assertEqual(called(["apply", file.name], over), (0, blocks(text, "text")[0], ""))
 
     def test_the_readings(self):
-        text = section("Readings and status")
+        text = section("command-line", "Readings and status")
         part = odd_parts.Telemetry()
         part.hear([0xB0, 0x03, 0x00], "stop")
         words = re.search("`pmhost -b 1 -a 58 (.*?)`", text)[1].split()
         self.assertEqual(called(["-b", "7", "-a", "58", *words], kernel.FakeKernel(part)), (0, blocks(text, "text")[0], ""))
+
+
+class CommandLine(unittest.TestCase):
+    """The pages of the command line name what the parser takes."""
+
+    # Those of these have pages of their own, which name more than a help does.
+    ELSEWHERE = ("faults", "torture", "capture")
+
+    def setUp(self):
+        self.parser, self.commands = cli.parser()
+        self.pages = "\n".join(stored(ROOT, "docs", f"{name}.md") for name in ("getting-started", "command-line", "board-file", "adapters"))
+
+    def test_each_command_has_a_row(self):
+        rows = "\n".join(line for line in section("command-line", "The commands").splitlines() if line.startswith("| `"))
+        self.assertEqual([name for name in self.commands if not re.search(rf"`{name}[ `]", rows)], [])
+
+    def test_each_option_is_named(self):
+        parsers = [self.parser, *(parser for name, parser in self.commands.items() if name not in self.ELSEWHERE)]
+        options = {flag for parser in parsers for action in parser._actions for flag in action.option_strings if flag.startswith("--")}
+        named = {"--help", "--version", "--bus", "--address"} | {it for it in options if re.search(rf"{it}\b", self.pages)}
+        self.assertEqual(sorted(options - named), [])
 
 
 class Cases(unittest.TestCase):

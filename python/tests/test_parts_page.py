@@ -1,4 +1,4 @@
-"""docs/parts.md: no cell about a part is without its source."""
+"""docs/parts.md: no cell about a part is without its source, and what no row names is said not to be looked up."""
 import os
 import re
 import unittest
@@ -6,13 +6,12 @@ import unittest
 from .running import ROOT, stored
 
 PAGE = os.path.join(ROOT, "docs", "parts.md")
-# A row names one of them, or several with a semicolon between.
+# What a family's table may say, and what the page says that it names, in this order.
 DECIDES = ["outputs", "PAGE_PLUS", "PEC on reads", "PEC required on writes, and by which bit", "VOUT_MODE", "registers", "busy",
            "second addresses", "store and restore", "pins that override", "CLEAR_FAULTS"]
 HEAD = [("what decides", "what is known", "source"), ("---", "---", "---")]
-NOT_LOOKED_UP = ("–", "not looked up: see the data sheet")
 PLACE = r"[a-z0-9_-]+\.(?:c|h|rst):[1-9][0-9]*(?:-[1-9][0-9]*)?"
-LINUX = re.compile(rf"Linux 6\.1, {PLACE}(?:, {PLACE})*\Z")
+LINUX = re.compile(rf"{PLACE}(?:, {PLACE})*\Z")
 
 
 def families(page):
@@ -25,16 +24,13 @@ def families(page):
 
 
 def faults(page):
-    """What is wrong with the page: what decides and stands in no row or in two, and cells that have no source."""
-    found = []
+    """What is wrong with the page: a row of what doesn't decide, or a second one, and cells that have no source."""
+    found = [] if f"These decide: {'; '.join(DECIDES)}. What a family's table doesn't name wasn't looked up" in " ".join(page.split()) else ["what decides"]
     for name, rows in families(page).items():
-        said = [each for row in rows[2:] for each in row[0].split("; ")]
-        if rows[:2] != HEAD or sorted(said) != sorted(DECIDES):
+        said = [row[0] for row in rows[2:]]
+        if rows[:2] != HEAD or not said or said != [it for it in DECIDES if it in said]:
             found.append(f"{name}: its rows")
-        for row in rows[2:]:
-            is_told = len(row) == 3 and row[1] not in ("", NOT_LOOKED_UP[0]) and LINUX.match(row[2])
-            if row[1:] != NOT_LOOKED_UP and not is_told:
-                found.append(f"{name}: {row[0]}")
+        found += [f"{name}: {row[0]}" for row in rows[2:] if len(row) != 3 or not row[1] or not LINUX.match(row[2])]
     return found
 
 
@@ -51,15 +47,16 @@ class Page(unittest.TestCase):
         row = next(row for row in rows[2:] if LINUX.match(row[2]))
         line = f"| {' | '.join(row)} |"
         self.assertEqual(self.page.count(line), 1)
-        for wrong in ("", "from memory", "Linux 6.1", "Linux 6.1, ltc2978.c", NOT_LOOKED_UP[1], f"{row[2]}, likely"):
+        for wrong in ("", "from memory", "Linux 6.1", "Linux 6.1, ltc2978.c", "not looked up: see the data sheet", f"{row[2]}, likely"):
             with self.subTest(wrong=wrong):
                 self.assertEqual(faults(self.page.replace(line, f"| {row[0]} | {row[1]} | {wrong} |")), [f"{name}: {row[0]}"])
 
-    def test_what_stands_in_no_row_or_in_two_is_found(self):
+    def test_a_row_of_something_else_or_a_second_one_is_found(self):
         name = next(iter(families(self.page)))
-        for old, new in ("; registers;", ";"), ("; registers;", "; registers; registers;"), ("| busy |", "| idle |"):
+        for old, new, wrong in (("| busy |", "| idle |", f"{name}: its rows"), ("| busy |", "| VOUT_MODE |", f"{name}: its rows"),
+                                ("; registers;", ";", "what decides")):
             with self.subTest(new=new):
-                self.assertEqual(faults(self.page.replace(old, new, 1)), [f"{name}: its rows"])
+                self.assertEqual(faults(self.page.replace(old, new, 1)), [wrong])
 
     def test_what_linux_says_of_all_has_its_places(self):
         part = self.page.partition("\n## What Linux says of all\n")[2].partition("\n## ")[0]

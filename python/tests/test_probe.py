@@ -56,10 +56,10 @@ class Rows(Blocks):
 
 
 class Page(unittest.TestCase):
-    """What docs/board.md says of probe."""
+    """What docs/command-line.md says of probe."""
 
     def setUp(self):
-        self.part = stored(ROOT, "docs", "board.md").partition("\n## Does a part speak this?\n")[2].partition("\nFrames that you")[0]
+        self.part = stored(ROOT, "docs", "command-line.md").partition("\n## Probe\n")[2].partition("\n## ")[0]
 
     def test_the_whole_answer_is_that_of_a_run(self):
         self.assertEqual(re.findall("```text\n(.*?)```", self.part, re.S), [probed("-b 7 -a 58 probe", "odd.Named").out])

@@ -189,7 +189,7 @@ class Rows(Blocks):
 
 class Page(unittest.TestCase):
     def test_the_page_names_each(self):
-        part = stored(ROOT, "docs", "board.md").partition("\n## Readings and status\n")[2].partition("\n## ")[0]
+        part = stored(ROOT, "docs", "command-line.md").partition("\n## Readings and status\n")[2].partition("\n## ")[0]
         for name in KINDS:
             short = name.removeprefix("STATUS_") if name.startswith("STATUS_") else name
             self.assertTrue(short in part or name[:-1] in part, name)

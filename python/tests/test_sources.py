@@ -43,12 +43,45 @@ class Sources(unittest.TestCase):
         for told in ('print(f"{count.passed}', 'echo "$passed'):
             self.assertTrue(self.rules.TALLY.search(f"{told} passed, "), told)
 
-    def test_a_law_carries_rows_of_its_own_page_alone(self):
-        pages = {"pm_a": "`one_is_true` `x`\n`one_is_true` `y`; `two_is_true`", "pm_b": "`two_is_true` `z`"}
-        laws = [("pm_a", "one_is_true"), ("pm_a", "two_is_true"), ("pm_b", "three_is_true")]
-        with mock.patch.object(self.rules, "carriers", pages.items), mock.patch.object(self.rules, "law_names", lambda crates: laws):
+    def test_a_law_has_a_comment_and_names_a_definition(self):
+        def law(name, comment, clause):
+            return "pm_a", self.rules.claims.Promise("", name, ("laws.rt", 1), comment, f"pub fn {name}()", [clause])
+
+        laws = [law("one_is_true", "One is true.", "ensures { OneIsTrue }"), law("two_is_true", "", "ensures { OneIsTrue }"),
+                law("three_is_true", "Three is true.", "ensures { 3 \u2261 3 }")]
+        with mock.patch.object(self.rules, "laws_of", lambda crates: laws), \
+                mock.patch.object(self.rules.claims, "definitions", lambda: {"OneIsTrue": "specs/Laws.antt:1"}):
             found = [line for *_, line in self.rules.unclaimed([])]
-        self.assertEqual(found, ["the law two_is_true carries rows of pm_a, pm_b", "the law three_is_true carries rows of no page"])
+        self.assertEqual(found, ["the law two_is_true has no comment", "the law three_is_true names no definition"])
+
+    def test_what_a_crate_promises_is_printed(self):
+        ran = subprocess.run([sys.executable, "-B", os.path.join(TOOLS, "claims"), "pm_world", "causes_decide"], cwd=ROOT,
+                             capture_output=True, text=True, check=False)
+        lines = ran.stdout.splitlines()
+        self.assertEqual((ran.stderr, ran.returncode, lines[1], lines[-3]), ("", 0, "    pub fn causes_decide()", "    ensures { CausesDecide }"))
+        self.assertRegex(lines[0], r"\Acauses_decide \(.*/src/laws\.rt:[0-9]+\)\Z")
+        self.assertRegex(lines[2], r"\A    Whether an event ")
+        self.assertRegex(lines[-2], r"\A    CausesDecide: .*/specs/Laws\.antt:[0-9]+\Z")
+
+    def prose(self, text):
+        """What the rules on pages find in a page of this text."""
+        prose = self.rules.prose
+        with mock.patch.object(prose, "pages", lambda: ["docs/words.md"]), mock.patch.object(prose, "HEADERS", ()), \
+                mock.patch.object(prose, "text_of", lambda name, real=prose.text_of: real(name) if name == prose.STYLE else text):
+            return [f"{kind}: {line}" for _, _, kind, line in prose.findings()]
+
+    def test_a_name_of_the_page_of_proofs_that_no_crate_has_is_found(self):
+        claims = self.rules.claims
+        with mock.patch.object(claims, "read", lambda path, real=claims.read: "`own`, `one_is_none`" if path == "docs/proved.md" else real(path)):
+            self.assertEqual([line for *_, line in claims.lost_names()], ["no crate has one_is_none"])
+
+    def test_words_of_the_list_and_long_sentences_are_found(self):
+        self.assertEqual(self.prose("A wait comes after a write. `where` is code.\n\n```text\nit tells\n```\n"), [])
+        self.assertEqual(self.prose("A wait comes behind a write.\n"), ["words: behind: .. A wait comes behind a write. .."])
+        self.assertEqual(self.prose("| a | b |\n|---|---|\n| it | the host tells a word |\n"), ["words: tells: .. the host tells a word .."])
+        long = " ".join(["word"] * 36)
+        self.assertEqual(self.prose(f"| a |\n|---|\n| {long} |\n"), [f"sentence: 36 words: {long}"])
+        self.assertEqual(self.prose(" ".join(["Word"] * 21) + ".\n"), ["sentence: 21.0 words a sentence"])
 
 
 if __name__ == "__main__":

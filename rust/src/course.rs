@@ -11,7 +11,7 @@ use crate::loops::{Failures, Frames};
 use crate::rail::{Rail, Wanted};
 use crate::refusal::{accepted, Refusal};
 
-/// How many jobs a course may have, where a caller has no number of his own.
+/// How many jobs a course may have, if a caller has no number of his own.
 pub const COURSE_TRIES: u16 = 64;
 
 /// VOUT_MODE, which a learn reads.
@@ -43,9 +43,9 @@ impl fmt::Display for AnswerFault {
 pub enum NotReached<E = Infallible> {
     /// Nothing more is ordered, and before the first order nothing was written.
     Refused {
-        /// Why: H3 where another job is open, H4, H5, H6, L2 to L5, L7, N3 to N5 of a voltage that has no word, P4 to P7.
+        /// Why: H3 if another job is open, H4, H5, H6, L2 to L5, L7, N3 to N5 of a voltage that has no word, P4 to P7.
         refusal: Refusal,
-        /// The cell that it is about, where it is about one.
+        /// The cell that it is about, if it is about one.
         cell: Option<Cell>,
     },
     /// An order of a register was read back as another word a second time.
@@ -68,11 +68,11 @@ pub enum NotReached<E = Infallible> {
     },
     /// No try is left.
     Spent {
-        /// What the next job is about; `None` where that is a learn of the format.
+        /// What the next job is about; `None` if that is a learn of the format.
         cell: Option<Cell>,
-        /// What was wrong with the last answer; `None` where it was good.
+        /// What was wrong with the last answer; `None` if it was good.
         fault: Option<AnswerFault>,
-        /// What the bus said of the last transaction that failed, where one did.
+        /// What the bus said of the last transaction that failed, if one did.
         error: Option<E>,
     },
 }
@@ -156,9 +156,9 @@ impl<E: error::Error + 'static> error::Error for NotReached<E> {
 /// # Ok::<(), Box<dyn core::error::Error>>(())
 /// ```
 ///
-/// Give it its output alone: no other job of that output begins, and no restore, until it has ended. One that is left in the middle
+/// It has its output to itself: no other job of that output begins, and no restore, until it has ended. One that is left in the middle
 /// leaves the host with what is known ([`Host::give_up`] ends the open job), and a new course goes on from there. The compiler warns
-/// where one is dropped:
+/// if one is dropped:
 ///
 /// ```compile_fail
 /// # #![deny(unused_must_use)]
@@ -185,13 +185,13 @@ impl fmt::Debug for Course {
 // slice's pointer and count are its own.
 impl Course {
     /// To nothing: it learns the format, reads what decides what the output commands, and orders nothing. [`Host::rail`] says then
-    /// what it commands. At most so many jobs; H4 above 7; NoCourse where the library is of another version.
+    /// what it commands. At most so many jobs; H4 above 7; NoCourse if the library is of another version.
     pub fn survey(output: u8, tries: u16) -> Result<Course, Refusal> {
         Course::made(output, |image| unsafe { ffi::pm_course_survey(image, output, tries) })
     }
 
-    /// To these words: it surveys what its plan needs, orders register after register, and surveys once more where something was
-    /// ordered. Where nothing is due nothing is written.
+    /// To these words: it surveys what its plan needs, orders register after register, and surveys once more if something was
+    /// ordered. If nothing is due nothing is written.
     pub fn words(output: u8, wanted: &Wanted, tries: u16) -> Result<Course, Refusal> {
         Course::made(output, |image| unsafe { ffi::pm_course_words(image, output, &wanted.image(), tries) })
     }
@@ -233,7 +233,7 @@ impl Course {
         self.output
     }
 
-    /// What is to be sent now: the frame of its open job, which stays the same until it is told what became of it; where none is open,
+    /// What is to be sent now: the frame of its open job, which stays the same until it hears what became of it; if none is open,
     /// its next job begins first. `Sending::Nothing` once it has ended.
     pub fn frame(&mut self, host: &mut Host) -> Sending {
         let mut found = ffi::SendingImage::default();
@@ -241,19 +241,19 @@ impl Course {
         Sending::of(found)
     }
 
-    /// A write was sent, and acknowledged or not. OtherFrame where none is to be sent.
+    /// A write was sent, and acknowledged or not. OtherFrame if none is to be sent.
     pub fn write_ended(&mut self, host: &mut Host, acked: bool) -> Result<Step, Refusal> {
         step_of(unsafe { ffi::pm_course_write_ended(&mut self.image, &mut host.image, u8::from(acked)) })
     }
 
-    /// A request was sent, and these bytes came back, the read address first; none where there was no answer. OtherFrame where none is to
+    /// A request was sent, and these bytes came back, the read address first; none if there was no answer. OtherFrame if none is to
     /// be sent.
     pub fn read_ended(&mut self, host: &mut Host, bytes: &[u8]) -> Result<Step, Refusal> {
         let (from, count) = (bytes.as_ptr(), bytes.len() as u64);
         step_of(unsafe { ffi::pm_course_read_ended(&mut self.image, &mut host.image, from, count) })
     }
 
-    /// How it ended; `None` where it goes on. H3 is no last end: the course goes on once the other job is over.
+    /// How it ended; `None` if it goes on. H3 is no last end: the course goes on once the other job is over.
     #[must_use]
     pub fn end(&self) -> Option<Result<(), NotReached>> {
         self.ended(None)
@@ -280,7 +280,7 @@ impl Course {
         }
     }
 
-    /// Which job it would begin now; `None` where it would end. Nothing begins, and nothing changes.
+    /// Which job it would begin now; `None` if it would end. Nothing begins, and nothing changes.
     #[must_use]
     pub fn next(&self, host: &Host) -> Option<Job> {
         let mut found = ffi::CourseJobImage::default();
@@ -288,7 +288,7 @@ impl Course {
         (number == 0).then(|| self.job_of(found)).flatten()
     }
 
-    /// Which of its jobs is under way: the last that it began, `None` once that one's end was told.
+    /// Which of its jobs is under way: the last that it began, `None` once that one's end was given.
     #[must_use]
     pub fn job(&self) -> Option<Job> {
         let mut found = ffi::CourseJobImage::default();
@@ -339,7 +339,7 @@ impl Host {
     }
 
     /// Brings a voltage of an output to the word of microvolts over a bus by a [`Course::voltage`], and says what the output commands
-    /// then. That may be outside what was wanted where another register is selected: look at its band.
+    /// then. That may be outside what was wanted if another register is selected: look at its band.
     ///
     /// ```
     /// use pmhost::{Band, Host, Limits, LimitsState, NotReached, Output, Part, Refusal, Register, COURSE_TRIES};

@@ -16,7 +16,7 @@ pub enum Done {
     Acknowledged,
 }
 
-/// Why a job wasn't done. `E` is the error of the bus. Where that is an error of `core`, so is this, and its source is what
+/// Why a job wasn't done. `E` is the error of the bus. If that is an error of `core`, so is this, and its source is what
 /// the bus said of the last transaction that failed.
 #[derive(Clone, Copy, Debug, PartialEq, Eq)]
 pub enum NotDone<E> {
@@ -31,9 +31,9 @@ pub enum NotDone<E> {
     /// The last pass had no good answer, or no pass was acknowledged. The cell of an order may hold its old word or the
     /// new one: `Host::possible_words` lists them.
     Unknown {
-        /// What the bus said of the last transaction that failed, where one did.
+        /// What the bus said of the last transaction that failed, if one did.
         error: Option<E>,
-        /// What was wrong with the answer of the last request, F1 to F5; `None` where it didn't come.
+        /// What was wrong with the answer of the last request, F1 to F5; `None` if it didn't come.
         fault: Option<Refusal>,
     },
     /// A learn had good answers, and they name no format that this host has, as VOUT_MODE 21h, which is VID. Until VOUT_MODE is

@@ -58,7 +58,7 @@ impl Register {
         Register::VoutMin,
     ];
 
-    /// The register of a command code, where it is one's.
+    /// The register of a command code, if it is one's.
     pub(crate) fn of(code: u8) -> Option<Register> {
         Register::ALL.into_iter().find(|register| register.code() == code)
     }
@@ -88,7 +88,7 @@ impl Register {
 /// # }
 /// ```
 ///
-/// The compiler warns where it is dropped:
+/// The compiler warns if it is dropped:
 ///
 /// ```compile_fail
 /// # #![deny(unused_must_use)]
@@ -110,7 +110,7 @@ pub enum Step {
     Differs(u16),
     /// No good answer came in the last pass, or no pass was acknowledged.
     Unknown {
-        /// What was wrong with the last answer, F1 to F5; `None` where no byte came, where the job sent a command, or where
+        /// What was wrong with the last answer, F1 to F5; `None` if no byte came, if the job sent a command, or if
         /// the answer was good and names no format.
         fault: Option<Refusal>,
     },
@@ -185,7 +185,7 @@ impl Possible {
         Possible { count: image.count.min(16), words: image.words }
     }
 
-    /// The words, `None` where it may hold any.
+    /// The words, `None` if it may hold any.
     pub fn words(&self) -> Option<&[u16]> {
         if self.count == 0 {
             None
@@ -205,7 +205,7 @@ impl Possible {
 pub struct Known {
     /// The cell.
     pub cell: Cell,
-    /// Its word, where that is confirmed.
+    /// Its word, if that is confirmed.
     pub confirmed: Option<u16>,
     /// The words that it may hold.
     pub possible: Possible,
@@ -241,7 +241,7 @@ pub enum LimitsState {
     NotKnown,
 }
 
-/// A host for one device: it says what to send, and is told what came of it. It takes no memory beside its own, and may
+/// A host for one device: it says what to send, and hears what came of it. It takes no memory beside its own, and may
 /// be copied.
 ///
 /// ```
@@ -293,7 +293,7 @@ impl fmt::Debug for Confirmed<'_> {
 // slice's pointer and count are its own. The library wants nothing else, and takes memory of any bytes.
 impl Host {
     /// A host for the device at this address, 08h to 77h, with 1 to 8 outputs; a job has at most 1 to 15 passes. Nothing is
-    /// known, and no output has limits. NoAddress, H1, H2; NoHost where the library is of another version.
+    /// known, and no output has limits. NoAddress, H1, H2; NoHost if the library is of another version.
     pub fn new(address: u8, outputs: u8, passes: u8) -> Result<Host, Refusal> {
         let mut image = Host::blank()?;
         accepted(unsafe { ffi::pm_host_new(&mut image, address, outputs, passes) })?;
@@ -343,14 +343,14 @@ impl Host {
         Ok(ffi::HostImage { held: [0; ffi::HOST_SIZE / 8] })
     }
 
-    /// Gives an output limits, or narrower ones. They hold for words as the format has them that the last learn found: where the part
-    /// may be another one, or VOUT_MODE may have been written, learn again before an order. H4, N5, L1, L6, H3 where an order of the
+    /// Gives an output limits, or narrower ones. They hold for words as the format has them that the last learn found: if the part
+    /// may be another one, or VOUT_MODE may have been written, learn again before an order. H4, N5, L1, L6, H3 if an order of the
     /// output is open that these would refuse.
     pub fn set_limits(&mut self, output: u8, limits: Limits) -> Result<(), Refusal> {
         accepted(unsafe { ffi::pm_host_set_limits(&mut self.image, output, limits.least, limits.most) })
     }
 
-    /// The limits of an output, where it has any. H4.
+    /// The limits of an output, if it has any. H4.
     pub fn limits(&self, output: u8) -> Result<Option<Limits>, Refusal> {
         let mut found = ffi::LimitsImage::default();
         match accepted(unsafe { ffi::pm_host_limits(&self.image, output, &mut found) }) {
@@ -364,7 +364,7 @@ impl Host {
         within_of(unsafe { ffi::pm_host_limits_state(&self.image, output) })
     }
 
-    /// Which voltages an output may be commanded to, by what is known. H4, H7 where its format isn't known, NoBand where OPERATION may
+    /// Which voltages an output may be commanded to, by what is known. H4, H7 if its format isn't known, NoBand if OPERATION may
     /// hand its voltage to AVSBus, N5.
     pub fn band(&self, output: u8) -> Result<Band, Refusal> {
         let mut found = ffi::BandImage::default();
@@ -418,13 +418,13 @@ impl Host {
         Sending::of(found)
     }
 
-    /// A write was sent, and acknowledged or not. OtherFrame where none is to be sent.
+    /// A write was sent, and acknowledged or not. OtherFrame if none is to be sent.
     pub fn write_ended(&mut self, acked: bool) -> Result<Step, Refusal> {
         step_of(unsafe { ffi::pm_host_write_ended(&mut self.image, u8::from(acked)) })
     }
 
-    /// A request was sent, and these bytes came back, the read address first; none where there was no answer. OtherFrame
-    /// where none is to be sent.
+    /// A request was sent, and these bytes came back, the read address first; none if there was no answer. OtherFrame
+    /// if none is to be sent.
     pub fn read_ended(&mut self, bytes: &[u8]) -> Result<Step, Refusal> {
         step_of(unsafe { ffi::pm_host_read_ended(&mut self.image, bytes.as_ptr(), bytes.len() as u64) })
     }
@@ -434,7 +434,7 @@ impl Host {
         unsafe { ffi::pm_host_restart(&mut self.image) };
     }
 
-    /// The word of a cell, where it is confirmed. H4.
+    /// The word of a cell, if it is confirmed. H4.
     pub fn confirmed_word(&self, cell: Cell) -> Result<Option<u16>, Refusal> {
         let ((output, code), mut found) = (cell.numbers(), ffi::StandingImage::default());
         accepted(unsafe { ffi::pm_host_confirmed_word(&self.image, output, code, &mut found) })?;
@@ -448,7 +448,7 @@ impl Host {
         Ok(Possible::of(found))
     }
 
-    /// The format of an output's voltages, where it was learned. H4.
+    /// The format of an output's voltages, if it was learned. H4.
     pub fn format(&self, output: u8) -> Result<Option<Format>, Refusal> {
         let mut found = ffi::FormatImage::default();
         accepted(unsafe { ffi::pm_host_format(&self.image, output, &mut found) })?;

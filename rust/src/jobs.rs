@@ -39,9 +39,9 @@ impl Host {
         }
     }
 
-    /// Carries the open job out over a bus. `Refused(OtherFrame)` where none is open. A transaction that failed is tried
+    /// Carries the open job out over a bus. `Refused(OtherFrame)` if none is open. A transaction that failed is tried
     /// again by the host itself, and the last one's error is that of `Unknown`. A store, which wears the part's memory, is sent
-    /// once: its later passes are told as not acknowledged, unsent.
+    /// once: its later passes end as not acknowledged, unsent.
     pub fn run<B: Bus>(&mut self, bus: &mut B) -> Result<(), NotDone<B::Error>> {
         let mut failures = Failures::default();
         match Frames::of_job(self).carry_out(bus, &mut failures)? {
@@ -53,7 +53,7 @@ impl Host {
         }
     }
 
-    /// Begins a job and carries it out over a bus: what it is worth where it was done, and why where it wasn't.
+    /// Begins a job and carries it out over a bus: what it is worth if it was done, and why if it wasn't.
     pub fn run_job<B: Bus>(&mut self, job: Job, bus: &mut B) -> Result<Done, NotDone<B::Error>> {
         self.begin(job)?;
         self.run(bus)?;
@@ -66,7 +66,7 @@ impl Host {
         found.ok_or(NotDone::Unknown { error: None, fault: None })
     }
 
-    /// Ends the open job, where one is: its frames that are left aren't sent, and are told as failed, so that what is known stays
+    /// Ends the open job, if one is: its frames that are left aren't sent, and end as failed, so that what is known stays
     /// true, as that a cell may hold its old word or the ordered one. `run` and the loops over it end each job by themselves. Who
     /// needs it leaves a loop of his own or a course in the midst, or has caught a panic of the bus.
     pub fn give_up(&mut self) {

@@ -29,7 +29,7 @@ impl<E> Failures<E> {
     }
 }
 
-/// What hands out frames and is told what became of them: the open job of a host, or a course.
+/// What hands out frames and hears what became of them: the open job of a host, or a course.
 pub(crate) struct Frames<'a> {
     host: &'a mut Host,
     course: Option<&'a mut Course>,
@@ -67,8 +67,8 @@ impl<'a> Frames<'a> {
         }
     }
 
-    /// Sends frame after frame over a bus until none is left: the last step, `None` where there was no frame. A store, which wears
-    /// the part's memory, is sent once: its later passes are told as not acknowledged, unsent.
+    /// Sends frame after frame over a bus until none is left: the last step, `None` if there was no frame. A store, which wears
+    /// the part's memory, is sent once: its later passes end as not acknowledged, unsent.
     pub(crate) fn carry_out<B: Bus>(&mut self, bus: &mut B, failures: &mut Failures<B::Error>) -> Result<Option<Step>, Refusal> {
         let (mut last, mut has_stored) = (None, false);
         loop {

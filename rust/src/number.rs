@@ -1,4 +1,4 @@
-//! Words and microvolts alone.
+//! Words and microvolts by themselves.
 
 use crate::ffi;
 use crate::refusal::{accepted, Refusal};
@@ -39,7 +39,7 @@ impl Format {
         }
     }
 
-    /// The whole millionths of a word's value, rounded down. H7 where the numbers are no format's, N5.
+    /// The whole millionths of a word's value, rounded down. H7 if the numbers are no format's, N5.
     ///
     /// ```
     /// use pmhost::Format;
@@ -53,7 +53,7 @@ impl Format {
         Ok(found)
     }
 
-    /// The word nearest to millionths. H7 where the numbers are no format's, N5, N3, N4.
+    /// The word nearest to millionths. H7 if the numbers are no format's, N5, N3, N4.
     pub fn nearest_word(self, microvolts: i64) -> Result<u16, Refusal> {
         let mut found = 0;
         // SAFETY: as above.
@@ -61,8 +61,8 @@ impl Format {
         Ok(found)
     }
 
-    /// The word of the greatest value that isn't above millionths, as of a bound from above: N5, N3 where each is above them;
-    /// above the greatest value it is that value's word. H7 where the numbers are no format's.
+    /// The word of the greatest value that isn't above millionths, as of a bound from above: N5, N3 if each is above them;
+    /// above the greatest value it is that value's word. H7 if the numbers are no format's.
     ///
     /// ```
     /// use pmhost::Format;
@@ -76,8 +76,8 @@ impl Format {
         Ok(found)
     }
 
-    /// The word of the least value that isn't below millionths, as of a bound from below: N5, N4 where each is below them;
-    /// below the least value it is that value's word. H7 where the numbers are no format's.
+    /// The word of the least value that isn't below millionths, as of a bound from below: N5, N4 if each is below them;
+    /// below the least value it is that value's word. H7 if the numbers are no format's.
     pub fn at_least(self, microvolts: i64) -> Result<u16, Refusal> {
         let mut found = 0;
         // SAFETY: the references are valid, and the one that is written overlaps nothing.

@@ -1,4 +1,4 @@
-//! Packets alone: their bytes, what bytes say, and what came back.
+//! Packets by themselves: their bytes, what bytes say, and what came back.
 
 use core::ops::Deref;
 
@@ -8,7 +8,7 @@ use crate::refusal::{accepted, Refusal};
 /// What a packet says.
 #[derive(Clone, Copy, Debug, PartialEq, Eq)]
 pub enum Packet {
-    /// A command code alone.
+    /// A command code and nothing else.
     SendByte {
         /// The code.
         code: u8,
@@ -57,7 +57,7 @@ pub enum Packet {
     },
 }
 
-/// What PAGE_PLUS_WRITE carries behind its code.
+/// What PAGE_PLUS_WRITE carries after its code.
 #[derive(Clone, Copy, Debug, PartialEq, Eq)]
 pub enum Data {
     /// Nothing.
@@ -128,14 +128,14 @@ impl Packet {
     }
 
     /// Its bytes for the device at an address, the address byte first; a write ends with its packet error code. NoAddress,
-    /// NoPacket where the code doesn't have this layout.
+    /// NoPacket if the code doesn't have this layout.
     pub fn bytes(self, address: u8) -> Result<Bytes, Refusal> {
         let frame = self.frame(address)?;
         Ok(Bytes::of(frame.length, frame.bytes))
     }
 
-    /// How many bytes to read behind the read address of this request, its packet error code among them; 0 of a write. NoPacket
-    /// where the code doesn't have this layout.
+    /// How many bytes to read after the read address of this request, its packet error code among them; 0 of a write. NoPacket
+    /// if the code doesn't have this layout.
     ///
     /// ```
     /// use pmhost::{Packet, Refusal};
@@ -170,7 +170,7 @@ impl Packet {
         Ok(Packet::of(packet))
     }
 
-    /// The payload of what came back after this request, the read address first. NoAddress, NoPacket where this is no
+    /// The payload of what came back after this request, the read address first. NoAddress, NoPacket if this is no
     /// request, F1 to F5.
     ///
     /// ```
@@ -209,7 +209,7 @@ impl Deref for Block {
 impl Block {
     /// What came back for a block of any code, whose request is the address byte and the code: the read address first, then the
     /// count, at most 32. Of the 34 bytes that were read those up to the count + 3 are handed over, the read address in front
-    /// counted, and all where the count is above 32, since all 34 of a shorter block are too many (F3). F1 to F5.
+    /// counted, and all if the count is above 32, since all 34 of a shorter block are too many (F3). F1 to F5.
     ///
     /// ```
     /// # use pmhost::{pec, Block};
@@ -226,7 +226,7 @@ impl Block {
     }
 
     /// What came back for a plain read of any code that asks for `size` bytes, at most 32: the read address first. F1 to F3, F5;
-    /// NoPacket where more were asked for.
+    /// NoPacket if more were asked for.
     pub fn read_plain(address: u8, code: u8, size: u8, bytes: &[u8]) -> Result<Block, Refusal> {
         let mut found = ffi::BlockImage::default();
         // SAFETY: as above.

@@ -77,7 +77,7 @@ pub enum Heard {
 // slice's pointer and count are its own. The library wants nothing else, and takes memory of any bytes.
 impl Part {
     /// A part at an address, with 1 to 8 outputs, and coefficients m, b and R for those whose mode is DIRECT; WRITE_PROTECT
-    /// starts as 00h. V1 to V5; NoPart where the library is of another version.
+    /// starts as 00h. V1 to V5; NoPart if the library is of another version.
     pub fn new(address: u8, outputs: &[Output], coefficients: (i16, i16, i8)) -> Result<Part, Refusal> {
         Part::protected(address, outputs, coefficients, 0)
     }
@@ -203,7 +203,7 @@ impl Part {
     }
 }
 
-/// What a call writes, where it isn't refused.
+/// What a call writes, if it isn't refused.
 fn written<T: Default>(call: impl FnOnce(&mut T) -> u8) -> Result<T, Refusal> {
     let mut found = T::default();
     accepted(call(&mut found))?;

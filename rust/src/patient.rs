@@ -7,23 +7,23 @@ use crate::bus::{Bus, Operation};
 const CAPABILITY: u8 = 0x19;
 pub(crate) const STORE_USER_ALL: u8 = 0x15;
 const RESTORE_USER_ALL: u8 = 0x16;
-/// Milliseconds between two questions; of patience behind a write; behind a store and a restore.
+/// Milliseconds between two questions; of patience after a write; after a store and a restore.
 const STEP: u32 = 5;
 const PATIENCE: u32 = 200;
 const LONG_PATIENCE: u32 = 1000;
 
 /// The error of a bus that knows whether anybody heard a write.
 pub trait Unheard {
-    /// Whether nobody acknowledged the address, so that nobody heard the bytes behind it. An error that a bus also gives for
+    /// Whether nobody acknowledged the address, so that nobody heard the bytes after it. An error that a bus also gives for
     /// one of these bytes doesn't say so. Of embedded-hal's errors it is `NoAcknowledge(NoAcknowledgeSource::Address)`.
     fn is_unheard(&self) -> bool;
 }
 
 /// A clock of the board's own.
 pub trait Clock {
-    /// Milliseconds of a clock that nobody sets. It may wrap round to 0 behind 4,294,967,295, and nowhere else: where a clock of 16
-    /// bits, or of milliseconds that are counted from 32 bits of microseconds, starts anew, the patience ends early. So it does
-    /// where a clock steps back.
+    /// Milliseconds of a clock that nobody sets. It may wrap round to 0 after 4,294,967,295, and nowhere else: if a clock of 16
+    /// bits, or of milliseconds that are counted from 32 bits of microseconds, starts anew, the patience ends early. It also does
+    /// if a clock steps back.
     fn now(&mut self) -> u32;
 
     /// Waits for so many milliseconds.
@@ -58,13 +58,13 @@ impl<E: error::Error + 'static> error::Error for NotHeard<E> {
     }
 }
 
-/// A bus over another one, for parts that are busy behind a write: they don't acknowledge their address, or answer nothing but
-/// FFh, for milliseconds, and for some hundred behind a store.
+/// A bus over another one, for parts that are busy after a write: they don't acknowledge their address, or answer nothing but
+/// FFh, for milliseconds, and for some hundred after a store.
 ///
 /// Each write is followed by a question, a plain read of CAPABILITY each 5 ms, until an answer came that isn't of ones, or the
 /// patience is spent. So the next frame meets a part that is ready. A write whose address nobody acknowledged is sent again
 /// within the patience, but for a store, which wears the memory. A read is sent once. An answer of nothing but FFh is an error:
-/// a bus that nobody drives is high, and no true answer of the host's jobs is of ones alone.
+/// a bus that nobody drives is high, and no true answer of the host's jobs is of nothing but ones.
 #[derive(Debug)]
 pub struct Patient<B, C> {
     bus: B,
@@ -76,12 +76,12 @@ impl<B: Bus, C: Clock> Patient<B, C>
 where
     B::Error: Unheard,
 {
-    /// Over a bus, with 200 ms of patience behind a write, and 1,000 ms behind a store and a restore.
+    /// Over a bus, with 200 ms of patience after a write, and 1,000 ms after a store and a restore.
     pub fn new(bus: B, clock: C) -> Patient<B, C> {
         Patient { bus, clock, patience: None }
     }
 
-    /// With so many milliseconds of patience behind every write; with 0 nothing is asked, and nothing sent again.
+    /// With so many milliseconds of patience after every write; with 0 nothing is asked, and nothing sent again.
     #[must_use]
     pub fn with_patience(self, milliseconds: u32) -> Patient<B, C> {
         Patient { patience: Some(milliseconds), ..self }

@@ -34,14 +34,14 @@ pub struct Rail {
     pub power: Power,
     /// Which register has its voltage.
     pub selected: Selected,
-    /// Between which voltages it commands; or why that isn't told: H7 where its format isn't known, NoBand, N5. An output that
+    /// Between which voltages it commands; or why that isn't known: H7 if its format isn't known, NoBand, N5. An output that
     /// is off has its band too.
     pub band: Result<Band, Refusal>,
     /// Whether that lies within its limits.
     pub within: LimitsState,
 }
 
-/// The words that are wanted of an output's registers; `None` where one is to stay as it is.
+/// The words that are wanted of an output's registers; `None` if one is to stay as it is.
 #[derive(Clone, Copy, Debug, Default, PartialEq, Eq)]
 pub struct Wanted {
     /// VOUT_COMMAND.

@@ -205,7 +205,7 @@ leave() {
 # table: what the page shows
 table() {
     local name text order host naming part orders
-    echo "| target | how | host's archive, bytes | an order alone | stack of a host's call | of pm_refusal_name | of a part's call | instructions of an order |"
+    echo "| target | how | host's archive, bytes | only an order | stack of a host's call | of pm_refusal_name | of a part's call | instructions of an order |"
     echo "|---|---|---|---|---|---|---|---|"
     for name in $names; do
         [ -f "$folder/$name.measured" ] || continue

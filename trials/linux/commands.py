@@ -1,4 +1,4 @@
-"""The commands of docs/board.md and docs/captures.md, word for word, over a bus of the guest: commands BUS.
+"""The commands of the pages for who has a board and of docs/captures.md, word for word, over a bus of the guest: commands BUS.
 
 The page's bus is 1; over another its number stands in the commands in the place of that. A command that the page doesn't
 have is a fault. Beside them: pmhost capture i2ctransfer with i2c-tools where transfers fail, what the page says of a driver that
@@ -28,7 +28,7 @@ LEARNED = """1 58 page 0 OPERATION read 80
 5 58 page 0 VOUT_COMMAND read 34CD
 """
 TRACED = "echo > /sys/kernel/tracing/trace", "echo 1 > /sys/kernel/tracing/events/i2c/enable", "cat /sys/kernel/tracing/trace"
-PAGES = ("board", "captures", "tried")
+PAGES = ("getting-started", "command-line", "board-file", "adapters", "captures", "tried")
 
 
 class Page:

@@ -15,7 +15,7 @@
  * The library takes no memory, keeps nothing between calls, calls nothing and never blocks.
  *
  * A part lives in memory of yours, a pm_part, with no pointer in it, so it may be copied. Any bytes may stand there:
- * each call but pm_part_new, which makes one, asks first whether it is a part, and answers PM_NO_PART where the mark or
+ * each call but pm_part_new, which makes one, asks first whether it is a part, and answers PM_NO_PART if the mark or
  * the version is another, the configuration is one that pm_part_new refuses, PAGE names no output, a cell doesn't
  * accept its word, or WRITE_PROTECT has another word in the store than its start. */
 #ifndef PM_PART_H
@@ -48,7 +48,7 @@ enum {
     PM_NO_READING = 0xE8        /* the command code is no reading's */
 };
 
-/* What a part makes of a frame: silence, where it is for another device; a write that is taken; a read that is
+/* What a part makes of a frame: silence, if it is for another device; a write that is taken; a read that is
  * answered; or a refusal, which changes no setting, no word in the store and no PAGE, and sets one bit of
  * STATUS_CML. */
 enum {
@@ -94,12 +94,12 @@ uint64_t pm_part_size(void);
  * status is latched but what shows at once. V1 to V5, the first that applies in that order. */
 uint8_t pm_part_new(pm_part *part, const pm_part_config *config);
 
-/* What it answers to a request: 0 bytes where it answers none. The bytes after the answer stay as they were.
+/* What it answers to a request: 0 bytes if it answers none. The bytes after the answer stay as they were.
  * `frame_fault` says which fault the frame has after PM_HEARD_K1_FRAME: 0x32 F2 Short, 0x33 F3 Long, 0x34 F4 WrongCount,
  * 0x35 F5 WrongPec; otherwise it is 0. */
 typedef struct { uint8_t length; uint8_t frame_fault; uint8_t bytes[16]; } pm_part_reply;
 
-/* It hears one frame, which a repeated start ends where `is_request` isn't 0, otherwise a stop. Answers what it made of
+/* It hears one frame, which a repeated start ends if `is_request` isn't 0, otherwise a stop. Answers what it made of
  * it (PM_HEARD_..): the reply has no bytes for all but PM_HEARD_ANSWERED. PM_NO_PART, and then nothing is written, the reply
  * neither. */
 uint8_t pm_part_hear(pm_part *part, const uint8_t *bytes, uint64_t count, uint8_t is_request, pm_part_reply *reply);
@@ -126,7 +126,7 @@ uint8_t pm_part_page(const pm_part *part, uint8_t *page);
  * PM_PART_TOO_LARGE. */
 uint8_t pm_part_commanded_microvolts(const pm_part *part, uint8_t output, int64_t *microvolts);
 
-/* 1 where OPERATION has an output on, otherwise 0. PM_NO_PART, PM_PART_NO_OUTPUT. */
+/* 1 if OPERATION has an output on, otherwise 0. PM_NO_PART, PM_PART_NO_OUTPUT. */
 uint8_t pm_part_on_state(const pm_part *part, uint8_t output, uint8_t *on);
 
 /* The status registers of an output, and STATUS_CML, the device's. PM_NO_PART, PM_PART_NO_OUTPUT. */

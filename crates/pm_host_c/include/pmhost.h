@@ -16,24 +16,24 @@
  * The library takes no memory, keeps nothing between calls, calls nothing and never blocks.
  *
  * A host lives in memory of yours, a pm_host. Any bytes may stand there: each call but pm_host_new and
- * pm_host_new_with, which make one, asks first whether it is a host, and answers PM_NO_HOST where it isn't, as for zeros and for a
+ * pm_host_new_with, which make one, asks first whether it is a host, and answers PM_NO_HOST if it isn't, as for zeros and for a
  * host of another version. It looks at the mark, the version, the setup and the stage of the open job, 13 of
  * the 2,064 bytes, and while an order is open at what is known of its cell; at nothing else. So most damage
  * isn't noticed: of flipped bits and overwritten bytes about 0.4 %. Damaged memory that still reads as a
  * host is safe to use, and what it says may be wrong; its limits may be others, or read as none. Keep it from others.
  *
- * What stands in a pm_host is a function of what it holds: two hosts that were made and told the same are equal byte for
+ * What stands in a pm_host is a function of what it holds: two hosts that were made and used the same are equal byte for
  * byte. It holds no pointer, so it may be copied, and kept over a sleep or a warm reset. Who keeps one
  * keeps a checksum with it, as a CRC-32 over all PM_HOST_SIZE bytes: taken before the sleep, or after each
- * call that changes the host where a reset may come at any time, and compared before the first call
- * afterwards. Where the two differ, make a new host by pm_host_new, and narrow its limits again. */
+ * call that changes the host if a reset may come at any time, and compared before the first call
+ * afterwards. If the two differ, make a new host by pm_host_new, and narrow its limits again. */
 #ifndef PM_H
 #define PM_H
 
 #include <stddef.h>
 #include <stdint.h>
 
-/* Before each call whose answer must be asked, since nothing was sent where it is a refusal: a compiler warns where the
+/* Before each call whose answer must be asked, since nothing was sent if it is a refusal: a compiler warns if the
  * answer is dropped. */
 #if (defined __cplusplus && __cplusplus >= 201703L) || (defined __STDC_VERSION__ && __STDC_VERSION__ >= 202311L)
 #define PM_MUST_USE [[nodiscard]]
@@ -142,21 +142,21 @@ typedef struct {
     uint8_t bytes[16]; /* the address byte first; a write ends with its PEC */
 } pm_sending;
 
-/* What a call that tells what became of a frame answers. */
+/* What a call that says what became of a frame answers. */
 enum { PM_NEXT = 0, PM_DONE = 1, PM_DIFFERS = 2, PM_UNKNOWN = 3, PM_LEARNED = 4 };
 typedef struct {
     uint16_t kind; /* PM_NEXT, or how the job ended; or a refusal, PM_NO_HOST or PM_OTHER_FRAME */
     uint16_t word; /* with PM_DIFFERS the word that was read; with PM_UNKNOWN what was wrong with the last answer, as
-                    * PM_F5_WRONG_PEC, 0 where no byte came or it was good and names no format; otherwise 0 */
+                    * PM_F5_WRONG_PEC, 0 if no byte came or it was good and names no format; otherwise 0 */
 } pm_step;
 
 /* Ends and refusals share `kind`: look for a refusal first, before a table is asked by it. pm_host_run, at the end
  * of this header, is the loop that carries an open job out. */
 
-/* The words that a cell may hold: the first `count` of `words`, at most 16; any word where the count is 0. */
+/* The words that a cell may hold: the first `count` of `words`, at most 16; any word if the count is 0. */
 typedef struct { uint16_t count; uint16_t words[16]; } pm_words;
 
-/* What is said of a cell's word: 1 where it is confirmed, otherwise 0. */
+/* What is said of a cell's word: 1 if it is confirmed, otherwise 0. */
 typedef struct { uint16_t is_confirmed; uint16_t word; } pm_standing;
 
 /* What is known of one cell, by its output and its command code. */
@@ -171,7 +171,7 @@ typedef struct {
 #define PM_CELLS 49
 typedef struct { uint16_t count; pm_cell cells[PM_CELLS]; } pm_known;
 
-/* Which registers of an output a part has, beside OPERATION and VOUT_COMMAND: 0 where it lacks one, any other number where
+/* Which registers of an output a part has, beside OPERATION and VOUT_COMMAND: 0 if it lacks one, any other number if
  * it has it. The data sheet says it: a part with PAGE_PLUS and no VOUT_MIN is common. */
 typedef struct { uint8_t vout_max, vout_margin_high, vout_margin_low, vout_min; } pm_registers;
 
@@ -184,29 +184,29 @@ typedef struct { int64_t least, greatest; } pm_band;
 enum { PM_POWER_ANY = 0, PM_POWER_ON = 1, PM_POWER_OFF = 2 };
 enum { PM_SELECTED_ANY = 0, PM_SELECTED_AVSBUS = 0xFF };
 typedef struct {
-    uint8_t power;     /* PM_POWER_ON or PM_POWER_OFF where each byte that OPERATION may hold has it so, or PM_POWER_ANY */
+    uint8_t power;     /* PM_POWER_ON or PM_POWER_OFF if each byte that OPERATION may hold has it so, or PM_POWER_ANY */
     uint8_t within;    /* PM_WITHIN, PM_OUTSIDE or PM_NOT_KNOWN, as pm_host_limits_state answers */
-    uint8_t band;      /* 0 where the band is told in `ends`; otherwise why it isn't: H7, PM_NO_BAND, N5 */
-    uint8_t selected;  /* which register has its voltage: PM_VOUT_COMMAND or a margin where each byte that OPERATION may hold selects
-                        * it, PM_SELECTED_AVSBUS where each hands it to AVSBus, or PM_SELECTED_ANY; VOUT_COMMAND of one that is off */
+    uint8_t band;      /* 0 if the band stands in `ends`; otherwise why it isn't: H7, PM_NO_BAND, N5 */
+    uint8_t selected;  /* which register has its voltage: PM_VOUT_COMMAND or a margin if each byte that OPERATION may hold selects
+                        * it, PM_SELECTED_AVSBUS if each hands it to AVSBus, or PM_SELECTED_ANY; VOUT_COMMAND of one that is off */
     uint8_t unused[4];
-    pm_band ends;      /* zeros where it isn't told */
+    pm_band ends;      /* zeros if it doesn't */
 } pm_rail;
 
-/* A word that is wanted of a register, where `has` isn't 0; and the words that are wanted of an output's voltages. A
+/* A word that is wanted of a register, if `has` isn't 0; and the words that are wanted of an output's voltages. A
  * register of which none is wanted stays as it is. */
 typedef struct { uint16_t has; uint16_t word; } pm_wish;
 typedef struct { pm_wish command, max, margin_high, margin_low, min; } pm_wanted;
 
 /* A course, in memory of yours: one way of an output to what is wanted of it. Nothing in it is for callers. Any bytes may stand
  * there: each call but those that make one asks first for its mark, its version and fields that a course has, and answers
- * PM_NO_COURSE where one lacks. It holds no host and no pointer, it may be copied, and what stands in it is a function of what it
+ * PM_NO_COURSE if one lacks. It holds no host and no pointer, it may be copied, and what stands in it is a function of what it
  * means. */
 typedef struct { uint64_t held[PM_COURSE_SIZE / 8]; } pm_course;
 
 typedef char pm_course_has_its_size[sizeof(pm_course) == PM_COURSE_SIZE ? 1 : -1];
 
-/* How a course ended; kind 0 where it goes on. */
+/* How a course ended; kind 0 if it goes on. */
 enum {
     PM_REACHED = 1,       /* each wanted word is held and the output commands what it is to, by answers that all came after the last
                            * order; of a survey: all that decides what the output commands is known; of a byte that turns the output
@@ -222,7 +222,7 @@ enum {
                            * pm_course_power orders another byte over it */
 };
 
-/* `fault` beside PM_F1_NOT_OURS to PM_F5_WRONG_PEC; 0 where the last answer was good. */
+/* `fault` beside PM_F1_NOT_OURS to PM_F5_WRONG_PEC; 0 if the last answer was good. */
 enum { PM_NO_ANSWER = 1, PM_NO_ACKNOWLEDGEMENT = 2 };
 typedef struct {
     uint8_t kind;
@@ -267,7 +267,7 @@ uint16_t pm_course_version(void);
 PM_MUST_USE
 uint8_t pm_host_new(pm_host *host, uint8_t address, uint8_t outputs, uint8_t passes);
 
-/* The same of a part that lacks registers. A missing VOUT_MIN or VOUT_MAX stands at the end of the output's format, where it
+/* The same of a part that lacks registers. A missing VOUT_MIN or VOUT_MAX stands at the end of the output's format, if it
  * cuts nothing, and is never read by a survey; a job on a missing register, and an order of OPERATION that selects a missing
  * margin, is refused (L7). pm_host_new makes a host of a part that has all. PM_NO_ADDRESS, H1, H2. */
 PM_MUST_USE
@@ -278,7 +278,7 @@ uint8_t pm_host_new_with(pm_host *host, uint8_t address, uint8_t outputs, uint8_
  * value of the word that would be sent, and a byte of OPERATION that leaves the output on by the band that would then
  * hold. Turning an output off is never refused by a limit. pm_host_restart keeps limits, pm_host_new drops them. A
  * word that was ordered before stays possible, and what the part or its store holds no host knows: check the
- * registers, and ask pm_host_limits_state. PM_NO_HOST, H4, N5 beyond 10^15, L1, L6, and H3 where an order of the output is
+ * registers, and ask pm_host_limits_state. PM_NO_HOST, H4, N5 beyond 10^15, L1, L6, and H3 if an order of the output is
  * open that the new limits would refuse, since its frame may be sent again. */
 PM_MUST_USE
 uint8_t pm_host_set_limits(pm_host *host, uint8_t output, int64_t least, int64_t most);
@@ -286,16 +286,16 @@ uint8_t pm_host_set_limits(pm_host *host, uint8_t output, int64_t least, int64_t
 /* The limits of an output. PM_NO_HOST, H4, PM_NO_LIMITS; then nothing is written. */
 uint8_t pm_host_limits(const pm_host *host, uint8_t output, pm_limits *limits);
 
-/* Whether an output's voltage lies within its limits, by the words that its registers may hold: PM_WITHIN where its
- * whole band does or it has none, PM_OUTSIDE where the whole band lies below them or above them, otherwise
+/* Whether an output's voltage lies within its limits, by the words that its registers may hold: PM_WITHIN if its
+ * whole band does or it has none, PM_OUTSIDE if the whole band lies below them or above them, otherwise
  * PM_NOT_KNOWN. PM_NO_HOST, H4. */
 enum { PM_WITHIN = 0x91, PM_OUTSIDE = 0x92, PM_NOT_KNOWN = 0x93 };
 uint8_t pm_host_limits_state(const pm_host *host, uint8_t output);
 
-/* Which voltages an output may be commanded to, by what is known. No narrower band is true where, since the host started, the
+/* Which voltages an output may be commanded to, by what is known. No narrower band is true if, since the host started, the
  * device didn't restart, WRITE_PROTECT was neither ordered nor read as other than 00h, and no restore was begun. The least
- * is rounded down, the greatest up. PM_NO_HOST, H4, H7 where its format isn't known, PM_NO_BAND where OPERATION may hand
- * its voltage to AVSBus, N5 where an end is beyond 10^15 microvolts; then nothing is written. */
+ * is rounded down, the greatest up. PM_NO_HOST, H4, H7 if its format isn't known, PM_NO_BAND if OPERATION may hand
+ * its voltage to AVSBus, N5 if an end is beyond 10^15 microvolts; then nothing is written. */
 uint8_t pm_host_band(const pm_host *host, uint8_t output, pm_band *band);
 
 /* Begins an order: at most `passes` times the word is written once and read back once. It ends as
@@ -334,15 +334,15 @@ PM_MUST_USE
 uint8_t pm_host_restore(pm_host *host);
 
 /* What is to be sent now. It stays the same until pm_host_write_ended, pm_host_read_ended, pm_host_restart, pm_host_new
- * or pm_host_new_with, and where it is PM_NOTHING until a job begins. PM_NO_HOST, and then PM_NOTHING. */
+ * or pm_host_new_with, and if it is PM_NOTHING until a job begins. PM_NO_HOST, and then PM_NOTHING. */
 uint8_t pm_host_frame(const pm_host *host, pm_sending *sending);
 
-/* A write was sent; `acked` isn't 0 where every byte was acknowledged. The status of many HALs is 0 then: ask it, and don't
- * hand it on. PM_NO_HOST, PM_OTHER_FRAME where no write is to be sent. */
+/* A write was sent; `acked` isn't 0 if every byte was acknowledged. The status of many HALs is 0 then: ask it, and don't
+ * hand it on. PM_NO_HOST, PM_OTHER_FRAME if no write is to be sent. */
 pm_step pm_host_write_ended(pm_host *host, uint8_t acked);
 
-/* A request was sent, and these bytes came back, the read address first; 0 bytes where none came.
- * PM_NO_HOST, PM_OTHER_FRAME where no request is to be sent. */
+/* A request was sent, and these bytes came back, the read address first; 0 bytes if none came.
+ * PM_NO_HOST, PM_OTHER_FRAME if no request is to be sent. */
 pm_step pm_host_read_ended(pm_host *host, const uint8_t *bytes, uint64_t count);
 
 /* Drops the open job and all that is known of cells and formats. The limits and the registers stay. PM_NO_HOST. */
@@ -354,10 +354,10 @@ uint8_t pm_host_confirmed_word(const pm_host *host, uint8_t output, uint8_t code
 uint8_t pm_host_possible_words(const pm_host *host, uint8_t output, uint8_t code, pm_words *words);
 uint8_t pm_host_format(const pm_host *host, uint8_t output, pm_format *format);
 
-/* What is known of every cell. What stands behind `count` cells stays as it was. PM_NO_HOST; then nothing is written. */
+/* What is known of every cell. What stands after `count` cells stays as it was. PM_NO_HOST; then nothing is written. */
 uint8_t pm_host_known_cells(const pm_host *host, pm_known *known);
 
-/* 1 where a restart of the device was seen since the host started, 0 where none was. PM_NO_HOST, which isn't
+/* 1 if a restart of the device was seen since the host started, 0 if none was. PM_NO_HOST, which isn't
  * 0 either: ask `pm_host_restart_seen(host) == 1`. */
 uint8_t pm_host_restart_seen(const pm_host *host);
 
@@ -369,7 +369,7 @@ uint8_t pm_host_rail(const pm_host *host, uint8_t output, pm_rail *rail);
 /* ---- A course ---- */
 
 /* Makes a course, whatever stood in the memory. It has at most this many jobs, each a learn, a check or an order; and each job at
- * most as many passes as its host has. H4 for an output above 7; then nothing is written. Give a course its output alone: no other
+ * most as many passes as its host has. H4 for an output above 7; then nothing is written. A course has its output to itself: no other
  * job of that output begins, and no restore, until it has ended. */
 
 /* To nothing: it learns the format and reads all that decides what the output commands, OPERATION, the register that it selects,
@@ -377,14 +377,14 @@ uint8_t pm_host_rail(const pm_host *host, uint8_t output, pm_rail *rail);
 PM_MUST_USE
 uint8_t pm_course_survey(pm_course *course, uint8_t output, uint16_t tries);
 
-/* To these words. It surveys all that its plan needs, orders register after register, and surveys once more where something was
- * ordered. Where nothing is due nothing is written. */
+/* To these words. It surveys all that its plan needs, orders register after register, and surveys once more if something was
+ * ordered. If nothing is due nothing is written. */
 PM_MUST_USE
 uint8_t pm_course_words(pm_course *course, uint8_t output, const pm_wanted *wanted, uint16_t tries);
 
 /* To a voltage of VOUT_COMMAND, a margin, VOUT_MAX or VOUT_MIN: the same to its word, which is formed anew before each job by the
  * format that the host knows then. It is the nearest word of VOUT_COMMAND and of a margin, the word of the greatest value that isn't
- * above so many microvolts of VOUT_MAX, and of the least that isn't below them of VOUT_MIN. Where the format has none the course ends
+ * above so many microvolts of VOUT_MAX, and of the least that isn't below them of VOUT_MIN. If the format has none the course ends
  * as PM_REFUSED with N3, N4 or N5. H4; H5 of a code that is no voltage's. */
 PM_MUST_USE
 uint8_t pm_course_microvolts(pm_course *course, uint8_t output, uint8_t code, int64_t microvolts, uint16_t tries);
@@ -400,53 +400,53 @@ uint8_t pm_course_power(pm_course *course, uint8_t output, uint8_t byte, uint16_
 PM_MUST_USE
 uint8_t pm_course_want(pm_course *course, uint8_t code, int64_t microvolts);
 
-/* What is to be sent now: the frame of the course's job, which stays the same until it is told what became of it; where none is
- * open, the course begins its next job first. 0, or PM_ENDED, and then PM_NOTHING, where it has ended: pm_course_ended says how. It
- * ends with H3 where another job is open, and goes on once that is over, and with H4 where the host has no such output. PM_NO_HOST,
+/* What is to be sent now: the frame of the course's job, which stays the same until it hears what became of it; if none is
+ * open, the course begins its next job first. 0, or PM_ENDED, and then PM_NOTHING, if it has ended: pm_course_ended says how. It
+ * ends with H3 if another job is open, and goes on once that is over, and with H4 if the host has no such output. PM_NO_HOST,
  * PM_NO_COURSE, and then PM_NOTHING. */
 PM_MUST_USE
 uint8_t pm_course_frame(pm_course *course, pm_host *host, pm_sending *sending);
 
-/* What became of that frame, which the host is told too: the host's step, as pm_host_write_ended and pm_host_read_ended answer it.
+/* What became of that frame, which the host hears too: the host's step, as pm_host_write_ended and pm_host_read_ended answer it.
  * PM_NO_HOST, PM_NO_COURSE, PM_OTHER_FRAME. */
 pm_step pm_course_write_ended(pm_course *course, pm_host *host, uint8_t acked);
 pm_step pm_course_read_ended(pm_course *course, pm_host *host, const uint8_t *bytes, uint64_t count);
 
-/* How it ended, or kind 0 where it goes on. PM_NO_COURSE; then nothing is written. */
+/* How it ended, or kind 0 if it goes on. PM_NO_COURSE; then nothing is written. */
 uint8_t pm_course_ended(const pm_course *course, pm_course_end *end);
 
-/* Which job it would begin now: 0, or PM_ENDED with PM_JOB_NONE where it would end. Nothing begins, and nothing changes. PM_NO_HOST,
+/* Which job it would begin now: 0, or PM_ENDED with PM_JOB_NONE if it would end. Nothing begins, and nothing changes. PM_NO_HOST,
  * PM_NO_COURSE; then nothing is written. */
 uint8_t pm_course_next(const pm_course *course, const pm_host *host, pm_course_job *next);
 
-/* Which of its jobs is under way: the last that it began, and PM_JOB_NONE once that one's end was told. PM_NO_COURSE; then nothing is
+/* Which of its jobs is under way: the last that it began, and PM_JOB_NONE once that one's end was given. PM_NO_COURSE; then nothing is
  * written. */
 uint8_t pm_course_job_now(const pm_course *course, pm_course_job *job);
 
 /* ---- Names ---- */
 
-/* A name: characters of ASCII, and zeros behind them, so that `text` is a string of C. */
+/* A name: characters of ASCII, and zeros after them, so that `text` is a string of C. */
 typedef struct { char text[32]; } pm_name;
 
-/* The letter and the name of a refusal, as "H6 TooUncertain". PM_NO_NAME where the number is none; then nothing is
+/* The letter and the name of a refusal, as "H6 TooUncertain". PM_NO_NAME if the number is none; then nothing is
  * written. */
 uint8_t pm_refusal_name(uint8_t number, pm_name *name);
 
 /* The name of the kind of a step: "next", "done", "differs", "unknown", "learned". PM_NO_NAME for another number. */
 uint8_t pm_end_name(uint16_t kind, pm_name *name);
 
-/* ---- Numbers and packets alone ---- */
+/* ---- Numbers and packets by themselves ---- */
 
-/* The whole microvolts of a word, rounded down. H7 where the format is none, N5 exactly where the word's value
+/* The whole microvolts of a word, rounded down. H7 if the format is none, N5 exactly if the word's value
  * is beyond 10^15 microvolts in size. */
 uint8_t pm_microvolts(const pm_format *format, uint16_t word, int64_t *microvolts);
 
-/* The word nearest to a number of microvolts. H7 where the format is none, N5, N3, N4. */
+/* The word nearest to a number of microvolts. H7 if the format is none, N5, N3, N4. */
 uint8_t pm_nearest_word(const pm_format *format, int64_t microvolts, uint16_t *word);
 
 /* The word of a bound, of several the one that pm_nearest_word gives for its value: pm_at_most of the greatest value that isn't
- * above so many microvolts, N3 where each is, and above all of them the greatest's word; pm_at_least of the least value that
- * isn't below them, N4 where each is, and below all the least's word. H7 where the format is none, N5. */
+ * above so many microvolts, N3 if each is, and above all of them the greatest's word; pm_at_least of the least value that
+ * isn't below them, N4 if each is, and below all the least's word. H7 if the format is none, N5. */
 uint8_t pm_at_most(const pm_format *format, int64_t microvolts, uint16_t *word);
 uint8_t pm_at_least(const pm_format *format, int64_t microvolts, uint16_t *word);
 
@@ -463,7 +463,7 @@ typedef struct {
 /* The packet error code of bytes. */
 uint8_t pm_pec(const uint8_t *bytes, uint64_t count);
 
-/* The bytes of a packet to a device. PM_NO_ADDRESS; PM_NO_PACKET where the numbers mean none, or the code
+/* The bytes of a packet to a device. PM_NO_ADDRESS; PM_NO_PACKET if the numbers mean none, or the code
  * doesn't have this layout. */
 uint8_t pm_packet_write(uint8_t address, const pm_packet *packet, pm_sending *frame);
 
@@ -479,7 +479,7 @@ typedef struct {
 } pm_payload;
 
 /* What came back after the repeated start of a request, the read address first: the PEC covers the request's bytes too.
- * PM_NO_ADDRESS, PM_NO_PACKET where the packet isn't a request, F1 to F5; then nothing is written. */
+ * PM_NO_ADDRESS, PM_NO_PACKET if the packet isn't a request, F1 to F5; then nothing is written. */
 uint8_t pm_packet_read_answer(uint8_t address, const pm_packet *request, const uint8_t *bytes, uint64_t count,
                               pm_payload *payload);
 
@@ -491,8 +491,8 @@ typedef struct {
 
 /* What came back for a read of any code, whose request is the address byte and the code; the read address first. A block has a
  * count, at most 32; of a plain read so many bytes were asked for, at most 32. Of a block's 34 bytes hand over those up to its count + 3,
- * the read address in front counted, and all where the count is above 32, since all 34 of a shorter one are too many (F3).
- * PM_NO_ADDRESS, PM_NO_PACKET where more were asked for, F1 to F5; then nothing is written. */
+ * the read address in front counted, and all if the count is above 32, since all 34 of a shorter one are too many (F3).
+ * PM_NO_ADDRESS, PM_NO_PACKET if more were asked for, F1 to F5; then nothing is written. */
 uint8_t pm_read_block(uint8_t address, uint8_t code, const uint8_t *bytes, uint64_t count, pm_block *block);
 uint8_t pm_read_plain(uint8_t address, uint8_t code, uint8_t size, const uint8_t *bytes, uint64_t count, pm_block *block);
 
@@ -508,8 +508,8 @@ enum {
 
 /* A bus of yours. `write` puts a packet on it, the address byte first and the PEC last, and answers PM_ACKED, PM_NOT_ACKED
  * or PM_UNHEARD. `read` sends a request, then a repeated start and the read address, and writes what comes after that to
- * `answer`, whose `room` bytes are 0 before: it answers how many bytes came, 0 where none did or the transfer failed. A HAL
- * that sends the address by itself is handed the bytes behind it. Neither call may try again by itself, nor hand over an
+ * `answer`, whose `room` bytes are 0 before: it answers how many bytes came, 0 if none did or the transfer failed. A HAL
+ * that sends the address by itself is handed the bytes after it. Neither call may try again by itself, nor hand over an
  * older answer. */
 typedef uint8_t (*pm_write)(void *context, const uint8_t *bytes, uint64_t count);
 typedef uint64_t (*pm_read)(void *context, const uint8_t *request, uint64_t count, uint8_t *answer, uint64_t room);
@@ -542,7 +542,7 @@ static inline pm_step pm_carry_out(pm_host *host, pm_course *course, pm_write wr
     return step;
 }
 
-/* Carries the open job out, and says how it ended: PM_UNKNOWN where none was open, PM_NO_HOST where the memory holds no host. */
+/* Carries the open job out, and says how it ended: PM_UNKNOWN if none was open, PM_NO_HOST if the memory holds no host. */
 PM_MUST_USE
 static inline pm_step pm_host_run(pm_host *host, pm_write write, pm_read read, void *context) {
     return pm_carry_out(host, NULL, write, read, context);

@@ -1,9 +1,9 @@
-/* A bus over a bus of yours that waits for a busy part. Some parts are busy for milliseconds behind a write, and for some
- * hundred behind a store: they don't acknowledge their address, or answer nothing but FFh. Here each write is followed by a
+/* A bus over a bus of yours that waits for a busy part. Some parts are busy for milliseconds after a write, and for some
+ * hundred after a store: they don't acknowledge their address, or answer nothing but FFh. Here each write is followed by a
  * question, a plain read of CAPABILITY each 5 ms, until an answer came that isn't of ones, or the patience is spent. So the
  * next frame meets a part that is ready. A write whose address nobody acknowledged (PM_UNHEARD) is sent again within the
  * patience; a store isn't, since it wears the memory. A read is sent once. An answer of nothing but FFh is handed over as
- * none: a bus that nobody drives is high, and no true answer of the host's jobs is of ones alone.
+ * none: a bus that nobody drives is high, and no true answer of the host's jobs is of nothing but ones.
  *
  * This is C of a header, tried beside rows (trials/c/rows/patient_rows.c), and not proved. It keeps what pm_write and pm_read
  * of pmhost.h ask for: a question is a request that a repeated start ends, which changes no setting. */
@@ -16,9 +16,9 @@
 extern "C" {
 #endif
 
-/* Milliseconds: between two questions; of patience behind a write; behind a store and a restore. */
+/* Milliseconds: between two questions; of patience after a write; after a store and a restore. */
 enum { PM_STEP = 5, PM_PATIENCE = 200, PM_LONG_PATIENCE = 1000 };
-/* No patience: nothing is asked behind a write. */
+/* No patience: nothing is asked after a write. */
 enum { PM_NO_PATIENCE = -1 };
 
 /* A bus of yours, a clock of yours, and how patient to be with the part. */
@@ -28,7 +28,7 @@ typedef struct {
     void *context; /* what each of the four calls is handed */
     uint32_t (*now)(void *context);                   /* milliseconds of a clock that nobody sets; it may wrap round */
     void (*wait)(void *context, uint32_t milliseconds);
-    int32_t patience;   /* milliseconds behind each write; 0 for PM_PATIENCE, and PM_LONG_PATIENCE behind a store and a restore;
+    int32_t patience;   /* milliseconds after each write; 0 for PM_PATIENCE, and PM_LONG_PATIENCE after a store and a restore;
                          * PM_NO_PATIENCE, or another number below 0, to ask nothing */
     uint8_t has_stored; /* of pm_patient_run: a store was sent in this job */
 } pm_patient;
@@ -41,7 +41,7 @@ static inline int pm_is_ones(const uint8_t *bytes, uint64_t count) {
     return count != 0 && at == count;
 }
 
-/* The milliseconds of patience behind a packet. */
+/* The milliseconds of patience after a packet. */
 static inline uint32_t pm_patience(const pm_patient *bus, const uint8_t *bytes, uint64_t count) {
     int is_long = count == 3 && (bytes[1] == 0x15 || bytes[1] == 0x16); /* STORE_USER_ALL, RESTORE_USER_ALL */
     if (bus->patience < 0)
@@ -66,7 +66,7 @@ static inline int pm_is_ready(const pm_patient *bus, uint8_t address_byte) {
     return came != 0 && came <= 2 && !pm_is_ones(answer, came);
 }
 
-/* A pm_write; the context is a pm_patient. It answers what the last try did. It sends one store alone until has_stored is 0
+/* A pm_write; the context is a pm_patient. It answers what the last try did. It sends one store only until has_stored is 0
  * again, which pm_patient_run sees to: carry a store out by that. */
 static inline uint8_t pm_patient_write(void *context, const uint8_t *bytes, uint64_t count) {
     pm_patient *bus = (pm_patient *)context;
@@ -90,7 +90,7 @@ static inline uint64_t pm_patient_read(void *context, const uint8_t *request, ui
     return came <= room && pm_is_ones(answer, came) ? 0 : came;
 }
 
-/* pm_host_run over a bus that waits. A store is sent once: its later passes are told as not acknowledged, unsent. */
+/* pm_host_run over a bus that waits. A store is sent once: its later passes end as not acknowledged, unsent. */
 PM_MUST_USE
 static inline pm_step pm_patient_run(pm_host *host, pm_patient *bus) {
     bus->has_stored = 0;

@@ -234,7 +234,7 @@ pub extern "C" fn pm_course_frame(
     };
     if let Some(at) = stage {
         if asked.is_job_of(at) {
-            sending.put(host.host.state.address, &at.message());
+            pm_host_frame(host, sending);
             return ACCEPTED;
         }
     }

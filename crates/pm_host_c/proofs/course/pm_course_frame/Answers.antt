@@ -32,8 +32,8 @@ returns-in_default-course c =
 pub returns-then-is_job_of : goal.returns-then-is_job_of
 returns-then-is_job_of c =
     let found : guard_of c.args.host.now ≡ Some (guard_at c.args.host.now c.in-Ok.stage) = rw (c.in-Ok.ensures.found) refl in
-    again c.put.new.self (guard_at c.args.host.now c.in-Ok.stage) c.in-Some.asked c.in-Some-stage.at found
-    (sym c.course.ensures ∙ c.in-Some.is) c.in-Some-stage.is (sym c.is_job_of.ensures ∙ c.if-is_job_of.true) (search rules)
+    again c.pm_host_frame.new.sending (guard_at c.args.host.now c.in-Ok.stage) c.in-Some.asked c.in-Some-stage.at found
+    (sym c.course.ensures ∙ c.in-Some.is) c.in-Some-stage.is (sym c.is_job_of.ensures ∙ c.if-is_job_of.true) c.pm_host_frame.ensures.frame
 
 pub returns-in-Ended : goal.returns-in-Ended
 returns-in-Ended c =
@@ -69,10 +69,11 @@ returns-then-number-eq-ACCEPTED c =
       written = c.begin-number.ensures.written;
     } in
     subst
-    (λ (is : CourseImage). HandsOut c.args.host.now c.args.course.now 0 c.begin-number.new.host is c.pm_host_frame.new.sending)
+    (λ (is : CourseImage). HandsOut c.args.host.now c.args.course.now 0 c.begin-number.new.host is
+    c.pm_host_frame-then-number-eq-ACCEPTED.new.sending)
     (sym c.of-then-number-eq-ACCEPTED.ensures)
-    (begun c.pm_host_frame.new.sending g c.in-Some.asked c.says.new.course job c.begin-number.new.host found
-    (sym c.course.ensures ∙ c.in-Some.is) says lets c.pm_host_frame.ensures.frame)
+    (begun c.pm_host_frame-then-number-eq-ACCEPTED.new.sending g c.in-Some.asked c.says.new.course job c.begin-number.new.host found
+    (sym c.course.ensures ∙ c.in-Some.is) says lets c.pm_host_frame-then-number-eq-ACCEPTED.ensures.frame)
 
 pub returns-else-number-eq-ACCEPTED : goal.returns-else-number-eq-ACCEPTED
 returns-else-number-eq-ACCEPTED c =
