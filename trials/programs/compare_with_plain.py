@@ -31,6 +31,8 @@ TEXTS = {
 }
 # The commands that read options too, by their names here: one set of them, or every one.
 TOLD, SETS = "told", "sets"
+# What `number` says of a format with a slash.
+BAD_FORMAT = 2, "", "pmb: bad format\n"
 # Options that the program doesn't have.
 LEFT_OUT = []
 # A program that has to say the same, where one is given.
@@ -163,8 +165,9 @@ def compare_numbers(dice, count, seen):
     for _ in range(count):
         form, word, micro = draw_lines.question(dice)
         option = f"--word={word:04X}" if micro is None else f"--micro={micro}"
-        words = ["number", f"--format={dice.choice(':/').join(map(str, form))}", option]
-        found, wanted = ran(words), commands.number(form, word, micro)
+        text = dice.choice(":::/").join(map(str, form))
+        words = ["number", f"--format={text}", option]
+        found, wanted = ran(words), BAD_FORMAT if "/" in text else commands.number(form, word, micro)
         kind = "number: " + (wanted[2].split()[1] if wanted[2] else "word" if micro is None else "micro")
         seen[kind] = seen.get(kind, 0) + 1
         if said := differing(words, b"", found, wanted):

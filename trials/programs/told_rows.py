@@ -34,7 +34,7 @@ B2 20 / B3 21 *                           59 VOUT_MODE read 21
 B2 88 / B3 00 D3 *                        59 READ_VIN read D300
 B2 20 / B3 60 *                           59 VOUT_MODE read 60
 B2 88 / B3 00 D3 *                        59 READ_VIN read D300
-B2 20 / B3 97 *                           59 VOUT_MODE read 97
+B2 20 / B3 97 *                           59 VOUT_MODE read 97 ULINEAR16 -9 relative
 B2 88 / B3 00 D3 *                        59 READ_VIN read D300
 B2 20 / B3 14 !                           59 read F5 WrongPec 2 bytes B2 20 / B3 14 !
 B2 88 / B3 00 D3 *                        59 READ_VIN read D300
@@ -72,7 +72,7 @@ B0 06 02 00 20 / B1 01 40 *               58 page 0 VOUT_MODE read 40 DIRECT
 B0 20 / B1 20 *                           58 VOUT_MODE read 20
 B0 20 / B1 41 *                           58 VOUT_MODE read 41
 B0 20 / B1 60 *                           58 VOUT_MODE read 60
-B0 20 / B1 94 *                           58 VOUT_MODE read 94
+B0 20 / B1 94 *                           58 VOUT_MODE read 94 ULINEAR16 -12 relative
 
 B0 00 01 *                                58 PAGE write 01
 B0 19 / B1 80 *                           58 CAPABILITY read 80 PEC, 100 kHz
@@ -173,7 +173,7 @@ B0 05 04 00 2B 00 00 *                    58 page 0 VOUT_MIN write 0000 0 V
 B0 06 02 00 8B / B1 02 01 00 *            58 page 0 READ_VOUT read 0001 0.000244 V
 B0 05 04 01 21 CD 34 *                    58 page 1 VOUT_COMMAND write 34CD
 B2 05 04 00 21 CD 34 *                    59 page 0 VOUT_COMMAND write 34CD
-B0 21 CD 34 *                             58 VOUT_COMMAND write 34CD
+B0 21 CD 34 *                             58 VOUT_COMMAND write 34CD 3.300048 V
 B0 06 02 00 20 / B1 01 13 *               58 page 0 VOUT_MODE read 13 ULINEAR16 -13
 B0 05 04 00 21 CD 34 *                    58 page 0 VOUT_COMMAND write 34CD 1.650024 V
 B0 06 02 00 20 / B1 01 21 *               58 page 0 VOUT_MODE read 21
@@ -190,7 +190,7 @@ B0 06 02 FF 20 / B1 01 10 *               58 page 255 VOUT_MODE read 10 ULINEAR1
 B0 05 04 FF 21 01 00 *                    58 page 255 VOUT_COMMAND write 0001 0.000015 V
 B0 05 04 FE 21 01 00 *                    58 page 254 VOUT_COMMAND write 0001
 
-# DIRECT needs both; the coefficients are those of the code, on either side.
+# DIRECT needs both; the coefficients are those of the code, on the side of the packet, or the other one where it has none.
 B0 06 02 01 20 / B1 01 40 *               58 page 1 VOUT_MODE read 40 DIRECT
 B0 05 04 01 21 E4 0C *                    58 page 1 VOUT_COMMAND write 0CE4
 B0 30 02 8B 01 / B1 05 01 00 00 00 03 *   58 COEFFICIENTS of 8B side 1 read m 1 b 0 r 3
@@ -203,7 +203,7 @@ B0 05 04 01 24 E4 0C *                    58 page 1 VOUT_MAX write 0CE4
 B0 30 02 24 01 / B1 05 FF FF 05 00 03 *   58 COEFFICIENTS of 24 side 1 read m -1 b 5 r 3
 B0 05 04 01 24 E8 03 *                    58 page 1 VOUT_MAX write 03E8 4 V
 B0 30 02 8B 00 / B1 05 02 00 01 00 FE *   58 COEFFICIENTS of 8B side 0 read m 2 b 1 r -2
-B0 06 02 01 8B / B1 02 03 00 *            58 page 1 READ_VOUT read 0003 149.5 V
+B0 06 02 01 8B / B1 02 03 00 *            58 page 1 READ_VOUT read 0003 0.003 V
 B0 05 04 01 21 E4 0C *                    58 page 1 VOUT_COMMAND write 0CE4 3.3 V
 B0 30 02 8B 01 / B1 05 03 00 00 00 00 *   58 COEFFICIENTS of 8B side 1 read m 3 b 0 r 0
 B0 06 02 01 8B / B1 02 FF FF *            58 page 1 READ_VOUT read FFFF -0.333334 V
@@ -230,6 +230,114 @@ B2 05 04 01 2B E4 0C *                    59 page 1 VOUT_MIN write 0CE4 3.3 V
 
 # `--vout`: for a plain packet, and where the trace didn't teach one of the formats.
 VOUT = [
+    # The last plain VOUT_MODE holds for an address that never had a packet of PAGE or PAGE_PLUS.
+    ("--values", """
+B0 20 / B1 17 *                           58 VOUT_MODE read 17 ULINEAR16 -9
+B0 8B / B1 66 02 *                        58 READ_VOUT read 0266 1.199218 V
+B2 8B / B3 66 02 *                        59 READ_VOUT read 0266
+B0 20 / B1 14 *                           58 VOUT_MODE read 14 ULINEAR16 -12
+B0 21 00 10 *                             58 VOUT_COMMAND write 1000 1 V
+B0 20 17 *                                58 write F7 WrongDirection 1 bytes B0 20 17 *
+B0 21 00 10 *                             58 VOUT_COMMAND write 1000
+B0 20 / B1 17 *                           58 VOUT_MODE read 17 ULINEAR16 -9
+B0 21 00 10 *                             58 VOUT_COMMAND write 1000 8 V
+B0 16 *                                   58 RESTORE_USER_ALL send
+B0 21 00 10 *                             58 VOUT_COMMAND write 1000
+B0 20 / B1 17 *                           58 VOUT_MODE read 17 ULINEAR16 -9
+B2 00 01 *                                59 PAGE write 01
+B0 21 00 10 *                             58 VOUT_COMMAND write 1000 8 V
+B0 00 !                                   58 write F2 Short 3 bytes B0 00 !
+B0 21 00 10 *                             58 VOUT_COMMAND write 1000
+B0 20 / B1 17 *                           58 VOUT_MODE read 17 ULINEAR16 -9
+B0 21 00 10 *                             58 VOUT_COMMAND write 1000
+B4 20 / B5 17 *                           5A VOUT_MODE read 17 ULINEAR16 -9
+B4 05 02 00 03 *                          5A page 0 CLEAR_FAULTS send
+B4 21 00 10 *                             5A VOUT_COMMAND write 1000
+B6 20 / B7 17 *                           5B VOUT_MODE read 17 ULINEAR16 -9
+B6 06 02 00 78 / B7 01 00 *               5B page 0 STATUS_BYTE read 00 none
+B6 21 00 10 *                             5B VOUT_COMMAND write 1000
+"""),
+    ("--values --pages --all", """
+B0 20 / B1 17                             58 VOUT_MODE read 17 ULINEAR16 -9, no PEC
+B0 8B / B1 66 02                          58 READ_VOUT read 0266 1.199218 V, no PEC
+# failed (-6): B2 00 / B3
+B0 8B / B1 66 02                          58 READ_VOUT read 0266 1.199218 V, no PEC
+# failed (-121): B0 00 01 ED
+B0 20 / B1 17                             58 VOUT_MODE read 17 ULINEAR16 -9, no PEC WRONG PAGE? lines 5 and 6
+B0 8B / B1 66 02                          58 READ_VOUT read 0266, no PEC WRONG PAGE? lines 5 and 7
+"""),
+    # A relative mode: margins have no value, and a format that is given wins.
+    ("--values --pages", """
+B0 20 / B1 97 *                           58 VOUT_MODE read 97 ULINEAR16 -9 relative
+B0 21 00 02 *                             58 VOUT_COMMAND write 0200 1 V
+B0 24 00 02 *                             58 VOUT_MAX write 0200 1 V
+B0 25 00 02 *                             58 VOUT_MARGIN_HIGH write 0200
+B0 26 00 02 *                             58 VOUT_MARGIN_LOW write 0200
+B0 2B 00 02 *                             58 VOUT_MIN write 0200 1 V
+B0 8B / B1 00 02 *                        58 READ_VOUT read 0200 1 V
+B2 00 01 *                                59 PAGE write 01
+B2 20 / B3 8F *                           59 page 1? VOUT_MODE read 8F ULINEAR16 15 relative
+B2 21 02 00 *                             59 page 1? VOUT_COMMAND write 0002 65536 V
+B2 25 02 00 *                             59 page 1? VOUT_MARGIN_HIGH write 0002
+B2 20 / B3 B7 *                           59 page 1? VOUT_MODE read B7
+B2 21 02 00 *                             59 page 1? VOUT_COMMAND write 0002
+B2 20 / B3 7F *                           59 page 1? VOUT_MODE read 7F
+B2 21 02 00 *                             59 page 1? VOUT_COMMAND write 0002
+"""),
+    ("--values --vout=ulinear16:-12", """
+B0 06 02 00 20 / B1 01 97 *               58 page 0 VOUT_MODE read 97 ULINEAR16 -9 relative
+B0 05 04 00 21 00 10 *                    58 page 0 VOUT_COMMAND write 1000 1 V
+B0 05 04 00 25 00 10 *                    58 page 0 VOUT_MARGIN_HIGH write 1000
+"""),
+    # A list by address: the first entry that fits.
+    ("--values --vout=58:ulinear16:-12,5a/direct/1/0/3,ulinear16:-9,59:linear11", """
+B0 21 00 10 *                             58 VOUT_COMMAND write 1000 1 V
+B2 21 00 10 *                             59 VOUT_COMMAND write 1000 8 V
+B4 21 00 10 *                             5A VOUT_COMMAND write 1000 4.096 V
+B0 05 04 07 21 00 10 *                    58 page 7 VOUT_COMMAND write 1000 1 V
+"""),
+    ("--values --vout=59:ulinear16:-12", """
+B0 21 00 10 *                             58 VOUT_COMMAND write 1000
+B2 21 00 10 *                             59 VOUT_COMMAND write 1000 1 V
+"""),
+    # What all outputs of an address agree on holds where the output isn't known, and of page FF; where they differ there is no value.
+    ("--values --vout=ulinear16:-9", """
+B0 06 02 00 20 / B1 01 13 *               58 page 0 VOUT_MODE read 13 ULINEAR16 -13
+B0 21 00 20 *                             58 VOUT_COMMAND write 2000 1 V
+B0 05 04 FF 21 00 20 *                    58 page 255 VOUT_COMMAND write 2000 1 V
+B0 06 02 01 20 / B1 01 13 *               58 page 1 VOUT_MODE read 13 ULINEAR16 -13
+B0 21 00 20 *                             58 VOUT_COMMAND write 2000 1 V
+B0 05 04 02 21 00 20 *                    58 page 2 VOUT_COMMAND write 2000 16 V
+B2 21 00 20 *                             59 VOUT_COMMAND write 2000 16 V
+B0 06 02 01 20 / B1 01 14 *               58 page 1 VOUT_MODE read 14 ULINEAR16 -12
+B0 21 00 20 *                             58 VOUT_COMMAND write 2000
+B0 05 04 FF 21 00 20 *                    58 page 255 VOUT_COMMAND write 2000
+B0 06 02 00 20 / B1 01 14 *               58 page 0 VOUT_MODE read 14 ULINEAR16 -12
+B0 21 00 20 *                             58 VOUT_COMMAND write 2000 2 V
+B0 05 03 01 20 17 *                       58 write F7 WrongDirection 4 bytes B0 05 03 01 20 17 *
+B0 21 00 20 *                             58 VOUT_COMMAND write 2000
+B0 06 02 01 20 / B1 01 14 *               58 page 1 VOUT_MODE read 14 ULINEAR16 -12
+B0 21 00 20 *                             58 VOUT_COMMAND write 2000 2 V
+B0 06 02 FF 20 / B1 01 17 *               58 page 255 VOUT_MODE read 17 ULINEAR16 -9
+B0 05 04 FF 21 00 20 *                    58 page 255 VOUT_COMMAND write 2000 16 V
+B0 21 00 20 *                             58 VOUT_COMMAND write 2000
+"""),
+    # DIRECT by its side: side 0 for what is written, side 1 for what is read, and the other one where that was taught alone.
+    ("--values", """
+B0 20 / B1 40 *                           58 VOUT_MODE read 40 DIRECT
+B0 21 E8 03 *                             58 VOUT_COMMAND write 03E8
+B0 30 02 21 01 / B1 05 02 00 00 00 03 *   58 COEFFICIENTS of 21 side 1 read m 2 b 0 r 3
+B0 21 E8 03 *                             58 VOUT_COMMAND write 03E8 0.5 V
+B0 30 02 21 00 / B1 05 01 00 00 00 03 *   58 COEFFICIENTS of 21 side 0 read m 1 b 0 r 3
+B0 21 E8 03 *                             58 VOUT_COMMAND write 03E8 1 V
+B0 21 / B1 E8 03 *                        58 VOUT_COMMAND read 03E8 0.5 V
+B0 30 02 21 02 / B1 05 05 00 00 00 03 *   58 COEFFICIENTS of 21 side 2 read m 5 b 0 r 3
+B0 21 E8 03 *                             58 VOUT_COMMAND write 03E8 1 V
+B0 30 02 24 02 / B1 05 05 00 00 00 03 *   58 COEFFICIENTS of 24 side 2 read m 5 b 0 r 3
+B0 24 E8 03 *                             58 VOUT_MAX write 03E8
+B0 30 02 8B 00 / B1 05 01 00 00 00 03 *   58 COEFFICIENTS of 8B side 0 read m 1 b 0 r 3
+B0 8B / B1 E8 03 *                        58 READ_VOUT read 03E8 1 V
+"""),
     ("--values --vout=ulinear16:-12", """
 B0 21 CD 34 *                             58 VOUT_COMMAND write 34CD 3.300048 V
 B0 8B / B1 CD 34 *                        58 READ_VOUT read 34CD 3.300048 V
@@ -237,7 +345,7 @@ B0 05 04 00 21 CD 34 *                    58 page 0 VOUT_COMMAND write 34CD 3.30
 B0 06 02 00 20 / B1 01 13 *               58 page 0 VOUT_MODE read 13 ULINEAR16 -13
 B0 05 04 00 21 CD 34 *                    58 page 0 VOUT_COMMAND write 34CD 1.650024 V
 B0 05 04 01 21 CD 34 *                    58 page 1 VOUT_COMMAND write 34CD 3.300048 V
-B0 21 CD 34 *                             58 VOUT_COMMAND write 34CD 3.300048 V
+B0 21 CD 34 *                             58 VOUT_COMMAND write 34CD 1.650024 V
 B0 06 02 00 20 / B1 01 21 *               58 page 0 VOUT_MODE read 21
 B0 05 04 00 21 CD 34 *                    58 page 0 VOUT_COMMAND write 34CD
 B0 06 02 00 20 / B1 01 40 *               58 page 0 VOUT_MODE read 40 DIRECT
@@ -312,7 +420,7 @@ B0 96 / B1 34 12 *                        58 code 96 READ_POUT read 34 12, PEC r
 B0 96 / B1 34 12 !                        58 code 96 READ_POUT read 34 12 !, no PEC
 B0 96 / B1 34 12                          58 code 96 READ_POUT read 34 12, no PEC
 B0 96 / B1                                58 code 96 READ_POUT read, no PEC
-B0 96 / B1 *                              58 code 96 READ_POUT read, PEC right
+B0 96 / B1 *                              58 code 96 READ_POUT read *, no PEC
 B0 86 02 01 02 / B1 03 04 *               58 code 86 READ_EIN write 02 01 02 read 03 04, PEC right
 B0 86 02 01 02 / B1                       58 code 86 READ_EIN write 02 01 02 read, no PEC
 B0 D4 01 02 03                            58 code D4 write 01 02 03, no PEC
@@ -427,7 +535,7 @@ B0 78 / B1 FF *                           58 STATUS_BYTE read FF
 B0 78 / B1 FF FE                          58 read F5 WrongPec 2
 B0 D4 FF FF                               58 code D4 write FF FF, no PEC
 B0 FF / B1                                58 code FF PMBUS_COMMAND_EXT read, no PEC
-B0 89 / B1 FF                             58 code 89 READ_IIN read, PEC right
+B0 89 / B1 FF                             58 code 89 READ_IIN read FF, all ones: nobody answered
 B0 E0 / B1 FF FF                          58 code E0 read FF, PEC right
 B0 40 / B1 FF FF                          58 code 40 VOUT_OV_FAULT_LIMIT read FF FF, all ones: nobody answered
 B0 40 / B1 FF FF FF                       58 code 40 VOUT_OV_FAULT_LIMIT read FF FF, PEC right
@@ -445,6 +553,39 @@ B0 96 / B3 FF                             58 write F6 UnknownCode 1
 = count code E0 1
 = count code FF 1
 = lines 17 accepted 1 other 13 faults 3 bad 0
+
+# The last byte is data, whatever it is, where without it an answer would have no byte, or a packet fewer than its code has.
+B0 7B / B1 *                              58 code 7B STATUS_IOUT read *, no PEC
+B0 7B / B1 80 *                           58 code 7B STATUS_IOUT read 80, PEC right
+B0 7B *                                   58 code 7B STATUS_IOUT write *, no PEC
+B0 7B 80 *                                58 code 7B STATUS_IOUT write 80, PEC right
+B0 82 / B1 *                              58 code 82 STATUS_FANS_3_4 read *, no PEC
+B0 83 / B1 *                              58 code 83 READ_KWH_IN read *, no PEC
+B0 83 *                                   58 code 83 READ_KWH_IN send, PEC right
+B0 87 / B1 55 *                           58 code 87 READ_EOUT read 55, PEC right
+B0 89 / B1 55 *                           58 code 89 READ_IIN read 55 *, no PEC
+B0 97 / B1 55 *                           58 code 97 READ_PIN read 55 *, no PEC
+B0 97 / B1 55 66 *                        58 code 97 READ_PIN read 55 66, PEC right
+B0 97 55 *                                58 code 97 READ_PIN write 55 *, no PEC
+B0 99 / B1 55 *                           58 code 99 MFR_ID read 55, PEC right
+B0 02 / B1 *                              58 code 02 ON_OFF_CONFIG read *, no PEC
+B0 02 *                                   58 code 02 ON_OFF_CONFIG write *, no PEC
+B0 04 *                                   58 code 04 PHASE send, PEC right
+B0 D4 / B1 *                              58 code D4 read *, no PEC
+B0 D4 / B1 12 *                           58 code D4 read 12, PEC right
+B0 11 *                                   58 code 11 STORE_DEFAULT_ALL send, PEC right
+= count code 02 2
+= count code 04 1
+= count code 11 1
+= count code 7B 4
+= count code 82 1
+= count code 83 2
+= count code 87 1
+= count code 89 1
+= count code 97 3
+= count code 99 1
+= count code D4 2
+= lines 19 accepted 0 other 19 faults 0 bad 0
 
 # These stay faults: a wrong PEC of a code that is written here, no code, another device's answer, no answer, no device.
 B0 03 47                                  58 write F5 WrongPec 2
@@ -672,12 +813,12 @@ B0 06 02 01 21 / B1 02 CD 34 *   {"line":2,"address":"58","page":1,"code":"21","
 B0 03 46                   {"line":3,"address":"58","code":"03","name":"CLEAR_FAULTS","direction":"send"}
 B0 30 02 21 00 / B1 05 01 00 00 00 03 6B    {"line":4,"address":"58","code":"30","name":"COEFFICIENTS","of":"21","side":0,"direction":"read","payload":"01 00 00 00 03","m":1,"b":0,"r":3}
 B0 30 02 8B 01 / B1 05 00 80 FF FF F4 *    {"line":5,"address":"58","code":"30","name":"COEFFICIENTS","of":"8B","side":1,"direction":"read","payload":"00 80 FF FF F4","m":-32768,"b":-1,"r":-12}
-B0 05 04 01 21 CD 34 5A    {"line":6,"address":"58","direction":"write","fault":"F5 WrongPec","place":7}
-B0 21 / B3                 {"line":7,"address":"58","direction":"read","fault":"F1 NotOurs"}
+B0 05 04 01 21 CD 34 5A    {"line":6,"address":"58","code":"05","direction":"write","fault":"F5 WrongPec","place":7}
+B0 21 / B3                 {"line":7,"address":"58","code":"21","direction":"read","fault":"F1 NotOurs"}
 /                          {"line":8,"direction":"write","fault":"F1 NotOurs"}
 B0 9                       {"line":9,"fault":"X2 BadHex"}
 B0 / B1 / B2               {"line":10,"fault":"X1 Syntax"}
-B0 96 / B1 34 12           {"line":11,"address":"58","direction":"write","fault":"F6 UnknownCode","place":1}
+B0 96 / B1 34 12           {"line":11,"address":"58","code":"96","direction":"write","fault":"F6 UnknownCode","place":1}
 = {"count":"VOUT_COMMAND","lines":2}
 = {"count":"CLEAR_FAULTS","lines":1}
 = {"count":"COEFFICIENTS","lines":2}
@@ -695,9 +836,9 @@ B0 10 80 34                {"line":8,"address":"58","code":"10","name":"WRITE_PR
 B0 78 / B1 42 *            {"line":9,"address":"58","code":"78","name":"STATUS_BYTE","direction":"read","payload":"42","flags":["OFF","CML"]}
 B0 79 / B1 00 00 *         {"line":10,"address":"58","code":"79","name":"STATUS_WORD","direction":"read","payload":"00 00","flags":[]}
 B0 7E / B1 04 *            {"line":11,"address":"58","code":"7E","name":"STATUS_CML","direction":"read","payload":"04","flags":["bit 2"]}
-B0 05 04 01 21 CD 34 5A    {"line":12,"address":"58","direction":"write","packet":"B0 05 04 01 21 CD 34 5A","fault":"F5 WrongPec","place":7}
-B0 06 02 00 21 / B1 02 CD  {"line":13,"address":"58","direction":"read","packet":"B0 06 02 00 21 / B1 02 CD","fault":"F2 Short","place":3}
-B0 21 CD 34 *              {"line":14,"address":"58","code":"21","name":"VOUT_COMMAND","direction":"write","payload":"CD 34"}
+B0 05 04 01 21 CD 34 5A    {"line":12,"address":"58","code":"05","direction":"write","packet":"B0 05 04 01 21 CD 34 5A","fault":"F5 WrongPec","place":7}
+B0 06 02 00 21 / B1 02 CD  {"line":13,"address":"58","code":"06","direction":"read","packet":"B0 06 02 00 21 / B1 02 CD","fault":"F2 Short","place":3}
+B0 21 CD 34 *              {"line":14,"address":"58","code":"21","name":"VOUT_COMMAND","direction":"write","payload":"CD 34","numerator":13517,"denominator":4096,"volts":3.300048}
 B0 19 / B1 B0 *            {"line":15,"address":"58","code":"19","name":"CAPABILITY","direction":"read","payload":"B0","value":"PEC, 400 kHz, SMBALERT#"}
 /                          {"line":16,"direction":"write","packet":"/","fault":"F1 NotOurs"}
 B0 88 / B1 FF 87 *         {"line":17,"address":"58","code":"88","name":"READ_VIN","direction":"read","payload":"FF 87","numerator":-1,"denominator":65536,"volts":-0.000016}
@@ -849,7 +990,7 @@ B0 21 CD 34 *                             58 page 1? VOUT_COMMAND write 34CD 3.3
 B0 00 / B1 01 *                           58 PAGE read 01
 B0 21 CD 34 *                             58 page 1? VOUT_COMMAND write 34CD 3.300048 V
 B0 00 FF *                                58 PAGE write FF
-B0 21 CD 34 *                             58 page 255? VOUT_COMMAND write 34CD
+B0 21 CD 34 *                             58 page 255? VOUT_COMMAND write 34CD 3.300048 V
 = count VOUT_COMMAND 10
 = count PAGE 4
 = count VOUT_MODE 1
@@ -974,7 +1115,7 @@ B0 21 CD 34 *                             58 page 1? VOUT_COMMAND write 34CD 1.6
 B0 20 / B1 21 *                           58 page 1? VOUT_MODE read 21
 B0 21 CD 34 *                             58 page 1? VOUT_COMMAND write 34CD
 # a loss
-B0 21 CD 34 *                             58 VOUT_COMMAND write 34CD 3.300048 V
+B0 21 CD 34 *                             58 VOUT_COMMAND write 34CD
 """),
     # A mode that was written over, or restored, isn't known until it is read again: of one output, or of all.
     ("--values", """
@@ -1279,14 +1420,14 @@ B0 21 00                                  58 page 1? code 21 VOUT_COMMAND write 
 B0 21 00 02                               58 page 1? VOUT_COMMAND write 0200 1 V, no PEC
 B0 00 / B1 00                             58 PAGE read 00, no PEC WRONG PAGE? lines 1 and 7
 B0 21 00 10                               58 page 0? VOUT_COMMAND write 1000 1 V, no PEC
-B0 96 / B1 *                              58 page 0? code 96 READ_POUT read, PEC right
+B0 96 / B1 *                              58 page 0? code 96 READ_POUT read *, no PEC
 B0 96 / B1 34 12                          58 page 0? code 96 READ_POUT read 34 12, no PEC
 B0 21 00 10                               58 page 0? VOUT_COMMAND write 1000 1 V, no PEC
 B0 96 / B1                                58 code 96 READ_POUT read, no PEC
-B0 21 00 10                               58 VOUT_COMMAND write 1000 1 V, no PEC
+B0 21 00 10                               58 VOUT_COMMAND write 1000, no PEC
 B0 00 01                                  58 PAGE write 01, no PEC
 B0 8B / B1 FF FF                          58 code 8B READ_VOUT read FF FF, all ones: nobody answered
-B0 21 00 02                               58 VOUT_COMMAND write 0200 0.125 V, no PEC
+B0 21 00 02                               58 VOUT_COMMAND write 0200, no PEC
 B0 00 01                                  58 PAGE write 01, no PEC
 B0 00 / B1 FF                             58 code 00 PAGE read FF, all ones: nobody answered
 B0 21 00 02                               58 page 1? VOUT_COMMAND write 0200, no PEC WRONG PAGE? lines 18 and 19
@@ -1295,9 +1436,9 @@ B0 00 / B1                                58 code 00 PAGE read, no PEC
 B0 21 00 02                               58 page 1? VOUT_COMMAND write 0200, no PEC WRONG PAGE? lines 21 and 22
 B0 00 01                                  58 PAGE write 01, no PEC
 B0 00 02 03 04                            58 code 00 PAGE write 02 03 04, no PEC
-B0 21 00 02                               58 VOUT_COMMAND write 0200 0.125 V, no PEC WRONG PAGE? lines 24 and 25
+B0 21 00 02                               58 VOUT_COMMAND write 0200, no PEC WRONG PAGE? lines 24 and 25
 B0 00                                     58 code 00 PAGE send, no PEC
-B0 8B / B1 00 02                          58 READ_VOUT read 0200 0.125 V, no PEC WRONG PAGE? lines 26 and 27
+B0 8B / B1 00 02                          58 READ_VOUT read 0200, no PEC WRONG PAGE? lines 26 and 27
 """),
     ("--json --pages --all", """
 B0 00 01                   {"line":1,"address":"58","code":"00","name":"PAGE","direction":"write","payload":"01","pec":false}
@@ -1315,7 +1456,7 @@ B0 21 CD 34 *              {"line":3,"address":"58","page":1,"followed":true,"co
 B0 79 / B1 40 08 *         {"line":4,"address":"58","page":1,"followed":true,"code":"79","name":"STATUS_WORD","direction":"read","payload":"40 08","flags":["POWER_GOOD#","OFF"]}
 B0 03 *                    {"line":5,"address":"58","page":1,"followed":true,"code":"03","name":"CLEAR_FAULTS","direction":"send"}
 B0 00 / B1 00 *            {"line":6,"address":"58","code":"00","name":"PAGE","direction":"read","payload":"00","wrong":[1,6]}
-B0 00 02 !                 {"line":7,"address":"58","direction":"write","packet":"B0 00 02 !","fault":"F5 WrongPec","place":3}
+B0 00 02 !                 {"line":7,"address":"58","code":"00","direction":"write","packet":"B0 00 02 !","fault":"F5 WrongPec","place":3}
 B0 21 CD 34 *              {"line":8,"address":"58","code":"21","name":"VOUT_COMMAND","direction":"write","payload":"CD 34","wrong":[7,8]}
 B0 7A / B1 10 *            {"line":9,"address":"58","code":"7A","name":"STATUS_VOUT","direction":"read","payload":"10","flags":["VOUT_UV_FAULT"],"wrong":[7,9]}
 B0 88 / B1 00 D3 *         {"line":10,"address":"58","code":"88","name":"READ_VIN","direction":"read","payload":"00 D3","numerator":768,"denominator":64,"volts":12,"wrong":[7,10]}
@@ -1540,7 +1681,7 @@ B0 96 / B1 34 12                          58 write F6 UnknownCode 1
     ("--json --times --long --all --vout=linear11 --values --pages --gap=5 --readings=linear11", """
 1 B0 06 02 00 20 / B1 01 14 *   {"line":1,"time":1,"address":"58","page":0,"code":"20","name":"VOUT_MODE","direction":"read","payload":"14","value":"ULINEAR16 -12"}
 20 B0 05 04 00 21 CD 34 5A      {"line":2,"time":20,"address":"58","page":0,"code":"21","name":"VOUT_COMMAND","direction":"write","payload":"CD 34","numerator":13517,"denominator":4096,"volts":3.300048}
-300 B0 05 04 01 21 CD 34 5A     {"line":3,"time":300,"address":"58","direction":"write","packet":"B0 05 04 01 21 CD 34 5A","fault":"F5 WrongPec","place":7}
+300 B0 05 04 01 21 CD 34 5A     {"line":3,"time":300,"address":"58","code":"05","direction":"write","packet":"B0 05 04 01 21 CD 34 5A","fault":"F5 WrongPec","place":7}
 4000 B0 96 / B1 34 12           {"line":4,"time":4000,"address":"58","code":"96","name":"READ_POUT","direction":"read","payload":"34 12","pec":false}
 = {"count":"VOUT_MODE","lines":1}
 = {"count":"VOUT_COMMAND","lines":1}
@@ -1615,7 +1756,7 @@ WHOLE = [
     ("--values", b"B0" * 300, 0, f"1 58 write F5 WrongPec 299 bytes {' '.join(['B0'] * 300)}\nlines 1 accepted 0 faults 1 bad 0\n"),
 ]
 
-BAD_VOUT = "bad vout: give linear11, ulinear16:N or direct:M:B:R, as ulinear16:-12"
+BAD_VOUT = "bad vout: give linear11, ulinear16:N or direct:M:B:R, or a list, as 58:ulinear16:-12,linear11"
 BAD_READINGS = "bad readings: give one to eight, as 8C:linear11,58:8D:direct:1:0:3"
 BAD_GAP = "bad gap: give 0 to 1000000 milliseconds"
 
@@ -1627,7 +1768,8 @@ REFUSED = [
         "", "linear", "linear11:0", "LINEAR11", "linear16:-12", "ulinear16", "ulinear16:16", "ulinear16:-17", "ulinear16:x",
         "ulinear16:1:2", "direct", "direct:1:0", "direct:1:0:0:0", "direct:0:0:0", "direct:1:0:13", "direct:1:0:-13",
         "direct:32768:0:0", "direct:1:-32769:0", "direct:1:0:128", "direct::0:0", "ulinear16/16", "ulinear16//1", "ulinear16/",
-        "direct/1:0/13", "/linear11", "/", "ulinear16\\-12", "8C:linear11")),
+        "direct/1:0/13", "/linear11", "/", "ulinear16\\-12", "8C:linear11", "78:linear11", "07:linear11", "58:21:linear11", "58:", "58",
+        "linear11,", ",linear11", "58:linear11,,linear11", "0x58:linear11", "8:linear11", ",".join(["linear11"] * 9))),
     ("--readings=linear11", "give --readings with --values"), ("--readings=", "give --readings with --values"),
     *((f"--values --readings={entries}", BAD_READINGS) for entries in (
         "", "linear", "ulinear16:-12", "8C", "8C:", ":linear11", "8B:linear11", "58:linear11", "8C:58:linear11", "07:8C:linear11",
@@ -1650,5 +1792,6 @@ REFUSED = [
 # Forms that are taken.
 TAKEN = [f"--values --readings={','.join(['77:8d:linear11'] * 8)}", "--values --readings=08:8C:direct:-1:5:12",
          "--values --readings=88:linear11,08:8D:direct:32767:-32768:-12", "--values --readings=77/8D/linear11,58/88:direct:1/0/3",
-         "--values --vout=ulinear16/-16", "--values --vout=direct/1:0/-12",
+         "--values --vout=ulinear16/-16", "--values --vout=direct/1:0/-12", "--values --vout=08:linear11,77/ulinear16:15,linear11",
+         f"--values --vout={','.join(['5a:direct:1:0:3'] * 8)}",
          "--pages", "--pages --times", "--pages --times --gap=0000005", "--pages --times --gap=1000000", "--gap=0 --times --pages"]

@@ -27,7 +27,7 @@ WRITE, READ, MOST, MODE = 0xB0, 0xB1, 4, 0x14
 # How long a line of the tables may be.
 WIDTH = 120
 # The unit in a text of what an object measures, and the most words that a table has of one code: packets.py tells others itself.
-LETTERS, MOST_WORDS = {"volts": "V", "amperes": "A", "celsius": "C"}, 40
+LETTERS, MOST_WORDS = {"volts": "V", "amperes": "A", "celsius": "C"}, 80
 
 
 class NoTables(Exception):

@@ -9,10 +9,12 @@ use Rattle.pm_trace.specs.TraceText.{end_of}
 use Rattle.pm_trace.specs.declared.line_fault.LineFault.{LineFault}
 use Rattle.pm_trace.specs.declared.trace_line.TraceLine.{TraceLine}
 use Rattle.pm_values.specs.Otherwise.{content_of}
-use Rattle.pm_values.specs.Taught.{Taught, changed_by, taught_by, untaught}
+use Rattle.pm_values.specs.Taught.{Taught, changed_by, paged_at, paged_by, taught_by, untaught}
 use Rattle.pm_decode.specs.Hints.{beyond_by}
 use Rattle.pm_decode.specs.PageSteps.{change_by, judged_address, marks_in, pages_noted, pages_read}
 use Rattle.pm_decode.specs.Readings.{Entry, Said, Told, Noted, judged_as, judged_by, other_address}
+use Rattle.pm_decode.specs.declared.comment.Remark.{Remark}
+use Rattle.pm_decode.specs.declared.comment.Remark.TheVariants.{Elsewhere, Unacknowledged, Failed, LossAt, Loss}
 use Rattle.pm_decode.specs.declared.hints.Hint.{Hint}
 use Rattle.pm_decode.specs.declared.hints.Hint.TheVariants.{Beyond, NoTimes, NoGoodPacket}
 use Rattle.pm_decode.specs.declared.page_step.Marks.{Marks}
@@ -31,10 +33,12 @@ pub record Known : Type 0 where
 abbrev pub unknown : Known
 unknown = record { taught = untaught; pages = no_pages; beyond = None }
 
--- what a packet teaches; where values are told, a mode that it may have changed isn't known any more
+-- what a packet teaches; where values are told, a mode that it may have changed isn't known any more, and a packet of PAGE says
+-- that its address has pages
 abbrev pub taught_over : TellOptions → ℕ → Marks → TraceLine → Taught → Taught
 taught_over options number marks parts taught = if options.values
-    then changed_by number (judged_address (judged_by options.all parts)) (change_by marks parts) taught else taught
+    then paged_by (judged_address (judged_by options.all parts)) parts.write
+    (changed_by number (judged_address (judged_by options.all parts)) (change_by marks parts) taught) else taught
 
 abbrev pub taught_read : TellOptions → ℕ → Marks → Result TraceLine LineFault → Taught → Taught
 taught_read options number marks (Ok parts) taught =
@@ -50,9 +54,20 @@ known_read options number time parts known = record {
       known.beyond;
 }
 
+-- behind a comment: one that shows a packet of PAGE says that its address has pages
+abbrev pub taught_noted : Remark → Taught → Taught
+taught_noted Elsewhere taught = taught
+taught_noted Unacknowledged taught = taught
+taught_noted (Failed addr writes) taught = paged_at addr taught
+taught_noted (LossAt addr) taught = taught
+taught_noted Loss taught = taught
+
 abbrev pub known_said : TellOptions → ℕ → Said → Known → Known
 known_said options number (Told reading) known = known_read options number reading.time reading.parts known
-known_said options number (Noted remark) known = record known { pages = pages_noted number remark known.pages }
+known_said options number (Noted remark) known = record known {
+  taught = taught_noted remark known.taught;
+  pages = pages_noted number remark known.pages;
+}
 
 abbrev pub known_by : TellOptions → Known → Entry → Known
 known_by options known entry = known_said options entry.0 entry.1 known

@@ -1,14 +1,15 @@
 -- What is told besides of a capture that was told whole: a voltage that is ordered beyond 1000 V by the format that was given,
 -- and lines of which none is what the options say that lines are. This project's own choice.
-use Rattle.std.specs.Prelude.{ℕ, Bool, false, ◌&&◌, nat_lt, not, is_some, unsigned_abs, if◌then◌else◌, Option, Some, None}
+use Rattle.std.specs.Prelude.{ℕ, Bool, false, ◌&&◌, nat_lt, not, is_some, unsigned_abs, if◌then◌else◌, List, [], ◌∷◌, replicate, Option, Some, None}
 use Rattle.pm_frame.specs.declared.message.Message.{Message}
 use Rattle.pm_trace.specs.Trace.{Judged, Accepted, Faulty, BadSyntax, BadHex}
 use Rattle.pm_values.specs.Taught.{Taught}
 use Rattle.pm_values.specs.Values.{millionths, packet_value}
+use Rattle.pm_values.specs.declared.formats.GivenFormat.{GivenFormat}
 use Rattle.pm_values.specs.declared.formats.GivenFormats.{GivenFormats}
 use Rattle.pm_values.specs.declared.value.Unit.TheVariants.{Volt, Ampere, Celsius}
 use Rattle.pm_values.specs.declared.value.Value.{Value}
-use Rattle.pm_values.specs.declared.value.Value.TheVariants.{Measured, Operates, Protects, Scales, Flags, Capable, Controls}
+use Rattle.pm_values.specs.declared.value.Value.TheVariants.{Measured, Operates, Protects, Scales, Relative, Flags, Capable, Controls}
 use Rattle.pm_decode.specs.declared.options.TellOptions.{TellOptions}
 
 -- ---- a voltage
@@ -21,6 +22,7 @@ is_huge_value (Measured ratio Celsius) = false
 is_huge_value (Operates operation) = false
 is_huge_value (Protects byte) = false
 is_huge_value (Scales mode) = false
+is_huge_value (Relative n) = false
 is_huge_value (Flags status bits) = false
 is_huge_value (Capable byte) = false
 is_huge_value (Controls byte) = false
@@ -32,7 +34,7 @@ is_huge (Some value) = is_huge_value value
 -- a write orders one by the format that was given, since what was taught gives it no value
 abbrev pub is_huge_order : GivenFormats → Taught → ℕ → Option ℕ → Message → Bool
 is_huge_order given taught addr reached message = is_huge (packet_value given taught addr reached message None)
-    && not (is_some (packet_value (record { vout = None; readings = given.readings }) taught addr reached message None))
+    && not (is_some (packet_value (record { vout = replicate 8 None; readings = given.readings }) taught addr reached message None))
 
 abbrev pub is_beyond : GivenFormats → Taught → Option ℕ → Judged → Bool
 is_beyond given taught reached (Accepted addr message None) = is_huge_order given taught addr reached message
@@ -46,6 +48,14 @@ abbrev pub first_if : Option ℕ → Bool → ℕ → Option ℕ
 first_if (Some line) is number = Some line
 first_if None is number = if is then Some number else None
 
+-- a format of voltages is given
+abbrev pub has_entry : List (Option GivenFormat) → Bool
+has_entry [] = false
+has_entry (entry ∷ entries) = is_some entry
+
+abbrev pub has_vout : GivenFormats → Bool
+has_vout given = has_entry given.vout
+
 abbrev pub beyond_by : TellOptions → Taught → Option ℕ → ℕ → Judged → Option ℕ → Option ℕ
 beyond_by options taught reached number judged before =
-    if options.values && is_some options.formats.vout then first_if before (is_beyond options.formats taught reached judged) number else before
+    if options.values && has_vout options.formats then first_if before (is_beyond options.formats taught reached judged) number else before

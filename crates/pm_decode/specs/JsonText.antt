@@ -19,13 +19,13 @@ use Rattle.pm_values.specs.CodeNames.{standard_name}
 use Rattle.pm_values.specs.Otherwise.{ContentBytes, content_letters, content_of, has_pec, is_all_ones, said_bytes, spaced}
 use Rattle.pm_values.specs.Statuses.{names_from, rows_of}
 use Rattle.pm_values.specs.Taught.{Taught}
-use Rattle.pm_values.specs.ValueText.{capability_text, decimal_of, mode_text, on_off_text, operation_text, protection_text}
+use Rattle.pm_values.specs.ValueText.{capability_text, decimal_of, mode_text, on_off_text, operation_text, protection_text, relative_text}
 use Rattle.pm_values.specs.Values.{carried, millionths, other_value, packet_value}
 use Rattle.pm_values.specs.declared.formats.GivenFormats.{GivenFormats}
 use Rattle.pm_values.specs.declared.value.Unit.{Unit as MeasureUnit}
 use Rattle.pm_values.specs.declared.value.Unit.TheVariants.{Volt, Ampere, Celsius}
 use Rattle.pm_values.specs.declared.value.Value.{Value}
-use Rattle.pm_values.specs.declared.value.Value.TheVariants.{Measured, Operates, Protects, Scales, Flags, Capable, Controls}
+use Rattle.pm_values.specs.declared.value.Value.TheVariants.{Measured, Operates, Protects, Scales, Relative, Flags, Capable, Controls}
 use Rattle.pm_decode.specs.Hearing.{HeardLines, heard_lines}
 
 -- ---- fields
@@ -84,6 +84,7 @@ value_fields (Measured ratio unit) = fraction_by ratio.num (pos ratio.den) ++ ro
 value_fields (Operates operation) = text_field (codes "value") (operation_text operation)
 value_fields (Protects byte) = text_field (codes "value") (protection_text byte)
 value_fields (Scales mode) = text_field (codes "value") (mode_text mode)
+value_fields (Relative n) = text_field (codes "value") (relative_text n)
 value_fields (Capable byte) = text_field (codes "value") (capability_text byte)
 value_fields (Controls byte) = text_field (codes "value") (on_off_text byte)
 value_fields (Flags status bits) =
@@ -173,6 +174,16 @@ abbrev pub kind_fields : FrameFault → List ℕ
 kind_fields fault =
     text_field (codes "fault") (frame_fault_words fault) ++ number_field_if (codes "place") (frame_fault_place fault)
 
+-- the code of one that has an address and a code
+abbrev pub fault_code_by : List ℕ → List ℕ
+fault_code_by [] = []
+fault_code_by (first ∷ []) = []
+fault_code_by (first ∷ code ∷ rest) = text_field (codes "code") (hex_byte code)
+
+abbrev pub fault_code : Option ℕ → List ℕ → List ℕ
+fault_code None write = []
+fault_code (Some addr) write = fault_code_by write
+
 abbrev pub fault_fields : Bool → List ℕ → Option (List ℕ) → Bool → FrameFault → List ℕ
 fault_fields values write read is_read fault = text_field (codes "direction") (if is_read then codes "read" else codes "write")
     ++ (whole_field values write read ++ kind_fields fault)
@@ -229,7 +240,7 @@ abbrev pub judged_fields : GivenFormats → Bool → Taught → Option ℕ → L
 judged_fields given values taught reached write read (Accepted addr message answer) =
     address_field (Some addr) ++ message_fields given values taught reached addr message answer
 judged_fields given values taught reached write read (Faulty addr is_read fault) =
-    address_field addr ++ fault_fields values write read is_read fault
+    address_field addr ++ (fault_code addr write ++ fault_fields values write read is_read fault)
 judged_fields given values taught reached write read BadSyntax = []
 judged_fields given values taught reached write read BadHex = []
 

@@ -21,7 +21,7 @@ plain_options formats long gap = record {
 
 -- no format is given
 abbrev pub no_formats : GivenFormats
-no_formats = record { vout = None; readings = replicate 8 None }
+no_formats = record { vout = replicate 8 None; readings = replicate 8 None }
 
 -- no option is given
 abbrev pub no_options : TellOptions

@@ -10,9 +10,9 @@ use Rattle.pm_trace.specs.declared.pages.PageUse.TheVariants.{Written, ReadBack,
 use Rattle.pm_trace.specs.declared.pages.Place.{Place}
 use Rattle.pm_trace.specs.declared.trace_line.TraceLine.{TraceLine}
 use Rattle.pm_values.specs.Otherwise.{is_all_ones}
-use Rattle.pm_values.specs.Taught.{change_of}
-use Rattle.pm_values.specs.declared.lessons.ModeChange.{ModeChange}
-use Rattle.pm_values.specs.declared.lessons.ModeChange.TheVariants.{OfAll}
+use Rattle.pm_values.specs.Modes.{change_of}
+use Rattle.pm_values.specs.declared.mode_changes.ModeChange.{ModeChange}
+use Rattle.pm_values.specs.declared.mode_changes.ModeChange.TheVariants.{OfAll}
 use Rattle.pm_decode.specs.Readings.{is_without_pec, judged_by, other_address}
 use Rattle.pm_decode.specs.declared.comment.Remark.{Remark}
 use Rattle.pm_decode.specs.declared.comment.Remark.TheVariants.{Elsewhere, Unacknowledged, LossAt, Loss}

@@ -259,9 +259,10 @@ impl HeardLines {
         push_packet_line(text, options, &self.lessons, marks, line)?;
         self.beyond = first_beyond(options, &self.lessons, marks.reached, line, self.beyond);
         if options.values {
+            let addr = address_in(line.shown);
             let change = change_in(marks, &line.packet);
-            self.lessons
-                .forget(line.number, address_in(line.shown), change)?;
+            self.lessons.forget(line.number, addr, change)?;
+            self.lessons.see_pages(addr, line.packet.write)?;
         }
         self.lessons.learn(line.number, marks.reached, line.shown)
     }
@@ -287,7 +288,10 @@ impl HeardLines {
                 self.pages.doubt();
                 Ok(())
             }
-            Remark::Failed(addr, writes) => self.pages.fail(number, addr, writes),
+            Remark::Failed(addr, writes) => {
+                self.lessons.see_page(addr)?;
+                self.pages.fail(number, addr, writes)
+            }
             Remark::LossAt(addr) => self.pages.lose_at(addr),
             Remark::Loss => {
                 self.pages.lose(number);

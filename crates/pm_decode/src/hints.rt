@@ -2,14 +2,16 @@
 ghost use Rattle.std.specs.Prelude.{◌≡◌, ◌<◌, ◌^◌};
 ghost use Rattle.pm_trace.specs.ShownLines.{judged_in};
 ghost use Rattle.pm_decode.specs.Hearing.{heard_lines, hint_by};
-ghost use Rattle.pm_decode.specs.Hints.{beyond_by, first_if, is_beyond as spec_is_beyond, is_huge as spec_is_huge, is_huge_value as spec_is_huge_value};
+ghost use Rattle.pm_decode.specs.Hints.{beyond_by, first_if, has_entry as spec_has_entry, has_vout as spec_has_vout, is_beyond as spec_is_beyond, is_huge as spec_is_huge, is_huge_value as spec_is_huge_value};
 
 use crate::heard_lines::HeardLines;
 use crate::line_text::PacketLine;
 use crate::options::TellOptions;
 use pm_num::Frac;
 use pm_trace::Shown;
-use pm_values::{GivenFormats, GoodPacket, Lessons, Unit, Value, millionths, packet_value};
+use pm_values::{
+    GivenFormat, GivenFormats, GoodPacket, Lessons, Unit, Value, millionths, packet_value,
+};
 
 /// What may be wrong where a capture was told whole.
 #[derive(Clone, Copy, Debug, PartialEq, Eq)]
@@ -54,11 +56,25 @@ pub(crate) fn first_beyond(
 ) -> Option<u64>
     ensures { result ≡ beyond_by options.now lessons.now reached line.now.number (judged_in line.now.shown.now) before }
 {
-    if options.values && options.formats.vout.is_some() {
+    if options.values && has_vout(&options.formats) {
         first_of(&options.formats, lessons, reached, line, before)
     } else {
         before
     }
+}
+
+// Whether a format of voltages is given.
+fn has_vout(given: &GivenFormats) -> bool
+    ensures { result ≡ spec_has_vout given.now }
+{
+    has_entry(&given.vout)
+}
+
+// Whether a list has an entry.
+fn has_entry(entries: &[Option<GivenFormat>]) -> bool
+    ensures { result ≡ spec_has_entry entries.now }
+{
+    matches!(entries, [Some(_), ..])
 }
 
 // The hint of a packet whose values are told by a format that was given.
@@ -94,7 +110,7 @@ fn is_beyond(
             answer: None,
         } => {
             let taught = GivenFormats {
-                vout: None,
+                vout: [None; 8],
                 readings: given.readings,
             };
             let packet = GoodPacket {

@@ -1,7 +1,7 @@
 //! The fields of objects of JSON.
 ghost use Rattle.std.specs.Prelude.{◌≡◌, ◌++◌, OnOk, codes, string_bytes};
 ghost use Rattle.pm_lines.specs.Numbers.{hex_byte};
-ghost use Rattle.pm_decode.specs.JsonText.{address_field, bytes_field, hex_words, key, number_field, number_field_if, signed_field, text_field};
+ghost use Rattle.pm_decode.specs.JsonText.{address_field, bytes_field, fault_code, hex_words, key, number_field, number_field_if, signed_field, text_field};
 
 use pm_lines::{push_decimal, push_hex, push_signed};
 use pm_values::push_spaced;
@@ -123,5 +123,19 @@ pub(crate) fn push_address_field(text: &mut String, addr: Option<u8>) -> Result<
     match addr {
         Some(addr) => push_hex_field(text, "address", addr),
         None => Ok(()),
+    }
+}
+
+/// Appends the code of a packet with a fault, if it has an address and a code.
+pub(crate) fn push_fault_code(
+    text: &mut String,
+    addr: Option<u8>,
+    write: &[u8],
+) -> Result<(), AllocError>
+    ensures { OnOk result (string_bytes text.new ≡ string_bytes text.old ++ fault_code addr write.now) }
+{
+    match (addr, write) {
+        (Some(_), [_, code, ..]) => push_hex_field(text, "code", *code),
+        _ => Ok(()),
     }
 }

@@ -7,8 +7,8 @@ ghost use Rattle.pm_values.specs.Contents.{content_in};
 ghost use Rattle.pm_decode.specs.JsonText.{code_fields, coefficients_fields, fault_fields, judged_fields, content_fields, kind_fields, lines_field, meaning_fields, message_fields, name_field, numbers_fields, other_fields, other_payload_by, page_fields, payload_fields, pec_fields as spec_pec_fields, plain_fields, sent_direction as spec_sent_direction, sent_fields, whole_field, whole_words, wrong_field};
 
 use crate::json_fields::{
-    push_address_field, push_bytes_field, push_hex_field, push_key, push_number_field,
-    push_number_field_if, push_signed_field, push_text_field, push_text_key,
+    push_address_field, push_bytes_field, push_fault_code, push_hex_field, push_key,
+    push_number_field, push_number_field_if, push_signed_field, push_text_field, push_text_key,
 };
 use crate::json_value::push_value_fields;
 use crate::line_text::PacketLine;
@@ -48,6 +48,7 @@ pub(crate) fn push_judged_fields(
         }
         Shown::Faulty { addr, read, fault } => {
             push_address_field(text, *addr)?;
+            push_fault_code(text, *addr, line.packet.write)?;
             push_fault_fields(text, options.values, &line.packet, *read, *fault)
         }
         Shown::BadSyntax | Shown::BadHex => Ok(()),

@@ -34,7 +34,7 @@ impl TellOptions {
         TellOptions {
             values: false,
             formats: GivenFormats {
-                vout: None,
+                vout: [None; 8],
                 readings: [None; 8],
             },
             all: false,

@@ -3,6 +3,7 @@ use Rattle.std.specs.Prelude.{ℕ, ℤ, pos, negsuc, Bool, ◌==◌, ◌&&◌, �
 use Rattle.std.specs.Prelude.{List, [], ◌∷◌, Option, Some, None, Result, Ok, Err, codes, option_map}
 use Rattle.std.specs.Prelude.{option_and_then}
 use Rattle.std.specs.Borrow.{Bor}
+use Rattle.std.specs.List.{list_any}
 use Rattle.std.specs.Str.{bytes_eq}
 use Rattle.pm_num.specs.Formats.{IsExponent}
 use Rattle.pm_lines.specs.Digits.{hex_of, signed_of}
@@ -71,6 +72,13 @@ HasExponent Linear11 = ⊤
 HasExponent (Ulinear16 n) = IsExponent n
 HasExponent (Direct m b r) = ⊤
 
+-- a format in which no slash (47) stands for a colon, as `number` has formats
+abbrev pub is_slash : ℕ → Bool
+is_slash c = c == 47
+
+abbrev pub plain_format_of : Text → Option FormatText
+plain_format_of text = if list_any is_slash text then None else format_of text
+
 -- ---- what is asked
 
 -- the text of an option that may be absent
@@ -91,8 +99,8 @@ asked_of (Some format) (Ok asked) = Ok (record { format = format; asked = asked 
 -- first fault: OneOf, then Format, then Word or Micro
 abbrev pub question : Text → Option Text → Option Text → Result Question NumberFault
 question format (Some word) None =
-    asked_of (format_of format) (or_fault (option_map (λ w. Word w) (hex_of 4 word)) fault.Word)
-question format None (Some micro) = asked_of (format_of format)
+    asked_of (plain_format_of format) (or_fault (option_map (λ w. Word w) (hex_of 4 word)) fault.Word)
+question format None (Some micro) = asked_of (plain_format_of format)
     (or_fault (option_map (λ k. Nearest k) (signed_of 64 micro)) fault.Micro)
 question format _ _ = Err fault.OneOf
 

@@ -6,20 +6,15 @@ use Rattle.std.specs.Result.{result_map_both, result_ok}
 use Rattle.std.specs.Str.{bytes_eq}
 use Rattle.clap.specs.Words.{App, Row, Rule, Text, first_of, new_app, new_rule, one_of, with_rule}
 use Rattle.clap.specs.declared.builder.action.ArgAction.TheVariants.{SetTrue}
-use Rattle.pm_num.specs.AnyFormat.{Shape, InLinear11, InUlinear16, shape_of}
-use Rattle.pm_num.specs.declared.any_format.AnyFormat.{AnyFormat}
-use Rattle.pm_table.specs.Format.{shape_in}
-use Rattle.pm_table.specs.declared.vout_mode.VoutMode.TheVariants as mode
 use Rattle.pm_decode.specs.declared.options.TellOptions.{TellOptions}
 use Rattle.pm_tool.specs.Options.{option_rule}
 use Rattle.pm_lines.specs.Digits.{natural_of}
-use Rattle.pm_tool.specs.Question.{format_of, text_at}
+use Rattle.pm_tool.specs.Question.{text_at}
 use Rattle.pm_tool.specs.ReadingList.{Entry, entries_of, if_any}
+use Rattle.pm_tool.specs.declared.commandline.readings.Listed.TheVariants as listed
 use Rattle.pm_tool.specs.declared.commandline.telling.TellTexts.{TellTexts}
 use Rattle.pm_tool.specs.declared.commandline.tell_fault.TellFault.{TellFault}
 use Rattle.pm_tool.specs.declared.commandline.tell_fault.TellFault.TheVariants.{VoutAlone, Vout, ReadingsAlone, Readings, GapAlone, Gap}
-use Rattle.pm_tool.specs.declared.numbers.question.FormatText.{FormatText}
-use Rattle.pm_tool.specs.declared.numbers.question.FormatText.TheVariants.{Linear11, Ulinear16, Direct}
 
 -- ---- the words
 
@@ -60,42 +55,25 @@ pub record HasTexts (given : TellTexts) (rows : List Row) : Type 0 where
   pub times : IsFlag (one_of (codes "times") rows) given.times
   pub json : IsFlag (one_of (codes "json") rows) given.json
 
--- ---- the format of `--vout`
+-- ---- the formats of `--vout` and `--readings`
 
--- the format that a text names, where it can be: a DIRECT one has a slope other than 0 and an exponent in its range
-abbrev pub shape_named : FormatText → Option Shape
-shape_named Linear11 = Some InLinear11
-shape_named (Ulinear16 n) = Some (InUlinear16 n)
-shape_named (Direct m b r) = result_ok (shape_in mode.Direct (record { m = m; b = b; r = r }))
+abbrev pub listed_or_fault : TellFault → Option (List Entry) → Result (List Entry) TellFault
+listed_or_fault fault (Some entries) = Ok entries
+listed_or_fault fault None = Err fault
 
-abbrev pub named_or_fault : Option Shape → Result (Option Shape) TellFault
-named_or_fault (Some shape) = Ok (Some shape)
-named_or_fault None = Err Vout
-
--- the format that the two options ask for, or the first fault
-abbrev pub vout_of : Bool → Option Text → Result (Option Shape) TellFault
-vout_of values None = Ok None
+-- the entries that `--values` and such a list ask for, or the first fault
+abbrev pub vout_of : Bool → Option Text → Result (List Entry) TellFault
+vout_of values None = Ok []
 vout_of false (Some text) = Err VoutAlone
-vout_of true (Some text) = named_or_fault (option_and_then shape_named (format_of text))
+vout_of true (Some text) = listed_or_fault Vout (entries_of listed.Voltages text)
 
-abbrev pub vout_asked : TellTexts → Result (Option Shape) TellFault
+abbrev pub vout_asked : TellTexts → Result (List Entry) TellFault
 vout_asked given = vout_of given.values (text_at given.vout)
 
--- a format that was made, or the fault, with the format seen as its shape
-abbrev pub vout_seen : Result (Option AnyFormat) TellFault → Result (Option Shape) TellFault
-vout_seen made = result_map_both (option_map shape_of) (λ fault. fault) made
-
--- ---- the formats of `--readings`
-
-abbrev pub listed_or_fault : Option (List Entry) → Result (List Entry) TellFault
-listed_or_fault (Some entries) = Ok entries
-listed_or_fault None = Err Readings
-
--- the entries that the two options ask for, or the first fault
 abbrev pub readings_of : Bool → Option Text → Result (List Entry) TellFault
 readings_of values None = Ok []
 readings_of false (Some text) = Err ReadingsAlone
-readings_of true (Some text) = listed_or_fault (entries_of text)
+readings_of true (Some text) = listed_or_fault Readings (entries_of listed.Readings text)
 
 abbrev pub readings_asked : TellTexts → Result (List Entry) TellFault
 readings_asked given = readings_of given.values (text_at given.readings)
@@ -127,7 +105,7 @@ gap_asked given = gap_of given.pages given.times (text_at given.gap)
 
 pub record IsTelling (given : TellTexts) (options : TellOptions) : Type 0 where
   pub values : options.values ≡ given.values
-  pub vout : vout_asked given ≡ Ok (option_map shape_of options.formats.vout)
+  pub vout : vout_asked given ≡ Ok (flat_map if_any options.formats.vout)
   pub readings : readings_asked given ≡ Ok (flat_map if_any options.formats.readings)
   pub all : options.all ≡ given.all
   pub long : options.long ≡ given.long
@@ -151,7 +129,7 @@ IsAsked given (Err fault) = first_fault (vout_asked given) (readings_asked given
 -- what is said of a fault of the options, and the status that goes with it
 abbrev pub tell_fault_words : TellFault → List ℕ
 tell_fault_words VoutAlone = codes "give --vout with --values"
-tell_fault_words Vout = codes "bad vout: give linear11, ulinear16:N or direct:M:B:R, as ulinear16:-12"
+tell_fault_words Vout = codes "bad vout: give linear11, ulinear16:N or direct:M:B:R, or a list, as 58:ulinear16:-12,linear11"
 tell_fault_words ReadingsAlone = codes "give --readings with --values"
 tell_fault_words Readings = codes "bad readings: give one to eight, as 8C:linear11,58:8D:direct:1:0:3"
 tell_fault_words GapAlone = codes "give --gap with --pages and --times"

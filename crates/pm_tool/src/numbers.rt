@@ -27,7 +27,7 @@ use std::io::Write;
 /// and the greatest whole number of millionths that isn't above it. The word is the one given, as
 /// four hexadecimal digits, or the one whose value is nearest to `micro` millionths, a decimal
 /// number of 64 bits. The format is `linear11`, `ulinear16:N` with N from -16 to 15, or
-/// `direct:M:B:R`, where `/` may stand for each `:`: the numeric formats of PMBus 1.3 Part II. The
+/// `direct:M:B:R`: the numeric formats of PMBus 1.3 Part II. The
 /// texts are this project's own choice. Takes memory once, for the line.
 ///
 /// # Errors

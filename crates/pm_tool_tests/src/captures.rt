@@ -11,7 +11,7 @@ use std::process::Abort;
 const PLAIN: TellOptions = TellOptions {
     values: false,
     formats: GivenFormats {
-        vout: None,
+        vout: [None; 8],
         readings: [None; 8],
     },
     all: false,
@@ -148,7 +148,7 @@ static OBJECTS: [(&str, &str); 2] = [
 {\"line\":5,\"address\":\"58\",\"code\":\"78\",\"name\":\"STATUS_BYTE\",\"direction\":\"read\",\"payload\":\"00\",\"flags\":[]}\n\
 {\"line\":6,\"address\":\"58\",\"code\":\"30\",\"name\":\"COEFFICIENTS\",\"of\":\"21\",\"side\":0,\"direction\":\"read\",\"payload\":\"01 00 00 00 03\",\"m\":1,\"b\":0,\"r\":3}\n\
 {\"line\":7,\"address\":\"58\",\"code\":\"88\",\"name\":\"READ_VIN\",\"direction\":\"read\",\"payload\":\"30 D3\",\"numerator\":816,\"denominator\":64,\"volts\":12.75}\n\
-{\"line\":8,\"address\":\"58\",\"direction\":\"write\",\"packet\":\"B0 05 04 01 21 CD 34 5A\",\"fault\":\"F5 WrongPec\",\"place\":7}\n\
+{\"line\":8,\"address\":\"58\",\"code\":\"05\",\"direction\":\"write\",\"packet\":\"B0 05 04 01 21 CD 34 5A\",\"fault\":\"F5 WrongPec\",\"place\":7}\n\
 {\"line\":9,\"fault\":\"X2 BadHex\"}\n\
 {\"line\":10,\"address\":\"58\",\"code\":\"96\",\"name\":\"READ_POUT\",\"direction\":\"read\",\"payload\":\"34 12\",\"pec\":true}\n\
 {\"line\":11,\"address\":\"58\",\"code\":\"86\",\"name\":\"READ_EIN\",\"direction\":\"read\",\"written\":\"02 01 02\",\"payload\":\"03 04\",\"pec\":true}\n\

@@ -2,12 +2,14 @@
 //! proof would see one that is wrong in both.
 
 mod codes;
+mod formats;
 mod lines;
 mod values;
 
 use crate::checks::is_true;
 use crate::run::run_on;
 use codes::CODES;
+use formats::FORMATS;
 use lines::LINES;
 use std::alloc::{AllocError, Global};
 use std::process::Abort;
@@ -82,5 +84,6 @@ fn are_told(rt: &(impl Abort + AllocGlobal), rows: &[Row]) -> Result<(), Fail> {
 fn each_fact_of_a_capture_is_told(rt: HostRuntime) -> Result<(), Fail> {
     are_told(&rt, &VALUES)?;
     are_told(&rt, &CODES)?;
+    are_told(&rt, &FORMATS)?;
     are_told(&rt, &LINES)
 }

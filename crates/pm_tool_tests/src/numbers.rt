@@ -30,7 +30,7 @@ fn expect_line(
 }
 
 /// A format, a word, and its line.
-static WORDS_SHOWN: [(&str, &str, &str); 15] = [
+static WORDS_SHOWN: [(&str, &str, &str); 13] = [
     ("linear11", "87FF", "word 87FF value -1/65536 micro -16\n"),
     ("linear11", "87ff", "word 87FF value -1/65536 micro -16\n"),
     (
@@ -85,17 +85,6 @@ static WORDS_SHOWN: [(&str, &str, &str); 15] = [
     ),
     (
         "direct:01:-0:003",
-        "0CE4",
-        "word 0CE4 value 3300/1000 micro 3300000\n",
-    ),
-    // A `/` stands for a `:`.
-    (
-        "ulinear16/-12",
-        "34CD",
-        "word 34CD value 13517/4096 micro 3300048\n",
-    ),
-    (
-        "direct/1:0/3",
         "0CE4",
         "word 0CE4 value 3300/1000 micro 3300000\n",
     ),
@@ -194,7 +183,7 @@ fn faulty_command_lines_are_refused_in_order(rt: HostRuntime) {
     }
 }
 
-static NO_FORMATS: [&str; 25] = [
+static NO_FORMATS: [&str; 27] = [
     "LINEAR11",
     "linear11:",
     "linear11 ",
@@ -220,6 +209,8 @@ static NO_FORMATS: [&str; 25] = [
     "linear11/",
     "ulinear16//1",
     "ulinear16/16",
+    "ulinear16/-12",
+    "direct:1/0:3",
 ];
 
 #[test]

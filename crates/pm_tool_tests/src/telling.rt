@@ -7,7 +7,7 @@ use pm_tool::{Source, TellTexts};
 use std::test::Fail;
 
 const BAD_VOUT: &str =
-    "pmb: bad vout: give linear11, ulinear16:N or direct:M:B:R, as ulinear16:-12\n";
+    "pmb: bad vout: give linear11, ulinear16:N or direct:M:B:R, or a list, as 58:ulinear16:-12,linear11\n";
 
 const BAD_READINGS: &str =
     "pmb: bad readings: give one to eight, as 8C:linear11,58:8D:direct:1:0:3\n";

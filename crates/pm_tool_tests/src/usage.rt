@@ -161,7 +161,7 @@ Usage: pmb decode [OPTIONS] < TRACE
 
 Options:
       --values        Tell what payloads mean, and the bytes of faulty packets
-      --vout <F>      The format of voltages that the trace teaches none of; with --values
+      --vout <F>      The formats of voltages that the trace teaches none of; with --values
       --readings <L>  The formats of READ_VIN, READ_IOUT and READ_TEMPERATURE_1; with --values
       --all           Tell packets without PEC, and those that the command table doesn't have
       --pages         Follow PAGE: tell plain packets with the output that they reach
@@ -187,9 +187,10 @@ with its number, and then the counts.
 
 With --values a packet's value stands behind it, and behind a faulty one its bytes. A voltage has
 the format that the lines before taught, by its page's VOUT_MODE and its code's COEFFICIENTS, or
-that of --vout, as pmb number has it: linear11, ulinear16:N or direct:M:B:R. READ_VIN, READ_IOUT
-and READ_TEMPERATURE_1 are LINEAR11 behind a VOUT_MODE of ULINEAR16, or as --readings says: one to
-eight entries, 58:8D:direct:1:0:3,8C:linear11,linear11, of which the first holds that fits.
+that of --vout: one to eight of linear11, ulinear16:N and direct:M:B:R, each for all addresses or
+for one, as 58:ulinear16:-12,linear11. READ_VIN, READ_IOUT and READ_TEMPERATURE_1 are LINEAR11
+behind a VOUT_MODE of ULINEAR16, or as --readings says: one to eight entries,
+58:8D:direct:1:0:3,8C:linear11,linear11, of which the first holds that fits.
 
   $ printf 'B0 06 02 00 20 / B1 01 14 4E\\nB0 05 04 00 21 CD 34 5A\\n' | pmb decode --values | head -2
   1 58 page 0 VOUT_MODE read 14 ULINEAR16 -12
@@ -232,8 +233,7 @@ Options:
   -h, --help         Print help
 
 A word is 34CD, without 0x or h. K is in millionths: 3.3 V is 3300000; a negative one is written
---micro=-3300000. LINEAR16 of older papers is ulinear16:N, with N of VOUT_MODE. A / may stand for
-each : of a format.
+--micro=-3300000. LINEAR16 of older papers is ulinear16:N, with N of VOUT_MODE.
 
   $ pmb number --format=ulinear16:-12 --micro=3300000
   word 34CD value 13517/4096 micro 3300048

@@ -2,6 +2,7 @@
 pub mod CodeNames
 pub mod Contents
 pub mod Laws
+pub mod Modes
 pub mod Otherwise
 pub mod Statuses
 pub mod Taught

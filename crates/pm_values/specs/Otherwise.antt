@@ -49,10 +49,24 @@ abbrev pub ends_in_pec : List ℕ → ℕ → List ℕ → Bool
 ends_in_pec before fewest part = nat_le (fewest + 1) (length part)
     && slice_index part (length part - 1) == pec_of (before ++ take (length part - 1) part)
 
--- behind the address and the code of a write, or behind the address of what was read
+-- a code whose answer is a word: READ_VIN to READ_PIN
+abbrev pub is_of_word : ℕ → Bool
+is_of_word code = nat_le command.read_vin code && nat_le code 0x97
+
+-- how many bytes a code has at least, as far as that is judged: two of READ_VIN to READ_PIN, one of ON_OFF_CONFIG and of
+-- STATUS_IOUT to STATUS_FANS_3_4
+abbrev pub fewest_written : ℕ → ℕ
+fewest_written code = if is_of_word code then 2
+    else (if code == 0x02 || (nat_le 0x7B code && nat_le code 0x82) then 1 else 0)
+
+-- an answer has at least one
+abbrev pub fewest_read : ℕ → ℕ
+fewest_read code = if is_of_word code then 2 else 1
+
+-- behind the address and the code of a write, or behind the address of what was read, and behind the bytes that the code has
 abbrev pub has_pec : List ℕ → Option (List ℕ) → Bool
-has_pec write None = ends_in_pec [] 2 write
-has_pec write (Some read) = ends_in_pec write 1 read
+has_pec write None = ends_in_pec [] (fewest_written (slice_index write 1) + 2) write
+has_pec write (Some read) = ends_in_pec write (fewest_read (slice_index write 1) + 1) read
 
 -- ---- nobody answered
 

@@ -11,7 +11,7 @@ use Rattle.pm_values.specs.declared.status.Status.{Status}
 use Rattle.pm_values.specs.declared.value.Unit.{Unit as MeasureUnit}
 use Rattle.pm_values.specs.declared.value.Unit.TheVariants.{Volt, Ampere, Celsius}
 use Rattle.pm_values.specs.declared.value.Value.{Value}
-use Rattle.pm_values.specs.declared.value.Value.TheVariants.{Measured, Operates, Protects, Scales, Flags, Capable, Controls}
+use Rattle.pm_values.specs.declared.value.Value.TheVariants.{Measured, Operates, Protects, Scales, Relative, Flags, Capable, Controls}
 
 abbrev pub unit_text : MeasureUnit → List ℕ
 unit_text Volt = codes "V"
@@ -33,6 +33,10 @@ protection_text byte = if byte == 0x00 then codes "all writes"
 abbrev pub mode_text : VoutMode → List ℕ
 mode_text (Linear n) = codes "ULINEAR16 " ++ signed_decimal n
 mode_text Direct = codes "DIRECT"
+
+-- a relative one, with the exponent of its ULINEAR16
+unfoldable pub relative_text : ℤ → List ℕ
+relative_text n = codes "ULINEAR16 " ++ (signed_decimal n ++ codes " relative")
 
 -- the digits behind the point of so many millionths, fewer than a million: at most this many, and no zero at their end
 abbrev pub places : ℕ → ℕ → List ℕ
@@ -99,6 +103,7 @@ value_text (Measured ratio unit) = decimal_of (millionths ratio) ++ (codes " " +
 value_text (Operates operation) = operation_text operation
 value_text (Protects byte) = protection_text byte
 value_text (Scales mode) = mode_text mode
+value_text (Relative n) = relative_text n
 value_text (Flags status bits) = flags_text status bits
 value_text (Capable byte) = capability_text byte
 value_text (Controls byte) = on_off_text byte

@@ -1,5 +1,5 @@
 -- What a code's payload means (PMBus 1.3 Part II): which codes are told with a value is this project's own choice.
-use Rattle.std.specs.Prelude.{ℕ, ℤ, pos, ◌+◌, ◌*◌, ◌*ℤ◌, Bool, ◌||◌, ◌==◌, if◌then◌else◌, List, [], ◌∷◌, slice_index, unwrap_or, option_map, Option, Some, None}
+use Rattle.std.specs.Prelude.{ℕ, ℤ, pos, ◌+◌, ◌*◌, ◌*ℤ◌, Bool, ◌||◌, ◌==◌, if◌then◌else◌, List, [], ◌∷◌, slice_index, unwrap_or, is_some, option_map, Option, Some, None}
 use Rattle.std.specs.Option.{option_or}
 use Rattle.std.specs.Result.{result_ok}
 use Rattle.std.specs.Int.{int_div_euclid}
@@ -9,11 +9,12 @@ use Rattle.pm_num.specs.AnyFormat.{Shape, shape_value}
 use Rattle.pm_num.specs.Ratio.{Ratio}
 use Rattle.pm_table.specs.Codes as command
 use Rattle.pm_table.specs.Operation.{operation_of}
-use Rattle.pm_table.specs.VoutMode.{mode_of}
-use Rattle.pm_values.specs.Taught.{Taught, is_voltage, packet_shape}
+use Rattle.pm_table.specs.VoutMode.{exponent_of, mode_of}
+use Rattle.pm_values.specs.Taught.{Taught, is_relative, is_voltage, packet_shape}
+use Rattle.pm_values.specs.declared.lessons.Asked.{Asked}
 use Rattle.pm_values.specs.declared.status.Status.TheVariants as status
 use Rattle.pm_values.specs.declared.value.Value.{Value}
-use Rattle.pm_values.specs.declared.value.Value.TheVariants.{Measured, Operates, Protects, Scales, Flags, Capable, Controls}
+use Rattle.pm_values.specs.declared.value.Value.TheVariants.{Measured, Operates, Protects, Scales, Relative, Flags, Capable, Controls}
 use Rattle.pm_values.specs.declared.formats.GivenFormats.{GivenFormats}
 use Rattle.pm_values.specs.declared.value.Unit.{Unit as MeasureUnit}
 use Rattle.pm_values.specs.declared.value.Unit.TheVariants as unit
@@ -40,6 +41,10 @@ is_protection byte = byte == 0x00 || (byte == 0x20 || (byte == 0x40 || byte == 0
 abbrev pub protects : ℕ → Option Value
 protects byte = if is_protection byte then Some (Protects byte) else None
 
+-- a byte of VOUT_MODE
+abbrev pub mode_value : ℕ → Option Value
+mode_value byte = if is_relative byte then Some (Relative (exponent_of byte)) else option_map Scales (result_ok (mode_of byte))
+
 -- a number, where its format is known
 abbrev pub measured : Option Shape → ℕ → MeasureUnit → Option Value
 measured None word unit = None
@@ -54,7 +59,7 @@ code_value shape code bytes =
     else (if code == command.read_temperature_1 then measured shape (word_in bytes) unit.Celsius
     else (if code == command.operation then option_map Operates (operation_of (byte_in bytes))
     else (if code == command.write_protect then protects (byte_in bytes)
-    else (if code == command.vout_mode then option_map Scales (result_ok (mode_of (byte_in bytes)))
+    else (if code == command.vout_mode then mode_value (byte_in bytes)
     else (if code == command.status_byte then Some (Flags status.Byte (word_in bytes))
     else (if code == command.status_word then Some (Flags status.Word (word_in bytes))
     else (if code == command.status_vout then Some (Flags status.Vout (word_in bytes))
@@ -70,11 +75,19 @@ carried message answer = unwrap_or answer (message_payload message)
 abbrev pub output_of : Option ℕ → Message → Option ℕ
 output_of reached message = option_or (message_page message) reached
 
+-- the word of a packet whose format is asked for
+abbrev pub asked_by : ℕ → Option ℕ → Message → Option (List ℕ) → Asked
+asked_by addr reached message answer = record {
+  addr = addr;
+  page = output_of reached message;
+  code = message_code message;
+  is_read = is_some answer;
+}
+
 -- the value of a packet at an address; `reached` is the output that a plain packet reaches, where it is known
 abbrev pub packet_value : GivenFormats → Taught → ℕ → Option ℕ → Message → Option (List ℕ) → Option Value
 packet_value given taught addr reached message answer =
-    code_value (packet_shape given taught addr (output_of reached message) (message_code message))
-    (message_code message) (carried message answer)
+    code_value (packet_shape given taught (asked_by addr reached message answer)) (message_code message) (carried message answer)
 
 -- ---- codes that the command table doesn't have
 

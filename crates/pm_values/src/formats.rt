@@ -1,44 +1,41 @@
 //! The formats of words that a user gives.
 ghost use Rattle.std.specs.Prelude.{◌≡◌, option_map};
 ghost use Rattle.pm_num.specs.AnyFormat.{shape_of};
-ghost use Rattle.pm_values.specs.Taught.{direct_only as spec_direct_only, is_met as spec_is_met, reading_given as spec_reading_given};
+ghost use Rattle.pm_values.specs.Taught.{direct_only as spec_direct_only, format_given as spec_format_given, is_met as spec_is_met};
 
 use pm_num::AnyFormat;
 
-/// The format of READ_VIN, READ_IOUT or READ_TEMPERATURE_1.
+/// The format of voltages, or of READ_VIN, READ_IOUT or READ_TEMPERATURE_1.
 #[derive(Clone, Copy, Debug)]
-pub struct ReadingFormat {
-    /// The address whose readings have it, or all addresses.
+pub struct GivenFormat {
+    /// The address whose words have it, or all addresses.
     pub addr: Option<u8>,
-    /// The code that has it, or all three.
+    /// The code that has it, or all of them.
     pub code: Option<u8>,
     /// The format.
     pub format: AnyFormat,
 }
 
-/// The formats that a user gives.
+/// The formats that a user gives: of each list those before the first absent one.
 #[derive(Clone, Copy, Debug)]
 pub struct GivenFormats {
-    /// The format of voltages whose own format the capture doesn't teach.
-    pub vout: Option<AnyFormat>,
+    /// The formats of voltages whose own format the capture doesn't teach: the first one for an address holds.
+    pub vout: [Option<GivenFormat>; 8],
     /// The formats of readings: the first one for an address and a code holds.
-    pub readings: [Option<ReadingFormat>; 8],
+    pub readings: [Option<GivenFormat>; 8],
 }
 
-/// The format of the first entry for this address and code.
-pub(crate) fn reading_given(
-    entries: &[Option<ReadingFormat>],
-    addr: u8,
-    code: u8,
-) -> Option<AnyFormat>
-    ensures { option_map shape_of result ≡ spec_reading_given entries.now addr code }
+/// The format of the first entry for this address and code; an absent entry ends the list.
+pub(crate) fn format_given(entries: &[Option<GivenFormat>], addr: u8, code: u8) -> Option<AnyFormat>
+    ensures { option_map shape_of result ≡ spec_format_given entries.now addr code }
 {
     let [entry, rest @ ..] = entries else {
         return None;
     };
     match entry {
+        None => None,
         Some(entry) if is_met(entry.addr, addr) && is_met(entry.code, code) => Some(entry.format),
-        _ => reading_given(rest, addr, code),
+        Some(_) => format_given(rest, addr, code),
     }
 }
 

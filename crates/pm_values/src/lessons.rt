@@ -1,9 +1,14 @@
 //! What a capture teaches of the formats of words.
-ghost use Rattle.std.specs.Prelude.{◌≡◌, slice_index};
-ghost use Rattle.pm_values.specs.Taught.{change_of, code_change as spec_code_change, is_reading as spec_is_reading, is_restore as spec_is_restore, is_voltage as spec_is_voltage, key_of as spec_key_of, mode_since as spec_mode_since};
+ghost use Rattle.std.specs.Prelude.{◌≡◌, Some, option_map, slice_index};
+ghost use Rattle.pm_num.specs.AnyFormat.{InUlinear16, shape_of};
+ghost use Rattle.pm_num.specs.Formats.{IsExponent};
+ghost use Rattle.pm_values.specs.Taught.{format_given as spec_format_given, is_never_relative as spec_is_never_relative, is_reading as spec_is_reading, is_voltage as spec_is_voltage, relative_shape};
+ghost use Rattle.pm_values.specs.Modes.{key_of as spec_key_of};
 
-use crate::formats::{GivenFormats, direct_only, reading_given};
-use crate::meaning::GoodPacket;
+use crate::formats::{GivenFormats, direct_only, format_given};
+use crate::meaning::{GoodPacket, exponent_in};
+use crate::mode_changes::{ModeChange, is_paging};
+use crate::modes::{Modes, key_of};
 use indexmap::IndexMap;
 use pm_frame::Message;
 use pm_num::AnyFormat;
@@ -12,34 +17,28 @@ use pm_trace::{Shown, answered, coefficients_in};
 use std::alloc::{AllocError, Global};
 use std::marker::Model;
 
-/// What a line said of an output's VOUT_MODE.
+/// A word whose format is asked for.
 #[derive(Clone, Copy, Debug)]
-pub(crate) struct ModeLine {
-    // Not known where it was written over.
-    byte: Option<u8>,
-    line: u64,
-}
-
-/// The modes of an address that a packet may change.
-#[derive(Clone, Copy, Debug, PartialEq, Eq)]
-pub enum ModeChange {
-    /// None of them.
-    OfNone,
-    /// The one of this output.
-    OfOutput(u8),
-    /// All of them.
-    OfAll,
+pub(crate) struct Asked {
+    /// The address of its packet.
+    pub(crate) addr: u8,
+    /// The output that the packet reaches, where it is known.
+    pub(crate) page: Option<u8>,
+    /// The code of the word.
+    pub(crate) code: u8,
+    /// The word was read, and not written.
+    pub(crate) is_read: bool,
 }
 
 /// The VOUT_MODE byte of each output that answered with one, and the coefficients of each code of each address: the last
 /// ones; and the addresses that answered with ULINEAR16. It takes memory for an output, a code and an address that is new.
 #[derive(Debug, Drop)]
 pub struct Lessons {
-    modes: IndexMap<u16, ModeLine>,
-    coefficients: IndexMap<u16, Coefficients>,
+    modes: Modes,
+    // The coefficients of words that are written, and of those that are read.
+    to_write: IndexMap<u16, Coefficients>,
+    to_read: IndexMap<u16, Coefficients>,
     linear: IndexMap<u8, bool>,
-    // The last line by which all modes of an address may have changed.
-    changed: IndexMap<u8, u64>,
 }
 
 impl Model for Lessons {
@@ -47,26 +46,25 @@ impl Model for Lessons {
 
     ghost Value = { Taught };
 
-    ghost view = { λ l. record { modes = l.modes.entries; coefficients = l.coefficients.entries; linear = l.linear.entries; changed = l.changed.entries } };
+    ghost view = { λ l. record { modes = l.modes; to_write = l.to_write.entries; to_read = l.to_read.entries; linear = l.linear.entries } };
 }
 
 impl Lessons {
-    ghost use Rattle.std.specs.Prelude.{[], OnOk, nat_eq, option_map, unwrap_or};
+    ghost use Rattle.std.specs.Prelude.{[], OnOk, nat_eq, unwrap_or};
     ghost use Rattle.std.specs.Map.{lookup};
     ghost use Rattle.pm_table.specs.VoutMode.{IsMode};
-    ghost use Rattle.pm_num.specs.AnyFormat.{shape_of};
     ghost use Rattle.pm_trace.specs.ShownLines.{judged_in};
-    ghost use Rattle.pm_values.specs.Taught.{answer_taught, changed_by, coefficients_taught, linear_taught, mode_known, mode_taught, packet_shape, reached_taught, reading_shape, shape_known, taught_by, untaught, voltage_shape};
+    ghost use Rattle.pm_values.specs.Taught.{answer_taught, changed_by, coefficients_known, coefficients_taught, linear_taught, mode_taught, packet_shape, paged_at, paged_by, reading_shape, shape_known, shape_of_byte, side_taught, taught_by, untaught, voltage_shape};
 
     /// Nothing yet. Takes no memory.
     pub fn new(alloc: Global) -> Lessons
         ensures { result ≡ untaught }
     {
         Lessons {
-            modes: IndexMap::new(alloc),
-            coefficients: IndexMap::new(alloc),
+            modes: Modes::new(alloc),
+            to_write: IndexMap::new(alloc),
+            to_read: IndexMap::new(alloc),
             linear: IndexMap::new(alloc),
-            changed: IndexMap::new(alloc),
         }
     }
 
@@ -80,20 +78,25 @@ impl Lessons {
     ) -> Result<(), AllocError>
         ensures { OnOk result (self.new ≡ changed_by line addr change self.old) }
     {
-        let Some(addr) = addr else {
-            return Ok(());
-        };
-        match change {
-            ModeChange::OfNone => {}
-            ModeChange::OfOutput(page) => {
-                self.modes
-                    .insert(key_of(addr, page), ModeLine { byte: None, line })?;
-            }
-            ModeChange::OfAll => {
-                self.changed.insert(addr, line)?;
-            }
+        self.modes.change(line, addr, change)
+    }
+
+    /// Learns that an address has pages, where a packet of PAGE or PAGE_PLUS comes: its plain modes say nothing any more.
+    /// Takes memory for an address that is new.
+    pub fn see_pages(&mut self, addr: Option<u8>, write: &[u8]) -> Result<(), AllocError>
+        ensures { OnOk result (self.new ≡ paged_by addr write.now self.old) }
+    {
+        match addr {
+            Some(addr) if is_paging(write) => self.see_page(addr),
+            _ => Ok(()),
         }
-        Ok(())
+    }
+
+    /// Learns that an address has pages. Takes memory for an address that is new.
+    pub fn see_page(&mut self, addr: u8) -> Result<(), AllocError>
+        ensures { OnOk result (self.new ≡ paged_at addr self.old) }
+    {
+        self.modes.page(addr)
     }
 
     /// Learns what the packet of a line says: a good answer to a read of VOUT_MODE, or to COEFFICIENTS of a code that has a
@@ -132,14 +135,14 @@ impl Lessons {
         match packet.view.message() {
             Message::PagePlusRead { page, code } => {
                 self.learn_linear(addr, code, byte)?;
-                self.learn_mode(line, key_of(addr, page), code, byte)
+                self.learn_mode(line, addr, Some(page), code, byte)
             }
-            Message::ReadCoefficients { code, side: _ } => {
-                self.learn_coefficients(addr, code, answer)
+            Message::ReadCoefficients { code, side } => {
+                self.learn_coefficients(addr, code, side, answer)
             }
             Message::ReadCommand { code } => {
                 self.learn_linear(addr, code, byte)?;
-                self.learn_reached(line, packet, code, byte)
+                self.learn_mode(line, addr, packet.reached, code, byte)
             }
             _ => Ok(()),
         }
@@ -155,116 +158,115 @@ impl Lessons {
         Ok(())
     }
 
-    // Learns the mode of the output that a plain packet reaches, where that is known.
-    fn learn_reached(
+    // Learns the mode of an output, or of a plain packet whose output isn't known.
+    fn learn_mode(
         &mut self,
         line: u64,
-        packet: &GoodPacket<'_>,
-        code: u8,
-        byte: u8,
-    ) -> Result<(), AllocError>
-        ensures { OnOk result (self.new ≡ reached_taught line self.old packet.now.addr packet.now.reached code byte) }
-    {
-        match packet.reached {
-            Some(page) => self.learn_mode(line, key_of(packet.addr, page), code, byte),
-            None => Ok(()),
-        }
-    }
-
-    // Learns the mode of the output with this key.
-    fn learn_mode(&mut self, line: u64, key: u16, code: u8, byte: u8) -> Result<(), AllocError>
-        ensures { OnOk result (self.new ≡ mode_taught line self.old key code byte) }
-    {
-        if Code(code) == Code::VOUT_MODE {
-            let said = ModeLine {
-                byte: Some(byte),
-                line,
-            };
-            self.modes.insert(key, said)?;
-        }
-        Ok(())
-    }
-
-    // What is known of an output's mode: nothing was said of it, or the byte if that is still known.
-    fn mode(&self, addr: u8, page: u8) -> Option<Option<u8>>
-        ensures { result ≡ mode_known self.now addr page }
-    {
-        match self.modes.get(&key_of(addr, page)).copied() {
-            Some(said) => Some(mode_since(self.changed.get(&addr).copied(), said)),
-            None => None,
-        }
-    }
-
-    // Learns the coefficients of a code.
-    fn learn_coefficients(&mut self, addr: u8, code: u8, answer: &[u8]) -> Result<(), AllocError>
-        ensures { OnOk result (self.new ≡ coefficients_taught self.old addr code answer.now) }
-    {
-        if is_voltage(code) {
-            self.coefficients
-                .insert(key_of(addr, code), coefficients_in(answer))?;
-        }
-        Ok(())
-    }
-
-    /// The format of the words of a code, in a packet at an address and a page.
-    pub(crate) fn format(
-        &self,
-        given: &GivenFormats,
         addr: u8,
         page: Option<u8>,
         code: u8,
-    ) -> Option<AnyFormat>
-        ensures { option_map shape_of result ≡ packet_shape given.now self.now addr page code }
+        byte: u8,
+    ) -> Result<(), AllocError>
+        ensures { OnOk result (self.new ≡ mode_taught line self.old addr page code byte) }
+    {
+        if Code(code) != Code::VOUT_MODE {
+            return Ok(());
+        }
+        match page {
+            Some(page) => self.modes.say(line, addr, page, Some(byte)),
+            None => self.modes.say_plain(line, addr, byte),
+        }
+    }
+
+    // Learns the coefficients of a code on a side.
+    fn learn_coefficients(
+        &mut self,
+        addr: u8,
+        code: u8,
+        side: u8,
+        answer: &[u8],
+    ) -> Result<(), AllocError>
+        ensures { OnOk result (self.new ≡ coefficients_taught self.old addr code side answer.now) }
     {
         if is_voltage(code) {
-            return self.voltage_format(given.vout, addr, page, code);
+            self.learn_side(side, key_of(addr, code), coefficients_in(answer))
+        } else {
+            Ok(())
         }
-        if is_reading(code) {
-            return self.reading_format(given, addr, code);
+    }
+
+    // Learns coefficients of words that are written, side 0, or read, side 1.
+    fn learn_side(
+        &mut self,
+        side: u8,
+        key: u16,
+        coefficients: Coefficients,
+    ) -> Result<(), AllocError>
+        ensures { OnOk result (self.new ≡ side_taught self.old side key coefficients) }
+    {
+        match side {
+            0 => {
+                self.to_write.insert(key, coefficients)?;
+            }
+            1 => {
+                self.to_read.insert(key, coefficients)?;
+            }
+            _ => {}
+        }
+        Ok(())
+    }
+
+    /// The format of a word.
+    pub(crate) fn format(&self, given: &GivenFormats, asked: Asked) -> Option<AnyFormat>
+        ensures { option_map shape_of result ≡ packet_shape given.now self.now asked }
+    {
+        if is_voltage(asked.code) {
+            return self.voltage_format(given, asked);
+        }
+        if is_reading(asked.code) {
+            return self.reading_format(given, asked.addr, asked.code);
         }
         None
     }
 
     // The format of a voltage: that of the mode which was taught, otherwise the one that is given.
-    fn voltage_format(
-        &self,
-        given: Option<AnyFormat>,
-        addr: u8,
-        page: Option<u8>,
-        code: u8,
-    ) -> Option<AnyFormat>
-        ensures { option_map shape_of result ≡ voltage_shape (option_map shape_of given) self.now addr page code }
+    fn voltage_format(&self, given: &GivenFormats, asked: Asked) -> Option<AnyFormat>
+        ensures { option_map shape_of result
+            ≡ voltage_shape (spec_format_given given.now.vout asked.addr asked.code) self.now asked }
     {
-        let Some(page) = page else {
-            return given;
-        };
-        match self.mode(addr, page) {
-            None => given,
+        match self.modes.of_page(asked.addr, asked.page) {
+            None => format_given(&given.vout, asked.addr, asked.code),
             Some(None) => None,
-            Some(Some(byte)) => match VoutMode::read(byte) {
-                Ok(mode) => self.mode_format(given, mode, addr, code),
-                Err(_) => None,
-            },
+            Some(Some(byte)) => self.byte_format(given, byte, asked),
+        }
+    }
+
+    // The format of a mode by its byte.
+    fn byte_format(&self, given: &GivenFormats, byte: u8, asked: Asked) -> Option<AnyFormat>
+        ensures { option_map shape_of result ≡ shape_of_byte (spec_format_given given.now.vout asked.addr asked.code) asked.code byte
+            (coefficients_known self.now asked.is_read (spec_key_of asked.addr asked.code)) }
+    {
+        if byte / 32 == 4 {
+            let vout = format_given(&given.vout, asked.addr, asked.code);
+            return relative_format(vout, asked.code, byte);
+        }
+        match VoutMode::read(byte) {
+            Ok(mode) => self.mode_format(given, mode, asked),
+            Err(_) => None,
         }
     }
 
     // The format of a mode: DIRECT has the coefficients that were taught, otherwise those of the format that is given.
-    fn mode_format(
-        &self,
-        given: Option<AnyFormat>,
-        mode: VoutMode,
-        addr: u8,
-        code: u8,
-    ) -> Option<AnyFormat>
+    fn mode_format(&self, given: &GivenFormats, mode: VoutMode, asked: Asked) -> Option<AnyFormat>
         requires { IsMode mode }
-        ensures { option_map shape_of result ≡ shape_known (option_map shape_of given) mode
-            (lookup (nat_eq (spec_key_of addr code)) self.now.coefficients) }
+        ensures { option_map shape_of result ≡ shape_known (spec_format_given given.now.vout asked.addr asked.code) mode
+            (coefficients_known self.now asked.is_read (spec_key_of asked.addr asked.code)) }
     {
         let coefficients = match mode {
             VoutMode::Linear(_) => Coefficients { m: 0, b: 0, r: 0 },
-            VoutMode::Direct => match self.coefficients.get(&key_of(addr, code)).copied() {
+            VoutMode::Direct => match self.coefficients(asked) {
                 Some(coefficients) => coefficients,
-                None => return direct_only(given),
+                None => return direct_only(format_given(&given.vout, asked.addr, asked.code)),
             },
         };
         match format_of(mode, coefficients) {
@@ -273,11 +275,29 @@ impl Lessons {
         }
     }
 
+    // The coefficients of a word: those of its own side, or where it was taught none of the other.
+    fn coefficients(&self, asked: Asked) -> Option<Coefficients>
+        ensures { result ≡ coefficients_known self.now asked.is_read (spec_key_of asked.addr asked.code) }
+    {
+        let key = key_of(asked.addr, asked.code);
+        let to_write = self.to_write.get(&key).copied();
+        let to_read = self.to_read.get(&key).copied();
+        let (own, other) = if asked.is_read {
+            (to_read, to_write)
+        } else {
+            (to_write, to_read)
+        };
+        match own {
+            Some(coefficients) => Some(coefficients),
+            None => other,
+        }
+    }
+
     // The format of a reading: the one that is given, otherwise LINEAR11 where a mode of ULINEAR16 was seen.
     fn reading_format(&self, given: &GivenFormats, addr: u8, code: u8) -> Option<AnyFormat>
         ensures { option_map shape_of result ≡ reading_shape given.now.readings self.now addr code }
     {
-        match reading_given(&given.readings, addr, code) {
+        match format_given(&given.readings, addr, code) {
             Some(format) => Some(format),
             None => {
                 self.linear.get(&addr)?;
@@ -287,63 +307,40 @@ impl Lessons {
     }
 }
 
-// The byte of a mode that a line said, unless all modes of its address may have changed since then.
-fn mode_since(changed: Option<u64>, said: ModeLine) -> Option<u8>
-    ensures { result ≡ spec_mode_since changed said }
+// The format of a voltage by a relative mode: the one that is given, otherwise ULINEAR16 for all that is never relative.
+fn relative_format(given: Option<AnyFormat>, code: u8, byte: u8) -> Option<AnyFormat>
+    ensures { option_map shape_of result ≡ relative_shape (option_map shape_of given) code byte }
 {
-    match changed {
-        Some(line) if line >= said.line => None,
-        _ => said.byte,
+    if !is_never_relative(code) {
+        return None;
+    }
+    match given {
+        Some(format) => Some(format),
+        None => linear_format(exponent_in(byte)),
     }
 }
 
-/// The modes that a packet may change by its write part, whatever fault it has: a write of VOUT_MODE, or RESTORE. `page` is
-/// the one that plain packets reach, where that is sure.
-pub fn mode_change(write: &[u8], is_read: bool, page: Option<u8>) -> ModeChange
-    ensures { result ≡ change_of write.now is_read page }
+// ULINEAR16 with an exponent.
+fn linear_format(exponent: i8) -> Option<AnyFormat>
+    requires { IsExponent exponent }
+    ensures { option_map shape_of result ≡ Some (InUlinear16 exponent) }
 {
-    match write {
-        [_, code, rest @ ..] if !is_read => {
-            if Code(*code) == Code::PAGE_PLUS_WRITE {
-                let named = rest.get(1).copied().unwrap_or(0);
-                let carried = rest.get(2).copied().unwrap_or(0);
-                code_change(Some(named), carried, rest.len() > 3)
-            } else {
-                code_change(page, *code, !rest.is_empty())
-            }
-        }
-        _ => ModeChange::OfNone,
+    let none = Coefficients { m: 0, b: 0, r: 0 };
+    match format_of(VoutMode::Linear(exponent), none) {
+        Ok(format) => Some(format),
+        Err(_) => None,
     }
 }
 
-// What a code that is written changes, at a page if that is known; `has_data` is whether a byte stands behind the code.
-fn code_change(page: Option<u8>, code: u8, has_data: bool) -> ModeChange
-    ensures { result ≡ spec_code_change page code has_data }
+// Whether a voltage is never relative: VOUT_COMMAND, VOUT_MAX, VOUT_MIN and READ_VOUT.
+fn is_never_relative(code: u8) -> bool
+    ensures { result ≡ spec_is_never_relative code }
 {
-    if is_restore(code) {
-        return ModeChange::OfAll;
-    }
-    if Code(code) != Code::VOUT_MODE || !has_data {
-        return ModeChange::OfNone;
-    }
-    match page {
-        Some(page) if page != 0xFF => ModeChange::OfOutput(page),
-        _ => ModeChange::OfAll,
-    }
-}
-
-// Whether a code restores registers: RESTORE_USER_ALL, RESTORE_DEFAULT_ALL, RESTORE_DEFAULT_CODE and RESTORE_USER_CODE.
-fn is_restore(code: u8) -> bool
-    ensures { result ≡ spec_is_restore code }
-{
-    Code(code) == Code::RESTORE_USER_ALL || code == 0x12 || code == 0x14 || code == 0x18
-}
-
-// The output of a page at an address, or the code of an address.
-fn key_of(addr: u8, number: u8) -> u16
-    ensures { result ≡ spec_key_of addr number }
-{
-    u16::from(addr) * 256 + u16::from(number)
+    let code = Code(code);
+    code == Code::VOUT_COMMAND
+        || code == Code::VOUT_MAX
+        || code == Code::VOUT_MIN
+        || code == Code::READ_VOUT
 }
 
 // The first byte of an answer, 0 where it has none.

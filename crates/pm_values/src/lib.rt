@@ -23,6 +23,8 @@ mod formats;
 mod laws;
 mod lessons;
 mod meaning;
+mod mode_changes;
+mod modes;
 mod otherwise;
 mod packet;
 mod status;
@@ -31,15 +33,16 @@ mod value_text;
 
 pub use code_names::standard_name;
 pub use content::Content;
-pub use formats::{GivenFormats, ReadingFormat};
+pub use formats::{GivenFormat, GivenFormats};
 pub use laws::microvolts_are_the_floor;
-pub use lessons::{Lessons, ModeChange, mode_change};
+pub use lessons::Lessons;
 pub use meaning::{GoodPacket, other_value, packet_value};
+pub use mode_changes::{ModeChange, is_paging, mode_change};
 pub use otherwise::{address_otherwise, completed_part, push_otherwise, push_spaced, shown_with};
 pub use packet::Packet;
 pub use status::{Row, Status};
 pub use value::{Unit, Value};
 pub use value_text::{
     NameMarks, millionths, operation_words, protection_words, push_capability, push_known,
-    push_millionths, push_mode, push_names, push_on_off,
+    push_millionths, push_mode, push_names, push_on_off, push_relative,
 };

@@ -1,10 +1,12 @@
 //! What the payload of a packet means.
 ghost use Rattle.std.specs.Prelude.{◌≡◌, option_map};
 ghost use Rattle.pm_num.specs.AnyFormat.{shape_of};
-ghost use Rattle.pm_values.specs.Values.{byte_in as spec_byte_in, code_value as spec_code_value, measured as spec_measured, other_value as spec_other_value, packet_value as spec_packet_value, protects, word_in as spec_word_in};
+ghost use Rattle.pm_num.specs.Formats.{IsExponent};
+ghost use Rattle.pm_table.specs.VoutMode.{exponent_of};
+ghost use Rattle.pm_values.specs.Values.{byte_in as spec_byte_in, code_value as spec_code_value, measured as spec_measured, mode_value as spec_mode_value, other_value as spec_other_value, packet_value as spec_packet_value, protects, word_in as spec_word_in};
 
 use crate::formats::GivenFormats;
-use crate::lessons::{Lessons, is_voltage};
+use crate::lessons::{Asked, Lessons, is_voltage};
 use crate::status::Status;
 use crate::value::{Unit, Value};
 use pm_frame::FrameView;
@@ -39,7 +41,13 @@ pub fn packet_value(
         Some(page) => Some(page),
         None => packet.reached,
     };
-    let format = lessons.format(given, packet.addr, output, code);
+    let asked = Asked {
+        addr: packet.addr,
+        page: output,
+        code,
+        is_read: packet.answer.is_some(),
+    };
+    let format = lessons.format(given, asked);
     match packet.answer {
         Some(answer) => code_value(format, code, answer),
         None => code_value(format, code, packet.view.payload()),
@@ -61,7 +69,7 @@ fn code_value(format: Option<AnyFormat>, code: u8, bytes: &[u8]) -> Option<Value
         Code::READ_TEMPERATURE_1 => measured(format, word, Unit::Celsius),
         Code::OPERATION => Operation::read(u16::from(byte)).map(Value::Operates),
         Code::WRITE_PROTECT => protection(byte),
-        Code::VOUT_MODE => VoutMode::read(byte).ok().map(Value::Scales),
+        Code::VOUT_MODE => mode_value(byte),
         Code::STATUS_BYTE => Some(Value::Flags(Status::Byte, word)),
         Code::STATUS_WORD => Some(Value::Flags(Status::Word, word)),
         Code::STATUS_VOUT => Some(Value::Flags(Status::Vout, word)),
@@ -101,6 +109,25 @@ pub fn other_value(code: u8, bytes: &[u8]) -> Option<Value>
         0x82 => Some(Value::Flags(Status::Fans34, bits)),
         _ => None,
     }
+}
+
+// What a byte of VOUT_MODE means.
+fn mode_value(byte: u8) -> Option<Value>
+    ensures { result ≡ spec_mode_value byte }
+{
+    if byte / 32 == 4 {
+        return Some(Value::Relative(exponent_in(byte)));
+    }
+    VoutMode::read(byte).ok().map(Value::Scales)
+}
+
+/// The exponent of a mode of ULINEAR16, its bits 4 to 0.
+pub(crate) fn exponent_in(byte: u8) -> i8
+    ensures value { result ≡ exponent_of byte }
+    ensures range { IsExponent result }
+{
+    let bits = (byte % 32) as i8;
+    if bits < 16 { bits } else { bits - 32 }
 }
 
 // What a byte of WRITE_PROTECT means.

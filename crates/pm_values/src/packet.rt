@@ -1,10 +1,11 @@
 //! A packet by its bytes.
 ghost use Rattle.std.specs.List.{list_all};
 ghost use Rattle.std.specs.Prelude.{◌≡◌, ◌==◌, ◌-◌, ◌≤◌, IfSome, is_some, length, nat_lt, option_map, slice_index, take};
-ghost use Rattle.pm_values.specs.Otherwise.{IsCompleted, are_ones as spec_are_ones, ends_in_pec as spec_ends_in_pec, has_pec as spec_has_pec, is_all_ones as spec_is_all_ones, last_part, shown_of as spec_shown_of, with_pec as spec_with_pec};
+ghost use Rattle.pm_values.specs.Otherwise.{IsCompleted, are_ones as spec_are_ones, ends_in_pec as spec_ends_in_pec, fewest_read as spec_fewest_read, fewest_written as spec_fewest_written, has_pec as spec_has_pec, is_all_ones as spec_is_all_ones, is_of_word as spec_is_of_word, last_part, shown_of as spec_shown_of, with_pec as spec_with_pec};
 
 use arrayvec::ArrayVec;
 use pm_frame::{pec, pec_after};
+use pm_table::Code;
 
 /// The bytes of a packet, as they went over the bus; they may be any.
 #[derive(Clone, Copy, Debug)]
@@ -31,13 +32,13 @@ impl Packet<'_> {
     }
 
     /// Whether the last byte is the PEC of all bytes before it, and stands behind the code of a write, or behind the
-    /// address of what was read.
+    /// address of what was read, and behind the bytes that the code has at least.
     pub fn has_pec(&self) -> bool
         ensures { result ≡ spec_has_pec self.now.write.now (option_map (λ bytes. bytes.now) self.now.read) }
     {
         match self.read {
-            None => ends_in_pec(&[], 2, self.write),
-            Some(read) => ends_in_pec(self.write, 1, read),
+            None => ends_in_pec(&[], fewest_written(self.code()) + 2, self.write),
+            Some(read) => ends_in_pec(self.write, fewest_read(self.code()) + 1, read),
         }
     }
 
@@ -93,7 +94,7 @@ fn all_are_ones(bytes: &[u8]) -> bool
 
 // Whether the last byte of a part is the PEC of all bytes before it, and stands behind this many bytes of the part.
 fn ends_in_pec(before: &[u8], fewest: usize, part: &[u8]) -> bool
-    requires { fewest ≤ 2 }
+    requires { fewest ≤ 4 }
     ensures { result ≡ spec_ends_in_pec before.now fewest part.now }
 {
     if part.len() < fewest + 1 {
@@ -101,6 +102,36 @@ fn ends_in_pec(before: &[u8], fewest: usize, part: &[u8]) -> bool
     }
     let last = part.len() - 1;
     part[last] == pec_after(pec(before), &part[..last])
+}
+
+// How many bytes a code has at least, as far as that is judged: two of READ_VIN to READ_PIN, one of ON_OFF_CONFIG and of
+// STATUS_IOUT to STATUS_FANS_3_4.
+fn fewest_written(code: u8) -> usize
+    ensures bytes { result ≡ spec_fewest_written code }
+    ensures few { result ≤ 2 }
+{
+    if is_of_word(code) {
+        2
+    } else if code == 0x02 || (0x7B <= code && code <= 0x82) {
+        1
+    } else {
+        0
+    }
+}
+
+// How many an answer has at least.
+fn fewest_read(code: u8) -> usize
+    ensures bytes { result ≡ spec_fewest_read code }
+    ensures few { result ≤ 2 }
+{
+    if is_of_word(code) { 2 } else { 1 }
+}
+
+// Whether a code's answer is a word: READ_VIN to READ_PIN.
+fn is_of_word(code: u8) -> bool
+    ensures { result ≡ spec_is_of_word code }
+{
+    Code::READ_VIN.0 <= code && code <= 0x97
 }
 
 // A part without its first bytes, and without its PEC where it ends in it.

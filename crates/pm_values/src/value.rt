@@ -26,6 +26,8 @@ pub enum Value {
     Protects(u8),
     /// A byte of VOUT_MODE.
     Scales(VoutMode),
+    /// A byte of VOUT_MODE of ULINEAR16 with this exponent whose margins and limits are parts of VOUT_COMMAND.
+    Relative(i8),
     /// The bits of a status.
     Flags(Status, u16),
     /// A byte of CAPABILITY.

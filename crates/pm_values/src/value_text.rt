@@ -1,7 +1,7 @@
 //! The texts of values.
 ghost use Rattle.std.specs.Prelude.{◌≡◌, ◌++◌, ◌*◌, ◌/◌, ◌%◌, ◌^◌, ◌<◌, ◌≤ℤ◌, ◌<ℤ◌, pos, neg_ℤ, unsigned_abs, OnOk, map, string_bytes};
 ghost use Rattle.pm_values.specs.Statuses.{names_from};
-ghost use Rattle.pm_values.specs.ValueText.{capability_text, control_text, decimal_of, delay_text, flags_text, known_text, minus as minus_text, mode_text, on_off_text, operation_text, pec_text, places, point_text, polarity_text, protection_text, size_text, speed_text, switch_text, unit_text, value_text};
+ghost use Rattle.pm_values.specs.ValueText.{capability_text, control_text, decimal_of, delay_text, flags_text, known_text, minus as minus_text, mode_text, on_off_text, operation_text, pec_text, places, point_text, polarity_text, protection_text, relative_text, size_text, speed_text, switch_text, unit_text, value_text};
 ghost use Rattle.pm_values.specs.Values.{millionths as spec_millionths};
 
 use crate::status::{Row, Status, capability_rows, on_off_rows};
@@ -33,6 +33,7 @@ fn push_value(text: &mut String, value: Value) -> Result<(), AllocError>
         Value::Operates(operation) => text.push_str(operation_words(operation)),
         Value::Protects(byte) => text.push_str(protection_words(byte)),
         Value::Scales(mode) => push_mode(text, mode),
+        Value::Relative(exponent) => push_relative(text, exponent),
         Value::Flags(status, bits) => push_flags(text, status, bits),
         Value::Capable(byte) => push_capability(text, byte),
         Value::Controls(byte) => push_on_off(text, byte),
@@ -88,6 +89,16 @@ pub fn push_mode(text: &mut String, mode: VoutMode) -> Result<(), AllocError>
         }
         VoutMode::Direct => text.push_str("DIRECT"),
     }
+}
+
+/// Appends a relative mode of an output to a text, as `ULINEAR16 -9 relative`.
+#[tactic(auto, using(pm_lines::specs::Lemmas::Joins::signed_joins), unfolding(crate::specs::ValueText::relative_text))]
+pub fn push_relative(text: &mut String, exponent: i8) -> Result<(), AllocError>
+    ensures { OnOk result (string_bytes text.new ≡ string_bytes text.old ++ relative_text exponent) }
+{
+    text.push_str("ULINEAR16 ")?;
+    push_signed(text, i128::from(exponent))?;
+    text.push_str(" relative")
 }
 
 // A number with its unit.

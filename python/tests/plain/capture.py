@@ -13,8 +13,8 @@ from .values import READINGS, Formats, value_fields, words_of_value
 SWITCHES = ("--values", "--all", "--long", "--times", "--json", "--pages")
 VALUED = ("--vout", "--readings", "--gap")
 TIME = re.compile(rb" *([0-9]{1,18})(?= |$)")
-MOST_READINGS, MOST_GAP, GAP = 8, 1_000_000, 1000
-BAD_VOUT = "bad vout: give linear11, ulinear16:N or direct:M:B:R, as ulinear16:-12"
+MOST_FORMATS, MOST_GAP, GAP = 8, 1_000_000, 1000
+BAD_VOUT = "bad vout: give linear11, ulinear16:N or direct:M:B:R, or a list, as 58:ulinear16:-12,linear11"
 BAD_READINGS = "bad readings: give one to eight, as 8C:linear11,58:8D:direct:1:0:3"
 BAD_GAP = "bad gap: give 0 to 1000000 milliseconds"
 
@@ -23,7 +23,7 @@ class BadOptions(Exception):
     """What is wrong with the command line: a line, or None where the parser has a text of its own."""
 
 
-def format_named(text, refusal=BAD_VOUT):
+def format_named(text, refusal):
     """The format that a text names; a slash stands for a colon."""
     name, *numbers = text.replace("/", ":").split(":")
     bounds = {"linear11": [], "ulinear16": [(-16, 15)], "direct": [(-2**15, 2**15 - 1)] * 2 + [(-2**7, 2**7 - 1)]}.get(name)
@@ -36,6 +36,22 @@ def format_named(text, refusal=BAD_VOUT):
     if name == "direct" and coefficients_fault(form[1], form[3]):
         raise BadOptions(refusal)
     return form
+
+
+def vout_named(text):
+    """The entries of `--vout`: an address or None, no code, and a format each."""
+    entries = []
+    for entry in text.split(","):
+        words, address = entry.replace("/", ":").split(":"), None
+        if len(words) > 1 and re.fullmatch("[0-9A-Fa-f]{2}", words[0]):
+            address = int(words.pop(0), 16)
+        form = format_named(":".join(words), BAD_VOUT)
+        if address is not None and not 0x08 <= address <= 0x77:
+            raise BadOptions(BAD_VOUT)
+        entries.append((address, None, form))
+    if len(entries) > MOST_FORMATS:
+        raise BadOptions(BAD_VOUT)
+    return entries
 
 
 def readings_named(text):
@@ -51,7 +67,7 @@ def readings_named(text):
         if form[0] == "ulinear16" or code not in (None, *READINGS) or address is not None and not 0x08 <= address <= 0x77:
             raise BadOptions(BAD_READINGS)
         entries.append((address, code, form))
-    if len(entries) > MOST_READINGS:
+    if len(entries) > MOST_FORMATS:
         raise BadOptions(BAD_READINGS)
     return entries
 
@@ -64,7 +80,7 @@ def gap_named(text):
 
 
 # The options that need others, in the order of their refusals, and what reads what stands behind them.
-NEEDS = [("--vout", ("--values",), format_named), ("--readings", ("--values",), readings_named),
+NEEDS = [("--vout", ("--values",), vout_named), ("--readings", ("--values",), readings_named),
          ("--gap", ("--pages", "--times"), gap_named)]
 
 
@@ -91,7 +107,7 @@ class Telling:
 
     def __init__(self, options):
         self.options = options
-        self.formats = Formats(options.get("--vout"), options.get("--readings", []))
+        self.formats = Formats(options.get("--vout", []), options.get("--readings", []))
         self.pages = Pages(1000 * options.get("--gap", GAP)) if "--pages" in options else None
         self.said, self.counts, self.codes = [], {}, {}
         self.faults = self.bad = self.others = 0
@@ -100,7 +116,9 @@ class Telling:
     def line(self, number, line):
         if is_skipped(line):
             if self.pages and line.startswith(b"#"):
-                self.pages.comment(number, line)
+                failed = self.pages.comment(number, line)
+                if failed is not None:
+                    self.formats.has_pages(failed)
             return
         time = None
         if "--times" in self.options:

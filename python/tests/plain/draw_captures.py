@@ -10,12 +10,14 @@ from .packets import CODES, NOT_CARRIED, TABLE, VOUT_CODES, answer_of, answer_sh
 from .values import READINGS, STATUS_BITS, UNITS
 
 PLACES = [(0x58, 0), (0x58, 0), (0x58, 1), (0x08, 0), (0x77, 255)]
-MODES = [0x14, 0x14, 0x17, 0x00, 0x0F, 0x10, 0x1F, 0x40, 0x40, 0x40, 0x21, 0x60, 0x41, 0x94, 0xFF]
+# An address whose packets name no page, in a trace of its own.
+UNPAGED = 0x33
+MODES = [0x14, 0x14, 0x17, 0x00, 0x0F, 0x10, 0x1F, 0x40, 0x40, 0x40, 0x21, 0x60, 0x41, 0x94, 0x97, 0x80, 0x9F, 0xA0, 0xC0, 0xFF]
 FORMATS = ["linear11", "ulinear16:-12", "ulinear16:-12", "ulinear16/-12", "ulinear16:15", "ulinear16:-16", "direct:1:0:3",
            "direct/-7:-32768:-12", "direct:32767:5:12", "direct:1:-1:0"]
 NO_FORMATS = ["", "linear16", "ulinear16", "ulinear16:16", "ulinear16:-17", "ulinear16:1:2", "direct:0:0:0", "direct:1:0:13",
               "direct:1:0:-13", "direct:1:0", "direct:32768:0:0", "linear11:0", "ulinear16:+1", "ulinear16: 1", "direct:1:0:128",
-              "ulinear16//1", "/"]
+              "ulinear16//1", "/", "58:", "58", "78:linear11", "07:linear11", "58:21:linear11", "linear11,", ",".join(["linear11"] * 9)]
 READING_FORMATS = ["linear11", "linear11", "direct:1:0:2", "direct:-3:5:-1", "direct/7/0/12", "direct:32767:-32768:-12"]
 WHERE = ["", "", "88:", "8C:", "8d:", "58:88:", "58:8C:", "08:8D:", "77/8c/"]
 NO_READINGS = ["", ",", "linear11,", "ulinear16:-12", "8B:linear11", "58:linear11", "07:88:linear11", "78:88:linear11", "88:58:linear11",
@@ -41,11 +43,18 @@ def readings(dice):
     return ",".join(dice.choice(WHERE) + dice.choice(READING_FORMATS) for _ in range(dice.choice([1, 1, 1, 2, 3, 8])))
 
 
+def vout(dice):
+    """What stands behind `--vout`, mostly a good format or list of them."""
+    if dice.random() < 0.05:
+        return dice.choice(NO_FORMATS)
+    return ",".join(dice.choice(["", "", "58:", "08/", "77:"]) + dice.choice(FORMATS) for _ in range(dice.choice([1, 1, 1, 2, 3, 8])))
+
+
 def valued(dice, words):
     """The options with something behind them that suit the words, mostly."""
     has_values, has_gap = "--values" in words, {"--pages", "--times"} <= {*words}
     if has_values and dice.random() < 0.5 or dice.random() < 0.02:
-        yield "--vout=" + dice.choice(NO_FORMATS if dice.random() < 0.05 else FORMATS)
+        yield "--vout=" + vout(dice)
     if has_values and dice.random() < 0.3 or dice.random() < 0.01:
         yield "--readings=" + readings(dice)
     if has_gap and dice.random() < 0.6 or dice.random() < 0.01:
@@ -158,6 +167,23 @@ def followed_line(dice):
     return spelled(dice, write_part(address, message)) + b"/" + spelled(dice, answer_of(address, message, payload))
 
 
+def unpaged_line(dice):
+    """A plain packet at an address that has no pages, mostly: its mode, coefficients, voltages."""
+    if dice.random() < 0.02:
+        return spelled(dice, [2 * UNPAGED, dice.choice([0x00, 0x05, 0x06])])
+    code = dice.choice([CODES["VOUT_MODE"], *VOUT_CODES])
+    if code == CODES["VOUT_MODE"]:
+        if dice.random() < 0.1:
+            return spelled(dice, [2 * UNPAGED, code, dice.choice(MODES)])
+        return read_line(dice, UNPAGED, ("read", None, code), [dice.choice(MODES)])
+    if dice.random() < 0.2:
+        side = dice.choice([0, 0, 1, 1, 2])
+        return read_line(dice, UNPAGED, ("coefficients", code, side), coefficient_bytes((dice.choice([1, 2, 3]), 0, dice.choice([0, 3]))))
+    if is_written(code) and (not is_read(code) or dice.random() < 0.5):
+        return write_line(dice, UNPAGED, ("write", None, code, payload_of(dice, code)))
+    return read_line(dice, UNPAGED, ("read", None, code), payload_of(dice, code))
+
+
 def payload_of_other(dice, code):
     """Bytes of a code beyond the table, mostly such as say something."""
     if code in TEXTS and dice.random() < 0.8:
@@ -204,7 +230,9 @@ def unknown_line(dice):
 
 def packet_line(dice, strange):
     kind = dice.random()
-    if kind < 0.25:
+    if kind < 0.06:
+        line = unpaged_line(dice)
+    elif kind < 0.25:
         line = known_line(dice)
     elif kind < 0.4:
         line = teaching_line(dice)

@@ -52,7 +52,7 @@ class Pages:
             place.lose()
 
     def comment(self, number, line):
-        """A comment, of which the first 63 bytes count."""
+        """A comment, of which the first 63 bytes count. Answers the address of a packet of PAGE that it shows, or None."""
         line = line[:63]
         shown = SHOWN.fullmatch(line.partition(b": ")[2])
         address = int(shown[1], 16) >> 1 if shown else None
@@ -63,10 +63,12 @@ class Pages:
         elif line.startswith(FAILED) and shown:
             if shown[2].startswith(b" 00"):
                 self.place(address).fail(number, not shown[2][3:].startswith(b" /"))
+                return address
         elif line.startswith(CUT) and shown:
             self.place(address).lose()
         else:
             self.lose()
+        return None
 
     def come(self, packet, time):
         """A packet comes at a time, or at None."""

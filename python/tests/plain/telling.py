@@ -1,7 +1,7 @@
 """What `pmb decode` with options says of one packet: its text, and its object."""
 import json
 
-from .names import NAMES
+from .names import NAMES, ON_OFF_CONFIG
 from .packets import is_written, name_of, pec
 from .trace import coefficients_of, judged, packet_words
 from .values import Rounded
@@ -40,10 +40,16 @@ def of_all(packet, frame, read):
     return carried(otherwise(packet["address"], frame, read), frame, read) if is_other else packet
 
 
+def bytes_of_code(code):
+    """How many bytes a code has at least, as far as that is known."""
+    return 2 if 0x88 <= code <= 0x97 else int(code == ON_OFF_CONFIG or 0x7B <= code <= 0x82)
+
+
 def is_closed(frame, read):
-    """Whether the last byte, behind the code or behind the answer's address, is the PEC of those before it."""
+    """Whether the last byte, behind the code or behind the answer's address, is the PEC of those before it, and leaves enough."""
     last, before = (frame, 2) if read is None else (read, 1)
-    return len(last) > before and last[-1] == pec([*frame, *(read or [])][:-1])
+    enough = bytes_of_code(frame[1]) if read is None else max(1, bytes_of_code(frame[1]))
+    return len(last) > before + enough and last[-1] == pec([*frame, *(read or [])][:-1])
 
 
 def otherwise(address, frame, read):
@@ -81,7 +87,8 @@ def fields_of(packet, frame, read, has_values, value):
     if packet["kind"] == "fault":
         name, place = packet["fault"]
         shown = whole_bytes(frame, read) or None if has_values else None
-        return {**head, "direction": packet["part"], "packet": shown, "fault": name, "place": place}
+        code = f"{frame[1]:02X}" if packet["address"] is not None and len(frame) > 1 else None
+        return {**head, "code": code, "direction": packet["part"], "packet": shown, "fault": name, "place": place}
     if packet["kind"] == "other":
         return {**head, **other_fields(packet, value)}
     code, shown = {"code": f"{packet['code']:02X}", "name": name_of(packet["code"])}, spaced(packet["payload"])

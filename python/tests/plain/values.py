@@ -27,6 +27,10 @@ DIRECT = 0x40
 RESTORES = (0x12, 0x14, 0x16, 0x18)
 # A mode that isn't known any more.
 OVER = "over"
+# PAGE, PAGE_PLUS_WRITE and PAGE_PLUS_READ.
+PAGING = (0x00, 0x05, 0x06)
+# What is never relative where VOUT_MODE is.
+NEVER_RELATIVE = ("VOUT_COMMAND", "VOUT_MAX", "VOUT_MIN", "READ_VOUT")
 
 
 class Rounded(int):
@@ -59,7 +63,14 @@ def protection_words(byte):
     return "writes of " + (", ".join(before) + " and " if before else "") + last
 
 
+def is_relative(byte):
+    """A mode of ULINEAR16 whose margins and limits are parts of VOUT_COMMAND."""
+    return 0x80 <= byte < 0xA0
+
+
 def mode_words(byte):
+    if is_relative(byte):
+        return f"{mode_words(byte - 0x80)} relative"
     if mode_fault(byte):
         return None
     form = format_of(byte, ())
@@ -108,61 +119,86 @@ def pages_changed(frame, page):
 
 
 class Formats:
-    """What a trace taught of formats: the last mode of each address and page, or OVER where it may have changed since then, the
-    addresses that showed ULINEAR16, the last coefficients of each address and code. `vout` is the format of other voltages, or None; `readings` are those of readings:
-    for an address or None and a code or None a format, the first that fits."""
+    """What a trace taught of formats: the last mode of each address and page, or OVER where it may have changed since then; the last
+    plain mode of each address without pages; the addresses that have pages; those that showed ULINEAR16; the last coefficients of
+    each address, code and side. `vout` are the formats of other voltages, `readings` those of readings: for an address or None and
+    a code or None a format, the first that fits."""
 
     def __init__(self, vout, readings):
-        self.modes, self.linear, self.coefficients = {}, set(), {}
+        self.modes, self.plain, self.paged, self.linear, self.coefficients = {}, {}, set(), set(), {}
         self.vout, self.readings = vout, readings
 
     def learn(self, packet):
         """From a packet, where it is a good answer."""
         if packet["kind"] == "coefficients":
-            self.coefficients[packet["address"], packet["of"]] = coefficients_of(packet["payload"])
+            self.coefficients[packet["address"], packet["of"], packet["side"]] = coefficients_of(packet["payload"])
         elif packet["kind"] == "read" and packet["code"] == MODE:
+            address, byte = packet["address"], packet["payload"][0]
             if packet["page"] is not None:
-                self.modes[packet["address"], packet["page"]] = packet["payload"][0]
-            if packet["payload"][0] < 0x20:
-                self.linear.add(packet["address"])
+                self.modes[address, packet["page"]] = byte
+            elif address not in self.paged:
+                self.plain[address] = byte
+            if byte < 0x20:
+                self.linear.add(address)
 
     def forget(self, packet, frame, read, page, is_turned):
         """What a packet may have changed: `page` is that of plain packets, where it is sure; `is_turned` is whether the packet
         reads another page than the one that was written last."""
-        if packet["address"] is None:
+        address = packet["address"]
+        if address is None:
             return
         changed = [None] if is_turned else pages_changed(frame, page) if read is None else []
         for each in changed:
             if each in (None, 0xFF):
-                self.modes.update({of: OVER for of in self.modes if of[0] == packet["address"]})
+                self.modes.update({of: OVER for of in self.modes if of[0] == address})
+                self.plain.update({of: OVER for of in self.plain if of == address})
             else:
-                self.modes[packet["address"], each] = OVER
+                self.modes[address, each] = OVER
+        if frame[1:2] and frame[1] in PAGING:
+            self.has_pages(address)
+
+    def has_pages(self, address):
+        """A packet of PAGE or PAGE_PLUS was seen: plain modes say nothing any more."""
+        self.paged.add(address)
+        self.plain.pop(address, None)
 
     def of_the_trace(self, packet):
         """The same as `of` where no format of voltages is given."""
-        plain = Formats(None, self.readings)
-        plain.modes, plain.linear, plain.coefficients = self.modes, self.linear, self.coefficients
-        return plain.of(packet)
+        vout, self.vout = self.vout, []
+        found = self.of(packet)
+        self.vout = vout
+        return found
 
     def of(self, packet):
         """The format of a packet's reading or voltage, or None."""
         address, code = packet["address"], packet["code"]
         if code in READINGS:
-            return self.of_reading(address, code)
-        mode = self.modes.get((address, packet["page"]))
+            return given(self.readings, address, code) or (("linear11",) if address in self.linear else None)
+        vout, mode = given(self.vout, address, code), self.mode(address, packet["page"])
         if mode is None:
-            return self.vout
+            return vout
         if mode == OVER:
             return None
+        if is_relative(mode):
+            return (vout or format_of(mode - 0x80, ())) if name_of(code) in NEVER_RELATIVE else None
         if mode_fault(mode) or mode != DIRECT:
             return None if mode_fault(mode) else format_of(mode, ())
-        taught = self.coefficients.get((address, code))
+        own = int(packet["kind"] == "read")
+        taught = self.coefficients.get((address, code, own)) or self.coefficients.get((address, code, 1 - own))
         if taught is None:
-            return self.vout if self.vout and self.vout[0] == "direct" else None
+            return vout if vout and vout[0] == "direct" else None
         return None if coefficients_fault(taught[0], taught[2]) else format_of(mode, taught)
 
-    def of_reading(self, address, code):
-        for where, asked, form in self.readings:
-            if where in (None, address) and asked in (None, code):
-                return form
-        return ("linear11",) if address in self.linear else None
+    def mode(self, address, page):
+        """The mode that a packet of this page meets, OVER, or None where nothing was said of it."""
+        if page is not None and (page != 0xFF or (address, page) in self.modes):
+            return self.modes.get((address, page))
+        if address in self.plain:
+            return self.plain[address]
+        said = {mode for (where, _), mode in self.modes.items() if where == address}
+        return said.pop() if len(said) == 1 else OVER if said else None
+
+
+def given(entries, address, code):
+    """The first format of a list that fits, or None."""
+    return next((form for where, asked, form in entries if where in (None, address) and asked in (None, code)), None)

@@ -18,6 +18,10 @@ KNOWN, OTHER, FAULT = "known", "other", "fault"
 # What is wrong: NO_PEC is a packet of another code, length or direction, which need not have one, SHORT one that is too short.
 NO_PEC, SHORT, WRONG_PEC, ELSEWHERE = "no PEC", "too short", "wrong PEC", "another address answers"
 RIGHT, NOBODY = "PEC right", "all ones: nobody answered"
+# RESTORE_DEFAULT_ALL, RESTORE_DEFAULT_CODE, RESTORE_USER_ALL and RESTORE_USER_CODE; a mode that isn't known any more.
+RESTORES, OVER = (0x12, 0x14, 0x16, 0x18), "over"
+# What is never relative where VOUT_MODE is.
+NEVER_RELATIVE = ("VOUT_COMMAND", "VOUT_MAX", "VOUT_MIN", "READ_VOUT")
 SPEEDS = ("100 kHz", "400 kHz", "1 MHz", "reserved speed")
 
 
@@ -111,30 +115,39 @@ class Reader:
     """Tells packets one after another, and keeps what they teach of formats."""
 
     def __init__(self, vout="", readings=""):
-        self.modes, self.linear, self.coefficients = {}, set(), {}
+        self.modes, self.plain, self.paged, self.linear, self.coefficients = {}, {}, set(), set(), {}
         self.vout, self.readings = vout, readings_of(readings)
 
     def tell(self, write, read=None):
         """A packet: the bytes of its write part, and of its read part."""
         told = self.of(write, read)
         told.is_read = read is not None
-        if told.address is not None and read is None:
-            self.forget(write)
         return told
-
-    def forget(self, write):
-        """A write may have changed the modes of a page, or of all: what was learned of them counts no more."""
-        page, code, data = None, write[1:2], write[2:]
-        if code == [CARRIER]:
-            page, code, data = (data + [0, 0])[1], data[2:3], data[3:]
-        if code and code[0] in RESTORES or code == [MODE] and data and page in (None, 0xFF):
-            self.modes.update({of: OVER for of in self.modes if of[0] == write[0]})
-        elif code == [MODE] and data:
-            self.modes[write[0], page] = OVER
 
     def of(self, write, read):
         if not write or write[0] & 1 or not 0x08 <= write[0] >> 1 <= 0x77:
             return Told(FAULT, "-- no address of a device", "?")
+        told = self.told(write, read)
+        self.forget(write, read)
+        return told
+
+    def forget(self, write, read):
+        """What a packet may have changed: its modes, and whether its address has pages."""
+        address, code, data, page = write[0], write[1:2], write[2:], None
+        if code == [CARRIER]:
+            page, code, data = (data + [0, 0])[1], data[2:3], data[3:]
+        if read is None and code and (code[0] in RESTORES or code == [MODE] and data):
+            if code == [MODE] and page not in (None, 0xFF):
+                self.modes[address, page] = OVER
+            else:
+                self.modes.update({of: OVER for of in self.modes if of[0] == address})
+                self.plain.update({of: OVER for of in self.plain if of == address})
+        if write[1:2] and write[1] in (CODES["PAGE"], CARRIER, REQUESTER):
+            self.paged.add(address)
+            self.plain.pop(address, None)
+
+    def told(self, write, read):
+        """The same of a packet with an address."""
         where = "%02X " % (write[0] >> 1)
         fault = fault_of(write, read)
         if fault is None:
@@ -158,7 +171,7 @@ class Reader:
         code, page, ending = write[1], None, "" if has_pec else ", " + NO_PEC
         if code == ASKER:
             m, b, r = signed(number(read[2:4]), 16), signed(number(read[4:6]), 16), signed(read[6], 8)
-            self.coefficients[write[0], write[3]] = m, b, r
+            self.coefficients[write[0], write[3], write[4]] = m, b, r
             said = "m %d b %d r %d" % (m, b, r)
             return Told(KNOWN, "%s%s of %02X side %d read %s%s" % (where, NAMES[code], write[3], write[4], said, ending),
                         "%s %s" % (NAMES[code], said), has_pec or None, (write[0] >> 1, code, None, None))
@@ -170,22 +183,25 @@ class Reader:
         said = "send"
         if payload:
             said = ("write " if read is None else "read ") + "%0*X" % (2 * len(payload), number(payload))
-        value = self.value(write[0], page, code, payload)
+        value = self.value((write[0], page, code, int(read is not None)), payload)
         if read is not None and code == MODE:
             if page is not None:
                 self.modes[write[0], page] = payload[0]
+            elif write[0] not in self.paged:
+                self.plain[write[0]] = payload[0]
             if payload[0] < 0x20:
                 self.linear.add(write[0])
         text = "%s%s %s%s%s" % (where, NAMES[code], said, value and " " + value, ending)
         return Told(KNOWN, text, "%s %s" % (NAMES[code], value or said), has_pec or None, (write[0] >> 1, code, page, payload))
 
-    def value(self, address, page, code, payload):
-        """What a payload says."""
+    def value(self, asked, payload):
+        """What a payload says, of an address, a page or None, a code and a side: 0 for what is written, 1 for what is read."""
+        address, _, code, _ = asked
         word = number(payload)
         if code in FLAGS:
             return ", ".join(bits_of(FLAGS[code], word)) or "none"
         if code in UNITS or code in VOLTAGES:
-            form = self.reading_form(address, code) if code in UNITS else self.form(address, page, code)
+            form = self.reading_form(address, code) if code in UNITS else self.form(*asked)
             return "%s %s" % (decimal(*form(word)), UNITS.get(code, "V")) if form else ""
         if code == CAPABILITY:
             return capability_words(word)
@@ -198,19 +214,30 @@ class Reader:
                 return form
         return format_of("linear11") if address in self.linear else None
 
-    def form(self, address, page, code):
-        """The format of a voltage: as its output's mode was read by PAGE_PLUS, or where none was as the user gave it."""
-        mode = self.modes.get((address, page))
+    def form(self, address, page, code, side):
+        """The format of a voltage: by its output's mode, or where the trace has none as the user gave it."""
+        mode = self.mode(address, page)
         if mode is None:
             return format_of(self.vout)
         if mode == OVER:
             return None
-        said = next((said for first, last, said in WORDS[MODE] if first == mode), "")
-        if said != "DIRECT":
-            return format_of(said.lower().replace(" ", ":"))
-        if (address, code) in self.coefficients:
-            return format_of("direct:%d:%d:%d" % self.coefficients[address, code])
+        if 0x80 <= mode < 0xA0:
+            return format_of(self.vout or form_text(mode - 0x80)) if NAMES[code] in NEVER_RELATIVE else None
+        if mode_words(mode) != "DIRECT":
+            return format_of(form_text(mode))
+        for each in (side, 1 - side):
+            if (address, code, each) in self.coefficients:
+                return format_of("direct:%d:%d:%d" % self.coefficients[address, code, each])
         return format_of(self.vout) if self.vout.startswith("direct") else None
+
+    def mode(self, address, page):
+        """The mode that a packet of this page meets, OVER, or None where nothing was said of it."""
+        if page is not None and (page != 0xFF or (address, page) in self.modes):
+            return self.modes.get((address, page))
+        if address in self.plain:
+            return self.plain[address]
+        said = {mode for (where, _), mode in self.modes.items() if where == address}
+        return said.pop() if len(said) == 1 else OVER if said else None
 
     def other(self, where, write, read, is_ones=False):
         """A packet by its code and bytes."""
@@ -236,6 +263,16 @@ class Reader:
         ending = NOBODY if is_ones else RIGHT if is_right else NO_PEC
         return Told(OTHER, "%s%s, %s" % (where, said, ending), said, True if is_right else None, (write[0] >> 1, code, page, None),
                     is_ones or got == [])
+
+
+def mode_words(byte):
+    """What a byte of VOUT_MODE says, or nothing."""
+    return next((said for first, last, said in WORDS[MODE] if first <= byte <= last), "")
+
+
+def form_text(byte):
+    """The text of a mode's format."""
+    return mode_words(byte).lower().replace(" ", ":")
 
 
 def bits_of(bits, word):
@@ -269,9 +306,10 @@ def value_of_bytes(code, shown):
 
 
 def is_last_right(write, read):
-    """Whether the last byte, behind the code or behind the answer's address, is the PEC."""
+    """Whether the last byte, behind the code or behind the answer's address and behind the bytes that the code has, is the PEC."""
     last, first = (write, 2) if read is None else (read, 1)
-    return len(last) > first and last[-1] == pec((write + (read or []))[:-1])
+    enough = 2 if 0x88 <= write[1] <= 0x97 else int(read is not None or write[1] == ON_OFF_CONFIG or 0x7B <= write[1] <= 0x82)
+    return len(last) > first + enough and last[-1] == pec((write + (read or []))[:-1])
 
 
 def fault_of(write, read):

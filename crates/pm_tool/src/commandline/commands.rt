@@ -145,7 +145,7 @@ fn with_formats<'a>(command: Command<'a>, alloc: Global) -> Result<Command<'a>, 
         valued,
         alloc,
         ("vout", "F"),
-        "The format of voltages that the trace teaches none of; with --values",
+        "The formats of voltages that the trace teaches none of; with --values",
     )?;
     with_option(
         formatted,

@@ -30,7 +30,7 @@ impl TellFault {
         match self {
             TellFault::VoutAlone => "give --vout with --values",
             TellFault::Vout =>
-                "bad vout: give linear11, ulinear16:N or direct:M:B:R, as ulinear16:-12",
+                "bad vout: give linear11, ulinear16:N or direct:M:B:R, or a list, as 58:ulinear16:-12,linear11",
             TellFault::ReadingsAlone => "give --readings with --values",
             TellFault::Readings =>
                 "bad readings: give one to eight, as 8C:linear11,58:8D:direct:1:0:3",

@@ -1,27 +1,22 @@
 //! `decode` with options: which words are read for them, and what their texts ask of a telling.
-ghost use Rattle.std.specs.Prelude.{◌≡◌, ◌≤◌, IfErr, IfOk, IfSome, flat_map, option_and_then, option_map, true};
+ghost use Rattle.std.specs.Prelude.{◌≡◌, ◌≤◌, IfErr, IfOk, IfSome, flat_map, option_map, true};
 ghost use Rattle.std.specs.Result.{result_map_both};
 ghost use Rattle.clap.specs.Walk.{texts};
 ghost use Rattle.clap.specs.Words.{FailsBy, fault_of, found_of, kind_of, matches_of, one_of, rows_of};
 ghost use Rattle.clap.specs.Words.{takes};
 ghost use Rattle.clap.specs.declared.error.kind.ErrorKind.TheVariants.{OutOfMemory};
-ghost use Rattle.pm_num.specs.AnyFormat.{shape_of};
-ghost use Rattle.pm_tool.specs.Question.{HasExponent, format_of as format_named};
-ghost use Rattle.pm_tool.specs.Telling.{HasTexts, IsAsked, IsFlag, shape_named, tell_app, tell_words};
+ghost use Rattle.pm_tool.specs.Telling.{HasTexts, IsAsked, IsFlag, tell_app, tell_words};
 ghost use Rattle.pm_tool.specs.ReadingList.{if_any};
-ghost use Rattle.pm_tool.specs.Telling.{gap_asked, pause_of, readings_asked, vout_asked, vout_seen};
+ghost use Rattle.pm_tool.specs.Telling.{gap_asked, pause_of, readings_asked, vout_asked};
 
 use super::commands::tell_command;
 use super::options::given_text;
-use super::readings::read_readings;
+use super::readings::{Listed, read_list};
 use super::tell_fault::TellFault;
-use crate::numbers::{FormatText, read_format};
 use clap::{ArgMatches, Error};
 use pm_decode::TellOptions;
 use pm_lines::read_i64;
-use pm_num::{AnyFormat, Ulinear16};
-use pm_table::{Coefficients, VoutMode, format_of};
-use pm_values::{GivenFormats, ReadingFormat};
+use pm_values::{GivenFormat, GivenFormats};
 use std::alloc::Global;
 
 /// The options of `decode`, as they were written.
@@ -29,7 +24,7 @@ use std::alloc::Global;
 pub struct TellTexts<'a> {
     /// `--values`: what payloads mean is told too.
     pub values: bool,
-    /// The text of `--vout`: the format of voltages whose own format the trace doesn't teach.
+    /// The text of `--vout`: the formats of voltages whose own format the trace doesn't teach.
     pub vout: Option<&'a str>,
     /// The text of `--readings`: the formats of READ_VIN, READ_IOUT and READ_TEMPERATURE_1.
     pub readings: Option<&'a str>,
@@ -76,12 +71,12 @@ impl<'a> TellTexts<'a> {
     }
 
     /// The telling that the options ask for, or the first fault of them: `--vout` without `--values`, and then
-    /// a text of it that is no format or one that can't be; then the same of `--readings`; then `--gap` without `--pages`
+    /// a text of it that is no list of formats or has one that can't be; then the same of `--readings`; then `--gap` without `--pages`
     /// or `--times`, and a text of it that isn't 0 to 1000000 in at most seven digits. The formats are those of `number`.
     pub fn options(&self) -> Result<TellOptions, TellFault>
         ensures { IsAsked self.now result }
     {
-        let vout = self.vout_format()?;
+        let vout = self.vout_formats()?;
         let readings = self.reading_formats()?;
         let gap = self.pause()?;
         Ok(TellOptions {
@@ -96,24 +91,24 @@ impl<'a> TellTexts<'a> {
         })
     }
 
-    // The format that is asked for.
-    fn vout_format(&self) -> Result<Option<AnyFormat>, TellFault>
-        ensures { vout_seen result ≡ vout_asked self.now }
+    // The formats of voltages that are asked for.
+    fn vout_formats(&self) -> Result<[Option<GivenFormat>; 8], TellFault>
+        ensures { result_map_both (λ made. flat_map if_any made) (λ fault. fault) result ≡ vout_asked self.now }
     {
         let Some(text) = self.vout else {
-            return Ok(None);
+            return Ok([None; 8]);
         };
         if !self.values {
             return Err(TellFault::VoutAlone);
         }
-        match format_in(text) {
-            Some(format) => Ok(Some(format)),
+        match read_list(Listed::Voltages, text) {
+            Some(made) => Ok(made),
             None => Err(TellFault::Vout),
         }
     }
 
     // The formats of readings that are asked for.
-    fn reading_formats(&self) -> Result<[Option<ReadingFormat>; 8], TellFault>
+    fn reading_formats(&self) -> Result<[Option<GivenFormat>; 8], TellFault>
         ensures { result_map_both (λ made. flat_map if_any made) (λ fault. fault) result ≡ readings_asked self.now }
     {
         let Some(text) = self.readings else {
@@ -122,7 +117,7 @@ impl<'a> TellTexts<'a> {
         if !self.values {
             return Err(TellFault::ReadingsAlone);
         }
-        match read_readings(text) {
+        match read_list(Listed::Readings, text) {
             Some(made) => Ok(made),
             None => Err(TellFault::Readings),
         }
@@ -178,32 +173,4 @@ fn read_pause(text: &str) -> Option<u64>
         return None;
     }
     Some(pause as u64)
-}
-
-// The format that a text names, where it can be.
-fn format_in(text: &str) -> Option<AnyFormat>
-    ensures { option_map shape_of result ≡ option_and_then shape_named (format_named text.now) }
-{
-    let format = read_format(text)?;
-    format_made(format)
-}
-
-// The format that was read of a text, where it can be.
-fn format_made(format: FormatText) -> Option<AnyFormat>
-    requires { HasExponent format }
-    ensures { option_map shape_of result ≡ shape_named format }
-{
-    match format {
-        FormatText::Linear11 => Some(AnyFormat::Linear11),
-        FormatText::Ulinear16(n) => match Ulinear16::new(n) {
-            Some(made) => Some(AnyFormat::Ulinear16(made)),
-            None => None,
-        },
-        FormatText::Direct(m, b, r) => {
-            match format_of(VoutMode::Direct, Coefficients { m, b, r }) {
-                Ok(made) => Some(made),
-                Err(_) => None,
-            }
-        }
-    }
 }

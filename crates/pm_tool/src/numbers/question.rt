@@ -1,15 +1,15 @@
 //! What `number` is asked, as its three texts give it.
 ghost use Rattle.std.specs.Prelude.{◌≡◌, ◌∷◌, [], codes, IfOk, IfSome, MatchOption};
 ghost use Rattle.std.specs.Prelude.{option_and_then};
+ghost use Rattle.std.specs.List.{list_any};
 ghost use Rattle.pm_lines.specs.Digits.{signed_of};
 ghost use Rattle.pm_tool.specs.Question.{HasExponent, direct_format, exponent_format, format_by};
-ghost use Rattle.pm_tool.specs.Question.{asked_by, format_of, items, parts};
+ghost use Rattle.pm_tool.specs.Question.{asked_by, format_of, is_slash, items, parts, plain_format_of};
 
 use crate::numbers::fault::NumberFault;
 use pm_lines::{read_i8, read_i16, read_i64, read_word};
 
-/// A number format, as its text names it: `linear11`, `ulinear16:N` or `direct:M:B:R`, where `/` may
-/// stand for each `:`. Whether DIRECT can have these parameters is judged when the format is made.
+/// A number format, as its text names it: `linear11`, `ulinear16:N` or `direct:M:B:R`. Whether DIRECT can have these parameters is judged when the format is made.
 #[derive(Clone, Copy, Debug)]
 pub(crate) enum FormatText {
     Linear11,
@@ -55,14 +55,33 @@ pub(crate) fn read_question(
             .ok_or(NumberFault::Micro),
         _ => return Err(NumberFault::OneOf),
     };
-    let format = read_format(format).ok_or(NumberFault::Format)?;
+    let format = read_plain_format(format).ok_or(NumberFault::Format)?;
     Ok(Question {
         format,
         asked: asked?,
     })
 }
 
-/// The format that a text names.
+// The format that a text names with colons alone.
+fn read_plain_format(text: &str) -> Option<FormatText>
+    ensures named { result ≡ plain_format_of text.now }
+    ensures exponent { IfSome result HasExponent }
+{
+    if has_slash(text.as_bytes()) {
+        None
+    } else {
+        read_format(text)
+    }
+}
+
+// Whether a text has a slash.
+fn has_slash(text: &[u8]) -> bool
+    ensures { result ≡ list_any is_slash text.now }
+{
+    text.iter().any(|byte| *byte == b'/')
+}
+
+/// The format that a text names; `/` may stand for each colon.
 pub(crate) fn read_format(text: &str) -> Option<FormatText>
     ensures named { result ≡ format_of text.now }
     ensures exponent { IfSome result HasExponent }

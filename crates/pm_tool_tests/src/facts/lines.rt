@@ -3,7 +3,7 @@
 use super::Row;
 
 /// Rows under each option.
-pub(super) static LINES: [Row; 16] = [
+pub(super) static LINES: [Row; 17] = [
     (
         &["pmb", "decode"],
         1,
@@ -63,7 +63,7 @@ B0 96 / B1 34 12 B1 -> 58 code 96 READ_POUT read 34 12, PEC right
 B0 96 / B1 34 12 B0 -> 58 code 96 READ_POUT read 34 12 B0, no PEC
 B0 96 / B1 34 12 -> 58 code 96 READ_POUT read 34 12, no PEC
 B0 96 / B1 -> 58 code 96 READ_POUT read, no PEC
-B0 96 / B1 6B -> 58 code 96 READ_POUT read, PEC right
+B0 96 / B1 6B -> 58 code 96 READ_POUT read 6B, no PEC
 B0 86 02 01 02 / B1 03 04 1E -> 58 code 86 READ_EIN write 02 01 02 read 03 04, PEC right
 B0 86 02 01 02 / B1 -> 58 code 86 READ_EIN write 02 01 02 read, no PEC
 B0 D4 01 02 03 -> 58 code D4 write 01 02 03, no PEC
@@ -111,6 +111,34 @@ count code 96 5
 count code D4 8
 count code EF 3
 lines 37 accepted 1 other 36 faults 0 bad 0
+",
+    ),
+    (
+        &["pmb", "decode", "--all"],
+        0,
+        "
+B0 7B / B1 C1 -> 58 code 7B STATUS_IOUT read C1, no PEC
+B0 7B / B1 80 C0 -> 58 code 7B STATUS_IOUT read 80, PEC right
+B0 7B 29 -> 58 code 7B STATUS_IOUT write 29, no PEC
+B0 7B 80 56 -> 58 code 7B STATUS_IOUT write 80, PEC right
+B0 82 / B1 68 -> 58 code 82 STATUS_FANS_3_4 read 68, no PEC
+B0 83 / B1 55 D8 -> 58 code 83 READ_KWH_IN read 55, PEC right
+B0 02 41 -> 58 code 02 ON_OFF_CONFIG write 41, no PEC
+B0 02 / B1 DE -> 58 code 02 ON_OFF_CONFIG read DE, no PEC
+B0 96 / B1 34 9A -> 58 code 96 READ_POUT read 34 9A, no PEC
+B0 97 / B1 55 D1 -> 58 code 97 READ_PIN read 55 D1, no PEC
+B0 D4 / B1 1A -> 58 code D4 read 1A, no PEC
+B0 D4 / B1 12 38 -> 58 code D4 read 12, PEC right
+B0 11 38 -> 58 code 11 STORE_DEFAULT_ALL send, PEC right
+count code 02 2
+count code 11 1
+count code 7B 4
+count code 82 1
+count code 83 1
+count code 96 1
+count code 97 1
+count code D4 2
+lines 13 accepted 0 other 13 faults 0 bad 0
 ",
     ),
     (
@@ -181,7 +209,7 @@ B2 88 / B3 00 D3 -> 59 READ_VIN read D300, no PEC
 B0 79 / B1 02 20 -> 58 STATUS_WORD read 2002 INPUT, CML, no PEC
 B0 06 02 01 20 / B1 01 14 -> 58 page 1 VOUT_MODE read 14 ULINEAR16 -12, no PEC
 B0 06 02 01 8B / B1 02 CD 34 -> 58 page 1 READ_VOUT read 34CD 3.300048 V, no PEC
-B0 8B / B1 CD 34 -> 58 READ_VOUT read 34CD, no PEC
+B0 8B / B1 CD 34 -> 58 READ_VOUT read 34CD 3.300048 V, no PEC
 B0 79 00 08 -> 58 code 79 STATUS_WORD write 00 08, no PEC
 B0 88 / B1 FF FF -> 58 code 88 READ_VIN read FF FF, all ones: nobody answered
 B0 03 47 -> 58 write F5 WrongPec 2 bytes B0 03 47
@@ -285,12 +313,12 @@ B0 05 04 00 21 CD 34 5A -> {"line":1,"address":"58","page":0,"code":"21","name":
 B0 06 02 01 21 / B1 02 CD 34 90 -> {"line":2,"address":"58","page":1,"code":"21","name":"VOUT_COMMAND","direction":"read","payload":"CD 34"}
 B0 03 46 -> {"line":3,"address":"58","code":"03","name":"CLEAR_FAULTS","direction":"send"}
 B0 30 02 21 00 / B1 05 01 00 00 00 03 6B -> {"line":4,"address":"58","code":"30","name":"COEFFICIENTS","of":"21","side":0,"direction":"read","payload":"01 00 00 00 03","m":1,"b":0,"r":3}
-B0 05 04 01 21 CD 34 5A -> {"line":5,"address":"58","direction":"write","fault":"F5 WrongPec","place":7}
-B0 21 / B3 -> {"line":6,"address":"58","direction":"read","fault":"F1 NotOurs"}
+B0 05 04 01 21 CD 34 5A -> {"line":5,"address":"58","code":"05","direction":"write","fault":"F5 WrongPec","place":7}
+B0 21 / B3 -> {"line":6,"address":"58","code":"21","direction":"read","fault":"F1 NotOurs"}
 / -> {"line":7,"direction":"write","fault":"F1 NotOurs"}
 B0 9 -> {"line":8,"fault":"X2 BadHex"}
 B0 / B1 / B2 -> {"line":9,"fault":"X1 Syntax"}
-B0 96 / B1 34 12 -> {"line":10,"address":"58","direction":"write","fault":"F6 UnknownCode","place":1}
+B0 96 / B1 34 12 -> {"line":10,"address":"58","code":"96","direction":"write","fault":"F6 UnknownCode","place":1}
 {"count":"VOUT_COMMAND","lines":2}
 {"count":"CLEAR_FAULTS","lines":1}
 {"count":"COEFFICIENTS","lines":1}
@@ -312,12 +340,12 @@ B0 10 80 34 -> {"line":8,"address":"58","code":"10","name":"WRITE_PROTECT","dire
 B0 78 / B1 42 3D -> {"line":9,"address":"58","code":"78","name":"STATUS_BYTE","direction":"read","payload":"42","flags":["OFF","CML"]}
 B0 79 / B1 00 00 D4 -> {"line":10,"address":"58","code":"79","name":"STATUS_WORD","direction":"read","payload":"00 00","flags":[]}
 B0 7E / B1 04 95 -> {"line":11,"address":"58","code":"7E","name":"STATUS_CML","direction":"read","payload":"04","flags":["bit 2"]}
-B0 05 04 01 21 CD 34 5A -> {"line":12,"address":"58","direction":"write","packet":"B0 05 04 01 21 CD 34 5A","fault":"F5 WrongPec","place":7}
-B0 06 02 00 21 / B1 02 CD -> {"line":13,"address":"58","direction":"read","packet":"B0 06 02 00 21 / B1 02 CD","fault":"F2 Short","place":3}
+B0 05 04 01 21 CD 34 5A -> {"line":12,"address":"58","code":"05","direction":"write","packet":"B0 05 04 01 21 CD 34 5A","fault":"F5 WrongPec","place":7}
+B0 06 02 00 21 / B1 02 CD -> {"line":13,"address":"58","code":"06","direction":"read","packet":"B0 06 02 00 21 / B1 02 CD","fault":"F2 Short","place":3}
 B0 21 CD 34 38 -> {"line":14,"address":"58","code":"21","name":"VOUT_COMMAND","direction":"write","payload":"CD 34"}
 B0 -> {"line":15,"address":"58","direction":"write","packet":"B0","fault":"F2 Short","place":1}
 B0 / B1 -> {"line":16,"address":"58","direction":"write","packet":"B0 / B1","fault":"F2 Short","place":1}
-B0 20 / -> {"line":17,"address":"58","direction":"read","packet":"B0 20 /","fault":"F1 NotOurs"}
+B0 20 / -> {"line":17,"address":"58","code":"20","direction":"read","packet":"B0 20 /","fault":"F1 NotOurs"}
 {"count":"VOUT_MODE","lines":1}
 {"count":"VOUT_COMMAND","lines":2}
 {"count":"READ_VIN","lines":1}

@@ -10,6 +10,6 @@ returns-in-Some-read_byte c =
     let p = some_parts is_colon c.in-Some.after.now in
     let first = c.in-Some.first.now in
     let number : hex_of 2 first ≡ Some c.in-Some-read_byte.number = grind arith in
-    c.read_behind.ensures p.0 p.1 p.2
-    ∙ sym (ap entry_by (c.in-Some.ensures ∙ ap (λ (ps : List Text). first ∷ ps) p.2)
-    ∙ ap (λ (h : Option ℕ). entry_from h first p.0 p.1) number)
+    c.read_at_number.ensures p.0 p.1 p.2
+    ∙ sym (ap (entry_by c.args.listed) (c.in-Some.ensures ∙ ap (λ (ps : List Text). first ∷ ps) p.2)
+    ∙ ap (λ (h : Option ℕ). entry_from c.args.listed h first p.0 p.1) number)
