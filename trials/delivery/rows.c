@@ -152,7 +152,8 @@ static uint8_t put(void *context, const uint8_t *bytes, uint64_t count) {
 static uint64_t ask(void *context, const uint8_t *request, uint64_t count, uint8_t *answer, uint64_t room) {
     uint8_t all[16];
     uint16_t word = 0;
-    int size, at = 0;
+    uint64_t at = 0;
+    int size;
     (void)context;
     (void)room;
     reads++;
