@@ -1,6 +1,8 @@
 //! What a delivery asks and says, by the bits of the standard (PMBus 1.3 Part II, STATUS_WORD to STATUS_TEMPERATURE): rows written by
 //! hand.
 
+ghost use Rattle.std.specs.Prelude.{◌<◌};
+
 use crate::checks::{equal, is_true};
 use pm_delivery::{Delivery, Due, Question, Reading, Verdict};
 use pm_rail::Power;
@@ -94,7 +96,9 @@ static REGISTERS: [(u16, Question, u8); 4] = [
 ];
 
 // What it says of one bit of such a register.
-fn said_of(status: u16, register: Question, bit: u8) -> Verdict {
+fn said_of(status: u16, register: Question, bit: u8) -> Verdict
+    requires { bit < 8 }
+{
     let mut delivery = after_order();
     delivery.hear(Question::StatusWord, Ok(status));
     delivery.hear(register, Ok(u16::from(1u8 << bit)));
