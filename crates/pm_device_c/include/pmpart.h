@@ -138,10 +138,10 @@ uint8_t pm_part_status_cml(const pm_part *part, uint8_t *status);
 /* What follows is inline and compiled by you: it is tested, and not proved.
  *
  * A part as the PMBus target of a converter's own firmware: pm_target_hear and pm_target_restart are pm_part_hear and
- * pm_part_restart, after which your function is told each output whose commanded voltage isn't what it was told last. It
- * is told whether the output is on, and the microvolts that it commands, rounded down; of an output that is off, 0. An
+ * pm_part_restart, after which your function hears each output whose commanded voltage isn't what it heard last. It
+ * hears whether the output is on, and the microvolts that it commands, rounded down; of an output that is off, 0. An
  * output whose voltage can't be asked for, since the memory holds no part or the voltage is beyond 10^15 microvolts, is
- * told as off. Your function may not call a target. The part stays yours, to be asked, and to be given readings. */
+ * heard as off. Your function may not call a target. The part stays yours, to be asked, and to be given readings. */
 typedef void (*pm_commanded)(void *context, uint8_t output, uint8_t is_on, int64_t microvolts);
 
 typedef struct {
@@ -149,11 +149,11 @@ typedef struct {
     pm_commanded commanded;
     void *context;
     uint8_t outputs; /* as in the part's configuration */
-    uint8_t on[8];   /* what was told last */
+    uint8_t on[8];   /* what was heard last */
     int64_t microvolts[8];
 } pm_target;
 
-/* Tells each output that isn't as it was told last, or every one. */
+/* Hands on each output that isn't as it was heard last, or every one. */
 static inline void pm_target_tell(pm_target *target, int is_every) {
     for (uint8_t output = 0; output < target->outputs && output < 8; output++) {
         uint8_t on = 0;
@@ -168,7 +168,7 @@ static inline void pm_target_tell(pm_target *target, int is_every) {
     }
 }
 
-/* Begins with a part that pm_part_new made, and tells each of its outputs once. */
+/* Begins with a part that pm_part_new made, and hands on each of its outputs once. */
 static inline void pm_target_begin(pm_target *target, pm_part *part, uint8_t outputs, pm_commanded commanded, void *context) {
     target->part = part, target->commanded = commanded, target->context = context, target->outputs = outputs;
     pm_target_tell(target, 1);

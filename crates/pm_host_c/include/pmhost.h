@@ -103,7 +103,7 @@ enum {
     PM_NO_COURSE = 0xE9,          /* the memory holds no course of this version, or none to which a voltage can be added */
     PM_NO_BAND = 0xEB,            /* OPERATION may be a byte that hands the output's voltage to AVSBus */
     PM_NO_DELIVERY = 0xEC,        /* the memory holds no delivery of this version */
-    PM_NO_GOAL = 0xED,            /* the course wants no word of this register */
+    PM_NO_GOAL = 0xED,            /* the course asks for no word of this register */
     PM_F1_NOT_OURS = 0x31,        /* F1 to F8: what is wrong with the bytes of a packet */
     PM_F2_SHORT = 0x32,
     PM_F3_LONG = 0x33,
@@ -253,11 +253,11 @@ typedef struct {
     uint16_t word; /* the word or byte of a good answer, otherwise 0 */
 } pm_heard;
 
-/* What a delivery does about fault limits: a word at or beyond one is refused (P8); it is told alone; they aren't read. */
+/* What a delivery does about fault limits: a word at or beyond one is refused (P8); it is only noted; they aren't read. */
 enum { PM_FAULT_LIMITS_REFUSE = 0, PM_FAULT_LIMITS_TELL = 1, PM_FAULT_LIMITS_SKIP = 2 };
 
 /* What an output does, and not what its registers hold: a delivery, in memory of yours. Its fields are there to be read, so that what
- * was heard can be told; the calls alone write them. A call asks first for its mark and version, and answers PM_NO_DELIVERY if one
+ * was heard can be shown; only the calls write them. A call asks first for its mark and version, and answers PM_NO_DELIVERY if one
  * lacks. It may be copied, and holds no host and no pointer. */
 typedef struct {
     uint16_t mark, version;
@@ -272,7 +272,7 @@ typedef struct {
     pm_heard ov_fault_limit, ov_warn_limit, uv_warn_limit, uv_fault_limit; /* 40h, 42h, 43h, 44h, in the output's format */
     pm_heard status_word, status_vout, status_iout, status_input, status_temperature; /* 79h to 7Dh, of this round */
     pm_heard read_vout;                      /* 8Bh, in the output's format, of this round */
-    pm_heard power_good_on, power_good_off;  /* 5Eh, 5Fh, in the output's format: asked if POWER_GOOD# alone speaks against it */
+    pm_heard power_good_on, power_good_off;  /* 5Eh, 5Fh, in the output's format: asked if only POWER_GOOD# speaks against it */
 } pm_delivery;
 
 typedef char pm_delivery_has_its_size[sizeof(pm_delivery) == PM_DELIVERY_SIZE ? 1 : -1];
@@ -294,17 +294,17 @@ enum {
                                 * and a `fault` of 0: it was good, and what the output commands isn't known */
     PM_WENT_OFF = 11,          /* OFF is 1 after an order that turned the output off */
     PM_STILL_ON = 12,          /* OFF is 0 after such an order */
-    PM_BEYOND_FAULT_LIMIT = 13 /* of pm_host_deliver alone: P8, nothing was ordered. `code` and `word` are those of the limit */
+    PM_BEYOND_FAULT_LIMIT = 13 /* only of pm_host_deliver: P8, nothing was ordered. `code` and `word` are those of the limit */
 };
 typedef struct {
     uint8_t kind;
     uint8_t code;           /* the command code of the register that says so, or 0 */
     uint8_t bit;            /* of PM_NEW_FAULT, from 0 */
     uint8_t fault;          /* of PM_DELIVERY_NOT_KNOWN: PM_NO_ANSWER, PM_F1_NOT_OURS to PM_F5_WRONG_PEC */
-    uint8_t has_microvolts; /* 1 if READ_VOUT gave a good answer and is told in `microvolts` */
+    uint8_t has_microvolts; /* 1 if READ_VOUT gave a good answer and stands in `microvolts` */
     uint8_t unused;
     uint16_t word;          /* what the register `code` held in this round, if its answer was good; otherwise 0 */
-    int64_t microvolts;     /* READ_VOUT, rounded down; 0 if it isn't told */
+    int64_t microvolts;     /* READ_VOUT, rounded down; 0 if it isn't known */
 } pm_delivered;
 
 /* Which limits a word is at or beyond: command codes, 0 if there is none, and the words that these registers hold. */
@@ -498,7 +498,7 @@ uint8_t pm_course_next(const pm_course *course, const pm_host *host, pm_course_j
  * written. */
 uint8_t pm_course_job_now(const pm_course *course, pm_course_job *job);
 
-/* The word that a course wants of VOUT_COMMAND, VOUT_MARGIN_HIGH or VOUT_MARGIN_LOW, by the format that the host knows now; of a course
+/* The word that a course asks for of VOUT_COMMAND, VOUT_MARGIN_HIGH or VOUT_MARGIN_LOW, by the format that the host knows now; of a course
  * to a byte that leaves the output on, the word that the register is known to hold that the byte selects. PM_NO_GOAL if it has none
  * of this register. PM_NO_HOST, PM_NO_COURSE, H4, PM_NO_CELL; then nothing is written. */
 uint8_t pm_course_goal(const pm_course *course, const pm_host *host, uint8_t code, uint16_t *word);
@@ -506,8 +506,8 @@ uint8_t pm_course_goal(const pm_course *course, const pm_host *host, uint8_t cod
 /* ---- Delivery: what an output does ---- */
 
 /* A good end of a course says that registers hold what is wanted, and not that the output delivers it: it may have tripped, or a pin
- * may hold it off. A delivery asks the part, by reads of PAGE_PLUS beside the host's jobs; it writes nothing, and no job is told of
- * what it hears. pm_host_deliver, at the end of this header, has the loop. */
+ * may hold it off. A delivery asks the part, by reads of PAGE_PLUS beside the host's jobs; it writes nothing, and no job hears of
+ * it. pm_host_deliver, at the end of this header, has the loop. */
 
 /* Makes a delivery of an output, whatever stood in the memory. `within` and `rounds` are as in pm_delivery; 1000 thousandths at most
  * count. H4 for an output above 7; then nothing is written. */
@@ -526,7 +526,7 @@ uint8_t pm_delivery_before(pm_delivery *delivery);
 PM_MUST_USE
 uint8_t pm_delivery_after(pm_delivery *delivery, uint8_t off);
 
-/* The request that is to be sent now, the same until it is told what came back. 0; or PM_ENDED, and then PM_NOTHING, if nothing is
+/* The request that is to be sent now, the same until it has heard what came back. 0; or PM_ENDED, and then PM_NOTHING, if nothing is
  * left to ask. Each question is asked at most as many times as the host has passes, until a good answer comes. If the output
  * doesn't do yet what it is to, all is asked again, at most `rounds` times: `round` isn't 0 then and `status_word.asked` is, and the
  * caller waits before it sends that. PM_NO_HOST, PM_NO_DELIVERY, H4, and then PM_NOTHING. */
@@ -543,7 +543,7 @@ PM_MUST_USE
 uint8_t pm_delivery_verdict(const pm_delivery *delivery, const pm_host *host, pm_delivered *delivered);
 
 /* Which fault limit and which limit of a warning a word of the output's voltage is at or beyond, by its value; a limit that gave no good
- * answer isn't judged. P8 if that is a fault limit, unless PM_FAULT_LIMITS_TELL: the limit is told in each case. PM_NO_HOST,
+ * answer isn't judged. P8 if that is a fault limit, unless PM_FAULT_LIMITS_TELL: the limit is noted in each case. PM_NO_HOST,
  * PM_NO_DELIVERY, H4, H7 if the format isn't known; then nothing is written. */
 PM_MUST_USE
 uint8_t pm_delivery_judge(const pm_delivery *delivery, const pm_host *host, uint16_t word, pm_judgement *judgement);
@@ -683,7 +683,7 @@ static inline uint8_t pm_delivery_ask(pm_delivery *delivery, const pm_host *host
     return number == PM_ENDED ? (uint8_t)PM_OK : number;
 }
 
-/* Judges what a course wants of VOUT_COMMAND and the margins, or what the byte of one selects: the first fault limit, and the first
+/* Judges what a course asks for of VOUT_COMMAND and the margins, or what the byte of one selects: the first fault limit, and the first
  * limit of a warning. 0, P8, or why a call was refused. */
 PM_MUST_USE
 static inline uint8_t pm_delivery_judge_course(const pm_delivery *delivery, const pm_course *course, const pm_host *host,
