@@ -1,15 +1,17 @@
 //! What `number` is asked, as its three texts give it.
-ghost use Rattle.std.specs.Prelude.{◌≡◌, ◌∷◌, [], codes, IfOk, IfSome, MatchOption};
+ghost use Rattle.std.specs.Prelude.{◌≡◌, ◌∷◌, [], codes, IfErr, IfOk, IfSome, MatchOption};
 ghost use Rattle.std.specs.Prelude.{option_and_then};
 ghost use Rattle.std.specs.List.{list_any};
 ghost use Rattle.pm_lines.specs.Digits.{signed_of};
+ghost use Rattle.pm_tool.specs.NumberText.{IsCommandLineFault};
 ghost use Rattle.pm_tool.specs.Question.{HasExponent, direct_format, exponent_format, format_by};
 ghost use Rattle.pm_tool.specs.Question.{asked_by, format_of, is_slash, items, parts, plain_format_of};
 
 use crate::numbers::fault::NumberFault;
 use pm_lines::{read_i8, read_i16, read_i64, read_word};
 
-/// A number format, as its text names it: `linear11`, `ulinear16:N` or `direct:M:B:R`. Whether DIRECT can have these parameters is judged when the format is made.
+/// A number format, as its text names it: `linear11`, `ulinear16:N` or `direct:M:B:R`. Whether DIRECT
+/// can have these parameters is judged when the format is made.
 #[derive(Clone, Copy, Debug)]
 pub(crate) enum FormatText {
     Linear11,
@@ -45,6 +47,7 @@ pub(crate) fn read_question(
     ensures asked { result
         ≡ asked_by format.entry word.entry micro.entry }
     ensures exponent { IfOk result (λ asked. HasExponent asked.format) }
+    ensures faults { IfErr result IsCommandLineFault }
 {
     let asked = match (word, micro) {
         (Some(word), None) => read_word(word.as_bytes())
