@@ -143,7 +143,7 @@ paged_fault-spelled addr page code size payload bytes h =
     let whole : length bytes ≡ get_or bytes 1 0 + 3 = omega (arith, ap length h.spelled, length-append payload (last ∷ []), count) in
     none-or _ _ (ap (opening_fault (read_address addr)) h.spelled ∙ opening_fault-none (read_address addr) (length payload) _)
     (none-or _ _ (none-rule _ (WrongCount 1)
-        (ap (is_other_count size) count ∙ count-right size (length payload) h.counted h.asked))
+    (ap (is_other_count size) count ∙ count-right size (length payload) h.counted h.asked))
     (none-or _ _ (length_fault-none (get_or bytes 1 0 + 3) bytes whole)
     (none-or _ _ (ap (pec_fault before) h.spelled ∙ pec_fault-none before front) refl)))
 
