@@ -7,7 +7,7 @@ found-so (Ok (Some world)) so lived spelled short = so lived spelled short
 found-so (Ok None) so lived spelled short = tt
 found-so (Err fault) so lived spelled short = tt
 
--- of the run's life and of its configuration's numbers
+-- what holds of the run's life and of its configuration's numbers
 pub found-lived : {X E : Type 0} (r : Result (Option X) E) (B C : Type 0) {A S G : Type 0} → (A → S → G) →
     IfOk r (λ found. OnSome found A) → OnOk r (B × C × S) → IfOk r (λ found. OnSome found G)
 found-lived (Ok (Some world)) B C so lived sound = so lived sound.2

@@ -76,7 +76,7 @@ fn place_of(code: u8) -> Option<usize> {
 }
 
 impl Part {
-    // So many frames of the course were sent.
+    // How many frames of the course were sent.
     fn after(&mut self, frames: usize) {
         if let Some(other) = self.exchange {
             if other.frames == frames {

@@ -11,7 +11,7 @@ use pm_table::{Cell, Reg};
 // How a survey or a course ended.
 #[derive(Clone, Copy, Debug, PartialEq)]
 enum End {
-    // By its own rule, or with all reached.
+    // It ended by its own rule, or with all reached.
     Reached,
     // Refused for a word above VOUT_MAX.
     Refused,
