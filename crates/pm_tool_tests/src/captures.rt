@@ -95,7 +95,7 @@ static MEANINGS: [(&str, &str); 9] = [
     ),
     (
         "B0 05 04 01 21 CD 34 4C\nB0 06 02 01 20 / B1 01 14 2C\nB0 05 04 01 21 CD 34 4C\nB0 06 02 01 20 / B1 01 40 87\nB0 05 04 01 21 CD 34 4C\nB0 30 02 21 00 / B1 05 01 00 00 00 03 6B\nB0 05 04 01 21 CD 34 4C\nB0 21 CD 34 38\n",
-        "1 58 page 1 VOUT_COMMAND write 34CD\n2 58 page 1 VOUT_MODE read 14 ULINEAR16 -12\n3 58 page 1 VOUT_COMMAND write 34CD 3.300048 V\n4 58 page 1 VOUT_MODE read 40 DIRECT\n5 58 page 1 VOUT_COMMAND write 34CD\n6 58 COEFFICIENTS of 21 side 0 read m 1 b 0 r 3\n7 58 page 1 VOUT_COMMAND write 34CD 13.517 V\n8 58 VOUT_COMMAND write 34CD\ncount VOUT_COMMAND 5\ncount VOUT_MODE 2\ncount COEFFICIENTS 1\nlines 8 accepted 8 faults 0 bad 0\n",
+        "1 58 page 1 VOUT_COMMAND write 34CD\n2 58 page 1 VOUT_MODE read 14 ULINEAR16 -12\n3 58 page 1 VOUT_COMMAND write 34CD 3.300048 V\n4 58 page 1 VOUT_MODE read 40 DIRECT\n5 58 page 1 VOUT_COMMAND write 34CD\n6 58 COEFFICIENTS of 21 side 0 read m 1 b 0 r 3\n7 58 page 1 VOUT_COMMAND write 34CD 13.517 V\n8 58 VOUT_COMMAND write 34CD 13.517 V\ncount VOUT_COMMAND 5\ncount VOUT_MODE 2\ncount COEFFICIENTS 1\nlines 8 accepted 8 faults 0 bad 0\n",
     ),
 ];
 

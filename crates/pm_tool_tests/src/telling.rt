@@ -425,7 +425,11 @@ fn options_are_read_as_they_are_written(rt: HostRuntime) -> Result<(), Fail> {
         ..wanted
     };
     let options = more.options()?;
-    is_true(&rt, options.values && options.formats.vout.is_some(), &more);
+    is_true(
+        &rt,
+        options.values && options.formats.vout[0].is_some(),
+        &more,
+    );
     is_true(&rt, options.times && options.json, &more);
     is_true(&rt, !options.all && !options.long, &more);
     is_true(&rt, options.pages, &more);

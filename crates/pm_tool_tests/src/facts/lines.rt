@@ -342,7 +342,7 @@ B0 79 / B1 00 00 D4 -> {"line":10,"address":"58","code":"79","name":"STATUS_WORD
 B0 7E / B1 04 95 -> {"line":11,"address":"58","code":"7E","name":"STATUS_CML","direction":"read","payload":"04","flags":["bit 2"]}
 B0 05 04 01 21 CD 34 5A -> {"line":12,"address":"58","code":"05","direction":"write","packet":"B0 05 04 01 21 CD 34 5A","fault":"F5 WrongPec","place":7}
 B0 06 02 00 21 / B1 02 CD -> {"line":13,"address":"58","code":"06","direction":"read","packet":"B0 06 02 00 21 / B1 02 CD","fault":"F2 Short","place":3}
-B0 21 CD 34 38 -> {"line":14,"address":"58","code":"21","name":"VOUT_COMMAND","direction":"write","payload":"CD 34"}
+B0 21 CD 34 38 -> {"line":14,"address":"58","code":"21","name":"VOUT_COMMAND","direction":"write","payload":"CD 34","numerator":13517,"denominator":4096,"volts":3.300048}
 B0 -> {"line":15,"address":"58","direction":"write","packet":"B0","fault":"F2 Short","place":1}
 B0 / B1 -> {"line":16,"address":"58","direction":"write","packet":"B0 / B1","fault":"F2 Short","place":1}
 B0 20 / -> {"line":17,"address":"58","code":"20","direction":"read","packet":"B0 20 /","fault":"F1 NotOurs"}
