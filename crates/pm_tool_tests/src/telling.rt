@@ -427,7 +427,12 @@ fn options_are_read_as_they_are_written(rt: HostRuntime) -> Result<(), Fail> {
     let options = more.options()?;
     is_true(
         &rt,
-        options.values && options.formats.vout[0].is_some(),
+        options.values
+            && options
+                .formats
+                .vout
+                .first()
+                .is_some_and(|first| first.is_some()),
         &more,
     );
     is_true(&rt, options.times && options.json, &more);
