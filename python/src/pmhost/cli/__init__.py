@@ -129,6 +129,7 @@ def run_commands(call: Call) -> int:
         call.begin(arguments)
         is_order = getattr(arguments, "is_order", False)
         status = max(status, is_order and call.no_part(arguments) or int(arguments.run(arguments)))
+        call.claim()
     return status
 
 
