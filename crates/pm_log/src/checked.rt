@@ -1,16 +1,22 @@
+ghost use Rattle.std.specs.Prelude.{◌≡◌, ◌+◌, IfOk, OnOk, Err};
+ghost use Rattle.pm_log.specs.Holdings.{refusal_of};
+ghost use Rattle.pm_log.specs.Logs.{line_said};
+
 use crate::fault::LogFault;
 use crate::log_line::{LogLine, read_log_line};
 use crate::log_text::MAX_LINE;
 use crate::open_log::OpenLog;
-use pm_lines::{Line, TextFault, without_carriage_return};
+use pm_lines::{Line, without_carriage_return};
 use pm_text::ScenarioFault;
 use std::alloc::{AllocError, Global};
+use std::marker::Model;
 
 /// The first line that isn't accepted, and why.
 #[derive(Debug, PartialEq, Eq, Drop)]
 pub struct Refusal {
     /// The number of the line.
     pub line: u64,
+    /// Why.
     pub fault: LogFault,
 }
 
@@ -23,9 +29,25 @@ pub struct Checked {
     refusal: Option<Refusal>,
 }
 
+impl Model for Checked {
+    ghost use Rattle.std.specs.Prelude.{◌≤◌};
+    ghost use Rattle.pm_log.specs.Logs.{Checked as Lines};
+    ghost use Rattle.pm_log.specs.Holdings.{kept_in};
+
+    ghost Value = { Lines };
+
+    ghost view = { λ c. record { ended = c.ended; log = kept_in c.open c.refusal } };
+
+    ghost invariant = { λ c. (c.open.claims ≤ c.ended) × (c.open.transfers ≤ c.ended) };
+}
+
 impl Checked {
+    ghost use Rattle.std.specs.Prelude.{◌<◌, ◌≤◌, ◌^◌, Ok, OnErr, None, Some, IfSome, IfNone, MatchResult};
+    ghost use Rattle.pm_log.specs.Logs.{at_end, no_line, with_line};
+
     /// No line.
     pub fn new() -> Checked
+        ensures { result ≡ no_line }
     {
         Checked {
             ended: 0,
@@ -34,24 +56,27 @@ impl Checked {
         }
     }
 
-    /// What is known by the lines, if all of them are accepted.
-    pub fn open(&self) -> &OpenLog
+    /// What is known by the lines, or the first that isn't accepted.
+    pub fn log(&self) -> Result<&OpenLog, &Refusal>
+        ensures { MatchResult result (λ known. self.now.log ≡ Ok known.now) (λ refusal. self.now.log ≡ Err refusal.now) }
     {
-        &self.open
+        match &self.refusal {
+            Some(refusal) => Err(refusal),
+            None => Ok(&self.open),
+        }
     }
 
-    /// The first line that isn't accepted.
-    pub fn refusal(&self) -> Option<&Refusal>
-    {
-        self.refusal.as_ref()
-    }
-
-    /// Takes one line more. After one that isn't accepted lines are counted alone. Takes memory for the bytes of a packet.
+    /// Takes one line more, with a carriage return that ends it. After one that isn't accepted lines are counted alone. Takes
+    /// memory for the bytes of a packet.
     ///
     /// # Errors
     ///
     /// Want of memory; then nothing has changed.
+    #[tactic(auto, unfolding(crate::specs::Logs::with_line))]
     pub fn take(&mut self, alloc: Global, text: &[u8]) -> Result<(), AllocError>
+        requires { self.old.ended + 1 < 2 ^ 64 }
+        ensures taken { OnOk result (self.new ≡ with_line self.old text.now) }
+        ensures unchanged { OnErr result (self.new ≡ self.old) }
     {
         let number = self.ended + 1;
         if self.refusal.is_none() {
@@ -66,6 +91,8 @@ impl Checked {
 
     /// Ends the text: one without a head isn't accepted.
     pub fn end(&mut self)
+        requires { self.old.ended + 1 < 2 ^ 64 }
+        ensures { self.new ≡ record self.old { log = at_end self.old.ended self.old.log } }
     {
         if self.refusal.is_none() && !self.open.has_head() {
             self.refusal = Some(Refusal {
@@ -76,30 +103,30 @@ impl Checked {
     }
 }
 
-// What a line says, or why it is none; X6 apart.
+// What a line says, or that it is none.
+#[tactic(auto, unfolding(crate::specs::Logs::max_line))]
 fn line_of(
     alloc: Global,
     number: u64,
     text: &[u8],
 ) -> Result<Result<LogLine, ScenarioFault>, AllocError>
+    ensures { IfOk result (λ found. found ≡ line_said (number, text.now)) }
 {
     if text.len() > MAX_LINE {
         return Ok(Err(ScenarioFault::Syntax(number)));
     }
-    let line = Line {
-        number,
-        text: without_carriage_return(text),
-    };
-    match read_log_line(alloc, line) {
-        Ok(said) => Ok(Ok(said)),
-        Err(TextFault::BadHex(line)) => Ok(Err(ScenarioFault::BadHex(line))),
-        Err(TextFault::Syntax(line)) => Ok(Err(ScenarioFault::Syntax(line))),
-        Err(_) => Err(AllocError),
-    }
+    read_log_line(
+        alloc,
+        Line {
+            number,
+            text: without_carriage_return(text),
+        },
+    )
 }
 
 // The refusal of a line.
 fn refused(line: u64, taken: Result<(), LogFault>) -> Option<Refusal>
+    ensures { result ≡ refusal_of line taken }
 {
     match taken {
         Ok(()) => None,

@@ -1,10 +1,17 @@
 //! The engine: a log from a reader, and its verdict to a writer.
+ghost use Rattle.std.specs.Prelude.{◌≡◌, ◌≤◌, ◌↔◌, List, ℕ, IsFalse, IsTrue, IfErr, IfOk, OnOk, string_bytes};
+ghost use Rattle.pm_lines.specs.Engine.{over};
+ghost use Rattle.pm_log.specs.Texts.{Breaks, IsAll, LogEnds, ended, finished, kept_of, most_bytes, no_byte};
+ghost use Rattle.pm_log.specs.Verdicts.{end_of as spec_end_of, verdict_text};
 
 use crate::log_text::LogText;
 use crate::verdict_text::push_verdict;
 use pm_lines::{Sink, Source, TextFault};
 use std::alloc::{AllocError, Global};
 use std::io::{Read, Write};
+
+/// The most bytes that a log may have.
+const MOST_BYTES: u64 = 1 << 63;
 
 /// How many bytes are asked for at a time.
 const PIECE: usize = 4096;
@@ -23,7 +30,7 @@ pub enum LogEnd {
 ///
 /// # Errors
 ///
-/// X3 after 2^64 - 1 bytes, X4 where the reader failed, X5 where the writer did, and X6. Then nothing was written, but for
+/// X3 after 2^63 bytes, X4 where the reader failed, X5 where the writer did, and X6. Then nothing was written, but for
 /// X5 a beginning of that line.
 pub fn check_log<R: Read, W: Write>(
     alloc: Global,
@@ -32,6 +39,7 @@ pub fn check_log<R: Read, W: Write>(
 ) -> Result<LogEnd, TextFault>
     requires reader { IsFalse reader.old.failed }
     requires writer { IsFalse writer.old.failed }
+    ensures { LogEnds (over R.remaining reader.old reader.new W.contents writer.old writer.new) result }
 {
     let mut log = LogText::new(alloc);
     check_all(alloc, reader, writer, &mut log)
@@ -46,6 +54,8 @@ fn check_all<R: Read, W: Write>(
 ) -> Result<LogEnd, TextFault>
     requires reader { IsFalse reader.old.failed }
     requires writer { IsFalse writer.old.failed }
+    requires fresh { log.old ≡ no_byte }
+    ensures { LogEnds (over R.remaining reader.old reader.new W.contents writer.old writer.new) result }
 {
     take_all(alloc, reader, log)?;
     if log.taken() == 0 {
@@ -65,6 +75,11 @@ fn take_all<R: Read>(
     log: &mut LogText,
 ) -> Result<(), TextFault>
     requires reader { IsFalse reader.old.failed }
+    requires fresh { log.old ≡ no_byte }
+    ensures all { OnOk result (IsFalse reader.new.failed × (input : List ℕ)
+        × IsAll (R.remaining reader.old.inner) (R.remaining reader.new.inner) input × (log.new ≡ kept_of input)) }
+    ensures breaks { IfErr result (λ fault. (IsTrue reader.new.failed ↔ (fault ≡ TextFault.Read))
+        × Breaks (R.remaining reader.old.inner) (R.remaining reader.new.inner) fault) }
 {
     let mut piece = [0u8; PIECE];
     'reads: loop {
@@ -72,7 +87,7 @@ fn take_all<R: Read>(
         if count == 0 {
             return Ok(());
         }
-        if count as u64 > u64::MAX - log.taken() {
+        if count as u64 > MOST_BYTES - log.taken() {
             return Err(TextFault::TooLong);
         }
         log.take(alloc, &piece[..count])?;
@@ -81,6 +96,9 @@ fn take_all<R: Read>(
 
 // Ends the log: its verdict.
 fn verdict(alloc: Global, log: &mut LogText) -> Result<String, AllocError>
+    requires { log.old.taken ≤ most_bytes }
+    ensures text { IfOk result (λ text. string_bytes text ≡ verdict_text (ended (finished log.old))) }
+    ensures end { OnOk result (log.new.checked.log ≡ ended (finished log.old)) }
 {
     log.finish(alloc)?;
     let mut text = String::new(alloc);
@@ -88,10 +106,12 @@ fn verdict(alloc: Global, log: &mut LogText) -> Result<String, AllocError>
     Ok(text)
 }
 
+// How a log ends.
 fn end_of(log: &LogText) -> LogEnd
+    ensures { result ≡ spec_end_of log.now.checked.log }
 {
-    match log.checked().refusal() {
-        Some(_) => LogEnd::Refused,
-        None => LogEnd::Accepted,
+    match log.checked().log() {
+        Ok(_) => LogEnd::Accepted,
+        Err(_) => LogEnd::Refused,
     }
 }

@@ -10,6 +10,8 @@ pub enum LogFault {
     Line(ScenarioFault),
     /// No `#log` line stands before it.
     NoHead,
+    /// V3: the address of the `#log` line is none that a part may have.
+    Address,
     /// H1 or H2: the `#log` line asks for a host that can't be.
     Setup(HostFault),
     /// F1 to F8: what was sent is no packet for the part of the `#log` line.

@@ -1,7 +1,10 @@
+ghost use Rattle.std.specs.Prelude.{◌≡◌};
+
 use crate::checked::Checked;
 use std::alloc::{AllocError, Global};
+use std::marker::Model;
 
-/// The most bytes that a line of a log may have.
+/// The most bytes that a line of a log may have, with a carriage return.
 pub const MAX_LINE: usize = 4096;
 
 /// A log as its bytes come.
@@ -14,9 +17,26 @@ pub struct LogText {
     checked: Checked,
 }
 
+impl Model for LogText {
+    ghost use Rattle.std.specs.Prelude.{◌+◌, ◌≤◌, length};
+    ghost use Rattle.pm_log.specs.Texts.{Kept};
+
+    ghost Value = { Kept };
+
+    ghost view = { λ t. record { line = t.line.items; taken = t.taken; checked = t.checked } };
+
+    ghost invariant = { λ t. t.checked.ended + length t.line.items ≤ t.taken };
+}
+
 impl LogText {
+    ghost use Rattle.std.specs.Prelude.{◌+◌, ◌<◌, ◌≤◌, ◌^◌, [], length, OnOk};
+    ghost use Rattle.std.specs.List.{fold};
+    ghost use Rattle.pm_log.specs.Logs.{at_end, with_line};
+    ghost use Rattle.pm_log.specs.Texts.{ended, finished, no_byte, with_byte};
+
     /// No byte. Takes no memory.
     pub fn new(alloc: Global) -> LogText
+        ensures { result ≡ no_byte }
     {
         LogText {
             line: Vec::new(alloc),
@@ -26,19 +46,24 @@ impl LogText {
     }
 
     /// How many bytes were taken.
-    pub(crate) fn taken(&self) -> u64
+    pub fn taken(&self) -> u64
+        ensures { result ≡ self.now.taken }
     {
         self.taken
     }
 
     /// What the lines come to that ended.
     pub fn checked(&self) -> &Checked
+        ensures { result.now ≡ self.now.checked }
     {
         &self.checked
     }
 
     /// Takes further bytes. Takes memory for the line that goes on, and for a packet.
+    #[tactic(auto, unfolding(crate::specs::Texts::with_byte))]
     pub fn take(&mut self, alloc: Global, bytes: &[u8]) -> Result<(), AllocError>
+        requires { self.old.taken + length bytes.now < 2 ^ 64 }
+        ensures { OnOk result (self.new ≡ fold with_byte self.old bytes.now) }
     {
         for byte in bytes {
             self.take_byte(alloc, *byte)?;
@@ -47,10 +72,14 @@ impl LogText {
     }
 
     // Takes one byte more.
+    #[tactic(auto, unfolding(crate::specs::Texts::with_byte, crate::specs::Logs::with_line, crate::specs::Logs::max_line))]
     fn take_byte(&mut self, alloc: Global, byte: u8) -> Result<(), AllocError>
+        requires { self.old.taken + 1 < 2 ^ 64 }
+        ensures { OnOk result (self.new ≡ with_byte self.old byte) }
     {
         if byte == b'\n' {
-            self.end_line(alloc)?;
+            self.checked.take(alloc, &self.line)?;
+            self.line.clear();
         } else if self.line.len() <= MAX_LINE {
             self.line.push(byte)?;
         }
@@ -58,19 +87,15 @@ impl LogText {
         Ok(())
     }
 
-    // The line ends.
-    fn end_line(&mut self, alloc: Global) -> Result<(), AllocError>
-    {
-        self.checked.take(alloc, &self.line)?;
-        self.line.clear();
-        Ok(())
-    }
-
     /// Ends the text: a last line without a line feed ends here.
+    #[tactic(auto, unfolding(crate::specs::Logs::with_line))]
     pub fn finish(&mut self, alloc: Global) -> Result<(), AllocError>
+        requires { self.old.taken + 1 < 2 ^ 64 }
+        ensures { OnOk result (self.new.checked.log ≡ ended (finished self.old)) }
     {
         if !self.line.is_empty() {
-            self.end_line(alloc)?;
+            self.checked.take(alloc, &self.line)?;
+            self.line.clear();
         }
         self.checked.end();
         Ok(())

@@ -1,9 +1,13 @@
+ghost use Rattle.std.specs.Prelude.{◌≡◌, Some, Ok, Err, MatchResult};
+ghost use Rattle.pm_log.specs.Logs.{left_possible, unknown as spec_unknown};
+
 use crate::fault::LogFault;
 use crate::log_line::LogLine;
 use crate::transfer::take_transfer;
 use pm_check::{Claim, is_claimed};
 use pm_host::{Host, Possible, Told};
-use pm_table::Cell;
+use pm_table::{Cell, address_ok};
+use std::marker::Model;
 
 /// What is known after lines that were accepted: the host of the last head, and how many claims and transfers there were.
 #[derive(Debug, Drop)]
@@ -13,9 +17,22 @@ pub struct OpenLog {
     transfers: u64,
 }
 
+impl Model for OpenLog {
+    ghost use Rattle.pm_log.specs.Logs.{Known};
+
+    ghost Value = { Known };
+
+    ghost view = { λ o. record { host = o.host; claims = o.claims; transfers = o.transfers } };
+}
+
 impl OpenLog {
+    ghost use Rattle.std.specs.Prelude.{◌+◌, ◌<◌, ◌≤◌, ◌^◌, IfOk, is_some};
+    ghost use Rattle.pm_host.specs.Told.{entry_told};
+    ghost use Rattle.pm_log.specs.Logs.{claimed, headed, judged, nothing, told};
+
     /// No line.
     pub(crate) fn new() -> OpenLog
+        ensures { result ≡ nothing }
     {
         OpenLog {
             host: None,
@@ -26,24 +43,33 @@ impl OpenLog {
 
     /// Whether there was a head.
     pub fn has_head(&self) -> bool
+        ensures { result ≡ is_some self.now.host }
     {
         self.host.is_some()
     }
 
     /// How many claims were accepted.
     pub fn claims(&self) -> u64
+        ensures { result ≡ self.now.claims }
     {
         self.claims
     }
 
     /// How many transfers a host was told of.
     pub fn transfers(&self) -> u64
+        ensures { result ≡ self.now.transfers }
     {
         self.transfers
     }
 
-    /// Takes what a line says, or answers why it isn't accepted. Then what is known isn't said.
+    /// Takes what a line says, or answers why it isn't accepted. Then what is known isn't said, but for the counts.
     pub(crate) fn take(&mut self, line: &LogLine) -> Result<(), LogFault>
+        requires claims { self.old.claims + 1 < 2 ^ 64 }
+        requires transfers { self.old.transfers + 1 < 2 ^ 64 }
+        ensures judged { MatchResult result (λ _. judged self.old line.now ≡ Ok self.new)
+            (λ fault. judged self.old line.now ≡ Err fault) }
+        ensures claims { self.new.claims ≤ self.old.claims + 1 }
+        ensures transfers { self.new.transfers ≤ self.old.transfers + 1 }
     {
         match line {
             LogLine::Note => Ok(()),
@@ -63,7 +89,15 @@ impl OpenLog {
 
     // A log begins.
     fn begin(&mut self, addr: u8, outputs: u8, passes: u8) -> Result<(), LogFault>
+        ensures judged { MatchResult result
+            (λ _. headed self.old (record { addr = addr; outputs = outputs; passes = passes }) ≡ Ok self.new)
+            (λ fault. headed self.old (record { addr = addr; outputs = outputs; passes = passes }) ≡ Err fault) }
+        ensures claims { self.new.claims ≡ self.old.claims }
+        ensures transfers { self.new.transfers ≡ self.old.transfers }
     {
+        if !address_ok(addr) {
+            return Err(LogFault::Address);
+        }
         match Host::new(addr, outputs, passes) {
             Ok(host) => {
                 self.host = Some(host);
@@ -75,6 +109,11 @@ impl OpenLog {
 
     // A claim is known.
     fn claim(&mut self, claim: Claim) -> Result<(), LogFault>
+        requires { self.old.claims + 1 < 2 ^ 64 }
+        ensures judged { MatchResult result (λ _. claimed self.old self.old.host claim ≡ Ok self.new)
+            (λ fault. claimed self.old self.old.host claim ≡ Err fault) }
+        ensures claims { self.new.claims ≤ self.old.claims + 1 }
+        ensures transfers { self.new.transfers ≡ self.old.transfers }
     {
         let Some(host) = &self.host else {
             return Err(LogFault::NoHead);
@@ -87,20 +126,31 @@ impl OpenLog {
     }
 
     // A transfer came.
-    fn tell(&mut self, frame: &[u8], told: Told<'_>) -> Result<(), LogFault>
+    fn tell(&mut self, frame: &[u8], came: Told<'_>) -> Result<(), LogFault>
+        requires { self.old.transfers + 1 < 2 ^ 64 }
+        ensures judged { MatchResult result
+            (λ _. told self.old self.old.host frame.now (entry_told came.entry) ≡ Ok self.new)
+            (λ fault. told self.old self.old.host frame.now (entry_told came.entry) ≡ Err fault) }
+        ensures claims { self.new.claims ≡ self.old.claims }
+        ensures transfers { self.new.transfers ≤ self.old.transfers + 1 }
     {
         let Some(host) = &mut self.host else {
             return Err(LogFault::NoHead);
         };
-        if take_transfer(host, frame, told)? {
-            self.transfers += 1;
+        match take_transfer(host, frame, came) {
+            Ok(true) => {
+                self.transfers += 1;
+                Ok(())
+            }
+            Ok(false) => Ok(()),
+            Err(fault) => Err(fault),
         }
-        Ok(())
     }
 }
 
 // Why a claim isn't known.
 fn unknown(host: &Host, claim: Claim) -> LogFault
+    ensures { result ≡ spec_unknown host.now claim }
 {
     match claim {
         Claim::Holds { cell, word } => LogFault::Word {
@@ -123,6 +173,7 @@ fn unknown(host: &Host, claim: Claim) -> LogFault
 
 // The words that a cell may hold: any, where it isn't there.
 fn possible(host: &Host, cell: Cell) -> Possible
+    ensures { result ≡ left_possible host.now cell }
 {
     if cell.is_there(host.outputs()) {
         host.possible(cell)

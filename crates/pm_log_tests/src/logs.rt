@@ -19,7 +19,7 @@ static LOGS: [(&str, &str); 42] = [
     ("#log 58 0 2\n", "line 1: there is no such host: H1 OutputCount\n"),
     ("#log 58 9 2\n", "line 1: there is no such host: H1 OutputCount\n"),
     ("#log 58 2 16\n", "line 1: there is no such host: H2 Passes\n"),
-    ("#log 07 2 2\n", "line 1: X1 Syntax\n"),
+    ("#log 07 2 2\n", "line 1: there is no such host: V3 Address\n"),
     ("#log 5 2 2\n", "line 1: X2 BadHex\n"),
     ("#log 58 2\n", "line 1: X1 Syntax\n"),
     ("#log 58 2 2 2\n", "line 1: X1 Syntax\n"),

@@ -1,9 +1,13 @@
+ghost use Rattle.std.specs.Prelude.{◌≡◌};
+ghost use Rattle.pm_log.specs.Jobs as spec;
+
 use pm_frame::{Message, Payload};
 use pm_host::{Command, Job};
 use pm_table::{Cell, Code, cell_of};
 
 /// The job whose first frame has this message; `None` where no job begins so. A job that a host holds open is none of it.
 pub fn job_named(message: Message) -> Option<Job>
+    ensures { result ≡ spec.job_named message }
 {
     match message {
         Message::SendByte { code } => sent_job(Code(code), None),
@@ -21,6 +25,7 @@ pub fn job_named(message: Message) -> Option<Job>
 
 // What a write at an output begins.
 fn written_job(page: u8, code: Code, payload: Payload) -> Option<Job>
+    ensures { result ≡ spec.written_at page code.0 payload }
 {
     match payload {
         Payload::Empty => sent_job(code, Some(page)),
@@ -31,6 +36,7 @@ fn written_job(page: u8, code: Code, payload: Payload) -> Option<Job>
 
 // What a command begins that is sent, at an output or at the device.
 fn sent_job(code: Code, output: Option<u8>) -> Option<Job>
+    ensures { result ≡ spec.sending_of code.0 output }
 {
     match (code, output) {
         (Code::CLEAR_FAULTS, Some(output)) => Some(Job::Send(Command::ClearFaults { output })),
@@ -42,6 +48,7 @@ fn sent_job(code: Code, output: Option<u8>) -> Option<Job>
 
 // What a read at an output begins.
 fn read_job(page: u8, code: Code) -> Option<Job>
+    ensures { result ≡ spec.read_at page code.0 }
 {
     if code == Code::VOUT_MODE {
         Some(Job::Learn(page))
@@ -52,6 +59,7 @@ fn read_job(page: u8, code: Code) -> Option<Job>
 
 // An order of the cell that the code writes.
 fn order_of(code: Code, output: u8, word: u16) -> Option<Job>
+    ensures { result ≡ spec.order_of code.0 output word }
 {
     let cell = cell_of(code, output)?;
     Some(Job::Order(cell, word))
@@ -59,6 +67,7 @@ fn order_of(code: Code, output: u8, word: u16) -> Option<Job>
 
 // A check of the cell that the code reads.
 fn check_of(code: Code, output: u8) -> Option<Job>
+    ensures { result ≡ spec.check_of code.0 output }
 {
     let cell = cell_of(code, output)?;
     Some(Job::Check(cell))
