@@ -64,6 +64,17 @@ class Lines(unittest.TestCase):
         self.assertEqual(lines[1], "#failed B0 05 04 00 21 CD 34 5A")
         self.assertEqual(lines[2], "B0 06 02 00 21 / B1 02 00 10 41")
 
+    def test_only_one_possible_word_is_claimed(self) -> None:
+        bus = Deaf(ModelPart(0x58, [Output()] * 2))
+        bus.left = 1
+        device, log, lines = logged(bus)
+        device.check(0)
+        with self.assertRaises(Exception):
+            device.order(0, "VOUT_COMMAND", 0x34CD)
+        self.assertEqual(len(device.host.possible_words(0, "VOUT_COMMAND") or ()), 2)
+        log.claim()
+        self.assertFalse([line for line in lines if line.startswith("#holds")])
+
     def test_no_answer_is_an_empty_read_part(self) -> None:
         bus = Deaf(ModelPart(0x58, [Output()] * 2))
         bus.left = 0

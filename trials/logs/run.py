@@ -30,6 +30,7 @@ from pmhost.part import ModelPart, ModelPartBus, Output  # noqa: E402
 from pmhost.packets import read_answer, read_request  # noqa: E402
 from pmhost.errors import PmhostError  # noqa: E402
 from pmhost.values import CODES, NAMES  # noqa: E402
+from tally import Tally  # noqa: E402
 
 PMB = os.environ.get("PMB", "pmb")
 VOLTS = ("0.9V", "1V", "1.05V", "1.2V", "3.3V")
@@ -257,17 +258,14 @@ def main() -> int:
     asked.add_argument("--bytes", type=int, default=100_000_000)
     given = asked.parse_args()
     place.ModelBus = Struck
-    truth, draw, passed, failed, logs = Truth(), random.Random(given.seed), 0, 0, []
+    truth, draw, tally, logs = Truth(), random.Random(given.seed), Tally(), []
     hooked(truth)
     with tempfile.TemporaryDirectory() as folder:
         for number in range(given.logs):
             text = write_log(draw, folder, number, truth)
             status, line = checked(text)
-            is_well = status == 0 and not truth.wrong
-            passed, failed = passed + is_well, failed + (not is_well)
-            if not is_well:
-                print(f"log {number}: {line.strip()} {truth.wrong}")
-                truth.wrong.clear()
+            tally.tell(f"log {number}", [*truth.wrong, *([line.strip()] if status else [])])
+            truth.wrong.clear()
             logs.append(text)
     print(f"{given.logs} logs, {truth.claims} claims")
     short = sorted((text for text in logs if b"#holds" in text), key=len)[len(logs) // 4:][:given.changed]
@@ -275,15 +273,16 @@ def main() -> int:
     false = tally_changes(short, draw, counts)
     for kind, (refused, taken) in sorted(counts.items()):
         print(f"{kind}: {refused + taken} changed logs, {refused} refused, {taken} accepted with no other claim than was made")
-    print(f"accepted with a claim that wasn't so: {false}")
+    tally.tell("changed logs", [f"{false} accepted with a claim that wasn't so"] if false else [])
     is_well, words = long_log(given.bytes)
     print(f"{given.bytes} bytes: {words}")
+    tally.tell("a long log", [] if is_well else [words])
     rows = [(b"", 1, "line 1: no #log line stands before it\n"), (b"#log 59 2 2\nB0 03 46\n", 1, "line 2: no host sends this packet: F1 NotOurs\n"),
             (b"#log 58 2 2\n#holds 2 VOUT_COMMAND 34CD\n", 1, "line 2: 2 VOUT_COMMAND isn't known to hold 34CD: possible any\n")]
-    found = [is_well, false == 0, *((checked(text) == (status, line)) for text, status, line in rows)]
-    passed, failed = passed + sum(found), failed + len(found) - sum(found)
-    print(f"{passed} passed, {failed} failed")
-    return 1 if failed or not passed else 0
+    for text, status, line in rows:
+        found = checked(text)
+        tally.tell(repr(text), [] if found == (status, line) else [f"{found}"])
+    return tally.end()
 
 
 if __name__ == "__main__":

@@ -2,6 +2,7 @@
 use Rattle.std.proofs.Common.{◌≡◌, ℕ, Bool, true, false, List, [], ◌∷◌, ◌++◌, Option, Some, None, Result, Ok, Err, refl, sym, ◌∙◌, ap, subst, cond}
 use Rattle.std.specs.Prelude.{if◌then◌else◌, ◌&&◌, not, IsSomeAnd, IfSome, option_map, reverse, is_some, is_none}
 use Rattle.std.specs.Option.{option_map_or}
+use Rattle.std.proofs.lemmas.Bool.{and_parts}
 use Rattle.std.proofs.lemmas.List.{reverse-reverse}
 use Rattle.pm_frame.specs.declared.message.Message.{Message}
 use Rattle.pm_host.specs.declared.fault.HostFault.{HostFault}
@@ -32,11 +33,6 @@ use Rattle.pm_log.specs.declared.log_line.LogLine.TheVariants.{Note, Head, Claim
 
 -- ---- one frame
 
--- both of two tests hold
-both : (a b : Bool) → (a && b) ≡ true → (a ≡ true) × (b ≡ true)
-both true b is = (refl, is)
-both false b is = absurd (cc)
-
 -- a frame that is sent is one of an open job
 busy_of : (s : Summary) (frame : List ℕ) → is_own s frame ≡ true → is_busy s ≡ true
 busy_of s frame own = go s.stage refl
@@ -48,9 +44,9 @@ busy_of s frame own = go s.stage refl
 -- nothing is against a frame that the host sends
 no_fault : (s : Summary) (frame : List ℕ) (came : Told) → fits s frame (entry_told came) ≡ true → told_fault s frame came ≡ None
 no_fault s frame (told.Finished acked) is =
-    let parts = both _ _ is in rw (busy_of s frame parts.0, parts.0, parts.1) refl
+    let parts = and_parts _ _ is in rw (busy_of s frame parts.0, parts.0, parts.1) refl
 no_fault s frame (told.Got bytes) is =
-    let parts = both _ _ is in rw (busy_of s frame parts.0, parts.0, parts.1) refl
+    let parts = and_parts _ _ is in rw (busy_of s frame parts.0, parts.0, parts.1) refl
 
 -- a host with no job open sends nothing
 unsent : (s : Summary) (frame : List ℕ) (entry : host.Entry) → is_busy s ≡ false → fits s frame entry ≡ false
@@ -75,10 +71,15 @@ idle_of s = go (is_busy s) refl
 begun : (st : Summary) (acts : List Act) (asked : Job) (frame : List ℕ) (came : Told) → is_busy (all_after st acts) ≡ false →
     begin_fault (all_after st acts) asked ≡ None → fits (act_next (all_after st acts) (act.Begun asked)) frame (entry_told came) ≡ true →
     MightComeFrom st acts → MightComeFrom st (act.Sent (at_hand frame) came ∷ act.Begun asked ∷ acts)
-begun st acts asked frame came idle none fit come =
-    (no_fault (act_next (all_after st acts) (act.Begun asked)) frame came fit, (both _ _ fit).1,
-    (ap (λ (o : Option HostFault). option_map (λ fault. act_fault.Refused fault) o) none,
-    go (accepted_job (all_after st acts) asked) refl, come))
+begun st acts asked frame came idle none fit come = (
+  no_fault (act_next (all_after st acts) (act.Begun asked)) frame came fit,
+  (and_parts _ _ fit).1,
+  (
+    ap (λ (o : Option HostFault). option_map (λ fault. act_fault.Refused fault) o) none,
+    go (accepted_job (all_after st acts) asked) refl,
+    come,
+  ),
+)
   where
     go : (o : Option host.Job) → accepted_job (all_after st acts) asked ≡ o →
         IsSomeAnd (option_map (λ job. host.Accepted job) (accepted_job (all_after st acts) asked)) (λ entry. may_come (all_after st acts) entry ≡ true)
@@ -140,13 +141,14 @@ first_taken st acts frame came s is_told asked come none is =
     go true fit =
         let got = rw fit at is in
         let same = freed st acts in
-        let now : s ≡ next (act_next (free (all_after st acts)) (act.Begun asked)) (entry_told came) = ok_one _ _ _ _ _ refl got in
-        (now ∙ ap (λ (t : Summary). next (act_next t (act.Begun asked)) (entry_told came)) (sym same),
-        begun st (with_restart (all_after st acts) acts) asked frame came
-            (subst (λ (t : Summary). is_busy t ≡ false) (sym same) (idle_of (all_after st acts)))
-            (subst (λ (t : Summary). begin_fault t asked ≡ None) (sym same) none)
-            (subst (λ (t : Summary). fits (act_next t (act.Begun asked)) frame (entry_told came) ≡ true) (sym same) fit)
-            (free_comes st acts come))
+        let now : s ≡ next (act_next (free (all_after st acts)) (act.Begun asked)) (entry_told came) = ok_one _ _ _ _ _ refl got in (
+          now ∙ ap (λ (t : Summary). next (act_next t (act.Begun asked)) (entry_told came)) (sym same),
+          begun st (with_restart (all_after st acts) acts) asked frame came
+              (subst (λ (t : Summary). is_busy t ≡ false) (sym same) (idle_of (all_after st acts)))
+              (subst (λ (t : Summary). begin_fault t asked ≡ None) (sym same) none)
+              (subst (λ (t : Summary). fits (act_next t (act.Begun asked)) frame (entry_told came) ≡ true) (sym same) fit)
+              (free_comes st acts come),
+        )
 
 begun_taken : (st : Summary) (acts : List Act) (frame : List ℕ) (came : Told) (s : Summary) (is_told : Bool) (asked : Job)
     (fault : Option HostFault) → MightComeFrom st acts → begin_fault (free (all_after st acts)) asked ≡ fault →
@@ -175,7 +177,7 @@ takes st acts frame came s is_told come is = go (fits (all_after st acts) frame 
         let got = rw fit at is in
         record {
           held = rw fit (ok_one _ _ _ _ _ refl got);
-          come = rw fit (no_fault (all_after st acts) frame came fit, (both _ _ fit).1, come);
+          come = rw fit (no_fault (all_after st acts) frame came fit, (and_parts _ _ fit).1, come);
         }
     go false unfit =
         let named = named_taken st acts frame came s is_told
@@ -284,9 +286,12 @@ accepts_acts log claim come known =
 refuses_acts : (log : Log) (claim : Claim) → Comes log → is_claimed (held_by log) claim ≡ false →
     Checks log.setup (reverse log.acts) (claim ∷ []) (Err (check.Claim 0))
 refuses_acts log claim come unknown =
-    let same = reverse-reverse log.acts in
-    (come.0, subst (λ (acts : List Act). MightComeFrom (start log.setup) acts) (sym same) come.1, tt,
-    subst (λ (acts : List Act). is_claimed (all_after (start log.setup) acts) claim ≡ false) (sym same) unknown)
+    let same = reverse-reverse log.acts in (
+      come.0,
+      subst (λ (acts : List Act). MightComeFrom (start log.setup) acts) (sym same) come.1,
+      tt,
+      subst (λ (acts : List Act). is_claimed (all_after (start log.setup) acts) claim ≡ false) (sym same) unknown,
+    )
 
 claim_accepted : (log : Option Log) (known new : Known) (claim : Claim) → Follows log known → claimed known known.host claim ≡ Ok new →
     IsSomeAnd log (λ l. Accepts l.setup (reverse l.acts) (claim ∷ []))

@@ -26,7 +26,7 @@ use Rattle.pm_log.specs.declared.log_line.LogLine.{LogLine}
 abbrev kept_front : List ℕ → List ℕ
 kept_front line = take (max_line + 1) line
 
--- of a list that is longer than so many, one more than these is longer, too
+-- the first items of a longer list, one more than so many, are longer than so many, too
 long_front : (n : ℕ) (line : List ℕ) → nat_lt n (length line) ≡ true → nat_lt n (length (take (n + 1) line)) ≡ true
 long_front n line long = let size = length-take (n + 1) line in grind (arith, nat_tests)
 
@@ -102,7 +102,7 @@ state_more front byte = go (is_line_feed byte) refl
         let line : [] ≡ kept_front (since is_line_feed (front ++ byte ∷ []))
         = sym front_none ∙ ap kept_front (sym (since-mark is_line_feed front byte is)) in
         let checked : with_line (checked_lines (ended is_line_feed front)) (kept_front (since is_line_feed front))
-            ≡ checked_lines (ended is_line_feed (front ++ byte ∷ []))
+        ≡ checked_lines (ended is_line_feed (front ++ byte ∷ []))
         = front_line (checked_lines (ended is_line_feed front)) (since is_line_feed front)
         ∙ sym (ap checked_lines (ended-mark is_line_feed front byte is)
         ∙ fold-append with_line no_line (ended is_line_feed front) (since is_line_feed front ∷ [])) in

@@ -11,9 +11,8 @@ use Rattle.pm_frame.specs.declared.message.Payload.TheVariants.{Empty, Byte, Wor
 use Rattle.pm_frame.specs.Fault.{write_fault, request_fault}
 use Rattle.pm_frame.specs.View.{message_in}
 use Rattle.pm_host.specs.Command.{command_of}
-use Rattle.pm_host.specs.Messages.{cell_write, cell_read, mode_read, command_message}
 use Rattle.pm_host.specs.declared.job.Job.{Job}
-use Rattle.pm_host.specs.declared.job.Job.TheVariants.{Order, OrderMicro, Check, Learn, Send}
+use Rattle.pm_host.specs.declared.job.Job.TheVariants.{Order, Check, Learn, Send}
 use Rattle.pm_log.specs.declared.fault.LogFault.{LogFault}
 use Rattle.pm_log.specs.declared.fault.LogFault.TheVariants.{Frame, NoJob}
 
@@ -45,14 +44,6 @@ job_named (PagePlusWrite page code payload) = written_at page code payload
 job_named (ReadCommand code) = check_of code 0
 job_named (PagePlusRead page code) = read_at page code
 job_named (ReadCoefficients code side) = None
-
--- the message that a job sends first, of a job that has a word
-abbrev pub first_message : Job → Option Message
-first_message (Order cell word) = Some (cell_write cell word)
-first_message (OrderMicro cell x) = None
-first_message (Check cell) = Some (cell_read cell)
-first_message (Learn output) = Some (mode_read output)
-first_message (Send sent) = Some (command_message sent)
 
 -- ---- a packet for the part at an address
 

@@ -14,8 +14,7 @@ use Rattle.pm_check.specs.declared.act.Act.TheVariants as act
 use Rattle.pm_check.specs.declared.claim.Claim.{Claim}
 use Rattle.pm_check.specs.declared.fault.CheckFault.TheVariants as check
 use Rattle.pm_check.specs.Log.{Accepts, Checks, all_after}
-use Rattle.pm_frame.specs.declared.message.Message.{Message}
-use Rattle.pm_log.specs.Jobs.{first_message, job_in, job_named}
+use Rattle.pm_log.specs.Jobs.{job_in}
 use Rattle.std.specs.Prelude.{map}
 use Rattle.std.specs.List.{enumerate_from}
 use Rattle.pm_log.specs.Logs.{Known, judged, line_said, nothing}
@@ -111,7 +110,3 @@ pub record TextLines (text : List ℕ) (known : Known) : Type 0 where
 pub record LogsAreChecked : Type 0 where
   pub lines : (text : List ℕ) (known : Known) → log_of text ≡ Ok known → TextLines text known
   pub claims : LinesAreChecked
-
--- The first frame of a job that has a word names the job.
-abbrev pub FirstFramesNameTheirJobs : Type 0
-FirstFramesNameTheirJobs = (job : Job) (message : Message) → first_message job ≡ Some message → job_named message ≡ Some job

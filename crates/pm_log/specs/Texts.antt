@@ -46,7 +46,7 @@ pub record Kept : Type 0 where
 abbrev pub no_byte : Kept
 no_byte = record { line = []; taken = 0; checked = no_line }
 
--- of a line that is too long one byte more is kept than it may have
+-- a line that is too long is kept with one byte more than it may have
 abbrev pub line_with : List ℕ → ℕ → List ℕ
 line_with line byte = if nat_lt max_line (length line) then line else line ++ byte ∷ []
 

@@ -5,12 +5,12 @@ use Rattle.pm_frame.specs.FaultWords.{frame_fault_words}
 use Rattle.pm_host.specs.FaultWords.{host_fault_words}
 use Rattle.pm_host.specs.declared.knowledge.Possible.{Possible}
 use Rattle.pm_host.specs.declared.knowledge.Possible.TheVariants.{Any, Words}
+use Rattle.pm_lines.specs.Faults.{fault_words}
 use Rattle.pm_lines.specs.Numbers.{hex_byte, hex_word}
 use Rattle.pm_table.specs.Cell.{cell_name, is_voltage_cell}
 use Rattle.pm_table.specs.declared.cell.Cell.{Cell}
 use Rattle.pm_table.specs.declared.cell.Cell.TheVariants.{Out, Protect}
-use Rattle.pm_text.specs.declared.scenario.fault.ScenarioFault.{ScenarioFault}
-use Rattle.pm_text.specs.declared.scenario.fault.ScenarioFault.TheVariants.{Syntax, BadHex}
+use Rattle.pm_text.specs.ScenarioText.{text_fault}
 use Rattle.pm_log.specs.Logs.{Known}
 use Rattle.pm_log.specs.declared.checked.Refusal.{Refusal}
 use Rattle.pm_log.specs.declared.checking.LogEnd.{LogEnd}
@@ -26,11 +26,6 @@ counted count what = decimal count ++ (codes " " ++ (what ++ (if count == 1 then
 unfoldable pub accepted_text : Known → List ℕ
 accepted_text known = codes "accepted: " ++ (counted known.claims (codes "claim")
     ++ (codes ", " ++ counted known.transfers (codes "transfer")))
-
--- the letters and the name of what a line isn't
-abbrev pub line_words : ScenarioFault → List ℕ
-line_words (Syntax line) = codes "X1 Syntax"
-line_words (BadHex line) = codes "X2 BadHex"
 
 -- a cell's word with its digits
 abbrev pub word_text : Cell → ℕ → List ℕ
@@ -84,9 +79,9 @@ no_job words = codes "no host begins this job: " ++ words
 
 -- why a line isn't accepted
 abbrev pub fault_text : LogFault → List ℕ
-fault_text (Line fault) = line_words fault
+fault_text (Line fault) = fault_words (text_fault fault)
 fault_text NoHead = codes "no #log line stands before it"
-fault_text Address = no_host (codes "V3 Address")
+fault_text Address = no_host (codes "no part has this address")
 fault_text (Setup fault) = no_host (host_fault_words fault)
 fault_text (Frame fault) = no_packet (frame_fault_words fault)
 fault_text NoJob = codes "no job of a host sends this packet"

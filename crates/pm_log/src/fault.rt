@@ -10,7 +10,7 @@ pub enum LogFault {
     Line(ScenarioFault),
     /// No `#log` line stands before it.
     NoHead,
-    /// V3: the address of the `#log` line is none that a part may have.
+    /// The address of the `#log` line is none that a part may have: those are 08h to 77h.
     Address,
     /// H1 or H2: the `#log` line asks for a host that can't be.
     Setup(HostFault),

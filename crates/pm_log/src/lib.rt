@@ -32,7 +32,7 @@ pub use checked::{Checked, Refusal};
 pub use checking::{LogEnd, check_log};
 pub use fault::LogFault;
 pub use jobs::job_named;
-pub use laws::{first_frames_name_their_jobs, logs_are_checked};
+pub use laws::logs_are_checked;
 pub use log_line::{LogLine, read_log_line};
 pub use log_text::{LogText, MAX_LINE};
 pub use open_log::OpenLog;

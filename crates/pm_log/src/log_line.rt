@@ -20,11 +20,7 @@ pub enum LogLine {
     /// Nothing: the line is blank, or begins with `##`.
     Note,
     /// `#log 58 2 2`: a log begins here, of a host for the part at this address, with this many outputs and passes.
-    Head {
-        addr: u8,
-        outputs: u8,
-        passes: u8,
-    },
+    Head { addr: u8, outputs: u8, passes: u8 },
     /// `#holds 0 VOUT_COMMAND 34CD`, or `#commands 0 3300000 to 3301000 uV`: what is known by the lines before.
     Claimed(Claim),
     /// `B0 05 04 00 21 CD 34 5A` or `B0 06 02 00 21 / B1 02 CD 34 B9`: a line of a trace. A read part of no bytes is a read
@@ -74,10 +70,7 @@ fn behind_mark(text: &[u8]) -> &[u8]
 }
 
 // The bytes of a packet, with the number of its line in a fault.
-fn packet(
-    alloc: Global,
-    line: Line<'_>,
-) -> Result<Result<TraceLine, ScenarioFault>, AllocError>
+fn packet(alloc: Global, line: Line<'_>) -> Result<Result<TraceLine, ScenarioFault>, AllocError>
     ensures { IfOk result (λ found. found ≡ spec.packet (line.entry.number, line.entry.text.now)) }
 {
     match read_trace_line(alloc, line.text) {
@@ -89,10 +82,7 @@ fn packet(
 }
 
 // A packet that was sent.
-fn sent_line(
-    alloc: Global,
-    line: Line<'_>,
-) -> Result<Result<LogLine, ScenarioFault>, AllocError>
+fn sent_line(alloc: Global, line: Line<'_>) -> Result<Result<LogLine, ScenarioFault>, AllocError>
     ensures { IfOk result (λ found. found ≡ spec.sent_in (spec.packet (line.entry.number, line.entry.text.now))) }
 {
     match packet(alloc, line)? {
@@ -111,10 +101,12 @@ fn failed_line(
 {
     match packet(alloc, Line { number, text })? {
         Ok(TraceLine { write, read: None }) => Ok(Ok(LogLine::Failed(write))),
-        Ok(TraceLine {
-            write: _,
-            read: Some(_),
-        }) => Ok(Err(ScenarioFault::Syntax(number))),
+        Ok(
+            TraceLine {
+                write: _,
+                read: Some(_),
+            },
+        ) => Ok(Err(ScenarioFault::Syntax(number))),
         Err(fault) => Ok(Err(fault)),
     }
 }

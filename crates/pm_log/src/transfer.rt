@@ -22,11 +22,7 @@ use pm_host::{Host, Job, Told};
 /// # Errors
 ///
 /// Why no host sends this frame. What the host then holds isn't said.
-pub(crate) fn take_transfer(
-    host: &mut Host,
-    frame: &[u8],
-    told: Told<'_>,
-) -> Result<bool, LogFault>
+pub(crate) fn take_transfer(host: &mut Host, frame: &[u8], told: Told<'_>) -> Result<bool, LogFault>
     ensures { MatchResult result
         (λ is_told. transferred host.old frame.now (entry_told told.entry) ≡ Ok (host.new, is_told))
         (λ fault. transferred host.old frame.now (entry_told told.entry) ≡ Err fault) }
@@ -51,12 +47,7 @@ fn takes(host: &mut Host, frame: &[u8], told: Told<'_>) -> bool
 }
 
 // A job begins with this frame.
-fn begin(
-    host: &mut Host,
-    job: Job,
-    frame: &[u8],
-    told: Told<'_>,
-) -> Result<bool, LogFault>
+fn begin(host: &mut Host, job: Job, frame: &[u8], told: Told<'_>) -> Result<bool, LogFault>
     ensures { MatchResult result
         (λ is_told. begun_by (begin_fault (spec_free host.old) job) (spec_free host.old) job frame.now (entry_told told.entry)
         ≡ Ok (host.new, is_told))

@@ -6,9 +6,8 @@ use crate::checked::{Checked, Refusal};
 use crate::fault::LogFault;
 use crate::open_log::OpenLog;
 use pm_host::Possible;
-use pm_lines::{push_decimal, push_hex, push_hex_word, push_signed};
+use pm_lines::{TextFault, push_decimal, push_hex, push_hex_word, push_signed};
 use pm_table::Cell;
-use pm_text::ScenarioFault;
 use std::alloc::AllocError;
 
 /// Appends `accepted: 3 claims, 41 transfers`, or which line isn't accepted, and why; with its line feed.
@@ -62,9 +61,9 @@ fn push_fault(text: &mut String, fault: &LogFault) -> Result<(), AllocError>
     ensures { OnOk result (string_bytes text.new ≡ string_bytes text.old ++ spec.fault_text fault.now) }
 {
     match fault {
-        LogFault::Line(fault) => text.push_str(line_words(*fault)),
+        LogFault::Line(fault) => text.push_str(TextFault::from(*fault).words()),
         LogFault::NoHead => text.push_str("no #log line stands before it"),
-        LogFault::Address => push_host(text, "V3 Address"),
+        LogFault::Address => push_host(text, "no part has this address"),
         LogFault::Setup(fault) => push_host(text, fault.words()),
         LogFault::Frame(fault) => push_frame(text, fault.words()),
         LogFault::NoJob => text.push_str("no job of a host sends this packet"),
@@ -79,16 +78,6 @@ fn push_fault(text: &mut String, fault: &LogFault) -> Result<(), AllocError>
             least,
             most,
         } => push_voltage(text, *output, *least, *most),
-    }
-}
-
-// `X1 Syntax`, `X2 BadHex`
-fn line_words(fault: ScenarioFault) -> &'static str
-    ensures { result.now ≡ spec.line_words fault }
-{
-    match fault {
-        ScenarioFault::Syntax(_) => "X1 Syntax",
-        ScenarioFault::BadHex(_) => "X2 BadHex",
     }
 }
 

@@ -10,16 +10,37 @@ static LOGS: [(&str, &str); 42] = [
     // No log.
     ("", "line 1: no #log line stands before it\n"),
     ("\n## nothing\n", "line 3: no #log line stands before it\n"),
-    ("B0 05 04 00 21 CD 34 5A\n", "line 1: no #log line stands before it\n"),
-    ("#holds 0 VOUT_COMMAND 34CD\n", "line 1: no #log line stands before it\n"),
-    ("#commands 0 0 to 1 uV\n", "line 1: no #log line stands before it\n"),
+    (
+        "B0 05 04 00 21 CD 34 5A\n",
+        "line 1: no #log line stands before it\n",
+    ),
+    (
+        "#holds 0 VOUT_COMMAND 34CD\n",
+        "line 1: no #log line stands before it\n",
+    ),
+    (
+        "#commands 0 0 to 1 uV\n",
+        "line 1: no #log line stands before it\n",
+    ),
     // The head.
     ("#log 58 2 2", "accepted: 0 claims, 0 transfers\n"),
     ("#log 58 2 2\r\n", "accepted: 0 claims, 0 transfers\n"),
-    ("#log 58 0 2\n", "line 1: there is no such host: H1 OutputCount\n"),
-    ("#log 58 9 2\n", "line 1: there is no such host: H1 OutputCount\n"),
-    ("#log 58 2 16\n", "line 1: there is no such host: H2 Passes\n"),
-    ("#log 07 2 2\n", "line 1: there is no such host: V3 Address\n"),
+    (
+        "#log 58 0 2\n",
+        "line 1: there is no such host: H1 OutputCount\n",
+    ),
+    (
+        "#log 58 9 2\n",
+        "line 1: there is no such host: H1 OutputCount\n",
+    ),
+    (
+        "#log 58 2 16\n",
+        "line 1: there is no such host: H2 Passes\n",
+    ),
+    (
+        "#log 07 2 2\n",
+        "line 1: there is no such host: no part has this address\n",
+    ),
     ("#log 5 2 2\n", "line 1: X2 BadHex\n"),
     ("#log 58 2\n", "line 1: X1 Syntax\n"),
     ("#log 58 2 2 2\n", "line 1: X1 Syntax\n"),
@@ -89,11 +110,26 @@ static LOGS: [(&str, &str); 42] = [
         "line 2: output 2 isn't known to command 0 to 1 uV\n",
     ),
     // Packets that no host sends.
-    ("#log 59 2 2\nB0 05 04 00 21 CD 34 5A\n", "line 2: no host sends this packet: F1 NotOurs\n"),
-    ("#log 58 2 2\nB0 05 04 00 21 CD 34 5B\n", "line 2: no host sends this packet: F5 WrongPec\n"),
-    ("#log 58 2 2\nB0 21 CD 34 38\n", "line 2: no job of a host sends this packet\n"),
-    ("#log 58 2 2\nB0 03 / B1 00\n", "line 2: no host sends this packet: F7 WrongDirection\n"),
-    ("#log 58 2 2\n#failed B0 06 02 00 21 /\n", "line 2: X1 Syntax\n"),
+    (
+        "#log 59 2 2\nB0 05 04 00 21 CD 34 5A\n",
+        "line 2: no host sends this packet: F1 NotOurs\n",
+    ),
+    (
+        "#log 58 2 2\nB0 05 04 00 21 CD 34 5B\n",
+        "line 2: no host sends this packet: F5 WrongPec\n",
+    ),
+    (
+        "#log 58 2 2\nB0 21 CD 34 38\n",
+        "line 2: no job of a host sends this packet\n",
+    ),
+    (
+        "#log 58 2 2\nB0 03 / B1 00\n",
+        "line 2: no host sends this packet: F7 WrongDirection\n",
+    ),
+    (
+        "#log 58 2 2\n#failed B0 06 02 00 21 /\n",
+        "line 2: X1 Syntax\n",
+    ),
     ("#log 58 2 2\nB0 0\n", "line 2: X2 BadHex\n"),
     // What is read beside the jobs says nothing, in the midst of one, too.
     (
@@ -101,7 +137,10 @@ static LOGS: [(&str, &str); 42] = [
         "accepted: 1 claim, 2 transfers\n",
     ),
     // Commands that are sent.
-    ("#log 58 2 2\nB0 05 02 00 03 50\nB0 15 24\n", "accepted: 0 claims, 2 transfers\n"),
+    (
+        "#log 58 2 2\nB0 05 02 00 03 50\nB0 15 24\n",
+        "accepted: 0 claims, 2 transfers\n",
+    ),
     // What an output commands: its format, OPERATION, VOUT_COMMAND, VOUT_MAX, VOUT_MIN.
     (
         "#log 58 2 2\nB0 06 02 00 20 / B1 01 14 4E\nB0 06 02 00 01 / B1 01 80 73\nB0 06 02 00 21 / B1 02 CD 34 B9\nB0 06 02 00 24 / B1 02 00 40 1B\nB0 06 02 00 2B / B1 02 00 00 EC\n#commands 0 3300048 to 3300049 uV\n",
