@@ -1,4 +1,4 @@
-ghost use Rattle.std.specs.Prelude.{◌≡◌, ◌+◌, IfOk, OnOk, Err};
+ghost use Rattle.std.specs.Prelude.{◌≡◌, ◌+◌, IfErr, IfOk, OnOk, Err};
 ghost use Rattle.pm_log.specs.Holdings.{refusal_of};
 ghost use Rattle.pm_log.specs.Logs.{line_said};
 
@@ -6,9 +6,9 @@ use crate::fault::LogFault;
 use crate::log_line::{LogLine, read_log_line};
 use crate::log_text::MAX_LINE;
 use crate::open_log::OpenLog;
-use pm_lines::{Line, without_carriage_return};
+use pm_lines::{Line, TextFault, without_carriage_return};
 use pm_text::ScenarioFault;
-use std::alloc::{AllocError, Global};
+use std::alloc::Global;
 use std::marker::Model;
 
 /// The first line that isn't accepted, and why.
@@ -71,12 +71,13 @@ impl Checked {
     ///
     /// # Errors
     ///
-    /// Want of memory; then nothing has changed.
+    /// X6; then nothing has changed.
     #[tactic(auto, unfolding(crate::specs::Logs::with_line))]
-    pub fn take(&mut self, alloc: Global, text: &[u8]) -> Result<(), AllocError>
+    pub fn take(&mut self, alloc: Global, text: &[u8]) -> Result<(), TextFault>
         requires { self.old.ended + 1 < 2 ^ 64 }
         ensures taken { OnOk result (self.new ≡ with_line self.old text.now) }
         ensures unchanged { OnErr result (self.new ≡ self.old) }
+        ensures memory { IfErr result (λ fault. fault ≡ TextFault.Memory) }
     {
         let number = self.ended + 1;
         if self.refusal.is_none() {
@@ -109,8 +110,9 @@ fn line_of(
     alloc: Global,
     number: u64,
     text: &[u8],
-) -> Result<Result<LogLine, ScenarioFault>, AllocError>
-    ensures { IfOk result (λ found. found ≡ line_said (number, text.now)) }
+) -> Result<Result<LogLine, ScenarioFault>, TextFault>
+    ensures said { IfOk result (λ found. found ≡ line_said (number, text.now)) }
+    ensures memory { IfErr result (λ fault. fault ≡ TextFault.Memory) }
 {
     if text.len() > MAX_LINE {
         return Ok(Err(ScenarioFault::Syntax(number)));

@@ -7,7 +7,7 @@ ghost use Rattle.pm_log.specs.Verdicts.{end_of as spec_end_of, verdict_text};
 use crate::log_text::LogText;
 use crate::verdict_text::push_verdict;
 use pm_lines::{Sink, Source, TextFault};
-use std::alloc::{AllocError, Global};
+use std::alloc::Global;
 use std::io::{Read, Write};
 
 /// The most bytes that a log may have.
@@ -95,9 +95,10 @@ fn take_all<R: Read>(
 }
 
 // Ends the log: its verdict.
-fn verdict(alloc: Global, log: &mut LogText) -> Result<String, AllocError>
+fn verdict(alloc: Global, log: &mut LogText) -> Result<String, TextFault>
     requires { log.old.taken ≤ most_bytes }
     ensures text { IfOk result (λ text. string_bytes text ≡ verdict_text (ended (finished log.old))) }
+    ensures memory { IfErr result (λ fault. fault ≡ TextFault.Memory) }
     ensures end { OnOk result (log.new.checked.log ≡ ended (finished log.old)) }
 {
     log.finish(alloc)?;

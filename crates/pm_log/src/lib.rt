@@ -7,7 +7,11 @@
 //! one names it, and a frame that isn't the open job's next is a restart of the host, which only forgets.
 //!
 //! ```
-//! fn checked<R: Read + Drop, W: Write + Drop>(alloc: Global, log: R, paper: W) -> Result<W, TextFault> {
+//! fn checked<R: Read + Drop, W: Write + Drop>(
+//!     alloc: Global,
+//!     log: R,
+//!     paper: W,
+//! ) -> Result<W, TextFault> {
 //!     let mut sink = Sink::new(paper);
 //!     check_log(alloc, &mut Source::new(log), &mut sink)?;
 //!     Ok(sink.into_inner()) // accepted: 1 claim, 1 transfer

@@ -1,5 +1,5 @@
 //! A line of a log by itself.
-ghost use Rattle.std.specs.Prelude.{◌≡◌, IfOk, Ok, nat_eq, codes, drop, true};
+ghost use Rattle.std.specs.Prelude.{◌≡◌, IfErr, IfOk, Ok, nat_eq, codes, drop, true};
 ghost use Rattle.std.specs.List.{starts_with};
 ghost use Rattle.pm_lines.specs.Lines.{is_one_word};
 ghost use Rattle.pm_log.specs.Lines as spec;
@@ -12,7 +12,7 @@ use pm_limits::PartRegisters;
 use pm_lines::{Line, TextFault, is_blank};
 use pm_table::Cell;
 use pm_text::{ByteList, Fields, Form, ScenarioFault, TraceLine, read_cell, read_trace_line};
-use std::alloc::{AllocError, Global};
+use std::alloc::Global;
 
 /// What a line of a log says.
 #[derive(Debug, Drop)]
@@ -35,12 +35,13 @@ pub enum LogLine {
 ///
 /// # Errors
 ///
-/// Want of memory.
+/// X6 alone.
 pub fn read_log_line(
     alloc: Global,
     line: Line<'_>,
-) -> Result<Result<LogLine, ScenarioFault>, AllocError>
-    ensures { IfOk result (λ found. found ≡ spec.said (line.entry.number, line.entry.text.now)) }
+) -> Result<Result<LogLine, ScenarioFault>, TextFault>
+    ensures said { IfOk result (λ found. found ≡ spec.said (line.entry.number, line.entry.text.now)) }
+    ensures memory { IfErr result (λ fault. fault ≡ TextFault.Memory) }
 {
     if is_note(line.text) {
         return Ok(Ok(LogLine::Note));
@@ -70,20 +71,22 @@ fn behind_mark(text: &[u8]) -> &[u8]
 }
 
 // The bytes of a packet, with the number of its line in a fault.
-fn packet(alloc: Global, line: Line<'_>) -> Result<Result<TraceLine, ScenarioFault>, AllocError>
-    ensures { IfOk result (λ found. found ≡ spec.packet (line.entry.number, line.entry.text.now)) }
+fn packet(alloc: Global, line: Line<'_>) -> Result<Result<TraceLine, ScenarioFault>, TextFault>
+    ensures said { IfOk result (λ found. found ≡ spec.packet (line.entry.number, line.entry.text.now)) }
+    ensures memory { IfErr result (λ fault. fault ≡ TextFault.Memory) }
 {
     match read_trace_line(alloc, line.text) {
         Ok(parts) => Ok(Ok(parts)),
         Err(TextFault::Syntax(_)) => Ok(Err(ScenarioFault::Syntax(line.number))),
         Err(TextFault::BadHex(_)) => Ok(Err(ScenarioFault::BadHex(line.number))),
-        Err(_) => Err(AllocError),
+        Err(fault) => Err(fault),
     }
 }
 
 // A packet that was sent.
-fn sent_line(alloc: Global, line: Line<'_>) -> Result<Result<LogLine, ScenarioFault>, AllocError>
-    ensures { IfOk result (λ found. found ≡ spec.sent_in (spec.packet (line.entry.number, line.entry.text.now))) }
+fn sent_line(alloc: Global, line: Line<'_>) -> Result<Result<LogLine, ScenarioFault>, TextFault>
+    ensures said { IfOk result (λ found. found ≡ spec.sent_in (spec.packet (line.entry.number, line.entry.text.now))) }
+    ensures memory { IfErr result (λ fault. fault ≡ TextFault.Memory) }
 {
     match packet(alloc, line)? {
         Ok(parts) => Ok(Ok(LogLine::Sent(parts))),
@@ -96,8 +99,9 @@ fn failed_line(
     alloc: Global,
     number: u64,
     text: &[u8],
-) -> Result<Result<LogLine, ScenarioFault>, AllocError>
-    ensures { IfOk result (λ found. found ≡ spec.failed_in number (spec.packet (number, text.now))) }
+) -> Result<Result<LogLine, ScenarioFault>, TextFault>
+    ensures said { IfOk result (λ found. found ≡ spec.failed_in number (spec.packet (number, text.now))) }
+    ensures memory { IfErr result (λ fault. fault ≡ TextFault.Memory) }
 {
     match packet(alloc, Line { number, text })? {
         Ok(TraceLine { write, read: None }) => Ok(Ok(LogLine::Failed(write))),

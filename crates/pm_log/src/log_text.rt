@@ -1,7 +1,8 @@
 ghost use Rattle.std.specs.Prelude.{◌≡◌};
 
 use crate::checked::Checked;
-use std::alloc::{AllocError, Global};
+use pm_lines::TextFault;
+use std::alloc::Global;
 use std::marker::Model;
 
 /// The most bytes that a line of a log may have, with a carriage return.
@@ -29,7 +30,7 @@ impl Model for LogText {
 }
 
 impl LogText {
-    ghost use Rattle.std.specs.Prelude.{◌+◌, ◌<◌, ◌≤◌, ◌^◌, [], length, OnOk};
+    ghost use Rattle.std.specs.Prelude.{◌+◌, ◌<◌, ◌≤◌, ◌^◌, [], length, IfErr, OnOk};
     ghost use Rattle.std.specs.List.{fold};
     ghost use Rattle.pm_log.specs.Logs.{at_end, with_line};
     ghost use Rattle.pm_log.specs.Texts.{ended, finished, no_byte, with_byte};
@@ -61,9 +62,10 @@ impl LogText {
 
     /// Takes further bytes. Takes memory for the line that goes on, and for a packet.
     #[tactic(auto, unfolding(crate::specs::Texts::with_byte))]
-    pub fn take(&mut self, alloc: Global, bytes: &[u8]) -> Result<(), AllocError>
+    pub fn take(&mut self, alloc: Global, bytes: &[u8]) -> Result<(), TextFault>
         requires { self.old.taken + length bytes.now < 2 ^ 64 }
-        ensures { OnOk result (self.new ≡ fold with_byte self.old bytes.now) }
+        ensures taken { OnOk result (self.new ≡ fold with_byte self.old bytes.now) }
+        ensures memory { IfErr result (λ fault. fault ≡ TextFault.Memory) }
     {
         for byte in bytes {
             self.take_byte(alloc, *byte)?;
@@ -73,9 +75,10 @@ impl LogText {
 
     // Takes one byte more.
     #[tactic(auto, unfolding(crate::specs::Texts::with_byte, crate::specs::Logs::with_line, crate::specs::Logs::max_line))]
-    fn take_byte(&mut self, alloc: Global, byte: u8) -> Result<(), AllocError>
+    fn take_byte(&mut self, alloc: Global, byte: u8) -> Result<(), TextFault>
         requires { self.old.taken + 1 < 2 ^ 64 }
-        ensures { OnOk result (self.new ≡ with_byte self.old byte) }
+        ensures taken { OnOk result (self.new ≡ with_byte self.old byte) }
+        ensures memory { IfErr result (λ fault. fault ≡ TextFault.Memory) }
     {
         if byte == b'\n' {
             self.checked.take(alloc, &self.line)?;
@@ -89,9 +92,10 @@ impl LogText {
 
     /// Ends the text: a last line without a line feed ends here.
     #[tactic(auto, unfolding(crate::specs::Logs::with_line))]
-    pub fn finish(&mut self, alloc: Global) -> Result<(), AllocError>
+    pub fn finish(&mut self, alloc: Global) -> Result<(), TextFault>
         requires { self.old.taken + 1 < 2 ^ 64 }
-        ensures { OnOk result (self.new.checked.log ≡ ended (finished self.old)) }
+        ensures taken { OnOk result (self.new.checked.log ≡ ended (finished self.old)) }
+        ensures memory { IfErr result (λ fault. fault ≡ TextFault.Memory) }
     {
         if !self.line.is_empty() {
             self.checked.take(alloc, &self.line)?;
