@@ -6,6 +6,7 @@ import json
 import random
 import re
 import shlex
+from contextlib import AbstractContextManager
 from typing import Any
 
 from .. import torture
@@ -94,7 +95,7 @@ def judge(arguments: argparse.Namespace) -> None:
 
 def run(arguments: argparse.Namespace) -> int:
     try:
-        with preload() if arguments.cuse is None else cuse(arguments.cuse) as way:
+        with opened(arguments) as way:
             return bench(arguments, way)
     except (NoBench, Unjudged) as fault:
         complain(f"torture: {fault}")
@@ -102,6 +103,13 @@ def run(arguments: argparse.Namespace) -> int:
     except KeyboardInterrupt:
         complain("torture: interrupted")
         return streams.INTERRUPTED
+
+
+def opened(arguments: argparse.Namespace) -> AbstractContextManager[Way]:
+    """How the program reaches the bench."""
+    if arguments.cuse is None:
+        return preload()
+    return cuse(arguments.cuse)
 
 
 def bench(arguments: argparse.Namespace, way: Way) -> int:

@@ -8,7 +8,7 @@ import errno
 import os
 import select
 import struct
-from collections.abc import Iterator
+from collections.abc import Iterator, Sequence
 
 from .i2c_dev import (DATA, FUNCTIONS, HAS_COUNT, I2C_FUNCS, I2C_PEC, I2C_RDWR, I2C_RETRIES, I2C_SLAVE, I2C_SLAVE_FORCE, I2C_SMBUS, I2C_TENBIT,
                       I2C_TIMEOUT, MOST_BLOCK, MOST_MESSAGES, READS, Message, payload_size, smbus)
@@ -112,7 +112,7 @@ class Cuse:
             raise OSError(-went, "")
         return came
 
-    def went(self, messages: list[Message]) -> tuple[int, list[bytes]]:
+    def went(self, messages: Sequence[Message]) -> tuple[int, list[bytes]]:
         """As a server's transfer: between two runs nobody is there."""
         return self.server.transfer(messages) if self.server else (-errno.ENXIO, [])
 
