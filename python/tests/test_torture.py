@@ -14,7 +14,7 @@ from pmhost.faults import FaultyBus, Struck
 from pmhost.part import ModelPart
 from pmhost.torture import Judge, Program, Run, Unjudged, drawn_faults
 from pmhost.torture.i2c_dev import Message
-from pmhost.torture.preload import preload
+from pmhost.torture.below import preload
 from pmhost.torture.server import Server
 from pmhost.torture.watched import Took, WatchedPart, read_meant
 from .running import needs_tool

@@ -12,7 +12,7 @@ from typing import Any
 from .. import torture
 from ..faults import read_faults
 from ..torture.cuse import cuse
-from ..torture.preload import NoBench, preload
+from ..torture.below import NoBench, preload
 from ..torture.program import Run, Way
 from ..torture.verdict import Judge, Unjudged, Verdict
 from ..torture.watched import ADDRESS, Cell, read_meant

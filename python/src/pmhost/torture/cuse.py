@@ -12,7 +12,7 @@ from collections.abc import Iterator, Sequence
 
 from .i2c_dev import (DATA, FUNCTIONS, HAS_COUNT, I2C_FUNCS, I2C_PEC, I2C_RDWR, I2C_RETRIES, I2C_SLAVE, I2C_SLAVE_FORCE, I2C_SMBUS, I2C_TENBIT,
                       I2C_TIMEOUT, MOST_BLOCK, MOST_MESSAGES, READS, Message, payload_size, smbus)
-from .preload import NoBench
+from .below import NoBench
 from .server import Server
 
 DEVICE = "/dev/cuse"

@@ -16,7 +16,7 @@ from dataclasses import dataclass, field
 from typing import Protocol
 
 from ..faults.bus import OF_ANSWERS, FaultyBus, Struck
-from .preload import NoBench
+from .below import NoBench
 from .server import Server
 from .watched import Cell, Took, WatchedPart
 
