@@ -33,7 +33,7 @@ def stored():
 def bench(words):
     """The object that the bench prints."""
     around = os.environ | {"PYTHONPATH": os.path.join(paths.ROOT, "python", "src"), "PATH": os.environ["PATH"] + ":/usr/sbin"}
-    ran = subprocess.run([sys.executable, "-m", "pmhost", "torture", "--json", "--", *words], capture_output=True, text=True, env=around)
+    ran = subprocess.run([sys.executable, "-m", "pmhost", "torture", "--json", "--seconds", "60", "--", *words], capture_output=True, text=True, env=around)
     if ran.returncode == 2:
         sys.exit(f"{' '.join(words)}: {ran.stderr.strip()}")
     return json.loads(ran.stdout)
