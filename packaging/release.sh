@@ -11,8 +11,8 @@
 # aarch64 Linux which trials/c/targets.sh --out leaves; pmb in it, as trials/aarch64/build.sh makes it, goes
 # with it. The third is the whole folder that targets.sh --out leaves: each target but x86-64 and aarch64-linux has a tarball. No licence
 # is invented: the .deb has no copyright file, which lintian says. Refused are a tree with changes that git doesn't know, an archive
-# that doesn't say that it was built from proofs (a rewritten one has facts that say what it is), a fact that is empty, and a
-# description that names what isn't there.
+# or a program that doesn't say that it was built from proofs (a rewritten one has facts that say what it is), a fact that is empty, and a
+# description that names what isn't there. The archives for x86-64 are those of `rt lib --backend rattle`, which say their stack.
 set -eu
 case " $* " in *" --help "* | *" -h "*) sed -n '2,/^[^#]/s/^# \{0,1\}//p' "$0"; exit 0 ;; esac
 root=$(cd "$(dirname "$0")/.." && pwd)
@@ -39,15 +39,16 @@ for each in pm_host_c pm_device_c; do
 done
 if [ ${#lacking[@]} != 0 ]; then
     printf -v lacking ', %s' "${lacking[@]}"
-    die "this machine lacks ${lacking#, }: archives are built by (cd crates/NAME && rt lib), those for ARM by trials/c/targets.sh --out"
+    die "this machine lacks ${lacking#, }: archives are built by (cd crates/NAME && rt lib --backend rattle), those for ARM by trials/c/targets.sh --out"
 fi
 [ -z "$(git -C "$root" status --porcelain)" ] || die "the tree has changes that git doesn't know: commit them, or take a clean clone"
 
-# says ARCHIVE: what it says of itself; the toolchain says it of what it proved alone
-says() { readelf -p .comment "$1" 2> /dev/null | grep -ao 'built: backend=[a-z]*\|stack-bytes=[0-9]*\|code=[a-z0-9-]*' | tr '\n' ' '; }
+# says ARCHIVE: what it says of itself; the toolchain says by which logic of what it proved alone
+says() { readelf -p .comment "$1" 2> /dev/null | grep -ao 'rattle logic=[0-9a-f]*\|built: backend=[a-z]*\|stack-bytes=[0-9]*\|code=[a-z0-9-]*' | tr '\n' ' '; }
+pmb=${PMB-$root/crates/pmb/out/pmb}
 for path in "${archives:-$root/crates/pm_host_c/out}/libpm_host_c.a" "${archives:-$root/crates/pm_device_c/out}/libpm_device_c.a" \
-    ${aarch64:+"$aarch64/libpm_host_c.a" "$aarch64/libpm_device_c.a"}; do
-    case $(says "$path") in *built:*) ;; *) die "$path doesn't say that it was built from proofs: build it by rt lib" ;; esac
+    ${aarch64:+"$aarch64/libpm_host_c.a" "$aarch64/libpm_device_c.a"} $([ -n "$library" ] || echo "$pmb" ${aarch64:+"$aarch64/pmb"}); do
+    [ ! -f "$path" ] || case $(says "$path") in *"rattle logic="*) ;; *) die "$path doesn't say that it was built from proofs: build it by rt" ;; esac
 done
 mkdir -p "$out"
 out=$(cd "$out" && pwd)
@@ -82,9 +83,27 @@ packed() {
     debian "$tree" "$deb"
     dpkg-deb --root-owner-group --build "$tree" "$out/${name}_${version}_$deb.deb" > /dev/null
     made+=("./$name-$version-$arch.tar.gz" "./${name}_${version}_$deb.deb")
-    fact "$arch commit=$commit date=$date programs=$([ -z "$mode" ] && echo yes || echo no)" \
-        "libpm_host_c.a sha256=$(sha256sum < "$from/libpm_host_c.a" | cut -c1-64) $(says "$from/libpm_host_c.a")" \
-        "libpm_device_c.a sha256=$(sha256sum < "$from/libpm_device_c.a" | cut -c1-64) $(says "$from/libpm_device_c.a")"
+    local facts each
+    if [ -f "$from/facts" ]; then
+        facts=$(facts_of "$from")
+    else
+        facts=$(for each in libpm_host_c.a libpm_device_c.a; do echo "$each sha256=$(sha256sum < "$from/$each" | cut -c1-64) $(says "$from/$each")"; done)
+    fi
+    fact "$arch commit=$commit date=$date programs=$([ -z "$mode" ] && echo yes || echo no)" $facts
+}
+
+# facts_of FOLDER: what targets.sh left of a target, which has to be of this commit and of these archives
+facts_of() {
+    local each sum
+    for each in libpm_host_c.a libpm_device_c.a facts; do
+        [ -f "$1/$each" ] || die "no $1/$each: trials/c/targets.sh --out makes it"
+    done
+    case " $(cat "$1/facts") " in *" commit=$(git -C "$root" rev-parse HEAD) "*) ;; *) die "$1/facts is of another commit" ;; esac
+    for each in "sha256=:libpm_host_c.a" "sha256-part=:libpm_device_c.a"; do
+        sum=$(sha256sum < "$1/${each#*:}" | cut -c1-64)
+        case " $(cat "$1/facts") " in *" ${each%%:*}$sum "*) ;; *) die "$1/facts isn't of its ${each#*:}" ;; esac
+    done
+    cat "$1/facts"
 }
 
 # fact WORD ..: a line of FACTS, none of whose facts is empty
@@ -92,22 +111,15 @@ fact() {
     local line="$*" each
     for each in $line; do case $each in *=) die "FACTS: ${each%=} of ${line%% *} is empty" ;; esac; done
     case $line in *"built: backend="*"stack-bytes="*"built: backend="*"stack-bytes="* | *" proof="*) ;; *)
-        die "FACTS: ${line%% *}: an archive doesn't say its compiler or its stack" ;;
+        die "FACTS: ${line%% *}: an archive doesn't say its compiler or its stack: build it by rt lib --backend rattle" ;;
     esac
     echo "$line" >> "$out/FACTS"
 }
 
 # of_target NAME FOLDER: the libraries of another processor, by what targets.sh left
 of_target() {
-    local from=$2 tree=$folder/$1/$name-$version-$1 each sum
-    for each in libpm_host_c.a libpm_device_c.a facts; do
-        [ -f "$from/$each" ] || die "no $from/$each: trials/c/targets.sh --out makes it"
-    done
-    case " $(cat "$from/facts") " in *" commit=$(git -C "$root" rev-parse HEAD) "*) ;; *) die "$from/facts is of another commit" ;; esac
-    for each in "sha256=:libpm_host_c.a" "sha256-part=:libpm_device_c.a"; do
-        sum=$(sha256sum < "$from/${each#*:}" | cut -c1-64)
-        case " $(cat "$from/facts") " in *" ${each%%:*}$sum "*) ;; *) die "$from/facts isn't of its ${each#*:}" ;; esac
-    done
+    local from=$2 tree=$folder/$1/$name-$version-$1 facts
+    facts=$(facts_of "$from")
     mkdir -p "$tree/lib" "$tree/include"
     cp "$from/libpm_host_c.a" "$tree/lib/libpmhost.a"
     cp "$from/libpm_device_c.a" "$tree/lib/libpmpart.a"
@@ -119,7 +131,7 @@ of_target() {
     tar -C "$folder/$1" --sort=name --owner=0 --group=0 --numeric-owner -cf - "$name-$version-$1" |
         gzip -n > "$out/$name-$version-$1.tar.gz"
     made+=("./$name-$version-$1.tar.gz")
-    fact "$1 $(cat "$from/facts")"
+    fact "$1 $facts"
 }
 
 # debian TREE ARCH: what a .deb has beside

@@ -5,7 +5,8 @@
 #
 # RELEASE is the folder of the release. ROOT is a Debian 12 with python3 alone, which is made by hand, as root, and stays as it is:
 #   debootstrap --variant=minbase --include=python3 bookworm ROOT
-# What is tried stands in layers over it. In ROOT itself README's first example runs on python3 alone. Then each block of the release's README
+# What is tried stands in layers over it. In ROOT itself README's first example runs on python3 alone (its line for who has no rt), which
+# needs no release: RELEASE may be - then, with PART alone. Then each block of the release's README
 # runs as an ordinary user, in a layer of its own with the .deb and the packages of Debian that stand above the block, which apt-get fetches. Last,
 # in one more layer, the .deb is installed, and the tarball unpacked, with no checkout beside them; C programs are compiled by pkg-config over
 # both, manual pages are shown by man-db, and the .deb is removed, which leaves nothing; and on this machine install.sh --uninstall is tried
@@ -21,7 +22,7 @@ parts=" $* "
 wanted() { case $parts in "  " | *" $1 "*) ;; *) false ;; esac; }
 cd "$(dirname "$0")/.."
 for each in "$release"/*x86_64.tar.gz "$release"/*amd64.deb; do
-    [ -f "$each" ] || { echo "try_release.sh: no $each: give the folder that packaging/release.sh made" >&2; exit 2; }
+    [ "$parts" = " alone " ] || [ -f "$each" ] || { echo "try_release.sh: no $each: give the folder that packaging/release.sh made" >&2; exit 2; }
 done
 [ -x "$root/usr/bin/dpkg" ] || { echo "try_release.sh: $root is no Debian root: --help says how one is made" >&2; exit 2; }
 [ "$(id -u)" = 0 ] || { echo "try_release.sh: be root, since it goes into the root by chroot" >&2; exit 2; }
@@ -44,7 +45,7 @@ layer() {
     mount -t overlay overlay -o "lowerdir=$bare,upperdir=$folder/upper,workdir=$folder/work" "$folder/root" || exit 2
     root=$folder/root
     mkdir -p "$root$work"
-    cp "$release"/*x86_64.tar.gz "$release"/*amd64.deb "$root$work/"
+    [ "$parts" = " alone " ] || cp "$release"/*x86_64.tar.gz "$release"/*amd64.deb "$root$work/"
     cp /etc/resolv.conf "$root/etc/"
     echo "deb http://deb.debian.org/debian-security bookworm-security main" > "$root/etc/apt/sources.list.d/security.list"
     chroot "$root" sh -c 'id trial > /dev/null 2>&1 || useradd -m trial' && chroot "$root" chown -R trial "$work"
@@ -66,7 +67,7 @@ ran() {
 }
 
 # blocks: of each block of the release's README its heading and its packages, parted by a tab
-blocks() { awk '/^## / { head = substr($0, 4) } /^Packages of Debian: / { gsub(/.*: |`/, ""); print head "\t" $0 }' "$release/README.md"; }
+blocks() { awk '/^## / { head = substr($0, 4) } /^Packages of Debian: / { gsub(/.*: |`/, ""); print head "\t" $0 }' "$release/README.md" 2> /dev/null; }
 
 # commands HEADING: each command of its block, as a call of `run`, with what it has to print
 commands() {
@@ -97,11 +98,14 @@ block() {
 
 # alone: README's first example
 alone() {
+    local example
+    example=$(grep -o '(cd python/tests && python3 -m plain replay) < [a-z./-]*' README.md)
     layer python3_alone
     mkdir -p "$root$work/tree/python"
     cp -r python/tests "$root$work/tree/python/" && cp -r examples "$root$work/tree/"
     chroot "$root" chown -R trial "$work"
-    asked "README's first example on python3 alone" 'cd tree; (cd python/tests && python3 -m plain replay) < examples/answer-lost.scenario | cmp - examples/answer-lost.report'
+    step "nothing but python3 is there" '! command -v rt && ! command -v gcc && python3 --version'
+    asked "README: ${example:-it has no such line}" "cd tree; ${example:-false} | cmp - examples/answer-lost.report"
     umount "$root"
 }
 

@@ -74,6 +74,11 @@ class Imports(unittest.TestCase):
                 self.assertFalse({"plain", "tests"} & imported(path))
                 self.assertNotIn("sys.path", stored(FOLDER, path))
 
+    def test_no_object_has_the_name_of_a_module(self):
+        """Python would load the object in its place."""
+        objects = {"libpmhost.so", "torture/preload.so"}
+        self.assertFalse({each.removesuffix(".so") for each in objects} & {each.removesuffix(".py") for each in modules()})
+
     def test_one_layer_speaks_to_the_kernel(self):
         self.assertEqual([path for path in modules() if "fcntl" in imported(path)], ["bus/linux.py"])
 

@@ -13,7 +13,9 @@ from pmhost import cli
 from pmhost.faults import FaultyBus, Struck
 from pmhost.part import ModelPart
 from pmhost.torture import Judge, Program, Run, Unjudged, drawn_faults
-from pmhost.torture.program import Server, preload
+from pmhost.torture.i2c_dev import Message
+from pmhost.torture.below import preload
+from pmhost.torture.server import Server
 from pmhost.torture.watched import Took, WatchedPart, read_meant
 from .running import needs_tool
 
@@ -251,15 +253,15 @@ class Answers(unittest.TestCase):
                                             (b"\x02\x34\x12", 1, 2, (2, [b"\x02\x34"])), (b"", 1, 4, (-121, [])),
                                             (b"\x02\x34\x12\xA5", 0x401, 2, (2, [b"\x02\x34\x12\xA5"])), (b"\x00", 0x401, 1, (-71, [])),
                                             (b"\x21" + bytes(40), 0x401, 1, (-71, []))):
-            self.assertEqual(Server.answered(came, flags, length), result, (came, flags, length))
+            self.assertEqual(Server.answered(came, Message(0x58, flags, length)), result, (came, flags, length))
 
     def test_who_is_not_there_and_what_is_not_done(self):
         part = WatchedPart(2)
         server = Server(part, FaultyBus(part, [], lambda struck: None))
-        self.assertEqual(server.carried_out([(0x57, 0, 1, b"\x01")]), (-6, []))
-        self.assertEqual(server.carried_out([(0x58, 0, 1, b"\x01"), (0x58, 0, 1, b"\x01")]), (-95, []))
-        self.assertEqual(server.carried_out([(0x58, 1, 1, b"")]), (1, [b"\xFF"]))
-        self.assertEqual(server.carried_out([(0x58, 0, 3, bytes.fromhex("00 01 ED"))]), (1, []))
+        self.assertEqual(server.transfer([Message(0x57, 0, 1, b"\x01")]), (-6, []))
+        self.assertEqual(server.transfer([Message(0x58, 0, 1, b"\x01")] * 2), (-95, []))
+        self.assertEqual(server.transfer([Message(0x58, 1, 1)]), (1, [b"\xFF"]))
+        self.assertEqual(server.transfer([Message(0x58, 0, 3, bytes.fromhex("00 01 ED"))]), (1, []))
         self.assertEqual((part.page, part.number), (1, 2))
 
 

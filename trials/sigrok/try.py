@@ -35,6 +35,8 @@ from try_told_captures import Plain, Program, traces, wanted_of  # noqa: E402
 
 CAPTURES = os.path.join(program.ROOT, "python/tests/data/captures")
 NAMES = ["bus", "faults", "kernel"]
+# What may stand before a format of voltages.
+ADDRESSES = ["", "", "58:", "5a:"]
 # What the decoder says of a packet that isn't good, by the fault that `decode` tells.
 WORDS = {"F1": "another address answers", "F5": "wrong PEC"}
 # Of the first packet of bus.vcd and of the third, what stands below its bytes, and how its PEC is.
@@ -81,7 +83,7 @@ def random_faults(decode, seed, texts):
     """Random packets, all but those that no bus can have."""
     dice, count = random.Random(seed), 0
     for _ in range(texts):
-        vout, readings = dice.choice(["", "", *draw_captures.FORMATS]), ""
+        vout, readings = ",".join(dice.choice(ADDRESSES) + dice.choice(draw_captures.FORMATS) for _ in range(dice.randrange(3))), ""
         if dice.random() < 0.5:
             readings = ",".join(dice.choice(draw_captures.WHERE) + dice.choice(draw_captures.READING_FORMATS) for _ in range(2))
         lines = [draw_captures.packet_line(dice, 0) for _ in range(60)]
@@ -245,7 +247,8 @@ def byte_faults():
     if found[:7] != BYTES or found[16:23] != THIRD or pecs != PECS:
         yield f"the bytes are {found[:23]} and {pecs}"
     for options, said in ((":address=B0", "address: give two hexadecimal digits, as 58"),
-                          (":vout=linear16", "vout: give linear11, ulinear16/N or direct/M/B/R"),
+                          (":vout=linear16", "vout: give linear11, ulinear16/N or direct/M/B/R, or of an address 58/linear11; + parts them"),
+                          (":vout=78/x/linear11", "vout: give linear11, "),
                           (":readings=ulinear16/1", "readings: give linear11 or direct/M/B/R")):
         found, errors = sigrok(drawn, options)
         if found or said not in errors:

@@ -4,12 +4,13 @@
     trials/torture/run.py [--python PYTHON]
 
 It wants i2c-tools, a Python that has smbus2 (/usr/bin/python3 with Debian's python3-smbus2, or PYTHON), gcc, and the package's library
-(PMHOST_LIBRARY). Each host has a line of figures. It has passed where the bench finds a word on a wrong output of the first two, which select
-by PAGE, and of pmhost neither that nor a false success. The last line is `N passed, M failed`.
+(PMHOST_LIBRARY). Each host has a line of figures, which must be those of its row in docs/tried.md, with no run that didn't end and no strange
+word. The last line is `N passed, M failed`.
 """
 import argparse
 import json
 import os
+import re
 import subprocess
 import sys
 
@@ -18,11 +19,21 @@ sys.path.insert(0, os.path.dirname(HERE))
 import paths  # noqa: E402
 from tally import Tally  # noqa: E402
 
+PAGE = os.path.join(paths.ROOT, "docs", "tried.md")
+FIGURES = ("runs", "well", "wrong", "false")
+
+
+def stored():
+    """The figures of the page, by the name in their row."""
+    with open(PAGE, encoding="utf-8") as file:
+        rows = re.findall(r"^\|.*?(i2c-tools|smbus2|pmhost)\b[^|]*\| (\d+) \| (\d+) \| (\d+) \| (\d+) \|$", file.read(), re.MULTILINE)
+    return {name: dict(zip(FIGURES, map(int, figures))) for name, *figures in rows}
+
 
 def bench(words):
     """The object that the bench prints."""
     around = os.environ | {"PYTHONPATH": os.path.join(paths.ROOT, "python", "src"), "PATH": os.environ["PATH"] + ":/usr/sbin"}
-    ran = subprocess.run([sys.executable, "-m", "pmhost", "torture", "--json", "--", *words], capture_output=True, text=True, env=around)
+    ran = subprocess.run([sys.executable, "-m", "pmhost", "torture", "--json", "--seconds", "60", "--", *words], capture_output=True, text=True, env=around)
     if ran.returncode == 2:
         sys.exit(f"{' '.join(words)}: {ran.stderr.strip()}")
     return json.loads(ran.stdout)
@@ -33,15 +44,14 @@ def main():
     parser.add_argument("--python", default="/usr/bin/python3", help="a Python that has smbus2")
     given = parser.parse_args()
     order = "-b 1 -a 58 --outputs 2 --no-limit set 0 1.3V + set 1 0.9V".split()
-    tally = Tally()
-    for name, words, is_wrong in (("i2c-tools", ["bash", os.path.join(HERE, "rails.sh")], True),
-                                  ("smbus2", [given.python, os.path.join(HERE, "rails.py")], True),
-                                  ("pmhost", [sys.executable, "-m", "pmhost", *order], False)):
+    tally, page = Tally(), stored()
+    for name, words in (("i2c-tools", ["bash", os.path.join(HERE, "rails.sh")]), ("smbus2", [given.python, os.path.join(HERE, "rails.py")]),
+                        ("pmhost", [sys.executable, "-m", "pmhost", *order])):
         found = bench(words)
         print(f"{name}: {found['runs']} runs, {found['well']} ended well, {found['wrong']} wrong, {found['false']} false, "
               f"{found['not_ended']} not ended, {found['strange']} strange", flush=True)
-        is_good = found["wrong"] > 0 if is_wrong else found["wrong"] == found["false"] == found["not_ended"] == 0
-        tally.tell(name, [] if is_good else ["not as it must be"])
+        is_good = {it: found[it] for it in FIGURES} == page.get(name) and found["not_ended"] == found["strange"] == 0
+        tally.tell(name, [] if is_good else [f"docs/tried.md has {page.get(name)}"])
     return tally.end()
 
 

@@ -84,17 +84,27 @@ def format_of(text):
     return None
 
 
-def readings_of(text):
-    """Entries of an address or None, a code or None, and a format, by a text as 58:8D:direct:1:0:3,linear11; a `/` may stand for
-    each colon, and a `+` for each comma. None where it is none."""
+def entries_of(text, pattern):
+    """What a pattern finds in each entry of a list; a `/` may stand for each colon, and a `+` for each comma. None where it is no list
+    of formats, which stand last."""
     entries = []
     for entry in text.replace("/", ":").replace("+", ",").split(",") if text else []:
-        found = re.fullmatch("(?:(?:([0-7][0-9A-Fa-f]):)?(8[8CDcd]):)?((?:linear11|direct).*)", entry)
-        form = found and format_of(found[3])
+        found = re.fullmatch(pattern, entry)
+        form = found and format_of(found[found.re.groups])
         if not form:
             return None
-        entries.append((found[1] and int(found[1], 16), found[2] and int(found[2], 16), form))
+        entries.append((*(it and int(it, 16) for it in found.groups()[:-1]), found[found.re.groups].startswith("direct"), form))
     return entries
+
+
+def readings_of(text):
+    """Entries of an address or None, a code or None, whether it is a DIRECT format, and the format, by a text as 58:8D:direct:1:0:3,linear11."""
+    return entries_of(text, "(?:(?:([0-7][0-9A-Fa-f]):)?(8[8CDcd]):)?((?:linear11|direct).*)")
+
+
+def vouts_of(text):
+    """The same without a code, by a text as 58:ulinear16:-12,linear11."""
+    return entries_of(text, "(?:([0-7][0-9A-Fa-f]):)?((?:linear11|ulinear16|direct).*)")
 
 
 class Told:
@@ -116,7 +126,7 @@ class Reader:
 
     def __init__(self, vout="", readings=""):
         self.modes, self.plain, self.paged, self.linear, self.coefficients = {}, {}, set(), set(), {}
-        self.vout, self.readings = vout, readings_of(readings)
+        self.vout, self.readings = vouts_of(vout), readings_of(readings)
 
     def tell(self, write, read=None):
         """A packet: the bytes of its write part, and of its read part."""
@@ -209,7 +219,7 @@ class Reader:
 
     def reading_form(self, address, code):
         """The format of a reading: as the user gave it, or LINEAR11 where a mode of its address was ULINEAR16."""
-        for where, asked, form in self.readings:
+        for where, asked, _, form in self.readings:
             if where in (None, address >> 1) and asked in (None, code):
                 return form
         return format_of("linear11") if address in self.linear else None
@@ -217,18 +227,19 @@ class Reader:
     def form(self, address, page, code, side):
         """The format of a voltage: by its output's mode, or where the trace has none as the user gave it."""
         mode = self.mode(address, page)
+        is_direct, given = next((each[1:] for each in self.vout if each[0] in (None, address >> 1)), (False, None))
         if mode is None:
-            return format_of(self.vout)
+            return given
         if mode == OVER:
             return None
         if 0x80 <= mode < 0xA0:
-            return format_of(self.vout or form_text(mode - 0x80)) if NAMES[code] in NEVER_RELATIVE else None
+            return (given or format_of(form_text(mode - 0x80))) if NAMES[code] in NEVER_RELATIVE else None
         if mode_words(mode) != "DIRECT":
             return format_of(form_text(mode))
         for each in (side, 1 - side):
             if (address, code, each) in self.coefficients:
                 return format_of("direct:%d:%d:%d" % self.coefficients[address, code, each])
-        return format_of(self.vout) if self.vout.startswith("direct") else None
+        return given if is_direct else None
 
     def mode(self, address, page):
         """The mode that a packet of this page meets, OVER, or None where nothing was said of it."""

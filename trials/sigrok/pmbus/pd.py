@@ -3,7 +3,7 @@ import re
 
 import sigrokdecode as srd
 
-from .packets import FAULT, KNOWN, OTHER, Reader, format_of, labels, pec, readings_of, spaced
+from .packets import FAULT, KNOWN, OTHER, Reader, labels, pec, readings_of, spaced, vouts_of
 from .pages import Pages
 
 # Annotations by their places below.
@@ -26,7 +26,7 @@ class Decoder(srd.Decoder):
     tags = ["Embedded/industrial"]
     options = (
         {"id": "address", "desc": "Address of the device, two hexadecimal digits (empty: all)", "default": ""},
-        {"id": "vout", "desc": "Format of a voltage whose mode wasn't read, as ulinear16/-12", "default": ""},
+        {"id": "vout", "desc": "Format of a voltage whose mode wasn't read, as ulinear16/-12 or 58/linear11+direct/1/0/3", "default": ""},
         {"id": "readings", "desc": "Formats of READ_VIN, READ_IOUT and READ_TEMPERATURE_1, as 8D/direct/1/0/3+linear11", "default": ""},
     )
     annotations = (
@@ -56,8 +56,8 @@ class Decoder(srd.Decoder):
         address, vout, readings = (self.options[name] for name in ("address", "vout", "readings"))
         if address and not re.fullmatch("(0[xX])?[0-7][0-9A-Fa-f]", address):
             raise ValueError("address: give two hexadecimal digits, as 58")
-        if vout and not format_of(vout):
-            raise ValueError("vout: give linear11, ulinear16/N or direct/M/B/R")
+        if vouts_of(vout) is None:
+            raise ValueError("vout: give linear11, ulinear16/N or direct/M/B/R, or of an address 58/linear11; + parts them")
         if readings_of(readings) is None:
             raise ValueError("readings: give linear11 or direct/M/B/R, or of a code 8D/linear11, or of an address 58/8D/linear11; + parts them")
         self.address = int(address, 16) if address else None

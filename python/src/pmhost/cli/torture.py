@@ -6,11 +6,14 @@ import json
 import random
 import re
 import shlex
+from contextlib import AbstractContextManager
 from typing import Any
 
 from .. import torture
 from ..faults import read_faults
-from ..torture.program import NoBench, Run, preload
+from ..torture.cuse import cuse
+from ..torture.below import NoBench, preload
+from ..torture.program import Run, Way
 from ..torture.verdict import Judge, Unjudged, Verdict
 from ..torture.watched import ADDRESS, Cell, read_meant
 from . import streams
@@ -20,7 +23,7 @@ from .texts import without_a_bus
 
 ABOUT = f"""Runs a program again and again over a bus with the proved converter on it, and in each run one fault strikes one transfer.
 The program opens /dev/i2c-N, any N, as ever; the converter is at {ADDRESS:02X}h, speaks PAGE, PAGE_PLUS and packet error codes, and its output O has
-voltages in ULINEAR16 with the exponent O - 12. A program that is linked statically isn't reached.
+voltages in ULINEAR16 with the exponent O - 12. A program that is linked statically is reached with --cuse.
 
   pmhost torture -- ./your-host --bus 1
   pmhost torture --strike lost,garbled --runs 100 -- sh set-rails.sh
@@ -65,6 +68,8 @@ def add(commands: Any) -> None:
     parser.add_argument("--meant", action="append", default=[], metavar="O:CODE=WORD",
                         help="what a register is meant to hold, as 1:21=34CD, in place of what the run without a fault shows")
     parser.add_argument("--said", metavar="REGEX", dest="finds", help="a run went well where a line of the program's output has this, whatever its status")
+    parser.add_argument("--cuse", type=whole(0, 255, "cuse"), metavar="N", help="the bus is a device /dev/i2c-N of this number, made by CUSE of the "
+                        "kernel, which reaches every program: it needs root, and the kernel's module cuse")
     parser.add_argument("--again", type=again_of, metavar="N:FAULT", help="one run alone: the fault at the transfer of this number")
     parser.add_argument("--json", action="store_true", dest="is_json", help="one object with all of it")
     parser.add_argument("words", nargs=argparse.REMAINDER, metavar="-- PROGRAM ..", help="the program and its words")
@@ -90,8 +95,8 @@ def judge(arguments: argparse.Namespace) -> None:
 
 def run(arguments: argparse.Namespace) -> int:
     try:
-        with preload() as below:
-            return bench(arguments, below)
+        with opened(arguments) as way:
+            return bench(arguments, way)
     except (NoBench, Unjudged) as fault:
         complain(f"torture: {fault}")
         return 2
@@ -100,15 +105,22 @@ def run(arguments: argparse.Namespace) -> int:
         return streams.INTERRUPTED
 
 
-def bench(arguments: argparse.Namespace, below: str) -> int:
+def opened(arguments: argparse.Namespace) -> AbstractContextManager[Way]:
+    """How the program reaches the bench."""
+    if arguments.cuse is None:
+        return preload()
+    return cuse(arguments.cuse)
+
+
+def bench(arguments: argparse.Namespace, way: Way) -> int:
     program: torture.Program = arguments.program
-    plain = program.run(below)
+    plain = program.run(way)
     meant: list[tuple[Cell, int]] = arguments.meant
     verdicts, judged = [], Judge(plain, meant)
     if not arguments.is_json:
         streams.write("meant: " + "; ".join(f"output {cell[0]} {cell[1]} {word:04X}" for cell, word in judged.last.items()))
     for number, fault in chosen(arguments, plain):
-        found = judged.judge(program.run(below, number, fault))
+        found = judged.judge(program.run(way, number, fault))
         verdicts.append(found)
         if not arguments.is_json and (found.is_bad or found.strange or arguments.again):
             tell(arguments, found)
@@ -142,7 +154,8 @@ def place(cell: Cell) -> str:
 
 def again(arguments: argparse.Namespace, found: Verdict) -> str:
     """The line that repeats a run."""
-    more = ["--outputs", str(arguments.count)] * (arguments.count != 2) + ["--said", arguments.finds or ""] * (arguments.finds is not None)
+    more = [] if arguments.cuse is None else ["--cuse", str(arguments.cuse)]
+    more += ["--outputs", str(arguments.count)] * (arguments.count != 2) + ["--said", arguments.finds or ""] * (arguments.finds is not None)
     return shlex.join(["pmhost", "torture", *more, "--again", f"{found.run.number}:{found.run.fault}", "--", *arguments.program.words])
 
 

@@ -1,6 +1,6 @@
 /* Puts the bus of `pmhost torture` below a program that is there already, by LD_PRELOAD: what it opens as /dev/i2c-N is a
  * connection to the bench, which the variable PMHOST_TORTURE names. Its I2C_RDWR, I2C_SMBUS (with I2C_PEC) and plain reads and writes
- * become messages there, as the kernel's i2c-dev and its emulation of SMBus make them; locks succeed. All else goes to the C library. */
+ * go there, as they go to the kernel's i2c-dev; locks succeed. All else goes to the C library. */
 #define _GNU_SOURCE
 #include <dlfcn.h>
 #include <errno.h>
@@ -16,6 +16,8 @@
 #include <unistd.h>
 
 #define FILES 1024
+/* In the place of a number of messages: a call of SMBus. */
+#define SMBUS 0xFF
 #define FUNCTIONS (I2C_FUNC_I2C | I2C_FUNC_SMBUS_EMUL | I2C_FUNC_SMBUS_READ_BLOCK_DATA | I2C_FUNC_SMBUS_BLOCK_PROC_CALL)
 /* The C library's own function of a name. */
 #define NEXT(name, ...) ((int (*)(__VA_ARGS__))dlsym(RTLD_NEXT, name))
@@ -61,115 +63,42 @@ static int transfer(int file, struct i2c_msg *messages, unsigned count) {
     return is_whole ? result : -EIO;
 }
 
-/* ---- SMBus by messages, as i2c_smbus_xfer_emulated of the kernel ---- */
-
-static uint8_t pec_of(uint8_t crc, const uint8_t *bytes, size_t count) {
-    for (size_t i = 0; i < count; i++) {
-        crc ^= bytes[i];
-        for (int bit = 0; bit < 8; bit++)
-            crc = (uint8_t)(crc & 0x80 ? crc << 1 ^ 0x07 : crc << 1);
-    }
-    return crc;
-}
+/* ---- SMBus, whose messages the bench makes ---- */
 
 static int smbus(int file, const struct i2c_smbus_ioctl_data *asked) {
-    uint8_t sent[I2C_SMBUS_BLOCK_MAX + 4], came[I2C_SMBUS_BLOCK_MAX + 3];
-    uint16_t address = files[file].address;
-    int is_read = asked->read_write == I2C_SMBUS_READ, is_process = 0, has_count = 0;
-    int has_pec = files[file].has_pec && asked->size != I2C_SMBUS_QUICK && asked->size != I2C_SMBUS_I2C_BLOCK_DATA &&
-                  asked->size != I2C_SMBUS_I2C_BLOCK_BROKEN;
-    unsigned length = 1, back = 0;
-    sent[0] = asked->command;
-    switch (asked->size) {
-    case I2C_SMBUS_QUICK: {
-        struct i2c_msg only = {address, is_read ? I2C_M_RD : 0, 0, sent};
-        int went = transfer(file, &only, 1);
-        return went < 0 ? went : 0;
-    }
-    case I2C_SMBUS_BYTE:
-        if (is_read) {
-            length = 0;
-            back = 1;
-        }
-        break;
-    case I2C_SMBUS_BYTE_DATA:
-        if (is_read)
-            back = 1;
-        else
-            sent[length++] = asked->data->byte;
-        break;
-    case I2C_SMBUS_PROC_CALL:
-        is_process = 1;
-        back = 2;
-        /* fallthrough */
-    case I2C_SMBUS_WORD_DATA:
-        if (is_read && !is_process) {
-            back = 2;
-        } else {
-            sent[length++] = (uint8_t)asked->data->word;
-            sent[length++] = (uint8_t)(asked->data->word >> 8);
-        }
-        break;
-    case I2C_SMBUS_BLOCK_PROC_CALL:
-        is_process = has_count = 1;
-        /* fallthrough */
-    case I2C_SMBUS_BLOCK_DATA:
-        if (is_read && !is_process) {
-            has_count = 1;
-        } else {
-            if (asked->data->block[0] > I2C_SMBUS_BLOCK_MAX)
+    int is_read = asked->read_write == I2C_SMBUS_READ, has_data = asked->data != NULL;
+    struct { uint8_t head, is_read, code, has_pec; uint16_t address; uint32_t size; uint8_t data[I2C_SMBUS_BLOCK_MAX + 2]; } call = {
+        SMBUS, (uint8_t)is_read, asked->command, files[file].has_pec, files[file].address, asked->size, {0}};
+    struct { int32_t result; uint8_t data[I2C_SMBUS_BLOCK_MAX + 2]; } answer;
+    /* The caller's union may be shorter than the longest block: what goes is what this kind has, as in the kernel. */
+    size_t most = asked->size == I2C_SMBUS_QUICK || (asked->size == I2C_SMBUS_BYTE && !is_read) ? 0
+        : asked->size == I2C_SMBUS_BYTE || asked->size == I2C_SMBUS_BYTE_DATA ? 1
+        : asked->size == I2C_SMBUS_WORD_DATA || asked->size == I2C_SMBUS_PROC_CALL ? 2
+        : sizeof call.data;
+    if (most > 0 && !has_data)
+        return -EINVAL;
+    if (most > 0)
+        memcpy(call.data, asked->data, most);
+    if (!is_moved(file, &call, sizeof call, 0) || !is_moved(file, &answer, sizeof answer, 1))
+        return -EIO;
+    if (answer.result >= 0 && most > 0 && (is_read || asked->size == I2C_SMBUS_PROC_CALL || asked->size == I2C_SMBUS_BLOCK_PROC_CALL))
+        memcpy(asked->data, answer.data, most);
+    return answer.result;
+}
+
+/* A call of I2C_RDWR: a read whose first byte is its count has in its buffer how many bytes come beside the block. */
+static int messages(int file, const struct i2c_rdwr_ioctl_data *asked) {
+    struct i2c_msg copies[I2C_RDWR_IOCTL_MAX_MSGS];
+    if (asked->nmsgs > I2C_RDWR_IOCTL_MAX_MSGS)
+        return -EINVAL;
+    memcpy(copies, asked->msgs, asked->nmsgs * sizeof *copies);
+    for (unsigned i = 0; i < asked->nmsgs; i++)
+        if (copies[i].flags & I2C_M_RECV_LEN) {
+            if (!(copies[i].flags & I2C_M_RD) || copies[i].len < 1 || copies[i].buf[0] < 1 || copies[i].len < copies[i].buf[0] + I2C_SMBUS_BLOCK_MAX)
                 return -EINVAL;
-            memcpy(sent + 1, asked->data->block, asked->data->block[0] + 1u);
-            length += asked->data->block[0] + 1u;
+            copies[i].len = copies[i].buf[0];
         }
-        break;
-    case I2C_SMBUS_I2C_BLOCK_BROKEN:
-    case I2C_SMBUS_I2C_BLOCK_DATA:
-        if (asked->data->block[0] > I2C_SMBUS_BLOCK_MAX)
-            return -EINVAL;
-        if (is_read) {
-            back = asked->data->block[0];
-        } else {
-            memcpy(sent + 1, asked->data->block + 1, asked->data->block[0]);
-            length += asked->data->block[0];
-        }
-        break;
-    default:
-        return -EOPNOTSUPP;
-    }
-    {
-        int reads = is_read || is_process;
-        uint8_t first = (uint8_t)(address << 1);
-        struct i2c_msg messages[2] = {
-            {address, 0, (uint16_t)length, sent},
-            {address, (uint16_t)(I2C_M_RD | (has_count ? I2C_M_RECV_LEN : 0)), (uint16_t)((has_count ? 1 : back) + (unsigned)has_pec), came},
-        };
-        if (has_pec && !reads) {
-            uint8_t crc = pec_of(0, &first, 1);
-            sent[length] = pec_of(crc, sent, length);
-            messages[0].len++;
-        }
-        int went = length == 0 ? transfer(file, messages + 1, 1) : transfer(file, messages, reads ? 2 : 1);
-        if (went < 0)
-            return went;
-        if (!reads)
-            return 0;
-        if (has_pec) {
-            uint8_t again = first | 1, crc = length == 0 ? 0 : pec_of(pec_of(0, &first, 1), sent, length);
-            crc = pec_of(pec_of(crc, &again, 1), came, messages[1].len - 1u);
-            if (crc != came[messages[1].len - 1])
-                return -EBADMSG;
-        }
-        if (has_count)
-            memcpy(asked->data->block, came, came[0] + 1u);
-        else if (asked->size == I2C_SMBUS_I2C_BLOCK_DATA || asked->size == I2C_SMBUS_I2C_BLOCK_BROKEN)
-            memcpy(asked->data->block + 1, came, back);
-        else if (back == 2)
-            asked->data->word = (uint16_t)(came[0] | came[1] << 8);
-        else
-            asked->data->byte = came[0];
-        return 0;
-    }
+    return transfer(file, copies, asked->nmsgs);
 }
 
 static int answered(int result) {
@@ -267,10 +196,8 @@ int ioctl(int file, unsigned long request, ...) {
         return 0;
     case I2C_SMBUS:
         return answered(smbus(file, argument));
-    case I2C_RDWR: {
-        struct i2c_rdwr_ioctl_data *asked = argument;
-        return asked->nmsgs > I2C_RDWR_IOCTL_MAX_MSGS ? answered(-EINVAL) : answered(transfer(file, asked->msgs, asked->nmsgs));
-    }
+    case I2C_RDWR:
+        return answered(messages(file, argument));
     default:
         return answered(-ENOTTY);
     }

@@ -1,0 +1,46 @@
+"""What a program's messages come to: they go over a bus with faults to a watched part."""
+from __future__ import annotations
+
+import errno
+from collections.abc import Sequence
+
+from ..faults.bus import FaultyBus
+from .i2c_dev import HAS_COUNT, MOST_BLOCK, Message
+from .watched import ADDRESS, WatchedPart
+
+
+class Server:
+    """A part and its bus, in one run of a program."""
+
+    def __init__(self, part: WatchedPart, bus: FaultyBus) -> None:
+        self.part, self.bus = part, bus
+
+    def transfer(self, messages: Sequence[Message]) -> tuple[int, list[bytes]]:
+        """How many messages went, or minus the error, and what the reads have."""
+        if any(each.address != ADDRESS for each in messages):
+            return -errno.ENXIO, []
+        kinds = [each.is_read for each in messages]
+        self.part.number += kinds != [True]
+        if kinds == [False]:
+            went = self.bus.write(bytes([ADDRESS << 1]) + messages[0].data)
+            return (1, []) if went else (-errno.EREMOTEIO, [])
+        if kinds == [False, True]:
+            wanted = messages[1]
+            came = self.bus.read(bytes([ADDRESS << 1]) + messages[0].data, MOST_BLOCK + 2 if wanted.flags & HAS_COUNT else wanted.length)
+            return self.answered(came, wanted)
+        if kinds == [True]:
+            # Nobody drives the line: the part has been asked for nothing.
+            return 1, [b"\xFF" * messages[0].length]
+        return -errno.EOPNOTSUPP, []
+
+    @staticmethod
+    def answered(came: bytes, wanted: Message) -> tuple[int, list[bytes]]:
+        """An answer as a controller reads it, which clocks as many bytes as it wants: behind the last one the line is high."""
+        length = wanted.length
+        if not came:
+            return -errno.EREMOTEIO, []
+        if wanted.flags & HAS_COUNT:
+            if not 1 <= came[0] <= MOST_BLOCK:
+                return -errno.EPROTO, []
+            length += came[0]
+        return 2, [(came + b"\xFF" * length)[:length]]
