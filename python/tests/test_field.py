@@ -1,25 +1,19 @@
 """Parts as they are in the field (trials/field): what pmhost says of them, each case by its name; what Python's API raises; and random
 boards, of which no rail that is dead ends well."""
 import asyncio
-import json
-import os
 import pickle
 import random
-import re
 import threading
 import unittest
 
-from pmhost import Course, Device, Looks, ModelPart, ModelPartBus, NotDelivered, Output, PlanRefused
+from pmhost import Device, Looks, ModelPart, ModelPartBus, NotDelivered, Output, PlanRefused
 
 from . import field_boards
 from .field import ADDRESS, Field, FieldBus
-from .kernel import FakeKernel
-from .running import ROOT, stored
-from .runs import blocks, called
+from .runs import blocks
 from .test_runs import Blocks
 
 BOARDS = 60
-ROWS = os.path.join(ROOT, "trials", "field", "rows.txt")
 
 
 class Rows(Blocks):
@@ -107,51 +101,6 @@ class Api(unittest.TestCase):
         for words in ({"fault_limits": "never"}, {"within": 1001}, {"settle": -1}, {"power_good": "maybe"}):
             with self.assertRaises(ValueError):
                 Looks(**words)
-
-
-@unittest.skipUnless(os.path.exists(ROWS), "the package stands alone")
-class RowsOfC(unittest.TestCase):
-    """The rows of trials/field/rows.c, by a Device and by the command."""
-
-    def rows(self):
-        for block in re.sub(r"(?m)^#.*\n", "", stored(ROWS)).strip().split("\n\n"):
-            pairs = [line.split(": ", 1) for line in block.splitlines()]
-            part = Field()
-            for key, text in pairs:
-                if key == "part":
-                    part.set(text.split()[0], int(text.split()[1], 16))
-            yield dict(pairs), part
-
-    def test_by_a_device(self):
-        counted = 0
-        for row, part in self.rows():
-            device = Device(FieldBus(part), ADDRESS, 2, limits={0: ("0.8V", "1.3V")}, looks=Looks(row.get("limits", "refuse")))
-            kind, _, word = row["call"].partition(" ")
-            course = Course.survey(0) if kind == "survey" else Course.voltage(0, f"{word}uV") if kind == "set" else Course.power(0, int(word, 16))
-            try:
-                device.complete(course)
-                found = device.delivered.verdict.kind
-            except NotDelivered as fault:
-                found = fault.kind
-            except PlanRefused as fault:
-                found = fault.letter
-            with self.subTest(row["name"]):
-                self.assertEqual(f"{found.replace(' to be', '').replace(' ', '-')} {part.volts()}", row["is"])
-            counted += 1
-        self.assertGreaterEqual(counted, 19)
-
-    def test_by_the_command(self):
-        for row, part in self.rows():
-            kind, _, word = row["call"].partition(" ")
-            words = {"set": f"set 0 {word}uV", "power": f"word 0 OPERATION {word}", "survey": "survey 0"}[kind]
-            over = FakeKernel(part)
-            status, out, _ = called(["-b", "7", "-a", "58", "--outputs", "2", "--limit", "0:0.8V:1.3V", "--json", "--fault-limits",
-                                     row.get("limits", "refuse"), *words.split()], over)
-            found = json.loads(out)
-            ended = "P8" if (found["refusal"] or "").startswith("P8 ") else found["delivery"].replace(" to be", "").replace(" ", "-")
-            with self.subTest(row["name"]):
-                self.assertEqual(f"{ended} {part.volts()}", row["is"])
-                self.assertEqual(status == 0, ended in ("delivers", "commanded-off", "went-off"))
 
 
 class Threads(unittest.TestCase):

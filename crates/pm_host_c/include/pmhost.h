@@ -803,8 +803,14 @@ static inline pm_course_end pm_host_run_course(pm_host *host, pm_course *course,
     return pm_course_end_of(course, step.kind);
 }
 
-/* The same with a delivery of the course's output. A course that ended well has done what is wanted if `delivered` is PM_DELIVERS, or
- * PM_WENT_OFF of one that turned the output off; an output that is commanded off isn't asked. PM_REFUSED with P8, and
+/* Whether it isn't known what an output does since this register gave no answer at all. */
+static inline int pm_is_silent(const pm_delivered *delivered, uint8_t code) {
+    return delivered->kind == PM_DELIVERY_NOT_KNOWN && delivered->code == code && delivered->fault == PM_NO_ANSWER;
+}
+
+/* The same with a delivery of the course's output. A course that ended well has done what is wanted if pm_is_delivered: `delivered` is
+ * PM_DELIVERS, or PM_WENT_OFF of one that turned the output off; an output that is commanded off isn't asked. A part whose READ_VOUT
+ * gives no answer at all in two rounds is judged as one without. PM_REFUSED with P8, and
  * PM_BEYOND_FAULT_LIMIT, if nothing was ordered since what is wanted is at or beyond a fault limit; the course itself goes on, once
  * that was moved and the delivery made anew. After a bad end `delivered` is PM_NOT_YET. Each call of one chain hands over the same
  * delivery of an output, so that it knows which faults stood before the chain. */
@@ -830,11 +836,26 @@ static inline pm_course_end pm_host_deliver(pm_host *host, pm_course *course, pm
         number = pm_delivery_ask(delivery, host, read, pause, context);
     if (number == PM_OK)
         number = pm_delivery_verdict(delivery, host, delivered);
+    if (number == PM_OK && delivery->round != 0 && pm_is_silent(delivered, 0x8B)) {
+        delivery->has_read_vout = 0;
+        number = pm_delivery_verdict(delivery, host, delivered);
+    }
     if (number != PM_OK) {
         end.kind = PM_REFUSED;
         end.number = number;
     }
     return end;
+}
+
+/* Whether an output does what it is to by this verdict, isn't asked since it isn't commanded on, or can't be judged, since its part has no
+ * STATUS_WORD: it gave no answer at all, before an order and in two rounds after one. Power good that alone is missing isn't
+ * well. */
+PM_MUST_USE
+static inline int pm_is_delivered(const pm_delivery *delivery, const pm_delivered *delivered) {
+    int is_absent = pm_is_silent(delivered, 0x79) && (delivery->before.asked == 0 || delivery->before.fault != 0)
+        && (delivery->round != 0 || delivery->before.fault == PM_NO_ANSWER);
+    return is_absent || delivered->kind == PM_DELIVERS || delivered->kind == PM_WENT_OFF || delivered->kind == PM_COMMANDED_OFF
+        || delivered->kind == PM_NOT_KNOWN_ON;
 }
 #endif
 
