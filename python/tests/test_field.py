@@ -8,12 +8,14 @@ import unittest
 
 from pmhost import Device, Looks, ModelPart, ModelPartBus, NotDelivered, Output, PlanRefused
 
-from . import field_boards
+from . import field_boards, field_calls
 from .field import ADDRESS, Field, FieldBus
-from .runs import blocks
+from .kernel import FakeKernel
+from .runs import blocks, called
 from .test_runs import Blocks
 
 BOARDS = 60
+CALLS = 12
 
 
 class Rows(Blocks):
@@ -137,6 +139,45 @@ class Boards(unittest.TestCase):
         self.assertEqual(wrong, [])
         self.assertGreater(well, BOARDS // 10)
         self.assertLess(unsure, BOARDS // 4)
+
+
+class Calls(unittest.TestCase):
+    def test_no_call_ends_well_over_a_dead_rail(self):
+        """trials/field/calls.py has thousands. Nor does an off end well while the rail is on."""
+        seed = random.randrange(2**32)
+        well, wrong = field_calls.counts(random.Random(seed), CALLS)
+        self.assertEqual(wrong, [], f"seed {seed}")
+        self.assertGreater(sum(well.values()), CALLS, f"seed {seed}")
+
+
+class Transfers(unittest.TestCase):
+    """How many transfers a set takes where the part answers all, and nothing has to be asked again: 14 of them are the course's own."""
+
+    def counted(self, *words, **fields):
+        part = Field()
+        for name, value in fields.items():
+            part.set(name, value)
+        before = part.get("transfers")
+        status, out, err = called(["-b", "7", "-a", "58", "--outputs", "2", "--limit=0:0.8V:1.3V", *words, "set", "0", "1.05V"], FakeKernel(part))
+        self.assertEqual((status, err), (0, ""), out)
+        return part.get("transfers") - before
+
+    def test_a_good_set_takes_seven_more_and_three_without_fault_limits(self):
+        alone = Field()
+        device = Device(FieldBus(alone), ADDRESS, 2, limits={0: ("0.8V", "1.3V")}, looks=None)
+        device.set_voltage(0, "1.05V")
+        own = alone.get("transfers")
+        self.assertEqual(own, 14)
+        self.assertEqual((self.counted(), self.counted("--fault-limits=skip")), (own + 7, own + 3))
+
+    def test_two_of_them_come_after_the_order(self):
+        part = Field()
+        device = Device(FieldBus(part), ADDRESS, 2, limits={0: ("0.8V", "1.3V")})
+        device.set_voltage(0, "1.05V")
+        ordered = next(at for at, line in enumerate(part.lines) if line.startswith("B0 05"))
+        self.assertEqual([line[-4:-2] for line in part.lines[ordered + 1:] if line[-4:-2] in ("79", "8B")], ["79", "8B"])
+        self.assertEqual([line[-4:-2] for line in part.lines[:ordered] if line[-4:-2] in ("79", "40", "42", "43", "44")],
+                         ["79", "40", "42", "43", "44"])
 
 
 if __name__ == "__main__":

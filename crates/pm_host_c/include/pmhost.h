@@ -10,8 +10,9 @@
  *     0 the pointer to bytes may be any that isn't null;
  *   - what a call writes overlaps nothing else that it is given;
  *   - counts are in elements, uint64_t on every processor, and tell the truth;
- *   - one call at a time works on a host, and each call has PM_STACK bytes of stack, pm_refusal_name
- *     PM_NAME_STACK.
+ *   - one call at a time works on a host, a course or a delivery: no call waits for another one or refuses it, so threads that share
+ *     a host hold a lock of yours over each whole job or course;
+ *   - each call has PM_STACK bytes of stack, pm_refusal_name PM_NAME_STACK.
  *
  * The library takes no memory, keeps nothing between calls, calls nothing and never blocks.
  *
@@ -501,6 +502,7 @@ uint8_t pm_course_job_now(const pm_course *course, pm_course_job *job);
 /* The word that a course asks for of VOUT_COMMAND, VOUT_MARGIN_HIGH or VOUT_MARGIN_LOW, by the format that the host knows now; of a course
  * to a byte that leaves the output on, the word that the register is known to hold that the byte selects. PM_NO_GOAL if it has none
  * of this register. PM_NO_HOST, PM_NO_COURSE, H4, PM_NO_CELL; then nothing is written. */
+PM_MUST_USE
 uint8_t pm_course_goal(const pm_course *course, const pm_host *host, uint8_t code, uint16_t *word);
 
 /* ---- Delivery: what an output does ---- */
@@ -535,6 +537,7 @@ uint8_t pm_delivery_frame(pm_delivery *delivery, const pm_host *host, pm_sending
 
 /* That request was sent, and these bytes came back, the read address first; 0 bytes if none came. An answer of nothing but FFh is
  * one that nobody gave: hand over 0 bytes. PM_NO_HOST, PM_NO_DELIVERY, H4, PM_OTHER_FRAME if no request is to be sent. */
+PM_MUST_USE
 uint8_t pm_delivery_read_ended(pm_delivery *delivery, const pm_host *host, const uint8_t *bytes, uint64_t count);
 
 /* What the output does: kind PM_NOT_YET until pm_delivery_frame has answered PM_ENDED. PM_NO_HOST, PM_NO_DELIVERY, H4; then nothing is
