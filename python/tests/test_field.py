@@ -6,7 +6,7 @@ import random
 import threading
 import unittest
 
-from pmhost import Device, Looks, ModelPart, ModelPartBus, NotDelivered, Output, PlanRefused
+from pmhost import Device, LimitRefused, Looks, ModelPart, ModelPartBus, NotDelivered, Output, PlanRefused, Unknown
 
 from . import field_boards, field_calls
 from .field import ADDRESS, Field, FieldBus
@@ -98,6 +98,27 @@ class Api(unittest.TestCase):
         _, device = self.device(("ON_OFF_CONFIG", 0x16))
         with self.assertRaisesRegex(NotDelivered, "commanded off, and the part says that it is on"):
             device.turn_off(0)
+
+    def test_no_line_alone_loses_a_refusal(self):
+        """Each call raises what the part, the bus or the limits refuse, with the bus's own error as its cause."""
+        calls = {"apply": lambda it: it.apply(0, {"VOUT_COMMAND": 0x10CD}), "set": lambda it: it.set_voltage(0, "1.05V"),
+                 "on": lambda it: it.turn_on(0), "order": lambda it: (it.learn(0), it.order(0, "VOUT_COMMAND", 0x10CD))}
+        for name, call in {**calls, "survey": lambda it: it.survey(0)}.items():
+            with self.subTest(name), self.assertRaises(Unknown) as it:
+                call(Device(FieldBus(Field(ADDRESS + 1)), ADDRESS, 2))
+            self.assertIsInstance(it.exception.__cause__, OSError)
+            self.assertIn("3 transfers failed", str(it.exception))
+        for name in ("apply", "set"):
+            with self.subTest(name), self.assertRaisesRegex(PlanRefused, "VOUT_COMMAND: P7 Protected"):
+                calls[name](self.device(("WRITE_PROTECT", 0x80))[1])
+        with self.assertRaisesRegex(LimitRefused, "L4 AboveLimit"):
+            self.device()[1].apply(0, {"VOUT_COMMAND": 0x2000})
+
+    def test_an_order_says_what_the_output_commands(self):
+        part, device = self.device(("VOUT_MAX", 0x1100))
+        device.survey(0)
+        state = device.order_voltage(0, "1.2V")
+        self.assertEqual((str(state.band.least), str(state.band.greatest), part.volts()), ("1.0625V", "1.0625V", 1062500))
 
     def test_what_looks_may_be(self):
         for words in ({"fault_limits": "never"}, {"within": 1001}, {"settle": -1}, {"power_good": "maybe"}):
