@@ -851,8 +851,7 @@ static inline pm_course_end pm_host_deliver(pm_host *host, pm_course *course, pm
 }
 
 /* Whether an output does what it is to by this verdict, isn't asked since it isn't commanded on, or can't be judged, since its part has no
- * STATUS_WORD: it gave no answer at all, before an order and in two rounds after one. Power good that alone is missing isn't
- * well. */
+ * STATUS_WORD: it gave no answer at all, before an order and in two rounds after one. PM_POWER_GOOD_ALONE is for the caller to judge. */
 PM_MUST_USE
 static inline int pm_is_delivered(const pm_delivery *delivery, const pm_delivered *delivered) {
     int is_absent = pm_is_silent(delivered, 0x79) && (delivery->before.asked == 0 || delivery->before.fault != 0)
